@@ -1,0 +1,2 @@
+pub mod EarLemmas
+pub mod LineLemmas

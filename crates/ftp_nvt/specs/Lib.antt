@@ -1,0 +1,2 @@
+pub mod Ear
+pub mod Lines

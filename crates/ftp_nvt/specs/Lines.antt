@@ -1,0 +1,67 @@
+-- The lines that octets of the control connection say (RFC 854, "The NVT printer and keyboard"; RFC 959, section 4).
+use Rattle.std.specs.Prelude.{ℕ, ◌+◌, ◌-◌, List, [], ◌∷◌, ◌++◌, map, length, take, ◌==◌, ◌&&◌, nat_le, if◌then◌else◌}
+
+-- what octets say: a line's text without its end, or that a line was too long
+pub data NvtEvent : Type 0 where
+  line : (text : List ℕ) → NvtEvent
+  too_long : NvtEvent
+
+-- octets cut at each LF: the octets before each LF, and the octets behind the last
+pub record Cut : Type 0 where
+  pub ended : List (List ℕ)
+  pub rest : List ℕ
+
+-- one more LF in front: it ends an empty line
+abbrev pub with_line_end : Cut → Cut
+with_line_end later = record { ended = [] ∷ later.ended; rest = later.rest }
+
+-- one more octet in front: it belongs to the first line
+abbrev pub with_octet : ℕ → List (List ℕ) → List ℕ → Cut
+with_octet octet [] rest = record { ended = []; rest = octet ∷ rest }
+with_octet octet (first ∷ others) rest = record { ended = (octet ∷ first) ∷ others; rest = rest }
+
+-- octets cut at each LF; own choice: an LF without a CR before it ends a line too
+unfoldable pub cut : List ℕ → Cut
+cut [] = record { ended = []; rest = [] }
+cut (octet ∷ octets) =
+    let later = cut octets in
+    if octet == 10 then with_line_end later else with_octet octet later.ended later.rest
+
+-- the last of these octets, which stand behind another
+abbrev pub last_octet : ℕ → List ℕ → ℕ
+last_octet before [] = before
+last_octet before (octet ∷ octets) = last_octet octet octets
+
+-- the octets of a line, which stand behind another, with CR NUL as CR: each NUL right behind a CR is left out;
+-- own choice: a CR before any other octet stays
+unfoldable pub text_behind : ℕ → List ℕ → List ℕ
+text_behind before [] = []
+text_behind before (octet ∷ octets) =
+    if (before == 13) && (octet == 0) then text_behind octet octets else octet ∷ text_behind octet octets
+
+-- the octets of a line as they stand so far, with CR NUL as CR
+abbrev pub text_of : List ℕ → List ℕ
+text_of octets = text_behind 10 octets
+
+-- the octets before an LF, without the CR that may stand right before it
+abbrev pub without_return : List ℕ → List ℕ
+without_return octets = if last_octet 10 octets == 13 then take (length octets - 1) octets else octets
+
+-- what the octets before an LF say: a line, where they and the LF keep the limit
+abbrev pub said : ℕ → List ℕ → NvtEvent
+said limit octets = if nat_le (length octets + 1) limit then line (text_of (without_return octets)) else too_long
+
+-- what the octets behind the last LF say already: that their line is too long
+abbrev pub said_early : ℕ → List ℕ → List NvtEvent
+said_early limit octets = if nat_le (length octets) limit then [] else too_long ∷ []
+
+-- all that these octets say, a line's length counting its octets, CR NUL as two and its end included
+unfoldable pub events : ℕ → List ℕ → List NvtEvent
+events limit octets = map (said limit) (cut octets).ended ++ said_early limit (cut octets).rest
+
+-- what one more octet settles, behind these octets of an unfinished line: a line that this octet ends, or that it
+-- is the first octet past the limit
+abbrev pub settled : ℕ → List ℕ → ℕ → List NvtEvent
+settled limit rest octet =
+    if length rest == limit then too_long ∷ []
+    else (if nat_le limit (length rest) then [] else (if octet == 10 then line (text_of (without_return rest)) ∷ [] else []))

@@ -1,0 +1,17 @@
+/// What the octets taken by a call settled.
+#[derive(Clone, Copy, Debug, PartialEq, Eq)]
+pub enum Event {
+    /// Nothing yet: the whole piece was taken.
+    More,
+    /// A line ended; the ear lends it until the next feed.
+    Line,
+    /// A line passed the limit. It is reported once, and skipped up to its LF.
+    TooLong,
+}
+
+/// How many octets of a piece were taken, and what they settled.
+#[derive(Clone, Copy, Debug, PartialEq, Eq)]
+pub struct Heard {
+    pub taken: usize,
+    pub event: Event,
+}

@@ -1,0 +1,11 @@
+//! Octets of a control connection to lines, without IO (RFC 854; RFC 959, section 4).
+#![tactic(auto)]
+
+mod ear;
+mod event;
+mod fault;
+mod run;
+
+pub use ear::Ear;
+pub use event::{Event, Heard};
+pub use fault::NvtFault;
