@@ -1,0 +1,14 @@
+//! Names, paths and a tree of directories in memory; no IO. A path is a list of names, a text is resolved to one
+//! without a look at the tree, and a tree is a finite map from paths to nodes (RFC 959, sections 4.1.3 and 5.3.2).
+#![tactic(auto)]
+
+mod fault;
+mod memory;
+mod name;
+mod path;
+mod walk;
+
+pub use fault::TreeFault;
+pub use memory::NodeKind;
+pub use name::{Name, is_path_text};
+pub use path::Path;
