@@ -1,13 +1,12 @@
 -- Names joined and cut again, and where a step leads.
-use Rattle.std.proofs.Common.{ℕ, zero, suc, ◌+◌, ◌-◌, ◌<◌, ◌≤◌, ◌≡◌, ◌≢◌, Bool, true, false, not, ◌&&◌, cond, List, [], ◌∷◌, ◌++◌, length, take, drop, get_or, refl, sym, ap, ◌∙◌, subst, arith, rules, IsTrue, fold, nat_le}
-use Rattle.std.specs.List.{list_all, slice_split, onto_first, suffix_len, before_first, after_first, position_or_len}
-use Rattle.std.proofs.lemmas.Bool.{and_parts, and_from, not-true, not_from_false, cond-false, cond-true, cond_both, leb-true, eqb-true, eq-eqb, eqb-false, ne_eqb, cases_Bool}
-use Rattle.std.proofs.lemmas.List.{append-nil, append_assoc, places, length-append, take-append-le, take_rest, drop-drop}
+use Rattle.std.proofs.Common.{ℕ, zero, suc, ◌+◌, ◌-◌, ◌<◌, ◌≤◌, ◌≡◌, ◌≢◌, true, false, not, ◌&&◌, List, [], ◌∷◌, ◌++◌, length, take, drop, get_or, refl, sym, ap, ◌∙◌, subst, arith, fold, nat_le}
+use Rattle.std.specs.List.{list_all, slice_split, onto_first, suffix_len}
+use Rattle.std.proofs.lemmas.Bool.{and_parts, and_from, not-true, not_from_false, cond-false, cond-true, cond_both, leb-true, eq-eqb, ne_eqb}
+use Rattle.std.proofs.lemmas.List.{append-nil, append_assoc, length-append, take_rest, drop-drop}
 use Rattle.std.proofs.Math.Seq.{get_or-append_right, get_or-append_seam, take-append_seam}
-use Rattle.std.proofs.lemmas.List.Folds.{list_all-append, prefix_len-append}
+use Rattle.std.proofs.lemmas.List.Folds.{list_all-append}
 use Rattle.std.proofs.lemmas.List.Sums.{suffix_len_is, AllPass-from_list_all, list_all-from_AllPass}
-use Rattle.std.proofs.lemmas.List.Elements.{All-take, All-drop}
-use Rattle.std.proofs.lemmas.Grind.{common_steps}
+use Rattle.std.proofs.lemmas.List.Elements.{All-take}
 use Rattle.ftp_tree.specs.Path.{is_slash, is_path_octet, is_name_octet, is_here, is_above, is_component, parent, followed, resolved, is_rooted, joined, text_of, fits}
 use Rattle.ftp_tree.specs.Kept.{is_no_slash, names_of, IsJoined, IsKept}
 

@@ -1,10 +1,7 @@
--- How a path and a tree are kept: the names joined, each with a `/` before it, and entries by such texts.
-use Rattle.std.specs.Prelude.{◌≡◌, ℕ, suc, Bool, not, List, [], length, drop, IsTrue, map}
+-- How a path is kept: its names joined, each with a `/` before it.
+use Rattle.std.specs.Prelude.{◌≡◌, ℕ, Bool, not, List, drop, IsTrue}
 use Rattle.std.specs.List.{list_all, slice_split}
-use Rattle.std.specs.List.{All}
-use Rattle.std.specs.FinMap as fin
 use Rattle.ftp_tree.specs.Path.{is_slash, is_component, joined, fits}
-use Rattle.ftp_tree.specs.Tree.{Node, Dir, Table, IsTree}
 
 -- an octet other than `/`
 abbrev pub is_no_slash : ℕ → Bool
@@ -23,13 +20,3 @@ pub record IsJoined (text : List ℕ) : Type 0 where
 pub record IsKept (text : List ℕ) : Type 0 where
   pub joins : IsJoined text
   pub within : IsTrue (fits (names_of text))
-
--- the table of some entries by joined texts; the root is in none of them
-unfoldable pub table_of : List (List ℕ × Node) → Table
-table_of entries = fin.insert (fin.from_entries (map (λ entry. (names_of entry.0, entry.1)) entries)) [] Dir
-
--- the entries are by paths' texts, none twice, and make a tree
-pub record IsStore (entries : List (List ℕ × Node)) : Type 0 where
-  pub keys : All (λ entry. IsJoined entry.0) entries
-  pub counted : fin.len (table_of entries) ≡ suc (length entries)
-  pub tree : IsTree (table_of entries)

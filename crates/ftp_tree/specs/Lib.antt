@@ -1,3 +1,4 @@
 pub mod Kept
 pub mod Path
+pub mod Store
 pub mod Tree

@@ -1,6 +1,6 @@
 -- Pathnames (RFC 959, section 5.3.2, a string of printable ASCII). That `/` stands between names, and what `.`, `..` and an
 -- empty component name, are own choices, as the standard leaves them to the server.
-use Rattle.std.specs.Prelude.{ℕ, ◌-◌, ◌≤◌, Bool, true, false, not, ◌&&◌, ◌||◌, ◌==◌, nat_le, List, [], ◌∷◌, ◌++◌, length, take, fold, if◌then◌else◌, IsTrue, nat_eq}
+use Rattle.std.specs.Prelude.{ℕ, ◌-◌, ◌≤◌, Bool, not, ◌&&◌, ◌||◌, ◌==◌, nat_le, List, [], ◌∷◌, ◌++◌, length, take, fold, if◌then◌else◌, IsTrue, nat_eq}
 use Rattle.std.specs.Cmp.Lexicographic.{pointwise}
 use Rattle.std.specs.List.{list_all, slice_split, starts_with}
 

@@ -1,5 +1,5 @@
 -- The tree of a server, as a finite map from paths (lists of names) to directories and files.
-use Rattle.std.specs.Prelude.{◌≡◌, ℕ, Bool, List, [], Option, Some, None, IsSome, is_some, nat_le, if◌then◌else◌}
+use Rattle.std.specs.Prelude.{◌≡◌, ℕ, List, [], Option, Some, None, IsSome, is_some, nat_le, if◌then◌else◌}
 use Rattle.std.specs.Option.{option_map, option_or}
 use Rattle.std.specs.FinMap as fin
 use Rattle.std.specs.FinMap.{FinMap}

@@ -9,6 +9,6 @@ mod path;
 mod walk;
 
 pub use fault::TreeFault;
-pub use memory::NodeKind;
+pub use memory::{MemTree, NodeKind};
 pub use name::{Name, is_path_text};
 pub use path::Path;

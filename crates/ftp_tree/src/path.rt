@@ -1,6 +1,7 @@
 // A path: the names on the way from the root, kept as one text.
 ghost use Rattle.std.specs.Prelude.{◌≡◌, ◌≤◌, [], IsTrue, IfOk, IfErr, if◌then◌else◌, length};
 ghost use Rattle.std.specs.List.{list_all};
+ghost use Rattle.ftp_tree.specs.Kept.{IsJoined, IsKept, names_of};
 ghost use Rattle.ftp_tree.specs.Path.{IsPathText, fits, is_path_octet, is_rooted, joined, parent, resolved, text_of};
 
 use crate::fault::TreeFault;
@@ -93,14 +94,16 @@ impl<A: Allocator> Path<A> {
 
     /// The names joined, `/` before each, by which a tree keeps what stands here.
     pub(crate) fn key(&self) -> &[u8]
-        ensures { result.now ≡ joined self.now }
+        ensures kept { IsKept result.now }
+        ensures names { names_of result.now ≡ self.now }
     {
         self.octets.as_slice()
     }
 
     /// The same of the parent.
     pub(crate) fn parent_key(&self) -> &[u8]
-        ensures { result.now ≡ joined (parent self.now) }
+        ensures joined { IsJoined result.now }
+        ensures names { names_of result.now ≡ parent self.now }
     {
         &self.octets.as_slice()[..parent_len(self.octets.as_slice())]
     }

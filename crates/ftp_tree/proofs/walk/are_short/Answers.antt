@@ -1,4 +1,4 @@
-use Rattle.std.proofs.Common.{nat_le, length, ℕ, Bool, List, rules}
+use Rattle.std.proofs.Common.{nat_le, length, rules}
 use Rattle.std.proofs.lemmas.Iterator.Search.{all_from_yields_List}
 use Rattle.std.proofs.lemmas.Iterator.Splits.{YieldsList-from_slice_split}
 use Rattle.ftp_tree.specs.Path.{is_slash}

@@ -1,5 +1,3 @@
-use Rattle.std.proofs.Common.{length, ap, sym, ◌∙◌}
-use Rattle.ftp_tree.specs.Path.{joined}
 use Rattle.ftp_tree.proofs.PathLemmas.{kept-le}
 use Rattle.ftp_tree.proofs.path.Path.start.Goals as goal
 

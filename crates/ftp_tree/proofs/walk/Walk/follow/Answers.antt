@@ -1,4 +1,4 @@
-use Rattle.std.proofs.Common.{◌≡◌, ◌-◌, ◌∷◌, ◌++◌, [], ap, sym, ◌∙◌, take, length, rules, arith}
+use Rattle.std.proofs.Common.{◌-◌, ◌∷◌, ◌++◌, [], ap, sym, ◌∙◌, take, length, rules}
 use Rattle.std.specs.List.{suffix_len}
 use Rattle.ftp_tree.specs.Path.{parent}
 use Rattle.ftp_tree.specs.Kept.{is_no_slash}

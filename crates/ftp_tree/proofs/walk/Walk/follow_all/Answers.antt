@@ -1,7 +1,7 @@
-use Rattle.std.proofs.Common.{◌≡◌, ◌≢◌, ℕ, ◌+◌, ◌-◌, ◌≤◌, ◌<◌, length, take, drop, fold, get_or, ap, sym, ◌∙◌, arith, rules}
+use Rattle.std.proofs.Common.{◌≡◌, ◌+◌, ◌-◌, ◌<◌, length, take, drop, fold, ap, sym, ◌∙◌, arith, rules}
 use Rattle.std.specs.List.{list_all, slice_split}
 use Rattle.std.proofs.lemmas.List.{length-drop}
-use Rattle.ftp_tree.specs.Path.{is_slash, is_path_octet, is_name_octet, followed, joined}
+use Rattle.ftp_tree.specs.Path.{is_slash, is_name_octet, followed}
 use Rattle.ftp_tree.proofs.PathLemmas.{cut-first, cut-none, followed-le, rest-behind}
 use Rattle.ftp_tree.proofs.walk.Walk.follow_all.Goals as goal
 
