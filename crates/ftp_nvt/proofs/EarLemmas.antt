@@ -11,20 +11,21 @@ use Rattle.ftp_nvt.specs.declared.ear.Ear.{Ear}
 use Rattle.ftp_nvt.proofs.LineLemmas.{decided, no_leb, NoLineEnd, NoReturn, rest-append-octet, events-append-octet, cut-append-inside, events-append-inside, events-append-past, text_behind-append, text_behind-append-plain, last_octet-append, last_octet-append-plain, text_of-return}
 
 -- what an ear heard in two pieces, it heard in one
-pub Hears-trans : {A : Type 0} (a b c : Ear A) (xs ys : List ℕ) (event : Event) → Hears a xs More b → Hears b ys event c → Hears a (xs ++ ys) event c
-Hears-trans a b c xs ys event first second = record {
-  limit = second.limit ∙ first.limit;
-  heard = λ octets h. subst (λ l. HasHeard c l) (append_assoc octets xs ys) (second.heard (octets ++ xs) (first.heard octets h));
+pub Hears-trans : {A : Type 0} (a b c : Ear A) (xs ys : List ℕ) (first second : List NvtEvent) → Hears a xs first b → Hears b ys second c → Hears a (xs ++ ys) (first ++ second) c
+Hears-trans a b c xs ys first second before later = record {
+  limit = later.limit ∙ before.limit;
+  heard = λ octets h. subst (λ l. HasHeard c l) (append_assoc octets xs ys) (later.heard (octets ++ xs) (before.heard octets h));
   said = λ octets h.
       ap (events (limit_of a)) (sym (append_assoc octets xs ys))
-      ∙ ap (λ n. events n (octets ++ xs ++ ys)) (sym first.limit)
-      ∙ second.said (octets ++ xs) (first.heard octets h)
-      ∙ ap (λ n. events n (octets ++ xs) ++ event_list event (line_of c)) first.limit
-      ∙ ap (λ l. l ++ event_list event (line_of c)) (first.said octets h ∙ append-nil (events (limit_of a) octets));
+      ∙ ap (λ n. events n (octets ++ xs ++ ys)) (sym before.limit)
+      ∙ later.said (octets ++ xs) (before.heard octets h)
+      ∙ ap (λ n. events n (octets ++ xs) ++ second) before.limit
+      ∙ ap (λ l. l ++ second) (before.said octets h)
+      ∙ append_assoc (events (limit_of a) octets) first second;
 }
 
 -- an ear that stays as it is has heard nothing more
-pub Hears-nil : {A : Type 0} (ear : Ear A) → Hears ear [] More ear
+pub Hears-nil : {A : Type 0} (ear : Ear A) → Hears ear [] [] ear
 Hears-nil ear = record {
   limit = refl;
   heard = λ octets h. subst (λ l. HasHeard ear l) (sym (append-nil octets)) h;
@@ -32,7 +33,7 @@ Hears-nil ear = record {
 }
 
 -- one octet
-pub Steps-Hears : {A : Type 0} (old new : Ear A) (octet : ℕ) (event : Event) → Steps old octet event new → Hears old (octet ∷ []) event new
+pub Steps-Hears : {A : Type 0} (old new : Ear A) (octet : ℕ) (event : Event) → Steps old octet event new → Hears old (octet ∷ []) (event_list event (line_of new)) new
 Steps-Hears old new octet event step = record {
   limit = step.limit;
   heard = λ octets h. record { stands = subst (λ r. Stands new r) (sym (rest-append-octet octets octet)) (step.stands (cut octets).rest h.stands) };
@@ -57,7 +58,7 @@ unfolding text_behind
 text-nil = refl
 
 -- an ear between lines is ready for a new one
-pub begin_hears : {A : Type 0} (old new : Ear A) → old.stage ≡ Between → new.stage ≡ Inside → new.limit ≡ old.limit → new.count ≡ 0 → new.text.items ≡ [] → Hears old [] More new
+pub begin_hears : {A : Type 0} (old new : Ear A) → old.stage ≡ Between → new.stage ≡ Inside → new.limit ≡ old.limit → new.count ≡ 0 → new.text.items ≡ [] → Hears old [] [] new
 begin_hears old new is at same none empty = record {
   limit = same;
   heard = λ octets h.
@@ -69,7 +70,7 @@ begin_hears old new is at same none empty = record {
 }
 
 -- an ear past the limit stays there up to an LF
-pub skip_hears : {A : Type 0} (ear : Ear A) (plain : List ℕ) → ear.stage ≡ Past → NoLineEnd plain → Hears ear plain More ear
+pub skip_hears : {A : Type 0} (ear : Ear A) (plain : List ℕ) → ear.stage ≡ Past → NoLineEnd plain → Hears ear plain [] ear
 skip_hears ear plain is none = record {
   limit = refl;
   heard = λ octets h.
@@ -96,7 +97,7 @@ skip_ends old new is at same = record {
 
 -- octets without CR and LF that keep the limit
 pub run_hears : {A : Type 0} (old new : Ear A) (plain : List ℕ) → old.stage ≡ Inside → new.stage ≡ Inside → new.limit ≡ old.limit → new.count ≡ old.count + length plain
-    → new.text.items ≡ old.text.items ++ plain → NoLineEnd plain → NoReturn plain → old.count + length plain ≤ old.limit → Hears old plain More new
+    → new.text.items ≡ old.text.items ++ plain → NoLineEnd plain → NoReturn plain → old.count + length plain ≤ old.limit → Hears old plain [] new
 run_hears old new plain is at same count text none free fits = record {
   limit = same;
   heard = λ octets h.
@@ -204,21 +205,21 @@ pub step_as : {A : Type 0} (old new : Ear A) (octet told : ℕ) (event said : Ev
 step_as old new octet told event said same is step =
     subst (λ o. Steps old o said new) (sym same) (subst (λ e. Steps old octet e new) (sym is) step)
 
--- what an ear heard of the rest of a piece
-pub Hears-bite : {A : Type 0} (a b c : Ear A) (piece rest : List ℕ) (taken more : ℕ) (event : Event) → rest ≡ drop taken piece → Hears a (take taken piece) More b
-    → Hears b (take more rest) event c → Hears a (take (taken + more) piece) event c
-Hears-bite a b c piece rest taken more event is first second =
-    let P : List ℕ → Type 0 = λ l. Hears a l event c in
-    let Q : List ℕ → Type 0 = λ l. Hears b (take more l) event c in
-    subst P (sym (take-add taken more piece)) (Hears-trans a b c (take taken piece) (take more (drop taken piece)) event first (subst Q is second))
+-- what an ear heard of a piece's front and of its rest
+pub Hears-rest : {A : Type 0} (a b c : Ear A) (piece rest : List ℕ) (taken more : ℕ) (first second : List NvtEvent) → rest ≡ drop taken piece
+    → Hears a (take taken piece) first b → Hears b (take more rest) second c → Hears a (take (taken + more) piece) (first ++ second) c
+Hears-rest a b c piece rest taken more first second is before later =
+    let P : List ℕ → Type 0 = λ l. Hears a l (first ++ second) c in
+    let Q : List ℕ → Type 0 = λ l. Hears b (take more l) second c in
+    subst P (sym (take-add taken more piece)) (Hears-trans a b c (take taken piece) (take more (drop taken piece)) first second before (subst Q is later))
 
--- an event told in equal words
-pub Hears-as : {A : Type 0} (old new : Ear A) (taken : List ℕ) (event told : Event) → told ≡ event → Hears old taken event new → Hears old taken told new
-Hears-as old new taken event told is hears = let P : Event → Type 0 = λ e. Hears old taken e new in subst P (sym is) hears
+-- events told in equal words
+pub Hears-as : {A : Type 0} (old new : Ear A) (taken : List ℕ) (added told : List NvtEvent) → told ≡ added → Hears old taken added new → Hears old taken told new
+Hears-as old new taken added told is hears = let P : List NvtEvent → Type 0 = λ l. Hears old taken l new in subst P (sym is) hears
 
 -- the rest of a line that was too long, and its LF
 pub skip_through : {A : Type 0} (old new : Ear A) (piece : List ℕ) (at : ℕ) → old.stage ≡ Past → new.stage ≡ Between → new.limit ≡ old.limit
-    → NoLineEnd (take at piece) → take (at + 1) piece ≡ take at piece ++ 10 ∷ [] → Hears old (take (at + 1) piece) More new
+    → NoLineEnd (take at piece) → take (at + 1) piece ≡ take at piece ++ 10 ∷ [] → Hears old (take (at + 1) piece) [] new
 skip_through old new piece at is ends same none octets =
-    let P : List ℕ → Type 0 = λ l. Hears old l More new in
-    subst P (sym octets) (Hears-trans old old new (take at piece) (10 ∷ []) More (skip_hears old (take at piece) is none) (Steps-Hears old new 10 More (skip_ends old new is ends same)))
+    let P : List ℕ → Type 0 = λ l. Hears old l [] new in
+    subst P (sym octets) (Hears-trans old old new (take at piece) (10 ∷ []) [] [] (skip_hears old (take at piece) is none) (Steps-Hears old new 10 More (skip_ends old new is ends same)))

@@ -40,14 +40,13 @@ Stands ear rest = StandsAt ear.stage ear.limit ear.count ear.text.items rest
 pub record HasHeard {A : Type 0} (ear : Ear A) (octets : List ℕ) : Type 0 where
   pub stands : Stands ear (cut octets).rest
 
--- an ear that heard some octets before has heard these too, and their event is what they add
-pub record Hears {A : Type 0} (old : Ear A) (taken : List ℕ) (event : Event) (new : Ear A) : Type 0 where
+-- an ear that heard some octets before has heard these too, and this is what they add to the events
+pub record Hears {A : Type 0} (old : Ear A) (taken : List ℕ) (added : List NvtEvent) (new : Ear A) : Type 0 where
   pub limit : limit_of new ≡ limit_of old
   pub heard : (octets : List ℕ) → HasHeard old octets → HasHeard new (octets ++ taken)
-  pub said : (octets : List ℕ) → HasHeard old octets
-      → events (limit_of old) (octets ++ taken) ≡ events (limit_of old) octets ++ event_list event (line_of new)
+  pub said : (octets : List ℕ) → HasHeard old octets → events (limit_of old) (octets ++ taken) ≡ events (limit_of old) octets ++ added
 
--- the same of one octet, told by the unfinished line
+-- an ear takes one octet, told by its unfinished line
 pub record Steps {A : Type 0} (old : Ear A) (octet : ℕ) (event : Event) (new : Ear A) : Type 0 where
   pub limit : limit_of new ≡ limit_of old
   pub stands : (rest : List ℕ) → Stands old rest → Stands new (if octet == 10 then [] else rest ++ octet ∷ [])

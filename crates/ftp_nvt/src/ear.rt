@@ -37,7 +37,7 @@ pub struct Ear<A: Allocator> {
 }
 
 impl<A: Allocator> Ear<A> {
-    ghost use Rattle.ftp_nvt.specs.Ear.{HasHeard, Hears, Steps, limit_of, line_of};
+    ghost use Rattle.ftp_nvt.specs.Ear.{HasHeard, Hears, Steps, event_list, limit_of, line_of};
 
     /// An ear that has heard nothing, for lines of at most `limit` octets, their ends included.
     pub fn new(alloc: A, limit: usize) -> Result<Ear<A>, NvtFault>
@@ -57,7 +57,7 @@ impl<A: Allocator> Ear<A> {
     /// Takes octets until they settle something or the piece is used up. Takes no memory.
     pub fn feed(&mut self, piece: &[u8]) -> Heard
         ensures within { result.taken ≤ length piece.now }
-        ensures hears { Hears self.old (take result.taken piece.now) result.event self.new }
+        ensures hears { Hears self.old (take result.taken piece.now) (event_list result.event (line_of self.new)) self.new }
         ensures some { 0 < length piece.now → 0 < result.taken }
         ensures all { (result.event ≡ Event.More) → result.taken ≡ length piece.now }
     {
@@ -88,7 +88,7 @@ impl<A: Allocator> Ear<A> {
     fn bite(&mut self, piece: &[u8]) -> Heard
         requires { 0 < length piece.now }
         ensures within { result.taken ≤ length piece.now }
-        ensures hears { Hears self.old (take result.taken piece.now) result.event self.new }
+        ensures hears { Hears self.old (take result.taken piece.now) (event_list result.event (line_of self.new)) self.new }
         ensures some { 0 < result.taken }
     {
         match self.stage {
@@ -105,7 +105,7 @@ impl<A: Allocator> Ear<A> {
     // Makes room for a new line.
     fn begin(&mut self)
         requires { self.old.stage ≡ Stage.Between }
-        ensures hears { Hears self.old [] Event.More self.new }
+        ensures hears { Hears self.old [] [] self.new }
         ensures stage { self.new.stage ≡ Stage.Inside }
     {
         self.text.clear();
@@ -118,7 +118,7 @@ impl<A: Allocator> Ear<A> {
         requires some { 0 < length piece.now }
         requires stage { self.old.stage ≡ Stage.Past }
         ensures within { result.taken ≤ length piece.now }
-        ensures hears { Hears self.old (take result.taken piece.now) result.event self.new }
+        ensures hears { Hears self.old (take result.taken piece.now) (event_list result.event (line_of self.new)) self.new }
         ensures some { 0 < result.taken }
     {
         let taken = match memchr::memchr(LF, piece) {
@@ -139,7 +139,7 @@ impl<A: Allocator> Ear<A> {
         requires some { 0 < length piece.now }
         requires stage { self.old.stage ≡ Stage.Inside }
         ensures within { result.taken ≤ length piece.now }
-        ensures hears { Hears self.old (take result.taken piece.now) result.event self.new }
+        ensures hears { Hears self.old (take result.taken piece.now) (event_list result.event (line_of self.new)) self.new }
         ensures some { 0 < result.taken }
     {
         let taken = plain_run(piece).min(self.limit - self.count);
@@ -171,7 +171,7 @@ impl<A: Allocator> Ear<A> {
         requires some { 0 < length piece.now }
         requires stage { (self.old.stage ≡ Stage.Inside) ⊎ (self.old.stage ≡ Stage.AfterReturn) }
         ensures taken { result.taken ≡ 1 }
-        ensures hears { Hears self.old (take 1 piece.now) result.event self.new }
+        ensures hears { Hears self.old (take 1 piece.now) (event_list result.event (line_of self.new)) self.new }
     {
         let event = self.octet(piece[0]);
         Heard { taken: 1, event }

@@ -9,3 +9,6 @@ mod run;
 pub use ear::Ear;
 pub use event::{Event, Heard};
 pub use fault::NvtFault;
+
+#[cfg(test)]
+mod tests;

@@ -1,0 +1,149 @@
+ghost use Rattle.std.specs.Prelude.{◌≡◌, ◌<◌, ◌≤◌, List, length};
+ghost use Rattle.ftp_nvt.specs.Ear.{Hears};
+ghost use Rattle.ftp_nvt.specs.Lines.{NvtEvent};
+
+use super::*;
+use ftp_refusing::Refusing;
+use std::alloc::{AllocError, Allocator};
+use std::test::Fail;
+
+/// A caller's loop: how many events a piece gives.
+fn events_in<A: Allocator>(ear: &mut Ear<A>, piece: &[u8]) -> usize
+    ensures { (added : List NvtEvent) × (length added ≡ result) × Hears ear.old piece.now added ear.new }
+{
+    let mut taken = 0;
+    let mut count = 0;
+    while taken < piece.len() {
+        let (_, rest) = piece.split_at(taken);
+        let heard = ear.feed(rest);
+        taken += heard.taken;
+        match heard.event {
+            Event::More => {}
+            _ => count += 1,
+        }
+    }
+    count
+}
+
+/// The events of a piece as text: a line between `<` and `>`, a line that is too long as `!`.
+fn put_events<A: Allocator, B: Allocator>(
+    ear: &mut Ear<A>,
+    piece: &[u8],
+    out: &mut Vec<u8, B>,
+) -> Result<(), AllocError> {
+    let mut rest = piece;
+    for _ in 0..=piece.len() {
+        let heard = ear.feed(rest);
+        match heard.event {
+            Event::More => return Ok(()),
+            Event::Line => {
+                out.push(b'<')?;
+                out.extend_from_slice(ear.line())?;
+                out.push(b'>')?;
+            }
+            Event::TooLong => out.push(b'!')?,
+        }
+        let (_, later) = rest.split_at(heard.taken);
+        rest = later;
+    }
+    Ok(())
+}
+
+/// The events of the octets, cut into pieces of this size behind the first `at`.
+fn said<A: Allocator + Clone>(
+    alloc: A,
+    limit: usize,
+    octets: &[u8],
+    at: usize,
+    size: usize,
+) -> Option<Vec<u8, A>>
+    requires front { at ≤ length octets.now }
+    requires some { 0 < size }
+{
+    let mut out = Vec::new(alloc.clone().ok()?);
+    let mut ear = Ear::new(alloc, limit).ok()?;
+    let (front, back) = octets.split_at(at);
+    put_events(&mut ear, front, &mut out).ok()?;
+    for piece in back.chunks(size) {
+        put_events(&mut ear, piece, &mut out).ok()?;
+    }
+    Some(out)
+}
+
+/// Rows for a limit of ten octets: octets, and what they say.
+const ROWS: [(&[u8], &[u8]); 18] = [
+    (b"", b""),
+    (b"NOOP\r\n", b"<NOOP>"),
+    (b"NOOP\n", b"<NOOP>"),
+    (b"NOOP", b""),
+    (b"NOOP\r", b""),
+    (b"\r\n\n", b"<><>"),
+    (b"a\r\0b\r\n", b"<a\rb>"),
+    (b"a\rb\r\r\n", b"<a\rb\r>"),
+    (b"\r\0\n", b"<\r>"),
+    (b"\0\r\0\0\r\n", b"<\0\r\0>"),
+    (b"12345678\r\n1\n", b"<12345678><1>"),
+    (b"123456789\n1\n", b"<123456789><1>"),
+    (b"123456789\r\n1\n", b"!<1>"),
+    (b"1234567890\n1\n", b"!<1>"),
+    (b"1234567890123\r\r\n\n1\n", b"!<><1>"),
+    (b"12\r\0\r\0\r\0\r\n", b"<12\r\r\r>"),
+    (b"123\r\0\r\0\r\0\r\n", b"!"),
+    (b"a\xFF\xFDb\n", b"<a\xFF\xFDb>"),
+];
+
+#[test]
+fn rows_in_every_cutting(rt: HostRuntime) -> Result<(), Fail> {
+    for (octets, expected) in ROWS {
+        for at in 0..=octets.len() {
+            for size in [1, 2, 3, 64] {
+                let out = said(rt.alloc(), 10, octets, at, size);
+                assert!(&rt;
+                    out.as_deref() == Some(expected),
+                    "{octets:?} at {at} by {size}"
+                );
+            }
+        }
+    }
+    Ok(())
+}
+
+#[test]
+fn a_line_of_the_limit_and_one_longer(rt: HostRuntime) -> Result<(), Fail> {
+    let mut octets = Vec::from_slice(rt.alloc(), b"NOOP")?;
+    for _ in 0..1_018 {
+        octets.push(b' ')?;
+    }
+    octets.extend_from_slice(b"\r\n")?;
+    let mut ear = Ear::new(rt.alloc(), 1_024)?;
+    assert_eq!(&rt;
+        ear.feed(&octets),
+        Heard {
+            taken: 1_024,
+            event: Event::Line
+        }
+    );
+    assert_eq!(&rt; ear.line().len(), 1_022);
+    octets.insert(4, b' ')?;
+    let mut ear = Ear::new(rt.alloc(), 1_024)?;
+    assert_eq!(&rt;
+        ear.feed(&octets),
+        Heard {
+            taken: 1_025,
+            event: Event::TooLong
+        }
+    );
+    assert_eq!(&rt; events_in(&mut ear, b"NOOP\r\n\n"), 2);
+    Ok(())
+}
+
+#[test]
+fn memory_is_asked_for_once(rt: HostRuntime) -> Result<(), Fail> {
+    let heap = Refusing::new(rt.alloc(), 1);
+    assert!(&rt; Ear::new(&heap, 8).err() == Some(NvtFault::Memory));
+    let heap = Refusing::new(rt.alloc(), 2);
+    let mut ear = Ear::new(&heap, 8)?;
+    assert_eq!(&rt; events_in(&mut ear, b"1234567\n12345678\n\n"), 3);
+    assert_eq!(&rt; heap.left(), 1);
+    Ok(())
+}
