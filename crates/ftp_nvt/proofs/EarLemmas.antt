@@ -1,14 +1,18 @@
 -- What an ear has heard, step by step.
-use Rattle.std.proofs.Common.{◌≡◌, ◌≢◌, ℕ, ◌+◌, ◌-◌, ◌<◌, ◌≤◌, List, [], ◌∷◌, ◌++◌, Bool, true, false, cond, ◌==◌, ◌&&◌, ◌⊎◌, inl, inr, refl, ap, sym, subst, ◌∙◌, append_assoc, append-nil, arith, length, length-append, take, drop, take-add, ne_eqb, eq-eqb, eqb-true}
-use Rattle.std.specs.Prelude.{nat_le, if◌then◌else◌}
-use Rattle.ftp_nvt.specs.Lines.{NvtEvent, line, too_long, cut, last_octet, text_behind, text_of, without_return, events, settled}
-use Rattle.ftp_nvt.specs.Ear.{limit_of, line_of, event_list, IsWithin, StandsAt, Stands, HasHeard, Hears, Steps}
-use Rattle.ftp_nvt.specs.declared.event.Event.{Event}
-use Rattle.ftp_nvt.specs.declared.event.Event.TheVariants.{More, Line, TooLong}
-use Rattle.ftp_nvt.specs.declared.ear.Stage.{Stage}
-use Rattle.ftp_nvt.specs.declared.ear.Stage.TheVariants.{Between, Inside, AfterReturn, Past}
+use Rattle.std.proofs.Common.{◌≡◌, ◌≢◌, ◌==◌, ◌⊎◌, inl, inr, false, ne_eqb, ℕ, ◌+◌, List, [], ◌∷◌, ◌++◌, map, refl, ap, sym, subst, ◌∙◌, append_assoc, append-nil, take, drop, take-add}
+use Rattle.std.specs.List.{flat_map}
+use Rattle.ftp_nvt.specs.Lines.{NvtEvent, owed, Lacks, lines, lines_added, events_behind, events}
+use Rattle.ftp_nvt.specs.Telnet.{TelnetUnit, data_octet, option, is_verb, place_from, units_from, place_behind, unit_ended, place, bare_of, owed_of, bare}
+use Rattle.ftp_nvt.specs.LineBuffer.{HasRead, Reads}
+use Rattle.ftp_nvt.specs.Ear.{limit_of, line_of, HasHeard, Hears}
+use Rattle.ftp_nvt.specs.declared.telnet.Place.{Place}
+use Rattle.ftp_nvt.specs.declared.telnet.Place.TheVariants as At
+use Rattle.ftp_nvt.specs.declared.line.LineBuffer.{LineBuffer}
 use Rattle.ftp_nvt.specs.declared.ear.Ear.{Ear}
-use Rattle.ftp_nvt.proofs.LineLemmas.{decided, no_leb, NoLineEnd, NoReturn, rest-append-octet, events-append-octet, cut-append-inside, events-append-inside, events-append-past, text_behind-append, text_behind-append-plain, last_octet-append, last_octet-append-plain, text_of-return}
+use Rattle.ftp_nvt.proofs.BufferLemmas.{Reads-nil}
+use Rattle.ftp_nvt.proofs.CutLemmas.{decided}
+use Rattle.ftp_nvt.proofs.TelnetLemmas.{place-nil, place-append, bare-nil, bare-append, units_from-data, place_from-data, bare-data, units_from-inside, place_from-inside}
+use Rattle.ftp_nvt.proofs.LineLemmas.{lines_added-is, events_behind-data, events_behind-quiet, events-append}
 
 -- what an ear heard in two pieces, it heard in one
 pub Hears-trans : {A : Type 0} (a b c : Ear A) (xs ys : List ℕ) (first second : List NvtEvent) → Hears a xs first b → Hears b ys second c → Hears a (xs ++ ys) (first ++ second) c
@@ -32,179 +36,6 @@ Hears-nil ear = record {
   said = λ octets h. ap (events (limit_of ear)) (append-nil octets) ∙ sym (append-nil (events (limit_of ear) octets));
 }
 
--- one octet
-pub Steps-Hears : {A : Type 0} (old new : Ear A) (octet : ℕ) (event : Event) → Steps old octet event new → Hears old (octet ∷ []) (event_list event (line_of new)) new
-Steps-Hears old new octet event step = record {
-  limit = step.limit;
-  heard = λ octets h. record { stands = subst (λ r. Stands new r) (sym (rest-append-octet octets octet)) (step.stands (cut octets).rest h.stands) };
-  said = λ octets h.
-      events-append-octet (limit_of old) octets octet ∙ ap (λ l. events (limit_of old) octets ++ l) (step.said (cut octets).rest h.stands);
-}
-
--- where an ear stands, at an equal place
-at_place : (s t : Stage) (limit count : ℕ) (text rest : List ℕ) → s ≡ t → StandsAt s limit count text rest → StandsAt t limit count text rest
-at_place s t limit count text rest is stands = subst (λ v. StandsAt v limit count text rest) is stands
-
--- in a line that keeps the limit so far
-abbrev pub IsOpen : Stage → Type 0
-IsOpen stage = (stage ≡ Inside) ⊎ (stage ≡ AfterReturn)
-
-within : (s : Stage) (limit count : ℕ) (text rest : List ℕ) → IsOpen s → StandsAt s limit count text rest → IsWithin count text rest
-within s limit count text rest (inl is) stands = (at_place s Inside limit count text rest is stands).0
-within s limit count text rest (inr is) stands = (at_place s AfterReturn limit count text rest is stands).0
-
-text-nil : text_of [] ≡ []
-unfolding text_behind
-text-nil = refl
-
--- an ear between lines is ready for a new one
-pub begin_hears : {A : Type 0} (old new : Ear A) → old.stage ≡ Between → new.stage ≡ Inside → new.limit ≡ old.limit → new.count ≡ 0 → new.text.items ≡ [] → Hears old [] [] new
-begin_hears old new is at same none empty = record {
-  limit = same;
-  heard = λ octets h.
-      let rest : (cut octets).rest ≡ [] = at_place old.stage Between old.limit old.count old.text.items (cut octets).rest is h.stands in
-      let ready : StandsAt Inside new.limit new.count new.text.items [] = (record { counted = none; said = empty ∙ sym text-nil }, refl) in
-      let placed : Stands new [] = at_place Inside new.stage new.limit new.count new.text.items [] (sym at) ready in
-      record { stands = subst (λ l. Stands new (cut l).rest) (sym (append-nil octets)) (subst (λ r. Stands new r) (sym rest) placed) };
-  said = λ octets h. ap (events (limit_of old)) (append-nil octets) ∙ sym (append-nil (events (limit_of old) octets));
-}
-
--- an ear past the limit stays there up to an LF
-pub skip_hears : {A : Type 0} (ear : Ear A) (plain : List ℕ) → ear.stage ≡ Past → NoLineEnd plain → Hears ear plain [] ear
-skip_hears ear plain is none = record {
-  limit = refl;
-  heard = λ octets h.
-      let past = at_place ear.stage Past ear.limit ear.count ear.text.items (cut octets).rest is h.stands in
-      let further : StandsAt Past ear.limit ear.count ear.text.items (cut (octets ++ plain)).rest =
-      subst (λ r. ear.limit < length r) (sym (ap (λ k. k.rest) (cut-append-inside octets plain none))) (omega (arith, past, length-append (cut octets).rest plain)) in
-      record { stands = at_place Past ear.stage ear.limit ear.count ear.text.items (cut (octets ++ plain)).rest (sym is) further };
-  said = λ octets h.
-      let past = at_place ear.stage Past ear.limit ear.count ear.text.items (cut octets).rest is h.stands in
-      events-append-past (limit_of ear) octets plain none past ∙ sym (append-nil (events (limit_of ear) octets));
-}
-
--- the LF of a line that was too long
-pub skip_ends : {A : Type 0} (old new : Ear A) → old.stage ≡ Past → new.stage ≡ Between → new.limit ≡ old.limit → Steps old 10 More new
-skip_ends old new is at same = record {
-  limit = same;
-  stands = λ rest stands. at_place Between new.stage new.limit new.count new.text.items [] (sym at) refl;
-  said = λ rest stands.
-      let past = at_place old.stage Past old.limit old.count old.text.items rest is stands in
-      let other : (length rest == old.limit) ≡ false = ne_eqb _ _ (λ e. omega (arith, past)) in
-      let skips : nat_le old.limit (length rest) ≡ true = search (arith, past) in
-      rw (other, skips) refl;
-}
-
--- octets without CR and LF that keep the limit
-pub run_hears : {A : Type 0} (old new : Ear A) (plain : List ℕ) → old.stage ≡ Inside → new.stage ≡ Inside → new.limit ≡ old.limit → new.count ≡ old.count + length plain
-    → new.text.items ≡ old.text.items ++ plain → NoLineEnd plain → NoReturn plain → old.count + length plain ≤ old.limit → Hears old plain [] new
-run_hears old new plain is at same count text none free fits = record {
-  limit = same;
-  heard = λ octets h.
-      let rest = (cut octets).rest in
-      let before = at_place old.stage Inside old.limit old.count old.text.items rest is h.stands in
-      let counted : new.count ≡ length (rest ++ plain) = count ∙ ap (λ n. n + length plain) before.0.counted ∙ sym (length-append rest plain) in
-      let said : new.text.items ≡ text_of (rest ++ plain) = text ∙ ap (λ l. l ++ plain) before.0.said ∙ sym (text_behind-append-plain 10 rest plain before.1 free) in
-      let later : StandsAt Inside new.limit new.count new.text.items (rest ++ plain) = (record { counted = counted; said = said }, last_octet-append-plain 10 rest plain before.1 free) in
-      let placed : Stands new (rest ++ plain) = at_place Inside new.stage new.limit new.count new.text.items (rest ++ plain) (sym at) later in
-      record { stands = subst (λ r. Stands new r) (sym (ap (λ k. k.rest) (cut-append-inside octets plain none))) placed };
-  said = λ octets h.
-      let before = at_place old.stage Inside old.limit old.count old.text.items (cut octets).rest is h.stands in
-      events-append-inside (limit_of old) octets plain none (subst (λ n. n + length plain ≤ old.limit) before.0.counted fits) ∙ sym (append-nil (events (limit_of old) octets));
-}
-
--- the first octet past the limit
-pub full_steps : {A : Type 0} (old new : Ear A) (octet : ℕ) → IsOpen old.stage → old.count ≡ old.limit → new.limit ≡ old.limit
-    → new.stage ≡ (if octet == 10 then Between else Past) → Steps old octet TooLong new
-full_steps old new octet is_open full same at = record {
-  limit = same;
-  stands = λ rest stands.
-      let here = within old.stage old.limit old.count old.text.items rest is_open stands in
-      elim (decided (octet == 10)) [
-        | inl e ↦ rw e (at_place Between new.stage new.limit new.count new.text.items [] (sym (at ∙ ap (λ b. if b then Between else Past) e)) refl)
-        | inr e ↦ rw e (at_place Past new.stage new.limit new.count new.text.items (rest ++ octet ∷ []) (sym (at ∙ ap (λ b. if b then Between else Past) e)) (omega (arith, here.counted, full, same, length-append rest (octet ∷ []))))
-      ];
-  said = λ rest stands.
-      let here = within old.stage old.limit old.count old.text.items rest is_open stands in
-      let now : (length rest == old.limit) ≡ true = eq-eqb _ _ (sym here.counted ∙ full) in
-      rw now refl;
-}
-
-below_settled : (limit : ℕ) (rest : List ℕ) (octet : ℕ) → length rest < limit → settled limit rest octet ≡ (if octet == 10 then line (text_of (without_return rest)) ∷ [] else [])
-below_settled limit rest octet less =
-    let other : (length rest == limit) ≡ false = ne_eqb _ _ (λ e. omega arith) in
-    let still : nat_le limit (length rest) ≡ false = no_leb _ _ less in
-    rw (other, still) refl
-
--- an LF that ends a line
-pub end_steps : {A : Type 0} (old new : Ear A) → IsOpen old.stage → old.count < old.limit → new.limit ≡ old.limit → new.stage ≡ Between
-    → ((old.stage ≡ Inside) → new.text.items ≡ old.text.items) → ((old.stage ≡ AfterReturn) → new.text.items ≡ take (length old.text.items - 1) old.text.items) → Steps old 10 Line new
-end_steps old new is_open less same at keeps drops = record {
-  limit = same;
-  stands = λ rest stands. at_place Between new.stage new.limit new.count new.text.items [] (sym at) refl;
-  said = λ rest stands.
-      let here = within old.stage old.limit old.count old.text.items rest is_open stands in
-      below_settled old.limit rest 10 (omega (arith, here.counted, less)) ∙ ap (λ l. line l ∷ []) (sym (text_is rest stands is_open));
-}
-  where
-    text_is : (rest : List ℕ) → Stands old rest → IsOpen old.stage → new.text.items ≡ text_of (without_return rest)
-    text_is rest stands (inl is) =
-        let here = at_place old.stage Inside old.limit old.count old.text.items rest is stands in
-        keeps is ∙ here.0.said ∙ ap text_of (whole rest here.1)
-      where
-        whole : (rest : List ℕ) → (last_octet 10 rest == 13) ≡ false → rest ≡ without_return rest
-        whole rest e = rw e refl
-    text_is rest stands (inr is) =
-        let here = at_place old.stage AfterReturn old.limit old.count old.text.items rest is stands in
-        drops is ∙ ap (λ l. take (length l - 1) l) here.0.said ∙ text_of-return rest here.1
-
--- NUL right behind CR
-pub nul_steps : {A : Type 0} (old new : Ear A) → old.stage ≡ AfterReturn → old.count < old.limit → new.limit ≡ old.limit → new.stage ≡ Inside
-    → new.count ≡ old.count + 1 → new.text.items ≡ old.text.items → Steps old 0 More new
-nul_steps old new is less same at count text = record {
-  limit = same;
-  stands = λ rest stands.
-      let here = at_place old.stage AfterReturn old.limit old.count old.text.items rest is stands in
-      let said : text_of (rest ++ 0 ∷ []) ≡ text_of rest = text_behind-append 10 rest 0 ∙ ap (λ b. text_of rest ++ (if b && true then [] else 0 ∷ [])) here.1 ∙ append-nil (text_of rest) in
-      let last : (last_octet 10 (rest ++ 0 ∷ []) == 13) ≡ false = ap (λ c. c == 13) (last_octet-append 10 rest 0) in
-      let counted : new.count ≡ length (rest ++ 0 ∷ []) = omega (arith, count, here.0.counted, length-append rest (0 ∷ [])) in
-      at_place Inside new.stage new.limit new.count new.text.items (rest ++ 0 ∷ []) (sym at) (record { counted = counted; said = text ∙ here.0.said ∙ sym said }, last);
-  said = λ rest stands.
-      let here = at_place old.stage AfterReturn old.limit old.count old.text.items rest is stands in
-      below_settled old.limit rest 0 (omega (arith, here.0.counted, less));
-}
-
--- any other octet of a line
-pub octet_steps : {A : Type 0} (old new : Ear A) (octet : ℕ) → IsOpen old.stage → ((old.stage ≡ AfterReturn) → octet ≢ 0) → octet ≢ 10 → old.count < old.limit
-    → new.limit ≡ old.limit → new.stage ≡ (if octet == 13 then AfterReturn else Inside) → new.count ≡ old.count + 1 → new.text.items ≡ old.text.items ++ octet ∷ [] → Steps old octet More new
-octet_steps old new octet is_open no_nul no_end less same at count text = record {
-  limit = same;
-  stands = λ rest stands.
-      let here = within old.stage old.limit old.count old.text.items rest is_open stands in
-      let said : text_of (rest ++ octet ∷ []) ≡ text_of rest ++ octet ∷ [] = text_behind-append 10 rest octet ∙ ap (λ b. text_of rest ++ (if b then [] else octet ∷ [])) (kept rest stands is_open) in
-      let facts : IsWithin new.count new.text.items (rest ++ octet ∷ []) = record { counted = omega (arith, count, here.counted, length-append rest (octet ∷ [])); said = text ∙ ap (λ l. l ++ octet ∷ []) here.said ∙ sym said } in
-      let last : (last_octet 10 (rest ++ octet ∷ []) == 13) ≡ (octet == 13) = ap (λ c. c == 13) (last_octet-append 10 rest octet) in
-      let inner : (octet == 10) ≡ false = ne_eqb octet 10 no_end in
-      rw inner (elim (decided (octet == 13)) [
-        | inl e ↦ at_place AfterReturn new.stage new.limit new.count new.text.items (rest ++ octet ∷ []) (sym (at ∙ ap (λ b. if b then AfterReturn else Inside) e)) (facts, last ∙ e)
-        | inr e ↦ at_place Inside new.stage new.limit new.count new.text.items (rest ++ octet ∷ []) (sym (at ∙ ap (λ b. if b then AfterReturn else Inside) e)) (facts, last ∙ e)
-      ]);
-  said = λ rest stands.
-      let here = within old.stage old.limit old.count old.text.items rest is_open stands in
-      below_settled old.limit rest octet (omega (arith, here.counted, less)) ∙ ap (λ b. if b then line (text_of (without_return rest)) ∷ [] else []) (ne_eqb octet 10 no_end);
-}
-  where
-    kept : (rest : List ℕ) → Stands old rest → IsOpen old.stage → ((last_octet 10 rest == 13) && (octet == 0)) ≡ false
-    kept rest stands (inl is) = ap (λ b. b && (octet == 0)) (at_place old.stage Inside old.limit old.count old.text.items rest is stands).1
-    kept rest stands (inr is) =
-        let e : (octet == 0) ≡ false = ne_eqb octet 0 (no_nul is) in
-        rw ((at_place old.stage AfterReturn old.limit old.count old.text.items rest is stands).1, e) refl
-
--- a step told in equal words
-pub step_as : {A : Type 0} (old new : Ear A) (octet told : ℕ) (event said : Event) → told ≡ octet → said ≡ event → Steps old octet event new → Steps old told said new
-step_as old new octet told event said same is step =
-    subst (λ o. Steps old o said new) (sym same) (subst (λ e. Steps old octet e new) (sym is) step)
-
 -- what an ear heard of a piece's front and of its rest
 pub Hears-rest : {A : Type 0} (a b c : Ear A) (piece rest : List ℕ) (taken more : ℕ) (first second : List NvtEvent) → rest ≡ drop taken piece
     → Hears a (take taken piece) first b → Hears b (take more rest) second c → Hears a (take (taken + more) piece) (first ++ second) c
@@ -217,9 +48,113 @@ Hears-rest a b c piece rest taken more first second is before later =
 pub Hears-as : {A : Type 0} (old new : Ear A) (taken : List ℕ) (added told : List NvtEvent) → told ≡ added → Hears old taken added new → Hears old taken told new
 Hears-as old new taken added told is hears = let P : List NvtEvent → Type 0 = λ l. Hears old taken l new in subst P (sym is) hears
 
--- the rest of a line that was too long, and its LF
-pub skip_through : {A : Type 0} (old new : Ear A) (piece : List ℕ) (at : ℕ) → old.stage ≡ Past → new.stage ≡ Between → new.limit ≡ old.limit
-    → NoLineEnd (take at piece) → take (at + 1) piece ≡ take at piece ++ 10 ∷ [] → Hears old (take (at + 1) piece) [] new
-skip_through old new piece at is ends same none octets =
-    let P : List ℕ → Type 0 = λ l. Hears old l [] new in
-    subst P (sym octets) (Hears-trans old old new (take at piece) (10 ∷ []) [] [] (skip_hears old (take at piece) is none) (Steps-Hears old new 10 More (skip_ends old new is ends same)))
+-- octets that end these units, of which the line read the bare octets
+pub units_hear : {A : Type 0} (old new : Ear A) (taken : List ℕ) (us : List TelnetUnit) (added said : List NvtEvent)
+    → place_from old.place taken ≡ new.place → units_from old.place taken ≡ us → Reads old.line (flat_map bare_of us) said new.line
+    → ((before : List ℕ) → lines_added old.line.limit before (flat_map bare_of us) ≡ said → events_behind old.line.limit before us ≡ added) → Hears old taken added new
+units_hear old new taken us added said leads ends reads adds = record {
+  limit = reads.limit;
+  heard = λ octets h.
+      let bare_is : bare (octets ++ taken) ≡ bare octets ++ flat_map bare_of us =
+      bare-append octets taken ∙ ap (λ p. bare octets ++ flat_map bare_of (units_from p taken)) (sym h.place) ∙ ap (λ l. bare octets ++ flat_map bare_of l) ends in
+      record {
+        place = sym leads ∙ ap (λ p. place_from p taken) h.place ∙ sym (place-append octets taken);
+        line = subst (λ l. HasRead new.line l) (sym bare_is) (reads.has_read (bare octets) h.line);
+      };
+  said = λ octets h.
+      events-append (limit_of old) octets taken
+      ∙ ap (λ p. events (limit_of old) octets ++ events_behind (limit_of old) (bare octets) (units_from p taken)) (sym h.place)
+      ∙ ap (λ l. events (limit_of old) octets ++ events_behind (limit_of old) (bare octets) l) ends
+      ∙ ap (λ l. events (limit_of old) octets ++ l)
+      (adds (bare octets) (lines_added-is (limit_of old) (bare octets) (flat_map bare_of us) said (reads.said (bare octets) h.line)));
+}
+
+-- octets without IAC between units
+pub data_hears : {A : Type 0} (old new : Ear A) (taken : List ℕ) (added : List NvtEvent) → old.place ≡ At.Between → new.place ≡ old.place → Lacks 255 taken
+    → Reads old.line taken added new.line → Hears old taken added new
+data_hears old new taken added is same lacks reads =
+    units_hear old new taken (map data_octet taken) added added
+    (ap (λ p. place_from p taken) is ∙ place_from-data taken lacks ∙ sym is ∙ sym same)
+    (ap (λ p. units_from p taken) is ∙ units_from-data taken lacks)
+    (let P : List ℕ → Type 0 = λ l. Reads old.line l added new.line in subst P (sym (bare-data taken)) reads)
+    (λ before grown. events_behind-data old.line.limit before taken ∙ ap (lines_added old.line.limit before) (sym (bare-data taken)) ∙ grown)
+
+-- octets without IAC in a subnegotiation
+pub inside_hears : {A : Type 0} (ear : Ear A) (taken : List ℕ) → ear.place ≡ At.Inside → Lacks 255 taken → Hears ear taken [] ear
+inside_hears ear taken is lacks =
+    units_hear ear ear taken [] [] [] (ap (λ p. place_from p taken) is ∙ place_from-inside taken lacks ∙ sym is)
+    (ap (λ p. units_from p taken) is ∙ units_from-inside taken lacks) (Reads-nil ear.line) (λ before grown. refl)
+
+-- one octet
+pub octet_hears : {A : Type 0} (old new : Ear A) (octet : ℕ) (us : List TelnetUnit) (added said : List NvtEvent)
+    → new.place ≡ place_behind old.place octet → unit_ended old.place octet ≡ us → Reads old.line (flat_map bare_of us) said new.line
+    → ((before : List ℕ) → lines_added old.line.limit before (flat_map bare_of us) ≡ said → events_behind old.line.limit before us ≡ added) → Hears old (octet ∷ []) added new
+octet_hears old new octet us added said leads ends reads adds =
+    units_hear old new (octet ∷ []) us added said (sym leads) (append-nil (unit_ended old.place octet) ∙ ends) reads adds
+
+-- an octet that ends no unit, or one that says nothing
+pub quiet_hears : {A : Type 0} (old new : Ear A) (octet : ℕ) → new.place ≡ place_behind old.place octet → new.line ≡ old.line
+    → flat_map bare_of (unit_ended old.place octet) ≡ [] → flat_map owed_of (unit_ended old.place octet) ≡ [] → Hears old (octet ∷ []) [] new
+quiet_hears old new octet leads same bare_none owed_none =
+    octet_hears old new octet (unit_ended old.place octet) [] [] leads refl
+    (let P : List ℕ → Type 0 = λ l. Reads old.line l [] new.line in
+    let Q : LineBuffer _ → Type 0 = λ l. Reads old.line [] [] l in
+    subst P (sym bare_none) (subst Q (sym same) (Reads-nil old.line)))
+    (λ before grown. events_behind-quiet old.line.limit before (unit_ended old.place octet) bare_none owed_none)
+
+-- the second octet of a doubled 255
+pub doubled_hears : {A : Type 0} (old new : Ear A) (octet : ℕ) (added : List NvtEvent) → old.place ≡ At.Command → octet ≡ 255 → new.place ≡ place_behind old.place octet
+    → Reads old.line (255 ∷ []) added new.line → Hears old (octet ∷ []) added new
+doubled_hears old new octet added is same leads reads =
+    octet_hears old new octet (data_octet 255 ∷ []) added added leads (ap (λ p. unit_ended p octet) is ∙ ap (unit_ended At.Command) same) reads
+    (λ before grown. events_behind-data old.line.limit before (255 ∷ []) ∙ grown)
+
+-- the option behind a verb
+pub option_hears : {A : Type 0} (old new : Ear A) (verb octet : ℕ) (added : List NvtEvent) → old.place ≡ At.Option verb → new.place ≡ place_behind old.place octet
+    → new.line ≡ old.line → added ≡ map owed (owed_of (option verb octet)) → Hears old (octet ∷ []) added new
+option_hears old new verb octet added is leads same answers =
+    octet_hears old new octet (option verb octet ∷ []) added [] leads (ap (λ p. unit_ended p octet) is)
+    (let Q : LineBuffer _ → Type 0 = λ l. Reads old.line [] [] l in subst Q (sym same) (Reads-nil old.line))
+    (λ before grown. ap (λ l. l ++ map owed (owed_of (option verb octet)) ++ []) grown ∙ append-nil (map owed (owed_of (option verb octet))) ∙ sym answers)
+
+-- an octet that gives no bare octet and no answer at this place
+abbrev IsQuiet : Place → ℕ → Type 0
+IsQuiet at octet = (flat_map bare_of (unit_ended at octet) ≡ []) × (flat_map owed_of (unit_ended at octet) ≡ [])
+
+quiet_command : (octet : ℕ) → (octet == 255) ≡ false → IsQuiet At.Command octet
+quiet_command octet e =
+    rw e (elim (decided (octet == 250)) [
+      | inl f ↦ rw f (refl, refl)
+      | inr f ↦ rw f (elim (decided (is_verb octet)) [
+        | inl v ↦ rw v (refl, refl)
+        | inr v ↦ rw v (refl, refl)
+      ])
+    ])
+
+quiet_end : (octet : ℕ) → IsQuiet At.InsideCommand octet
+quiet_end octet =
+    elim (decided (octet == 240)) [
+      | inl e ↦ rw e (refl, refl)
+      | inr e ↦ rw e (refl, refl)
+    ]
+
+quiet_start : (octet : ℕ) → octet ≡ 255 → IsQuiet At.Between octet
+quiet_start octet is = let P : ℕ → Type 0 = λ o. IsQuiet At.Between o in subst P (sym is) (refl, refl)
+
+quiet_at : {A : Type 0} (old new : Ear A) (octet : ℕ) (at : Place) → old.place ≡ at → IsQuiet at octet → new.place ≡ place_behind old.place octet → new.line ≡ old.line
+    → Hears old (octet ∷ []) [] new
+quiet_at old new octet at is quiet leads same =
+    quiet_hears old new octet leads same (ap (λ p. flat_map bare_of (unit_ended p octet)) is ∙ quiet.0) (ap (λ p. flat_map owed_of (unit_ended p octet)) is ∙ quiet.1)
+
+-- an octet behind IAC that is no IAC
+pub command_hears : {A : Type 0} (old new : Ear A) (octet : ℕ) → old.place ≡ At.Command → octet ≢ 255 → new.place ≡ place_behind old.place octet → new.line ≡ old.line
+    → Hears old (octet ∷ []) [] new
+command_hears old new octet is not leads same = quiet_at old new octet At.Command is (quiet_command octet (ne_eqb octet 255 not)) leads same
+
+-- an IAC between units, or an octet of a subnegotiation
+pub other_hears : {A : Type 0} (old new : Ear A) (octet : ℕ) → ((old.place ≡ At.Between) → octet ≡ 255)
+    → (old.place ≡ At.Between) ⊎ ((old.place ≡ At.Inside) ⊎ (old.place ≡ At.InsideCommand)) → new.place ≡ place_behind old.place octet → new.line ≡ old.line
+    → Hears old (octet ∷ []) [] new
+other_hears old new octet start (inl is) leads same = quiet_at old new octet At.Between is (quiet_start octet (start is)) leads same
+other_hears old new octet start (inr (inl is)) leads same = quiet_at old new octet At.Inside is (refl, refl) leads same
+other_hears old new octet start (inr (inr is)) leads same = quiet_at old new octet At.InsideCommand is (quiet_end octet) leads same

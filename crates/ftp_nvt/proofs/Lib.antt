@@ -1,2 +1,5 @@
+pub mod BufferLemmas
+pub mod CutLemmas
 pub mod EarLemmas
 pub mod LineLemmas
+pub mod TelnetLemmas

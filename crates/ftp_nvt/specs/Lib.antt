@@ -1,2 +1,5 @@
 pub mod Ear
+pub mod Event
+pub mod LineBuffer
 pub mod Lines
+pub mod Telnet

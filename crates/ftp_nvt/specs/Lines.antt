@@ -1,10 +1,13 @@
--- The lines that octets of the control connection say (RFC 854, "The NVT printer and keyboard"; RFC 959, section 4).
-use Rattle.std.specs.Prelude.{ℕ, ◌+◌, ◌-◌, List, [], ◌∷◌, ◌++◌, map, length, take, ◌==◌, ◌&&◌, nat_le, if◌then◌else◌}
+-- What the octets of a control connection say: lines, and owed answers (RFC 854, "The NVT printer and keyboard"; RFC 959, section 4).
+use Rattle.std.specs.Prelude.{◌≡◌, false, ℕ, ◌+◌, ◌-◌, List, [], ◌∷◌, ◌++◌, map, length, take, drop, ◌==◌, ◌&&◌, nat_le, if◌then◌else◌}
+use Rattle.std.specs.List.{AllByRecursion}
+use Rattle.ftp_nvt.specs.Telnet.{TelnetUnit, units, bare_of, owed_of}
 
--- what octets say: a line's text without its end, or that a line was too long
+-- what octets say: a line's text without its end, that a line was too long, or the answer that Telnet octets are owed
 pub data NvtEvent : Type 0 where
   line : (text : List ℕ) → NvtEvent
   too_long : NvtEvent
+  owed : (answer : List ℕ) → NvtEvent
 
 -- octets cut at each LF: the octets before each LF, and the octets behind the last
 pub record Cut : Type 0 where
@@ -55,13 +58,31 @@ said limit octets = if nat_le (length octets + 1) limit then line (text_of (with
 abbrev pub said_early : ℕ → List ℕ → List NvtEvent
 said_early limit octets = if nat_le (length octets) limit then [] else too_long ∷ []
 
--- all that these octets say, a line's length counting its octets, CR NUL as two and its end included
-unfoldable pub events : ℕ → List ℕ → List NvtEvent
-events limit octets = map (said limit) (cut octets).ended ++ said_early limit (cut octets).rest
+-- the lines of bare octets; a line's length counts its octets, CR NUL as two and its end included
+unfoldable pub lines : ℕ → List ℕ → List NvtEvent
+lines limit bare = map (said limit) (cut bare).ended ++ said_early limit (cut bare).rest
 
--- what one more octet settles, behind these octets of an unfinished line: a line that this octet ends, or that it
+-- the lines that bare octets add behind others
+abbrev pub lines_added : ℕ → List ℕ → List ℕ → List NvtEvent
+lines_added limit before more = drop (length (lines limit before)) (lines limit (before ++ more))
+
+-- what units say, behind bare octets: each the line that its octet adds, or the answer that it is owed
+abbrev pub events_behind : ℕ → List ℕ → List TelnetUnit → List NvtEvent
+events_behind limit before [] = []
+events_behind limit before (unit ∷ units) =
+    lines_added limit before (bare_of unit) ++ map owed (owed_of unit) ++ events_behind limit (before ++ bare_of unit) units
+
+-- all that octets say: lines over their bare octets, and owed answers, in the order of the octets that settle them
+unfoldable pub events : ℕ → List ℕ → List NvtEvent
+events limit octets = events_behind limit [] (units octets)
+
+-- the line that one more bare octet adds, behind these octets of an unfinished line: a line that this octet ends, or that it
 -- is the first octet past the limit
 abbrev pub settled : ℕ → List ℕ → ℕ → List NvtEvent
 settled limit rest octet =
     if length rest == limit then too_long ∷ []
     else (if nat_le limit (length rest) then [] else (if octet == 10 then line (text_of (without_return rest)) ∷ [] else []))
+
+-- none of these octets is this one
+abbrev pub Lacks : ℕ → List ℕ → Type 0
+Lacks octet octets = AllByRecursion (λ other. (other == octet) ≡ false) octets

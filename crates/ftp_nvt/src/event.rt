@@ -7,6 +7,8 @@ pub enum Event {
     Line,
     /// A line passed the limit. It is reported once, and skipped up to its LF.
     TooLong,
+    /// Telnet octets that are owed this answer: IAC WONT x to DO x, IAC DONT x to WILL x.
+    Owed([u8; 3]),
 }
 
 /// How many octets of a piece were taken, and what they settled.

@@ -1,10 +1,13 @@
-//! Octets of a control connection to lines, without IO (RFC 854; RFC 959, section 4).
+//! Octets of a control connection to lines and owed Telnet answers, and lines to octets, without IO (RFC 854;
+//! RFC 959, section 4).
 #![tactic(auto)]
 
 mod ear;
 mod event;
 mod fault;
+mod line;
 mod run;
+mod telnet;
 
 pub use ear::Ear;
 pub use event::{Event, Heard};

@@ -1,10 +1,31 @@
-ghost use Rattle.std.specs.Prelude.{◌≡◌, ◌<◌, ◌≤◌, ℕ, length, slice_index, false, ◌==◌};
-ghost use Rattle.memchr.specs.Find.{is_byte2};
+ghost use Rattle.std.specs.Prelude.{◌≡◌, ◌<◌, ◌≤◌, ◌⊎◌, ℕ, length, slice_index, false};
+ghost use Rattle.memchr.specs.Find.{is_byte2, is_byte3};
 
-/// How many octets stand in front of the first CR or LF, or in all.
+use crate::line::{CR, LF};
+use crate::telnet::IAC;
+
+/// How many octets stand in front of the first LF, CR or IAC, or in all.
 pub fn plain_run(piece: &[u8]) -> usize
     ensures within { result ≤ length piece.now }
-    ensures plain { (k : ℕ) → k < result → is_byte2 10 13 (slice_index piece.now k) ≡ false }
+    ensures plain { (k : ℕ) → k < result → is_byte3 LF CR IAC (slice_index piece.now k) ≡ false }
 {
-    memchr::memchr2(b'\n', b'\r', piece).unwrap_or(piece.len())
+    memchr::memchr3(LF, CR, IAC, piece).unwrap_or(piece.len())
+}
+
+/// How many octets stand in front of the first LF or IAC, or in all.
+pub fn skipped_run(piece: &[u8]) -> usize
+    ensures within { result ≤ length piece.now }
+    ensures plain { (k : ℕ) → k < result → is_byte2 LF IAC (slice_index piece.now k) ≡ false }
+    ensures stops { result < length piece.now → (slice_index piece.now result ≡ LF) ⊎ (slice_index piece.now result ≡ IAC) }
+{
+    memchr::memchr2(LF, IAC, piece).unwrap_or(piece.len())
+}
+
+/// How many octets stand in front of the first IAC, or in all.
+pub fn run_before_command(piece: &[u8]) -> usize
+    ensures within { result ≤ length piece.now }
+    ensures plain { (k : ℕ) → k < result → slice_index piece.now k ≡ IAC → ⊥ }
+    ensures stops { result < length piece.now → slice_index piece.now result ≡ IAC }
+{
+    memchr::memchr(IAC, piece).unwrap_or(piece.len())
 }

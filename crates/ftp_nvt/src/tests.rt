@@ -25,7 +25,8 @@ fn events_in<A: Allocator>(ear: &mut Ear<A>, piece: &[u8]) -> usize
     count
 }
 
-/// The events of a piece as text: a line between `<` and `>`, a line that is too long as `!`.
+/// The events of a piece as text: a line between `<` and `>`, a line that is too long as `!`, an
+/// owed answer between `[` and `]`.
 fn put_events<A: Allocator, B: Allocator>(
     ear: &mut Ear<A>,
     piece: &[u8],
@@ -42,6 +43,11 @@ fn put_events<A: Allocator, B: Allocator>(
                 out.push(b'>')?;
             }
             Event::TooLong => out.push(b'!')?,
+            Event::Owed(answer) => {
+                out.push(b'[')?;
+                out.extend_from_slice(&answer)?;
+                out.push(b']')?;
+            }
         }
         let (_, later) = rest.split_at(heard.taken);
         rest = later;
@@ -71,7 +77,7 @@ fn said<A: Allocator + Clone>(
 }
 
 /// Rows for a limit of ten octets: octets, and what they say.
-const ROWS: [(&[u8], &[u8]); 18] = [
+const LINE_ROWS: [(&[u8], &[u8]); 17] = [
     (b"", b""),
     (b"NOOP\r\n", b"<NOOP>"),
     (b"NOOP\n", b"<NOOP>"),
@@ -89,23 +95,61 @@ const ROWS: [(&[u8], &[u8]); 18] = [
     (b"1234567890123\r\r\n\n1\n", b"!<><1>"),
     (b"12\r\0\r\0\r\0\r\n", b"<12\r\r\r>"),
     (b"123\r\0\r\0\r\0\r\n", b"!"),
-    (b"a\xFF\xFDb\n", b"<a\xFF\xFDb>"),
 ];
 
-#[test]
-fn rows_in_every_cutting(rt: HostRuntime) -> Result<(), Fail> {
-    for (octets, expected) in ROWS {
-        for at in 0..=octets.len() {
-            for size in [1, 2, 3, 64] {
-                let out = said(rt.alloc(), 10, octets, at, size);
-                assert!(&rt;
-                    out.as_deref() == Some(expected),
-                    "{octets:?} at {at} by {size}"
-                );
+/// Rows with Telnet octets, for a limit of four.
+const TELNET_ROWS: [(&[u8], &[u8]); 22] = [
+    (b"NO\xFF\xFD\x01OP\r\n", b"[\xFF\xFC\x01]!"),
+    (b"NO\xFF\xFD\x01P\n", b"[\xFF\xFC\x01]<NOP>"),
+    (b"\xFF\xFB\xFFa\n", b"[\xFF\xFE\xFF]<a>"),
+    (b"\xFF\xFC\x01\xFF\xFE\x01a\n", b"<a>"),
+    (b"\xFF\xFFa\n", b"<\xFFa>"),
+    (b"\xFF\xFF\xFF\xFF\xFF\xFF\n", b"<\xFF\xFF\xFF>"),
+    (b"\xFF\xFF\xFF\xFF\xFF\xFF\xFF\xFF\n", b"!"),
+    (b"\xFF", b""),
+    (b"\xFF\xFD", b""),
+    (b"\xFF\xFD\x0A\n", b"[\xFF\xFC\x0A]<>"),
+    (b"a\xFF\nb\n", b"<ab>"),
+    (b"a\r\xFF\xF1\n", b"<a>"),
+    (b"a\r\xFF\xF1\0\n", b"<a\r>"),
+    (b"a\xFF\xFA\x01b\nc\xFF\xF0d\n", b"<ad>"),
+    (b"a\xFF\xFA\xFF\xFFb\n\xFF\xF0d\n", b"<ad>"),
+    (b"a\xFF\xFA\xFF\xFF\xF0b\n\xFF\xF0d\n", b"<ad>"),
+    (b"a\xFF\xFA\xFF\xFD\x01\xFF\xF0d\n", b"<ad>"),
+    (b"\xFF\xFA\n\xFF\xFB\n", b""),
+    (b"12345\xFF\xFD\x01\n1\n", b"![\xFF\xFC\x01]<1>"),
+    (b"123\xFF\xFD\x01\n1\n", b"[\xFF\xFC\x01]<123><1>"),
+    (b"12345\xFF\n1\n2\n", b"!<2>"),
+    (b"\xFF\xF0\xFF\xF9a\n", b"<a>"),
+];
+
+/// Whether each row says the same in every cutting.
+fn holds<A: Allocator + Clone>(alloc: A, limit: usize, octets: &[u8], expected: &[u8]) -> bool {
+    for at in 0..=octets.len() {
+        for size in [1, 2, 3, 64] {
+            let Ok(alloc) = alloc.clone() else {
+                return false;
+            };
+            if said(alloc, limit, octets, at, size).as_deref() != Some(expected) {
+                return false;
             }
         }
     }
-    Ok(())
+    true
+}
+
+#[test]
+fn lines_in_every_cutting(rt: HostRuntime) {
+    for (octets, expected) in LINE_ROWS {
+        assert!(&rt; holds(rt.alloc(), 10, octets, expected), "{octets:?}");
+    }
+}
+
+#[test]
+fn telnet_octets_in_every_cutting(rt: HostRuntime) {
+    for (octets, expected) in TELNET_ROWS {
+        assert!(&rt; holds(rt.alloc(), 4, octets, expected), "{octets:?}");
+    }
 }
 
 #[test]

@@ -1,25 +1,19 @@
-use Rattle.std.proofs.Common.{refl, rules, arith, ◌<◌, ◌≢◌}
-use Rattle.ftp_nvt.specs.declared.event.Event.TheVariants.{More, Line}
-use Rattle.ftp_nvt.proofs.EarLemmas.{end_steps, octet_steps, step_as}
+use Rattle.std.proofs.Common.{refl}
+use Rattle.ftp_nvt.proofs.EarLemmas.{doubled_hears, option_hears, other_hears, command_hears}
 use Rattle.ftp_nvt.proofs.ear.Ear.octet.Goals as goal
 
-pub returns-in-10 : goal.returns-in-10
-returns-in-10 g c =
-    let ended = c.end.ensures in
-    let less : c.args.self.now.count < c.args.self.now.limit = omega (arith, c.args.self.now.within, c.if-self.false) in
-    step_as c.args.self.now c.end.new.self 10 c.args.octet Line c.end.result c.in-10.is ended.event
-    (end_steps c.args.self.now c.end.new.self c.requires less ended.limit ended.stage ended.inside ended.after_return)
+pub returns-then-octet-eq-IAC : goal.returns-then-octet-eq-IAC
+returns-then-octet-eq-IAC g c =
+    doubled_hears c.args.self.now _ c.args.octet _ c.in-Command.is c.if-octet-eq-IAC.true c.behind-self.ensures c.doubled.ensures
 
-pub returns-in-13 : goal.returns-in-13
-returns-in-13 g c =
-    let put = c.put.ensures in
-    let less : c.args.self.now.count < c.args.self.now.limit = omega (arith, c.args.self.now.within, c.if-self.false) in
-    step_as c.args.self.now c.put.new.self 13 c.args.octet More c.put.result c.in-13.is put.event
-    (octet_steps c.args.self.now c.put.new.self 13 c.requires (λ is e. omega arith) (λ e. omega arith) less put.limit put.stage put.count put.text)
+pub returns-in-Option : goal.returns-in-Option
+returns-in-Option g c =
+    option_hears c.args.self.now _ c.in-Option.verb c.args.octet _ c.in-Option.is c.behind-self.ensures refl (c.answer.ensures _)
 
-pub returns-in_default : goal.returns-in_default
-returns-in_default g c =
-    let put = c.put-in_default.ensures in
-    let less : c.args.self.now.count < c.args.self.now.limit = omega (arith, c.args.self.now.within, c.if-self.false) in
-    step_as c.args.self.now c.put-in_default.new.self c.args.octet c.args.octet More c.put-in_default.result refl put.event
-    (octet_steps c.args.self.now c.put-in_default.new.self c.args.octet c.requires (λ is. search rules) (search rules) less put.limit (search rules) put.count put.text)
+pub returns-in-Between : goal.returns-in-Between
+returns-in-Between g c =
+    other_hears c.args.self.now _ c.args.octet c.requires c.in-Between.is c.behind-self.ensures refl
+
+pub returns-else-octet-eq-IAC : goal.returns-else-octet-eq-IAC
+returns-else-octet-eq-IAC g c =
+    command_hears c.args.self.now _ c.args.octet c.in-Command.is c.if-octet-eq-IAC.false c.behind-self.ensures refl

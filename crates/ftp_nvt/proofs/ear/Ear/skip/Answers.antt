@@ -1,24 +1,11 @@
-use Rattle.std.proofs.Common.{arith, rules, length, take, get_or, ◌≡◌, ◌<◌, ◌+◌, ◌∷◌, [], ◌++◌, ◌∙◌, ap, sym, subst, refl, eqb-true}
-use Rattle.std.proofs.lemmas.Grind.{take_at_read}
-use Rattle.ftp_nvt.specs.Ear.{Hears}
-use Rattle.ftp_nvt.specs.declared.event.Event.TheVariants.{More}
-use Rattle.ftp_nvt.proofs.EarLemmas.{skip_hears, skip_through}
-use Rattle.ftp_nvt.proofs.LineLemmas.{all_take, is_false}
+use Rattle.std.proofs.Common.{take, ◌==◌, ◌≡◌, false, ne_eqb, get_or, ◌<◌}
+use Rattle.ftp_nvt.proofs.CutLemmas.{all_take}
+use Rattle.ftp_nvt.proofs.EarLemmas.{inside_hears}
 use Rattle.ftp_nvt.proofs.ear.Ear.skip.Goals as goal
 
-pub returns-in-None-clause-hears : goal.returns-in-None-clause-hears
-returns-in-None-clause-hears g c =
+pub returns-clause-hears : goal.returns-clause-hears
+returns-clause-hears g c =
+    let run = c.run_before_command.ensures in
     let piece = c.args.piece.now in
-    skip_hears c.args.self.now (take (length piece) piece) c.requires.stage
-    (all_take _ piece (length piece) (omega arith) (λ k less. is_false _ (c.in-None.ensures k (omega arith) less)))
-
-pub returns-in-Some-clause-hears : goal.returns-in-Some-clause-hears
-returns-in-Some-clause-hears g c =
-    let piece = c.args.piece.now in
-    let at = c.in-Some.at in
-    let inside : at < length piece = c.in-Some.ensures.0.high in
-    let read = take_at_read piece at 0 inside in
-    let octets : take (at + 1) piece ≡ take at piece ++ 10 ∷ [] =
-    read.1 ∙ ap (λ x. take at piece ++ x ∷ []) (eqb-true _ 10 c.in-Some.ensures.1) in
-    skip_through c.args.self.now _ piece at c.requires.stage refl refl
-    (all_take _ piece at (omega (arith, inside)) (λ k less. is_false _ (c.in-Some.ensures.0.before k (omega arith) less))) octets
+    inside_hears c.args.self.now (take c.run_before_command.result piece) c.requires.place
+    (all_take (λ x. (x == 255) ≡ false) piece c.run_before_command.result run.within (λ k less. ne_eqb (get_or piece k 0) 255 (run.plain k less)))

@@ -1,7 +1,7 @@
 use Rattle.std.proofs.Common.{refl, arith}
 use Rattle.ftp_nvt.specs.declared.event.Event.TheVariants.{More}
-use Rattle.ftp_nvt.proofs.EarLemmas.{nul_steps, octet_steps, step_as}
-use Rattle.ftp_nvt.proofs.ear.Ear.nul.Goals as goal
+use Rattle.ftp_nvt.proofs.BufferLemmas.{nul_steps, octet_steps, step_as}
+use Rattle.ftp_nvt.proofs.line.LineBuffer.nul.Goals as goal
 
 pub returns-in-AfterReturn : goal.returns-in-AfterReturn
 returns-in-AfterReturn g c = nul_steps c.args.self.now _ c.in-AfterReturn.is c.requires.room refl refl refl refl

@@ -1,0 +1,40 @@
+-- What the buffer of an unfinished line has read.
+use Rattle.std.specs.Prelude.{◌≡◌, ℕ, ◌<◌, List, [], ◌∷◌, ◌++◌, length, ◌==◌, true, false, if◌then◌else◌}
+use Rattle.ftp_nvt.specs.Lines.{NvtEvent, cut, last_octet, text_of, settled, lines}
+use Rattle.ftp_nvt.specs.declared.event.Event.{Event}
+use Rattle.ftp_nvt.specs.Event.{event_list}
+use Rattle.ftp_nvt.specs.declared.line.Stage.{Stage}
+use Rattle.ftp_nvt.specs.declared.line.Stage.TheVariants.{Start, Inside, AfterReturn, Past}
+use Rattle.ftp_nvt.specs.declared.line.LineBuffer.{LineBuffer}
+
+-- a buffer that counts these octets and holds this text can stand behind these octets of a line
+pub record IsWithin (count : ℕ) (text rest : List ℕ) : Type 0 where
+  pub counted : count ≡ length rest
+  pub said : text ≡ text_of rest
+
+-- a buffer at this place can stand behind these octets of an unfinished line
+abbrev pub StandsAt : Stage → ℕ → ℕ → List ℕ → List ℕ → Type 0
+StandsAt Start limit count text rest = rest ≡ []
+StandsAt Inside limit count text rest = IsWithin count text rest × ((last_octet 10 rest == 13) ≡ false)
+StandsAt AfterReturn limit count text rest = IsWithin count text rest × ((last_octet 10 rest == 13) ≡ true)
+StandsAt Past limit count text rest = limit < length rest
+
+-- the same of a buffer
+abbrev pub Stands : {A : Type 0} → LineBuffer A → List ℕ → Type 0
+Stands buffer rest = StandsAt buffer.stage buffer.limit buffer.count buffer.text.items rest
+
+-- this buffer can have read just these octets
+pub record HasRead {A : Type 0} (buffer : LineBuffer A) (octets : List ℕ) : Type 0 where
+  pub stands : Stands buffer (cut octets).rest
+
+-- a buffer that read some octets before has read these too, and this is what they add to the lines
+pub record Reads {A : Type 0} (old : LineBuffer A) (taken : List ℕ) (added : List NvtEvent) (new : LineBuffer A) : Type 0 where
+  pub limit : new.limit ≡ old.limit
+  pub has_read : (octets : List ℕ) → HasRead old octets → HasRead new (octets ++ taken)
+  pub said : (octets : List ℕ) → HasRead old octets → lines old.limit (octets ++ taken) ≡ lines old.limit octets ++ added
+
+-- a buffer takes one octet, told by its unfinished line
+pub record Steps {A : Type 0} (old : LineBuffer A) (octet : ℕ) (event : Event) (new : LineBuffer A) : Type 0 where
+  pub limit : new.limit ≡ old.limit
+  pub stands : (rest : List ℕ) → Stands old rest → Stands new (if octet == 10 then [] else rest ++ octet ∷ [])
+  pub said : (rest : List ℕ) → Stands old rest → settled old.limit rest octet ≡ event_list event new.text.items

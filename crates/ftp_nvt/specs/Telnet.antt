@@ -1,0 +1,89 @@
+-- The Telnet octets of a control connection: a row of units (RFC 854; RFC 1123, section 4.1.2.12).
+use Rattle.std.specs.Prelude.{◌≡◌, ◌≢◌, ℕ, List, [], ◌∷◌, ◌++◌, Bool, true, false, IsTrue, ◌==◌, ◌&&◌, nat_le, if◌then◌else◌}
+use Rattle.std.specs.List.{flat_map}
+use Rattle.ftp_nvt.specs.declared.telnet.Place.{Place}
+use Rattle.ftp_nvt.specs.declared.telnet.Place.TheVariants as At
+use Rattle.ftp_nvt.specs.declared.telnet.TheConstants.{IAC, SB, SE, WILL, WONT, DO, DONT}
+
+-- a unit: a data octet, IAC with a verb and an option, a whole subnegotiation, or any other octet behind IAC
+pub data TelnetUnit : Type 0 where
+  data_octet : (octet : ℕ) → TelnetUnit
+  option : (verb octet : ℕ) → TelnetUnit
+  subnegotiation : TelnetUnit
+  command : (octet : ℕ) → TelnetUnit
+
+-- WILL, WONT, DO or DONT, which an option follows
+abbrev pub is_verb : ℕ → Bool
+is_verb octet = nat_le WILL octet && nat_le octet DONT
+
+-- what stands in a subnegotiation: octets other than IAC, and pairs of IAC and an octet other than SE
+pub data Content : List ℕ → Type 0 where
+  nothing : Content []
+  one : (octet : ℕ) (later : List ℕ) → (octet == IAC) ≡ false → Content later → Content (octet ∷ later)
+  pair : (octet : ℕ) (later : List ℕ) → (octet == SE) ≡ false → Content later → Content (IAC ∷ octet ∷ later)
+
+-- the octets of a unit: a data octet 255 is doubled
+abbrev pub IsUnit : TelnetUnit → List ℕ → Type 0
+IsUnit (data_octet octet) text = text ≡ (if octet == IAC then IAC ∷ IAC ∷ [] else octet ∷ [])
+IsUnit (option verb octet) text = IsTrue (is_verb verb) × (text ≡ IAC ∷ verb ∷ octet ∷ [])
+IsUnit subnegotiation text = (content : List ℕ) × Content content × (text ≡ IAC ∷ SB ∷ content ++ IAC ∷ SE ∷ [])
+IsUnit (command octet) text = ((octet == IAC) ≡ false) × ((octet == SB) ≡ false) × (is_verb octet ≡ false) × (text ≡ IAC ∷ octet ∷ [])
+
+-- where in a unit one more octet leads
+abbrev pub place_behind : Place → ℕ → Place
+place_behind At.Between octet = if octet == IAC then At.Command else At.Between
+place_behind At.Command octet = if octet == SB then At.Inside else (if is_verb octet then At.Option octet else At.Between)
+place_behind (At.Option verb) octet = At.Between
+place_behind At.Inside octet = if octet == IAC then At.InsideCommand else At.Inside
+place_behind At.InsideCommand octet = if octet == SE then At.Between else At.Inside
+
+-- the unit that one more octet ends, if it ends one
+abbrev pub unit_ended : Place → ℕ → List TelnetUnit
+unit_ended At.Between octet = if octet == IAC then [] else data_octet octet ∷ []
+unit_ended At.Command octet =
+    if octet == IAC then data_octet IAC ∷ []
+    else (if octet == SB then [] else (if is_verb octet then [] else command octet ∷ []))
+unit_ended (At.Option verb) octet = option verb octet ∷ []
+unit_ended At.Inside octet = []
+unit_ended At.InsideCommand octet = if octet == SE then subnegotiation ∷ [] else []
+
+-- where in a unit octets end
+abbrev pub place_from : Place → List ℕ → Place
+place_from at [] = at
+place_from at (octet ∷ octets) = place_from (place_behind at octet) octets
+
+-- the units that octets end
+abbrev pub units_from : Place → List ℕ → List TelnetUnit
+units_from at [] = []
+units_from at (octet ∷ octets) = unit_ended at octet ++ units_from (place_behind at octet) octets
+
+-- the units of a row of octets; one that is cut at its end settles nothing
+unfoldable pub units : List ℕ → List TelnetUnit
+units octets = units_from At.Between octets
+
+-- where in a unit a row of octets ends
+unfoldable pub place : List ℕ → Place
+place octets = place_from At.Between octets
+
+-- the octet of a unit that belongs to a line
+abbrev pub bare_of : TelnetUnit → List ℕ
+bare_of (data_octet octet) = octet ∷ []
+bare_of (option verb octet) = []
+bare_of subnegotiation = []
+bare_of (command octet) = []
+
+-- the answer that a unit is owed: WONT to DO, DONT to WILL; own choice: none to DONT and WONT
+abbrev pub owed_of : TelnetUnit → List (List ℕ)
+owed_of (data_octet octet) = []
+owed_of (option verb octet) =
+    if verb == DO then (IAC ∷ WONT ∷ octet ∷ []) ∷ [] else (if verb == WILL then (IAC ∷ DONT ∷ octet ∷ []) ∷ [] else [])
+owed_of subnegotiation = []
+owed_of (command octet) = []
+
+-- the octets that lines are looked for in
+unfoldable pub bare : List ℕ → List ℕ
+bare octets = flat_map bare_of (units octets)
+
+-- the answers that are owed
+unfoldable pub owed_answers : List ℕ → List (List ℕ)
+owed_answers octets = flat_map owed_of (units octets)

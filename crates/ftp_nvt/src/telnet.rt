@@ -1,0 +1,67 @@
+ghost use Rattle.std.specs.Prelude.{◌≡◌, ℕ, List, map};
+ghost use Rattle.ftp_nvt.specs.Event.{event_list};
+ghost use Rattle.ftp_nvt.specs.Lines.{owed};
+ghost use Rattle.ftp_nvt.specs.Telnet.{option, owed_of, place_behind};
+
+use crate::event::Event;
+
+pub const SE: u8 = 240;
+
+pub const SB: u8 = 250;
+
+pub const WILL: u8 = 251;
+
+pub const WONT: u8 = 252;
+
+pub const DO: u8 = 253;
+
+pub const DONT: u8 = 254;
+
+pub const IAC: u8 = 255;
+
+/// Where in a unit of Telnet octets an ear stands (RFC 854).
+#[derive(Clone, Copy, Debug, PartialEq, Eq)]
+pub enum Place {
+    /// At the start of a unit.
+    Between,
+    /// Behind IAC.
+    Command,
+    /// Behind IAC and this verb, which an option follows.
+    Option(u8),
+    /// In a subnegotiation.
+    Inside,
+    /// In a subnegotiation, behind IAC.
+    InsideCommand,
+}
+
+impl Place {
+    /// The place behind one more octet.
+    pub fn behind(self, octet: u8) -> Place
+        ensures { result ≡ place_behind self octet }
+    {
+        match self {
+            Place::Between if octet == IAC => Place::Command,
+            Place::Between | Place::Option(_) => Place::Between,
+            Place::Command => match octet {
+                SB => Place::Inside,
+                WILL..=DONT => Place::Option(octet),
+                _ => Place::Between,
+            },
+            Place::Inside if octet == IAC => Place::InsideCommand,
+            Place::Inside => Place::Inside,
+            Place::InsideCommand if octet == SE => Place::Between,
+            Place::InsideCommand => Place::Inside,
+        }
+    }
+}
+
+/// What a verb and its option settle: no option is taken up, and DONT and WONT have no answer.
+pub fn answer(verb: u8, octet: u8) -> Event
+    ensures { (text : List ℕ) → event_list result text ≡ map owed (owed_of (option verb octet)) }
+{
+    match verb {
+        DO => Event::Owed([IAC, WONT, octet]),
+        WILL => Event::Owed([IAC, DONT, octet]),
+        _ => Event::More,
+    }
+}
