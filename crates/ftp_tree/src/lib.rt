@@ -12,3 +12,6 @@ pub use fault::TreeFault;
 pub use memory::{MemTree, NodeKind};
 pub use name::{Name, is_path_text};
 pub use path::Path;
+
+#[cfg(test)]
+mod tests;
