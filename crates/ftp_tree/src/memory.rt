@@ -9,6 +9,9 @@ use std::alloc::Allocator;
 use std::collections::BTreeMap;
 use std::marker::Model;
 
+/// The most nodes beside the root (own choice).
+const NODE_LIMIT: usize = 4_096;
+
 /// What stands at a path.
 #[derive(Clone, Copy, Debug, PartialEq, Eq)]
 pub enum NodeKind {
@@ -89,7 +92,7 @@ impl<A: Allocator + Copy> MemTree<A> {
         match self.kind_by(path.parent_key()) {
             None => Some(TreeFault::Absent),
             Some(NodeKind::File) => Some(TreeFault::WrongKind),
-            Some(NodeKind::Dir) if self.nodes.len() >= 4096 => Some(TreeFault::Full),
+            Some(NodeKind::Dir) if self.nodes.len() >= NODE_LIMIT => Some(TreeFault::Full),
             Some(NodeKind::Dir) => None,
         }
     }

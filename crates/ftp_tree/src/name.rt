@@ -3,11 +3,17 @@ ghost use Rattle.std.specs.Prelude.{◌≡◌, ◌↔◌, IsTrue, IsSome, IfSome
 ghost use Rattle.std.specs.List.{list_all};
 ghost use Rattle.ftp_tree.specs.Path.{IsPathText, is_path_octet, is_name_octet, is_here, is_above, is_component, is_name, is_rooted};
 
+/// The most octets of a path text and of a canonical text (own choice).
+pub(crate) const TEXT_LIMIT: usize = 900;
+
+/// The most octets of a name (own choice).
+pub(crate) const NAME_LIMIT: usize = 255;
+
 /// Whether a text may be resolved: 1 to 900 octets, each 32 to 126 (RFC 959, section 5.3.2; the limit is an own choice).
 pub fn is_path_text(text: &[u8]) -> bool
     ensures { IsTrue result ↔ IsPathText text.now }
 {
-    !text.is_empty() && text.len() <= 900 && are_path_octets(text)
+    !text.is_empty() && text.len() <= TEXT_LIMIT && are_path_octets(text)
 }
 
 /// What one directory calls one of its nodes: 1 to 255 octets, each 32 to 126, no `/`, and neither `.` nor `..`.
@@ -24,7 +30,7 @@ impl<'a> Name<'a> {
         ensures name { IfSome result (λ name. name.octets.now ≡ octets.now) }
         ensures named { IsSome result ↔ IsTrue (is_name octets.now) }
     {
-        if is_component(octets) && octets.len() <= 255 {
+        if is_component(octets) && octets.len() <= NAME_LIMIT {
             Some(Name { octets })
         } else {
             None

@@ -4,7 +4,7 @@ ghost use Rattle.std.specs.List.{list_all, slice_split, suffix_len};
 ghost use Rattle.ftp_tree.specs.Path.{fits, followed, is_name_octet, is_path_octet, is_slash, joined};
 ghost use Rattle.ftp_tree.specs.Kept.{IsJoined, is_no_slash, names_of};
 
-use crate::name::{is_above, is_here};
+use crate::name::{NAME_LIMIT, TEXT_LIMIT, is_above, is_here};
 use arrayvec::ArrayVec;
 use std::marker::Model;
 
@@ -84,7 +84,7 @@ impl Walk {
     pub(crate) fn fits(&self) -> bool
         ensures { result ≡ fits self.now }
     {
-        are_short(self.octets.as_slice()) && self.octets.len() <= 900
+        are_short(self.octets.as_slice()) && self.octets.len() <= TEXT_LIMIT
     }
 
     /// The names, joined.
@@ -102,7 +102,7 @@ fn are_short(octets: &[u8]) -> bool
 {
     octets
         .split(|octet| *octet == b'/')
-        .all(|name| name.len() <= 255)
+        .all(|name| name.len() <= NAME_LIMIT)
 }
 
 /// How much of a joined text is its parent's: what stands before the last `/`.
