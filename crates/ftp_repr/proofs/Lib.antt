@@ -1,0 +1,7 @@
+pub mod MachineLemmas
+pub mod AsciiLemmas
+pub mod SignLemmas
+pub mod TakingLemmas
+pub mod ContentLemmas
+pub mod RunLemmas
+mod ReceivingLemmas

@@ -1,0 +1,16 @@
+use Rattle.std.proofs.Common.{◌≡◌, ◌≤◌, ◌-◌, length, take, map, false}
+use Rattle.ftp_repr.specs.Signs.{octet}
+use Rattle.ftp_repr.specs.Received.{Receives}
+use Rattle.ftp_repr.specs.declared.form.Kind.TheVariants.{Ascii}
+use Rattle.ftp_repr.proofs.receiver.Receiver.add_lines.Given as goal
+
+abbrev pub invariant-loop-at : goal.invariant-loop-at
+invariant-loop-at g l = record {
+  within : l.at ≤ length l.piece;
+  going : l.self.ended ≡ false;
+  ascii : l.self.kind ≡ Ascii;
+  so_far : Receives l.fn.self (map octet (take l.at l.piece)) l.self l.fn.out.items l.out.items;
+}
+
+abbrev pub decreases-loop-at : goal.decreases-loop-at
+decreases-loop-at g l = length l.piece - l.at

@@ -1,0 +1,10 @@
+pub mod Machine
+pub mod Ascii
+pub mod Signs
+pub mod Items
+pub mod Records
+pub mod Runs
+pub mod Sending
+pub mod Receiving
+pub mod Received
+pub mod Content

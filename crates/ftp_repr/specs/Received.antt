@@ -1,0 +1,26 @@
+-- What a receiver made of items.
+use Rattle.std.specs.Prelude.{◌≡◌, ℕ, ◌<◌, ◌≤◌, List, ◌++◌, length, take, map}
+use Rattle.ftp_repr.specs.Machine.{after, gives}
+use Rattle.ftp_repr.specs.Signs.{Sign, octet, Form}
+use Rattle.ftp_repr.specs.Receiving.{Taking, receiving}
+use Rattle.ftp_repr.specs.declared.receiver.Receiver.{Receiver}
+
+-- its type and structure
+abbrev pub receiver_form : Receiver → Form
+receiver_form r = record { kind = r.kind; structure = r.structure }
+
+-- its state
+abbrev pub taking : Receiver → Taking
+taking r = record { held = r.held; ended = r.ended }
+
+-- the signs were taken, and the file has at its end what they settled
+pub record Receives (old : Receiver) (ss : List Sign) (new : Receiver) (before now : List ℕ) : Type 0 where
+  pub form : receiver_form new ≡ receiver_form old
+  pub state : taking new ≡ after (receiving (receiver_form old)) (taking old) ss
+  pub added : now ≡ before ++ gives (receiving (receiver_form old)) (taking old) ss
+
+-- the first n octets of a piece were received, one at least
+pub record Bites (old : Receiver) (piece : List ℕ) (n : ℕ) (new : Receiver) (before now : List ℕ) : Type 0 where
+  pub some : 0 < n
+  pub within : n ≤ length piece
+  pub receives : Receives old (map octet (take n piece)) new before now

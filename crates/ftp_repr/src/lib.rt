@@ -1,0 +1,19 @@
+//! A file's octets to items and back, in any pieces, without IO: line ends and records (RFC 959, sections 3.1.1.1,
+//! 3.1.2 and 3.4).
+#![tactic(auto)]
+
+mod fault;
+mod form;
+mod item;
+mod laws;
+mod receiver;
+mod run;
+mod sender;
+
+pub use fault::ReprFault;
+pub use form::{Kind, Structure};
+pub use item::Item;
+pub use laws::{front, round_trip};
+pub use receiver::Receiver;
+pub use run::{first_ff, plain_run};
+pub use sender::Sender;
