@@ -77,7 +77,7 @@ content_octets k s before [] ss = ap (λ l. content_by k s l ss) (sym (append-ni
 content_octets k s before (c ∷ w) ss =
     content_octets k s (before ++ c ∷ []) w ss ∙ ap (λ l. content_by k s l ss) (append_assoc before (c ∷ []) w)
 
-image_row : (p : List ℕ) → flat_map (λ c. c ∷ []) p ≡ p
+pub image_row : (p : List ℕ) → flat_map (λ c. c ∷ []) p ≡ p
 image_row [] = refl
 image_row (c ∷ p) = ap (λ l. c ∷ l) (image_row p)
 

@@ -4,4 +4,4 @@ pub mod SignLemmas
 pub mod TakingLemmas
 pub mod ContentLemmas
 pub mod RunLemmas
-mod ReceivingLemmas
+pub mod ReceivingLemmas

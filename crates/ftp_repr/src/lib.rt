@@ -9,6 +9,10 @@ mod laws;
 mod receiver;
 mod run;
 mod sender;
+mod size;
+
+#[cfg(test)]
+mod tests;
 
 pub use fault::ReprFault;
 pub use form::{Kind, Structure};
@@ -17,3 +21,4 @@ pub use laws::{front, round_trip};
 pub use receiver::Receiver;
 pub use run::{first_ff, plain_run};
 pub use sender::Sender;
+pub use size::wire_size;
