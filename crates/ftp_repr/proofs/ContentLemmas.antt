@@ -72,7 +72,7 @@ content_front f ss ts front =
     let cut = gives-front (receiving f) fresh ss ts front in
     (cut.0, ap (λ l. l ++ cut.0) (sym (gives-receiving f ss)) ∙ cut.1 ∙ gives-receiving f ts)
 
-content_octets : (k : Kind) (s : Structure) (before w : List ℕ) (ss : List Sign) → content_by k s before (map octet w ++ ss) ≡ content_by k s (before ++ w) ss
+pub content_octets : (k : Kind) (s : Structure) (before w : List ℕ) (ss : List Sign) → content_by k s before (map octet w ++ ss) ≡ content_by k s (before ++ w) ss
 content_octets k s before [] ss = ap (λ l. content_by k s l ss) (sym (append-nil before))
 content_octets k s before (c ∷ w) ss =
     content_octets k s (before ++ c ∷ []) w ss ∙ ap (λ l. content_by k s l ss) (append_assoc before (c ∷ []) w)

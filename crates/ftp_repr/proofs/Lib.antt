@@ -3,5 +3,6 @@ pub mod AsciiLemmas
 pub mod SignLemmas
 pub mod TakingLemmas
 pub mod ContentLemmas
+pub mod RecordLemmas
 pub mod RunLemmas
 pub mod ReceivingLemmas

@@ -2,6 +2,7 @@
 use Rattle.std.specs.Prelude.{◌≡◌, ℕ, List, [], ◌∷◌, ◌++◌, map, false, ◌==◌}
 use Rattle.std.specs.List.{flat_map, AllByRecursion}
 use Rattle.ftp_repr.specs.Signs.{Sign, octet, end_record, end_file, wire_row}
+use Rattle.ftp_repr.specs.Content.{read_record, read_cut}
 use Rattle.ftp_repr.specs.declared.form.Kind.{Kind}
 
 -- no octet is an LF
@@ -18,10 +19,15 @@ pub record IsRecords (b : List ℕ) (records : List (List ℕ)) (tail : List ℕ
   pub each : AllByRecursion HasNoLine records
   pub rest : HasNoLine tail
 
--- the signs of a record: its octets as they go in this type, and an end of record
-abbrev pub record_signs : Kind → List ℕ → List Sign
-record_signs k r = map octet (wire_row k r) ++ end_record ∷ []
+-- octets of the wire and an end of record
+abbrev pub ended_record : List ℕ → List Sign
+ended_record w = map octet w ++ end_record ∷ []
 
--- the signs of records and a tail
+-- the signs of records and a tail: the octets of each as they go in this type, and the ends
 abbrev pub signs_of_records : Kind → List (List ℕ) → List ℕ → List Sign
-signs_of_records k records tail = flat_map (record_signs k) records ++ (map octet (wire_row k tail) ++ end_file ∷ [])
+signs_of_records k records tail =
+    flat_map (λ r. ended_record (wire_row k r)) records ++ (map octet (wire_row k tail) ++ end_file ∷ [])
+
+-- records of the wire, each read by itself, and an LF for each end
+abbrev pub read_records : Kind → List (List ℕ) → List ℕ
+read_records k ws = flat_map (λ w. record_line (read_record k w)) ws

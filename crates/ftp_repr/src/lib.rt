@@ -10,14 +10,13 @@ mod receiver;
 mod run;
 mod sender;
 mod size;
-
 #[cfg(test)]
 mod tests;
 
 pub use fault::ReprFault;
 pub use form::{Kind, Structure};
 pub use item::Item;
-pub use laws::{front, round_trip};
+pub use laws::{front, records, round_trip};
 pub use receiver::Receiver;
 pub use run::{first_ff, plain_run};
 pub use sender::Sender;

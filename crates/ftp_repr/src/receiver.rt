@@ -76,8 +76,7 @@ impl Receiver {
         ensures form { receiver_form self.new ≡ receiver_form self.old }
         ensures over { taking self.new ≡ over }
     {
-        self.held = false;
-        self.ended = true;
+        (self.held, self.ended) = (false, true);
     }
 
     /// Puts at the end of the file what the item settles, or some of it.
