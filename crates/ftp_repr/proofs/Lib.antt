@@ -6,3 +6,4 @@ pub mod ContentLemmas
 pub mod RecordLemmas
 pub mod RunLemmas
 pub mod ReceivingLemmas
+pub mod RoomLemmas

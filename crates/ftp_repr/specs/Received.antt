@@ -1,5 +1,5 @@
 -- What a receiver made of items.
-use Rattle.std.specs.Prelude.{◌≡◌, ℕ, ◌<◌, ◌≤◌, List, ◌++◌, length, take, map}
+use Rattle.std.specs.Prelude.{◌≡◌, ℕ, ◌+◌, ◌<◌, ◌≤◌, List, ◌++◌, length, take, map}
 use Rattle.ftp_repr.specs.Machine.{after, gives}
 use Rattle.ftp_repr.specs.Signs.{Sign, octet, Form}
 use Rattle.ftp_repr.specs.Receiving.{Taking, receiving}
@@ -18,6 +18,10 @@ pub record Receives (old : Receiver) (ss : List Sign) (new : Receiver) (before n
   pub form : receiver_form new ≡ receiver_form old
   pub state : taking new ≡ after (receiving (receiver_form old)) (taking old) ss
   pub added : now ≡ before ++ gives (receiving (receiver_form old)) (taking old) ss
+
+-- what the signs settle has no room in a vector of this capacity and length
+abbrev pub HasNoRoom : Receiver → List Sign → ℕ → ℕ → Type 0
+HasNoRoom r ss capacity len = capacity < len + length (gives (receiving (receiver_form r)) (taking r) ss)
 
 -- the first n octets of a piece were received, one at least
 pub record Bites (old : Receiver) (piece : List ℕ) (n : ℕ) (new : Receiver) (before now : List ℕ) : Type 0 where

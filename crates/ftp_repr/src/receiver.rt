@@ -1,8 +1,8 @@
-ghost use Rattle.std.specs.Prelude.{◌≡◌, ◌≢◌, ◌+◌, ◌<◌, ◌≤◌, ◌⊎◌, ◌++◌, ℕ, List, [], ◌∷◌, length, take, drop, map, true, false, IfOk, OnOk, OnErr};
+ghost use Rattle.std.specs.Prelude.{◌≡◌, ◌≢◌, ◌+◌, ◌<◌, ◌≤◌, ◌⊎◌, ◌++◌, ℕ, List, [], ◌∷◌, length, take, drop, map, true, false, IfOk, OnOk, OnErr, vec_len, vec_capacity};
 ghost use Rattle.ftp_repr.specs.Signs.{Sign, octet as sign, end_record, end_file};
 ghost use Rattle.ftp_repr.specs.Items.{signs};
 ghost use Rattle.ftp_repr.specs.Receiving.{fresh, over};
-ghost use Rattle.ftp_repr.specs.Received.{Receives, Bites, receiver_form, taking};
+ghost use Rattle.ftp_repr.specs.Received.{Receives, Bites, HasNoRoom, receiver_form, taking};
 ghost use Rattle.ftp_repr.specs.declared.form.Kind.TheVariants.{Ascii};
 
 use crate::fault::ReprFault;
@@ -48,6 +48,10 @@ impl Receiver {
     ) -> Result<(), ReprFault>
         ensures ok { OnOk result (Receives self.old (signs item.entry) self.new out.old.items out.new.items) }
         ensures err { OnErr result ((self.new ≡ self.old) × (out.new.items ≡ out.old.items)) }
+
+        // Only where room is missing for what the item settles.
+        ensures full { OnErr result (HasNoRoom self.old (signs item.entry) (vec_capacity out.old) (vec_len out.old)) }
+        ensures capacity { vec_capacity out.old ≤ vec_capacity out.new }
     {
         let before = *self;
         let len = out.len();
@@ -67,6 +71,8 @@ impl Receiver {
     pub fn end<A: Allocator>(&mut self, out: &mut Vec<u8, A>) -> Result<(), ReprFault>
         ensures ok { OnOk result (Receives self.old (end_file ∷ []) self.new out.old.items out.new.items) }
         ensures err { OnErr result ((self.new ≡ self.old) × (out.new.items ≡ out.old.items)) }
+        ensures full { OnErr result (HasNoRoom self.old (end_file ∷ []) (vec_capacity out.old) (vec_len out.old)) }
+        ensures capacity { vec_capacity out.old ≤ vec_capacity out.new }
     {
         self.take(Item::EndFile, out)
     }
@@ -83,6 +89,8 @@ impl Receiver {
     fn add<A: Allocator>(&mut self, item: Item<'_>, out: &mut Vec<u8, A>) -> Result<(), AllocError>
         ensures ok { OnOk result (Receives self.old (signs item.entry) self.new out.old.items out.new.items) }
         ensures err { OnErr result ((rest : List ℕ) × (out.new.items ≡ out.old.items ++ rest)) }
+        ensures full { OnErr result (HasNoRoom self.old (signs item.entry) (vec_capacity out.old) (vec_len out.old)) }
+        ensures capacity { vec_capacity out.old ≤ vec_capacity out.new }
     {
         if self.ended {
             return Ok(());
@@ -102,6 +110,8 @@ impl Receiver {
         requires going { self.old.ended ≡ false }
         ensures ok { OnOk result (Receives self.old (end_record ∷ []) self.new out.old.items out.new.items) }
         ensures err { OnErr result ((rest : List ℕ) × (out.new.items ≡ out.old.items ++ rest)) }
+        ensures full { OnErr result (HasNoRoom self.old (end_record ∷ []) (vec_capacity out.old) (vec_len out.old)) }
+        ensures capacity { vec_capacity out.old ≤ vec_capacity out.new }
     {
         match self.structure {
             Structure::File => {}
@@ -120,6 +130,8 @@ impl Receiver {
         requires going { self.old.ended ≡ false }
         ensures ok { OnOk result (Receives self.old (end_file ∷ []) self.new out.old.items out.new.items) }
         ensures err { OnErr result ((rest : List ℕ) × (out.new.items ≡ out.old.items ++ rest)) }
+        ensures full { OnErr result (HasNoRoom self.old (end_file ∷ []) (vec_capacity out.old) (vec_len out.old)) }
+        ensures capacity { vec_capacity out.old ≤ vec_capacity out.new }
     {
         if self.held {
             out.push(13)?;
@@ -139,6 +151,8 @@ impl Receiver {
         requires ascii { self.old.kind ≡ Ascii }
         ensures ok { OnOk result (Receives self.old (map sign piece.now) self.new out.old.items out.new.items) }
         ensures err { OnErr result ((rest : List ℕ) × (out.new.items ≡ out.old.items ++ rest)) }
+        ensures full { OnErr result (HasNoRoom self.old (map sign piece.now) (vec_capacity out.old) (vec_len out.old)) }
+        ensures capacity { vec_capacity out.old ≤ vec_capacity out.new }
     {
         let mut at = 0;
         while at < piece.len() {
@@ -159,6 +173,8 @@ impl Receiver {
         requires some { 0 < length piece.now }
         ensures ok { IfOk result (λ n. Bites self.old piece.now n self.new out.old.items out.new.items) }
         ensures err { OnErr result ((rest : List ℕ) × (out.new.items ≡ out.old.items ++ rest)) }
+        ensures full { OnErr result (HasNoRoom self.old (map sign piece.now) (vec_capacity out.old) (vec_len out.old)) }
+        ensures capacity { vec_capacity out.old ≤ vec_capacity out.new }
         ensures stays { (self.new.ended ≡ self.old.ended) × (self.new.kind ≡ self.old.kind) }
     {
         if !self.held {
@@ -179,6 +195,8 @@ impl Receiver {
         requires ascii { self.old.kind ≡ Ascii }
         ensures ok { OnOk result (Receives self.old (sign octet ∷ []) self.new out.old.items out.new.items) }
         ensures err { OnErr result ((rest : List ℕ) × (out.new.items ≡ out.old.items ++ rest)) }
+        ensures full { OnErr result (HasNoRoom self.old (sign octet ∷ []) (vec_capacity out.old) (vec_len out.old)) }
+        ensures capacity { vec_capacity out.old ≤ vec_capacity out.new }
         ensures stays { (self.new.ended ≡ self.old.ended) × (self.new.kind ≡ self.old.kind) }
     {
         if self.held {

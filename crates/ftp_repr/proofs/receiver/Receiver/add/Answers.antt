@@ -1,8 +1,10 @@
-use Rattle.std.proofs.Common.{◌≡◌, ◌++◌, List, ℕ, subst, sym}
+use Rattle.std.proofs.Common.{◌≡◌, ◌++◌, List, ℕ, subst, sym, vec_len, vec_capacity}
+use Rattle.std.proofs.lemmas.Result.{err_from_is_err_and}
 use Rattle.ftp_repr.specs.declared.item.Item.{Item}
 use Rattle.ftp_repr.specs.Items.{signs}
-use Rattle.ftp_repr.specs.Received.{Receives}
+use Rattle.ftp_repr.specs.Received.{Receives, HasNoRoom}
 use Rattle.ftp_repr.proofs.ReceivingLemmas.{receives_over, receives_image}
+use Rattle.ftp_repr.proofs.RoomLemmas.{no_room_image}
 use Rattle.ftp_repr.proofs.receiver.Receiver.add.Goals as goal
 
 pub returns-then-self-clause-ok : goal.returns-then-self-clause-ok
@@ -17,3 +19,13 @@ returns-in_ok-extend_from_slice-in-Image-clause-ok g c =
     let Q : Item → Type 0 = λ i. Receives self (signs i) self before (before ++ piece) in
     subst P (sym c.in_ok-extend_from_slice-in-Image.ensures.items)
     (subst Q (sym c.in-Octets.is) (receives_image self piece before c.in-Image.is c.if-self.false))
+
+pub returns-in_err-extend_from_slice-in-Image-clause-full : goal.returns-in_err-extend_from_slice-in-Image-clause-full
+returns-in_err-extend_from_slice-in-Image-clause-full g c =
+    let self = c.args.self.now in
+    let piece = c.in-Octets.piece.now in
+    let capacity = vec_capacity c.args.out.now in
+    let len = vec_len c.args.out.now in
+    let p = err_from_is_err_and c.from_residual-in_err-extend_from_slice-in-Image.result c.from_residual-in_err-extend_from_slice-in-Image.ensures.1 in
+    let Q : Item → Type 0 = λ i. HasNoRoom self (signs i) capacity len in
+    rw p.1 (subst Q (sym c.in-Octets.is) (no_room_image self piece capacity len c.in-Image.is c.if-self.false c.in_err-extend_from_slice-in-Image.ensures.full))

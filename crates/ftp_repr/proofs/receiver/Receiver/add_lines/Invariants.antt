@@ -1,4 +1,4 @@
-use Rattle.std.proofs.Common.{◌≡◌, ◌≤◌, ◌-◌, length, take, map, false}
+use Rattle.std.proofs.Common.{◌≡◌, ◌≤◌, ◌-◌, length, take, map, false, vec_capacity}
 use Rattle.ftp_repr.specs.Signs.{octet}
 use Rattle.ftp_repr.specs.Received.{Receives}
 use Rattle.ftp_repr.specs.declared.form.Kind.TheVariants.{Ascii}
@@ -9,6 +9,7 @@ invariant-loop-at g l = record {
   within : l.at ≤ length l.piece;
   going : l.self.ended ≡ false;
   ascii : l.self.kind ≡ Ascii;
+  room : vec_capacity l.fn.out ≤ vec_capacity l.out;
   so_far : Receives l.fn.self (map octet (take l.at l.piece)) l.self l.fn.out.items l.out.items;
 }
 
