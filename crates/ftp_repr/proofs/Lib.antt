@@ -2,7 +2,9 @@ pub mod MachineLemmas
 pub mod AsciiLemmas
 pub mod SignLemmas
 pub mod TakingLemmas
+pub mod UnitLemmas
 pub mod ContentLemmas
+pub mod FileLemmas
 pub mod RecordLemmas
 pub mod RunLemmas
 pub mod ReceivingLemmas

@@ -29,3 +29,17 @@ content_by k s before (end_file ∷ ss) = read_record k before
 
 abbrev pub content : Form → List Sign → List ℕ
 content f ss = content_by f.kind f.structure [] ss
+
+-- no end of file stands in a row
+abbrev pub HasNoEnd : List Sign → Type 0
+HasNoEnd [] = Unit {0}
+HasNoEnd (octet c ∷ ss) = HasNoEnd ss
+HasNoEnd (end_record ∷ ss) = HasNoEnd ss
+HasNoEnd (end_file ∷ ss) = ⊥
+
+-- the octets of a row up to its end of file, ends of records left out
+abbrev pub data_of : List Sign → List ℕ
+data_of [] = []
+data_of (octet c ∷ ss) = c ∷ data_of ss
+data_of (end_record ∷ ss) = data_of ss
+data_of (end_file ∷ ss) = []

@@ -1,14 +1,24 @@
 //! What holds of whole files and rows, in each type and structure.
 
-ghost use Rattle.std.specs.Prelude.{◌≡◌, ◌++◌, ℕ, List, [], ◌∷◌, map};
+ghost use Rattle.std.specs.Prelude.{◌≡◌, ◌≢◌, ◌↔◌, ◌++◌, ℕ, List, [], ◌∷◌, map};
 ghost use Rattle.std.specs.List.{flat_map};
 ghost use Rattle.ftp_repr.specs.Machine.{IsFront, gives};
-ghost use Rattle.ftp_repr.specs.Signs.{Sign, Form, octet, end_file, signs_of};
+ghost use Rattle.ftp_repr.specs.Ascii.{IsAscii, asc, plain, settled};
+ghost use Rattle.ftp_repr.specs.Signs.{Sign, Form, octet, end_file, signs_of, wire_row};
 ghost use Rattle.ftp_repr.specs.Records.{IsRecords, ended_record, read_records, signs_of_records};
 ghost use Rattle.ftp_repr.specs.Receiving.{receiving, fresh};
-ghost use Rattle.ftp_repr.specs.Content.{content, read_record, read_cut};
+ghost use Rattle.ftp_repr.specs.Content.{HasNoEnd, content, data_of, read_record, read_cut};
 ghost use Rattle.ftp_repr.specs.declared.form.Kind.{Kind};
-ghost use Rattle.ftp_repr.specs.declared.form.Structure.TheVariants.{Record};
+ghost use Rattle.ftp_repr.specs.declared.form.Structure.TheVariants.{File, Record};
+
+/// In type A a wire that has ended is read as the octets of its units, one for each, and what a file goes as is read
+/// as the file. Of one that was cut a CR at its end is left out, and nothing else.
+pub fn line_ends()
+    ensures read { (w b : List ℕ) → IsAscii w b ↔ (plain w ≡ b) }
+    ensures written { (b : List ℕ) → IsAscii (asc b) b }
+    ensures cut { (w : List ℕ) → settled (w ++ 13 ∷ []) ≡ plain w }
+    ensures whole { (w : List ℕ) (c : ℕ) → c ≢ 13 → settled (w ++ c ∷ []) ≡ plain (w ++ c ∷ []) }
+{}
 
 /// A file that was sent is received again; what a receiver makes of a row of signs is what the row says.
 pub fn round_trip()
@@ -35,4 +45,15 @@ pub fn records()
     ensures cut { (k : Kind) (ws : List (List ℕ)) (w : List ℕ) →
         content (record { kind = k; structure = Record }) (flat_map ended_record ws ++ map octet w)
         ≡ read_records k ws ++ read_cut k w }
+{}
+
+/// In file structure a file goes as its converted octets and an end of file; ends of records in a row are left out, and
+/// all its octets are read as one, ended or cut.
+pub fn files()
+    ensures sent { (k : Kind) (b : List ℕ) →
+        signs_of (record { kind = k; structure = File }) b ≡ map octet (wire_row k b) ++ end_file ∷ [] }
+    ensures ended { (k : Kind) (ss more : List Sign) → HasNoEnd ss →
+        content (record { kind = k; structure = File }) (ss ++ end_file ∷ more) ≡ read_record k (data_of ss) }
+    ensures cut { (k : Kind) (ss : List Sign) → HasNoEnd ss →
+        content (record { kind = k; structure = File }) ss ≡ read_cut k (data_of ss) }
 {}

@@ -16,7 +16,7 @@ mod tests;
 pub use fault::ReprFault;
 pub use form::{Kind, Structure};
 pub use item::Item;
-pub use laws::{front, records, round_trip};
+pub use laws::{files, front, line_ends, records, round_trip};
 pub use receiver::Receiver;
 pub use run::{first_ff, plain_run};
 pub use sender::Sender;

@@ -547,3 +547,12 @@ fn a_refused_end_keeps_its_return(rt: HostRuntime) -> Result<(), Fail> {
     }
     Ok(())
 }
+
+#[test]
+fn the_refusal_prints_its_number_and_name(rt: HostRuntime) -> Result<(), Fail> {
+    assert_eq!(&rt;
+        format!(in rt.alloc(); "{}", ReprFault::Memory)?.as_str(),
+        "P1 Memory"
+    );
+    Ok(())
+}
