@@ -1,13 +1,13 @@
 -- The reader of signs gives what whole rows say, and the signs of a file say the file.
-use Rattle.std.proofs.Common.{◌≡◌, ℕ, List, [], ◌∷◌, ◌++◌, map, Bool, true, false, ◌==◌, inl, inr, refl, ap, sym, subst, ◌∙◌, append_assoc, append-nil}
+use Rattle.std.proofs.Common.{◌≡◌, ℕ, List, [], ◌∷◌, ◌++◌, map, Bool, false, ◌==◌, inl, inr, refl, ap, sym, subst, ◌∙◌, append_assoc, append-nil}
 use Rattle.std.specs.List.{flat_map}
 use Rattle.std.proofs.lemmas.Bool.{eqb-true}
 use Rattle.std.proofs.lemmas.List.Concat.{flat_map-append}
-use Rattle.ftp_repr.specs.Machine.{after, gives, IsFront}
+use Rattle.ftp_repr.specs.Machine.{gives, IsFront}
 use Rattle.ftp_repr.specs.Ascii.{asc, plain}
-use Rattle.ftp_repr.specs.Signs.{Sign, octet, end_record, end_file, Form, wire_octets, wire_row, octet_signs, signs_of_octet, signs_of}
+use Rattle.ftp_repr.specs.Signs.{Sign, octet, end_record, end_file, Form, wire_octets, wire_row, octet_signs, signs_of}
 use Rattle.ftp_repr.specs.Receiving.{Taking, receiving, ascii_gives, held_octets, fresh, over}
-use Rattle.ftp_repr.specs.Content.{read_record, read_cut, content_by, content}
+use Rattle.ftp_repr.specs.Content.{read_record, content_by, content}
 use Rattle.ftp_repr.specs.declared.form.Kind.{Kind}
 use Rattle.ftp_repr.specs.declared.form.Kind.TheVariants.{Ascii, Image}
 use Rattle.ftp_repr.specs.declared.form.Structure.{Structure}

@@ -1,5 +1,5 @@
 -- What a sender has still to give.
-use Rattle.std.specs.Prelude.{ℕ, List, [], Bool, true, false, if◌then◌else◌}
+use Rattle.std.specs.Prelude.{ℕ, List, [], Bool, if◌then◌else◌}
 use Rattle.ftp_repr.specs.Signs.{Sign, Form, signs_of}
 use Rattle.ftp_repr.specs.declared.sender.Sender.{Sender}
 

@@ -1,4 +1,4 @@
-use Rattle.std.proofs.Common.{◌≡◌, ◌++◌, List, ℕ, subst, sym, vec_len, vec_capacity}
+use Rattle.std.proofs.Common.{◌++◌, List, ℕ, subst, sym, vec_len, vec_capacity}
 use Rattle.std.proofs.lemmas.Result.{err_from_is_err_and}
 use Rattle.ftp_repr.specs.declared.item.Item.{Item}
 use Rattle.ftp_repr.specs.Items.{signs}

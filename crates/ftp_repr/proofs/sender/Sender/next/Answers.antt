@@ -1,6 +1,6 @@
-use Rattle.std.proofs.Common.{◌≡◌, ◌++◌, ℕ, List, take, drop, map, false, ap, sym, ◌∙◌}
+use Rattle.std.proofs.Common.{◌≡◌, ◌++◌, drop, map, false, ap, sym, ◌∙◌}
 use Rattle.ftp_repr.specs.Signs.{octet, signs_of}
-use Rattle.ftp_repr.specs.Sending.{sender_form, still_to_send}
+use Rattle.ftp_repr.specs.Sending.{sender_form}
 use Rattle.ftp_repr.proofs.SignLemmas.{signs_of_run}
 use Rattle.ftp_repr.proofs.sender.Sender.next.Goals as goal
 
