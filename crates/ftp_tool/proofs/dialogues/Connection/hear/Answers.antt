@@ -1,0 +1,23 @@
+use Rattle.std.proofs.Common.{◌≡◌, ◌∙◌, ◌+◌, ◌++◌, Ok, ap, sym, subst, take, drop, append_assoc, rules}
+use Rattle.std.proofs.Math.Seq.{take-add}
+use Rattle.ftp_tool.specs.Hearing.{GoesOnAfter, StepsAfter, TakesSome}
+use Rattle.ftp_tool.proofs.dialogues.Connection.hear.Goals as goal
+
+pub loop-at-preserved : goal.loop-at-preserved
+loop-at-preserved g c =
+    let contents = g.W.Write.contents in
+    let piece = c.args.piece.now in
+    let rest = c.split_at.result.1.now in
+    let at = c.loop-at.at in
+    let count = c.in-Took.count in
+    let some = subst (λ step. TakesSome step rest) c.in-Took.is c.in_ok-count.ensures.some in
+    record {
+      within = search rules;
+      stands = λ octets before stands.
+          let stepped = subst (λ step. StepsAfter (octets ++ take at piece) rest before (contents c.step.new.writer) (Ok step) c.step.new.self) c.in-Took.is
+          (c.in_ok-count.ensures.stands (octets ++ take at piece) before (c.loop-at.invariant.stands octets before stands)) in
+          let same = append_assoc octets (take at piece) (take count rest)
+          ∙ ap (λ l. octets ++ (take at piece ++ take count l)) c.split_at.ensures.back
+          ∙ ap (λ l. octets ++ l) (sym (take-add at count piece)) in
+          subst (λ l. GoesOnAfter l before (contents c.step.new.writer) c.step.new.self) same stepped;
+    }

@@ -1,0 +1,53 @@
+//! The programs: FTP over standard input and output, without a socket.
+#![tactic(auto)]
+
+mod command_line;
+mod dialogues;
+mod login;
+mod pieces;
+mod reply;
+mod request;
+mod session;
+#[cfg(test)]
+mod tests;
+mod text;
+
+use anyhow::Result;
+use command_line::Task;
+use std::env;
+use std::env::Env;
+use std::io::{Eprint, Read, Write};
+use std::process::ExitCode;
+
+/// A bad command line.
+const BAD_COMMAND_LINE: u8 = 2;
+
+/// A device or connection that failed, or no memory.
+const FAILED: u8 = 3;
+
+fn main(rt: HostRuntime) -> ExitCode {
+    ExitCode::from(run(&rt).unwrap_or(FAILED))
+}
+
+fn run<R: Input + Print + Eprint + Env + AllocGlobal>(rt: &R) -> Result<u8> {
+    let words: Vec<String> = env::args(rt)?.collect(rt.alloc())?;
+    let matches = match command_line::command(rt.alloc())?.try_get_matches_from(words.as_slice()) {
+        Ok(matches) => matches,
+        Err(error) => {
+            error.print(rt)?;
+            return Ok(error.exit_code() as u8);
+        }
+    };
+    match command_line::task_of(&matches) {
+        Some(Task::Dialogue { piece }) => Ok(dialogues::dialogue(
+            rt.alloc(),
+            &mut rt.reader(),
+            &mut std::io::writer(rt),
+            piece,
+        )),
+        None => {
+            eprintln!(rt; "error: a number is decimal digits, at most 4294967295")?;
+            Ok(BAD_COMMAND_LINE)
+        }
+    }
+}
