@@ -1,0 +1,2 @@
+mod CalendarLemmas
+pub mod MomentLemmas

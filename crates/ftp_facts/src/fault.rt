@@ -1,0 +1,18 @@
+use thiserror::Error;
+
+/// Why a line is no entry, or a text no moment.
+#[derive(Clone, Copy, Debug, PartialEq, Eq, Error)]
+pub enum FactFault {
+    /// The line has no space, which ends the facts.
+    #[error("F1 NoSpace")]
+    NoSpace,
+    /// A fact has no `=` or no `;`, a Size is no number of 1 to 18 digits, or the pathname is empty.
+    #[error("F2 BadFact")]
+    BadFact,
+    /// A Modify, or the text of a moment, is no real date and time from 1970 on.
+    #[error("F3 BadMoment")]
+    BadMoment,
+    /// Memory was refused.
+    #[error("F4 Memory")]
+    Memory,
+}

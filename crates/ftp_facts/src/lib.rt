@@ -1,0 +1,12 @@
+//! The facts of a machine listing and the text of a moment, read and written (RFC 3659, sections 2.3 and 7.2).
+//! No IO.
+#![tactic(auto)]
+
+mod civil;
+mod digits;
+mod fault;
+pub mod laws;
+mod moment;
+
+pub use fault::FactFault;
+pub use moment::{Moment, moment_of_text, moment_text};

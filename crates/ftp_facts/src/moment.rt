@@ -1,0 +1,98 @@
+//! A moment and its text.
+ghost use Rattle.std.specs.Prelude.{◌≡◌, ℕ, List, ◌+◌, ◌*◌, ◌<◌, ◌≤◌, IfSome, IfNone, IfOk, IfErr};
+ghost use Rattle.ftp_facts.specs.Moment.{BeginsWithDate, BeginsWithTime, SaysMoment, WritesMoment};
+
+use crate::FactFault;
+use crate::civil::{date_of, day_number, year_of};
+use crate::digits::{is_fraction, read_four, read_two, two};
+
+/// A second from 1 January 1970 to the end of 9999 in UTC, counted from 0, with no leap seconds.
+#[derive(Clone, Copy, Debug, PartialEq, Eq)]
+pub struct Moment {
+    pub seconds: u64,
+    pub ghost in_range: { seconds ≤ 253_402_300_799 },
+}
+
+impl Moment {
+    /// The moment that many seconds after the start of 1970, if it comes before the year 10000.
+    pub fn new(seconds: u64) -> Option<Moment>
+        ensures some { IfSome result (λ moment. moment.seconds ≡ seconds) }
+        ensures none { IfNone result (253_402_300_799 < seconds) }
+    {
+        if seconds <= 253_402_300_799 {
+            Some(Moment { seconds })
+        } else {
+            None
+        }
+    }
+}
+
+/// Reads a moment: YYYYMMDDHHMMSS, perhaps followed by `.` and digits, which are dropped. A second of 60 is 59.
+/// What is no real date and time from 1970 on is `BadMoment` (RFC 3659, section 2.3).
+pub fn moment_of_text(text: &[u8]) -> Result<Moment, FactFault>
+    ensures says { IfOk result (λ moment. SaysMoment text.now moment.seconds) }
+    ensures silent { IfErr result (λ _. (seconds : ℕ) → ¬ (SaysMoment text.now seconds)) }
+    ensures fault { IfErr result (λ fault. fault ≡ FactFault.BadMoment) }
+{
+    read_moment(text).ok_or(FactFault::BadMoment)
+}
+
+fn read_moment(text: &[u8]) -> Option<Moment>
+    ensures says { IfSome result (λ moment. SaysMoment text.now moment.seconds) }
+    ensures silent { IfNone result ((seconds : ℕ) → ¬ (SaysMoment text.now seconds)) }
+{
+    let (day, text) = read_date(text)?;
+    let (second, text) = read_time(text)?;
+    if !is_fraction(text) {
+        return None;
+    }
+    Some(Moment {
+        seconds: day as u64 * 86_400 + second as u64,
+    })
+}
+
+/// The day number of the date at the front of the text, and the rest.
+fn read_date(text: &[u8]) -> Option<(u32, &[u8])>
+    ensures some { IfSome result (λ read. BeginsWithDate text.now read.0 read.1.now) }
+    ensures bound { IfSome result (λ read. read.0 ≤ 2_932_896) }
+    ensures none { IfNone result ((number : ℕ) (rest : List ℕ) → ¬ (BeginsWithDate text.now number rest)) }
+{
+    let (year, text) = read_four(text)?;
+    let (month, text) = read_two(text)?;
+    let (day, text) = read_two(text)?;
+    let number = day_number(year, month, day)?;
+    Some((number, text))
+}
+
+/// How far into the day the time of day at the front of the text is, in seconds, and the rest.
+fn read_time(text: &[u8]) -> Option<(u32, &[u8])>
+    ensures some { IfSome result (λ read. BeginsWithTime text.now read.0 read.1.now) }
+    ensures bound { IfSome result (λ read. read.0 < 86_400) }
+    ensures none { IfNone result ((seconds : ℕ) (rest : List ℕ) → ¬ (BeginsWithTime text.now seconds rest)) }
+{
+    let (hour, text) = read_two(text)?;
+    let (minute, text) = read_two(text)?;
+    let (second, text) = read_two(text)?;
+    if hour >= 24 || minute >= 60 || second > 60 {
+        return None;
+    }
+    let seconds = hour as u32 * 3600 + minute as u32 * 60 + second.min(59) as u32;
+    Some((seconds, text))
+}
+
+/// The fourteen digits of a moment, YYYYMMDDHHMMSS (RFC 3659, section 2.3).
+pub fn moment_text(moment: Moment) -> [u8; 14]
+    ensures { WritesMoment result moment.seconds }
+{
+    let date = date_of((moment.seconds / 86_400) as u32);
+    let year = year_of(date);
+    let rest = (moment.seconds % 86_400) as u32;
+    let [y, e] = two((year / 100) as u8);
+    let [a, r] = two((year % 100) as u8);
+    let [m, o] = two(date.month);
+    let [d, i] = two(date.day);
+    let [h, u] = two((rest / 3600) as u8);
+    let [n, t] = two((rest % 3600 / 60) as u8);
+    let [s, c] = two((rest % 60) as u8);
+    [y, e, a, r, m, o, d, i, h, u, n, t, s, c]
+}
