@@ -1,2 +1,3 @@
 mod CalendarLemmas
+mod FactLemmas
 pub mod MomentLemmas

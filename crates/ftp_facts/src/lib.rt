@@ -4,9 +4,14 @@
 
 mod civil;
 mod digits;
+mod entry;
+mod facts;
 mod fault;
 pub mod laws;
 mod moment;
+mod text;
 
+pub use entry::{Entry, Kind};
 pub use fault::FactFault;
 pub use moment::{Moment, moment_of_text, moment_text};
+pub use text::Text;

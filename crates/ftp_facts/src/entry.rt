@@ -1,0 +1,38 @@
+//! An entry of a listing.
+ghost use Rattle.std.specs.Prelude.{◌≡◌, ◌≢◌, ℕ, List, [], ◌<◌, Some};
+ghost use Rattle.std.specs.Option.{ForSome};
+ghost use Rattle.ftp_facts.specs.Fact.{IsValue, IsOtherWord};
+ghost use Rattle.ftp_facts.specs.declared.entry.Kind.TheVariants.{Other};
+
+use crate::{Moment, Text};
+use std::alloc::Allocator;
+
+/// The type of an entry (RFC 3659, section 7.5.1).
+#[derive(Debug, Drop)]
+pub enum Kind<A: Allocator> {
+    /// A file.
+    File,
+    /// A directory.
+    Dir,
+    /// The directory that is listed.
+    CurrentDir,
+    /// The parent of the directory that is listed.
+    ParentDir,
+    /// Another word, as it was written.
+    Other(Text<A>),
+}
+
+/// An entry of a machine listing: a pathname and the facts that are given (RFC 3659, section 7.2).
+#[derive(Debug, Drop)]
+pub struct Entry<A: Allocator> {
+    pub name: Text<A>,
+    pub kind: Option<Kind<A>>,
+    /// In octets.
+    pub size: Option<u64>,
+    pub modify: Option<Moment>,
+    pub perm: Option<Text<A>>,
+    pub ghost named: { name ≢ [] },
+    pub ghost kind_fits: { (word : List ℕ) → kind ≡ Some (Other word) → IsOtherWord word },
+    pub ghost size_fits: { ForSome size (λ n. n < 1_000_000_000_000_000_000) },
+    pub ghost perm_fits: { ForSome perm IsValue },
+}

@@ -1,0 +1,73 @@
+//! The facts of a line, one after another.
+ghost use Rattle.std.specs.Prelude.{◌≡◌, ℕ, List, ◌∷◌, ◌++◌, IfSome, IfNone, IfOk, IfErr};
+ghost use Rattle.std.specs.Option.{option_copied};
+ghost use Rattle.ftp_facts.specs.Fact.{Fact, Lacks, AreFacts, BeginsWithFact, HasValue, SaysSize};
+ghost use Rattle.ftp_facts.specs.Fact as same;
+
+use crate::FactFault;
+
+/// The value of the first fact of that name, whose letters have no case. Octets that are no facts are `BadFact`.
+pub fn value_of<'a>(facts: &'a [u8], name: &[u8]) -> Result<Option<&'a [u8]>, FactFault>
+    ensures value { IfOk result (λ value. HasValue facts.now name.now (option_copied value)) }
+    ensures silent { IfErr result (λ _. (list : List Fact) → ¬ (AreFacts facts.now list)) }
+    ensures fault { IfErr result (λ fault. fault ≡ FactFault.BadFact) }
+{
+    let mut found = None;
+    let mut rest = facts;
+    while !rest.is_empty() {
+        let Some((fact_name, value, after)) = split_fact(rest) else {
+            return Err(FactFault::BadFact);
+        };
+        if found.is_none() && is_word(fact_name, name) {
+            found = Some(value);
+        }
+        rest = after;
+    }
+    Ok(found)
+}
+
+/// The name and the value of the first fact, and what follows it.
+fn split_fact(facts: &[u8]) -> Option<(&[u8], &[u8], &[u8])>
+    ensures some { IfSome result (λ parts. BeginsWithFact facts.now parts.0.now parts.1.now parts.2.now) }
+    ensures none { IfNone result ((name value rest : List ℕ) → ¬ (BeginsWithFact facts.now name value rest)) }
+{
+    let (fact, rest) = split_at_octet(facts, b';')?;
+    let (name, value) = split_at_octet(fact, b'=')?;
+    Some((name, value, rest))
+}
+
+/// What stands before the first such octet, and what follows it.
+pub fn split_at_octet(octets: &[u8], octet: u8) -> Option<(&[u8], &[u8])>
+    ensures some { IfSome result (λ parts. octets.now ≡ parts.0.now ++ octet ∷ parts.1.now) }
+    ensures first { IfSome result (λ parts. Lacks parts.0.now octet) }
+    ensures none { IfNone result (Lacks octets.now octet) }
+{
+    let place = octets.iter().position(|each| *each == octet)?;
+    let (front, back) = octets.split_at(place);
+    Some((front, &back[1..]))
+}
+
+/// Whether the two words are the same but for case.
+pub fn is_word(text: &[u8], word: &[u8]) -> bool
+    ensures { result ≡ same.is_word text.now word.now }
+{
+    text.eq_ignore_ascii_case(word)
+}
+
+/// The number that one to eighteen decimal digits write.
+pub fn size_of(digits: &[u8]) -> Option<u64>
+    ensures some { IfSome result (λ size. SaysSize digits.now size) }
+    ensures none { IfNone result ((size : ℕ) → ¬ (SaysSize digits.now size)) }
+{
+    if digits.is_empty() || digits.len() > 18 {
+        return None;
+    }
+    let mut size = 0u64;
+    for digit in digits {
+        if !digit.is_ascii_digit() {
+            return None;
+        }
+        size = size * 10 + u64::from(*digit - b'0');
+    }
+    Some(size)
+}

@@ -1,0 +1,36 @@
+//! Octets that an entry owns.
+ghost use Rattle.std.specs.Prelude.{◌≡◌, IfOk};
+
+use std::alloc::{AllocError, Allocator};
+use std::marker::Model;
+
+/// Octets that an entry owns: a pathname, or the value of a fact.
+#[derive(Debug, Drop)]
+pub struct Text<A: Allocator> {
+    octets: Vec<u8, A>,
+}
+
+impl<A: Allocator> Model for Text<A> {
+    ghost use Rattle.std.specs.Prelude.{List, ℕ};
+
+    ghost Value = { List ℕ };
+
+    ghost view = { λ text. text.octets.items };
+}
+
+impl<A: Allocator> Text<A> {
+    /// A copy of these octets.
+    pub fn copy_of(alloc: A, octets: &[u8]) -> Result<Text<A>, AllocError>
+        ensures { IfOk result (λ text. text ≡ octets.now) }
+    {
+        let octets = Vec::from_slice(alloc, octets)?;
+        Ok(Text { octets })
+    }
+
+    /// The octets.
+    pub fn as_slice(&self) -> &[u8]
+        ensures { result.now ≡ self.now }
+    {
+        self.octets.as_slice()
+    }
+}
