@@ -4,6 +4,9 @@ use Rattle.std.specs.Option.{option_or, option_copied, is_some}
 use Rattle.std.proofs.lemmas.List.Elements.{All-cons, All-head, All-tail, All-append, All-nil}
 use Rattle.std.proofs.lemmas.List.Folds.{find-append}
 use Rattle.std.specs.List.{find}
+use Rattle.std.specs.Str.{all_ascii_digits}
+use Rattle.std.specs.Str.Parse.{digits_value}
+use Rattle.std.proofs.lemmas.Str.Parse.{IsNumeralModel, numerals_by_value, tells_all_ascii_digits}
 use Rattle.ftp_facts.specs.Fact.{Fact, IsFact, Lacks, BeginsWithFact, AreFacts, facts_text, first_value, is_named, is_word, equals, semicolon}
 
 -- no octet stands where it lacks
@@ -60,7 +63,7 @@ begins octets fact rest name value is cut parts lacks =
     let tail : Lacks (equals ∷ value) semicolon = Lacks-back semicolon name (equals ∷ value) spare in
     ((lacks, Lacks-front semicolon name (equals ∷ value) spare, All-tail (λ each. each ≢ semicolon) equals value tail), is ∙ ap (λ front. front ++ semicolon ∷ rest) parts ∙ sym (regroup name value rest))
 
-nonempty : (xs : List ℕ) (c : ℕ) (ys : List ℕ) → [] ≢ xs ++ c ∷ ys
+pub nonempty : (xs : List ℕ) (c : ℕ) (ys : List ℕ) → [] ≢ xs ++ c ∷ ys
 nonempty [] c ys e = cc
 nonempty (x ∷ xs) c ys e = cc
 
@@ -148,3 +151,12 @@ filled octets b is test = grind arith
 
 pub not_empty : (octets : List ℕ) → 1 ≤ length octets → octets ≢ []
 not_empty octets some e = omega (arith, ap length e)
+
+-- what no octet is in
+pub emptied : (octets : List ℕ) (b : Bool) → b ≡ true → b ≡ eqb (length octets) 0 → octets ≡ []
+emptied [] b is test = refl
+emptied (x ∷ xs) b is test = absurd (grind arith)
+
+-- texts of digits and their number, as std's lemmas take them
+pub own : IsNumeralModel (λ digits. all_ascii_digits digits ≡ true) (digits_value 10)
+own = numerals_by_value (λ digits. all_ascii_digits digits ≡ true) tells_all_ascii_digits

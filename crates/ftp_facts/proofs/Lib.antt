@@ -1,3 +1,4 @@
 mod CalendarLemmas
+pub mod EntryLemmas
 mod FactLemmas
 pub mod MomentLemmas

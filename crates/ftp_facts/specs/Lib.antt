@@ -1,3 +1,4 @@
 pub mod Calendar
 pub mod Moment
 pub mod Fact
+pub mod Entry

@@ -9,9 +9,11 @@ mod facts;
 mod fault;
 pub mod laws;
 mod moment;
+mod reading;
 mod text;
 
 pub use entry::{Entry, Kind};
 pub use fault::FactFault;
 pub use moment::{Moment, moment_of_text, moment_text};
+pub use reading::read_entry;
 pub use text::Text;

@@ -1,17 +1,13 @@
 use Rattle.std.proofs.Common.{◌≡◌, ℕ, ◌^◌, ◌<◌, ◌≤◌, List, length, take, get_or, true, sym, arith}
-use Rattle.std.specs.Str.{all_ascii_digits}
 use Rattle.std.specs.Str.Parse.{AllDigits, digits_value}
 use Rattle.std.proofs.lemmas.List.{take_all, length-take-le}
 use Rattle.std.proofs.lemmas.Str.{digit_value_digit}
 use Rattle.std.proofs.lemmas.Int.Digits.{digits_value-lt, digits_value_more, digits_more}
-use Rattle.std.proofs.lemmas.Str.Parse.{IsNumeralModel, numerals_by_value, tells_all_ascii_digits, digit_at, digit_from_value}
+use Rattle.std.proofs.lemmas.Str.Parse.{digit_at, digit_from_value}
 use Rattle.std.proofs.Math.Nat.{pow-le-pow_right}
 use Rattle.ftp_facts.specs.Fact.{SaysSize}
-use Rattle.ftp_facts.proofs.FactLemmas.{filled}
+use Rattle.ftp_facts.proofs.FactLemmas.{filled, own}
 use Rattle.ftp_facts.proofs.facts.size_of.Goals as goal
-
-own : IsNumeralModel (λ ds. all_ascii_digits ds ≡ true) (digits_value 10)
-own = numerals_by_value (λ ds. all_ascii_digits ds ≡ true) tells_all_ascii_digits
 
 -- fewer than 18 digits write a number below 10 ^ 17
 below : (digits : List ℕ) (i : ℕ) → i < length digits → length digits ≤ 18 → AllDigits 10 (take i digits) → digits_value 10 (take i digits) < 100_000_000_000_000_000

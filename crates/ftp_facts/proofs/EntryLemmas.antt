@@ -1,0 +1,128 @@
+-- A line says one entry, or meets one fault.
+use Rattle.std.proofs.Common.{◌≡◌, ◌≢◌, ℕ, ◌<◌, ◌≤◌, ◌^◌, List, [], ◌∷◌, ◌++◌, Option, Some, None, option_map, All, cond, Bool, true, false, refl, sym, ap, ◌∙◌, arith, append-nil, codes, Result, Ok, Err, IfErr}
+use Rattle.std.specs.Option.{ForSome}
+use Rattle.std.specs.Result.{IsErrAnd}
+use Rattle.ftp_facts.specs.declared.fault.FactFault.{FactFault}
+use Rattle.ftp_facts.specs.declared.fault.FactFault.TheVariants.{NoSpace, BadFact, BadMoment, Memory}
+use Rattle.std.specs.List.{find}
+use Rattle.std.proofs.lemmas.List.Elements.{All-head, All-tail, All-cons, All-nil}
+use Rattle.std.specs.Str.Parse.{digits_value}
+use Rattle.std.proofs.lemmas.Str.Parse.{digits_value_short}
+use Rattle.ftp_facts.specs.Fact.{Fact, IsFact, Lacks, IsValue, IsNumber, SaysSize, AreFacts, HasValue, facts_text, first_value, is_named, space, equals, semicolon}
+use Rattle.ftp_facts.specs.Entry.{HasParts, NoParts, SaysFact, IsMoment, IsSound, Refuses}
+use Rattle.ftp_facts.proofs.FactLemmas.{Lacks-middle, Lacks-front, Lacks-back, cut-same, facts_after, nonempty, own}
+
+-- octets are the facts of one list
+pub AreFacts-same : (octets : List ℕ) (xs ys : List Fact) → AreFacts octets xs → AreFacts octets ys → xs ≡ ys
+AreFacts-same octets xs ys a b =
+    let more = facts_after ys xs [] b.0 a.0 (sym a.1 ∙ b.1 ∙ sym (append-nil (facts_text ys))) in
+    more.2 ∙ ap (λ tail. ys ++ tail) (none_left more.0 more.3) ∙ append-nil ys
+    where
+    none_left : (more : List Fact) → [] ≡ facts_text more → more ≡ []
+    none_left [] e = refl
+    none_left (f ∷ fs) e = absurd (nonempty f.name equals (f.value ++ semicolon ∷ facts_text fs) e)
+
+-- what is found meets what each meets
+find_meets : (p : Fact → Bool) (P : Fact → Type 0) (xs : List Fact) → All P xs → (f : Fact) → find p xs ≡ Some f → P f
+find_meets p P [] all f e = cc
+find_meets p P (x ∷ xs) all f e = by_test (p x) e (find_meets p P xs (All-tail P x xs all) f)
+    where
+    by_test : (b : Bool) → cond b (Some x) (find p xs) ≡ Some f → (find p xs ≡ Some f → P f) → P f
+    by_test true e later = let same : f ≡ x = cc in rw same (All-head P x xs all)
+    by_test false e later = later e
+
+-- a value of facts without a space has no space
+spaceless_values : (xs : List Fact) → Lacks (facts_text xs) space → All (λ f. Lacks f.value space) xs
+spaceless_values [] lacks = All-nil (λ f. Lacks f.value space)
+spaceless_values (x ∷ xs) lacks =
+    let after_name = Lacks-back space x.name (equals ∷ (x.value ++ semicolon ∷ facts_text xs)) lacks in
+    let from_value = All-tail (λ each. each ≢ space) equals (x.value ++ semicolon ∷ facts_text xs) after_name in
+    let after_value = Lacks-back space x.value (semicolon ∷ facts_text xs) from_value in
+    All-cons (λ f. Lacks f.value space) x xs (Lacks-front space x.value (semicolon ∷ facts_text xs) from_value) (spaceless_values xs (All-tail (λ each. each ≢ space) semicolon (facts_text xs) after_value))
+
+-- so the value that is found can be one
+value_fits : (name : List ℕ) (xs : List Fact) (value : Option (List ℕ)) → All IsFact xs → Lacks (facts_text xs) space → first_value name xs ≡ value → ForSome value IsValue
+value_fits name xs value all lacks is = λ text e. at_found (find (is_named name) xs) refl text (is ∙ e)
+    where
+    at_found : (found : Option Fact) → find (is_named name) xs ≡ found → (text : List ℕ) → option_map (λ fact. fact.value) found ≡ Some text → IsValue text
+    at_found None there text e = cc
+    at_found (Some f) there text e =
+        let same : text ≡ f.value = cc in
+        rw same (find_meets (is_named name) (λ f. Lacks f.value space) xs (spaceless_values xs lacks) f there, (find_meets (is_named name) IsFact xs all f there).2)
+
+pub HasParts-kind : (line name : List ℕ) (kind size modify perm : Option (List ℕ)) → HasParts line name kind size modify perm → ForSome kind IsValue
+HasParts-kind line name kind size modify perm h = value_fits (codes "Type") h.facts kind h.each h.spaceless h.kind_is
+
+pub HasParts-perm : (line name : List ℕ) (kind size modify perm : Option (List ℕ)) → HasParts line name kind size modify perm → ForSome perm IsValue
+HasParts-perm line name kind size modify perm h = value_fits (codes "Perm") h.facts perm h.each h.spaceless h.perm_is
+
+-- the four values are those of one list of facts
+pub parts_are : (line octets name : List ℕ) (kind size modify perm : Option (List ℕ)) → line ≡ octets ++ space ∷ name → Lacks octets space → HasValue octets (codes "Type") kind → HasValue octets (codes "Size") size → HasValue octets (codes "Modify") modify → HasValue octets (codes "Perm") perm → HasParts line name kind size modify perm
+parts_are line octets name kind size modify perm is cut k s m p = record {
+    facts = k.facts;
+    each = k.are.0;
+    spaceless = rw k.are.1 at cut;
+    written = is ∙ ap (λ front. front ++ space ∷ name) k.are.1;
+    kind_is = k.found;
+    size_is = ap (first_value (codes "Size")) (AreFacts-same octets k.facts s.facts k.are s.are) ∙ s.found;
+    modify_is = ap (first_value (codes "Modify")) (AreFacts-same octets k.facts m.facts k.are m.are) ∙ m.found;
+    perm_is = ap (first_value (codes "Perm")) (AreFacts-same octets k.facts p.facts k.are p.are) ∙ p.found;
+}
+
+-- where what stands before the space is no facts, the line has no parts
+pub no_parts : (line octets name : List ℕ) → line ≡ octets ++ space ∷ name → Lacks octets space → ((list : List Fact) → ¬ (AreFacts octets list)) → (other : List ℕ) (kind size modify perm : Option (List ℕ)) → ¬ (HasParts line other kind size modify perm)
+no_parts line octets name is cut none other kind size modify perm h =
+    let same = cut-same space octets (facts_text h.facts) name other cut h.spaceless (sym is ∙ h.written) in
+    none h.facts (h.each, same.0)
+
+pub has_space : (line octets name : List ℕ) → line ≡ octets ++ space ∷ name → ¬ (Lacks line space)
+has_space line octets name is lacks = Lacks-middle space octets name (rw is at lacks)
+
+-- a line has one pathname, and one value of each fact
+pub HasParts-same : (line n name : List ℕ) (k s m p kind size modify perm : Option (List ℕ)) → HasParts line n k s m p → HasParts line name kind size modify perm → (n ≡ name) × (k ≡ kind) × (s ≡ size) × (m ≡ modify) × (p ≡ perm)
+HasParts-same line n name k s m p kind size modify perm a b =
+    let cut = cut-same space (facts_text a.facts) (facts_text b.facts) n name a.spaceless b.spaceless (sym a.written ∙ b.written) in
+    let facts = AreFacts-same (facts_text a.facts) a.facts b.facts (a.each, refl) (b.each, cut.0) in
+    (cut.1, sym a.kind_is ∙ ap (first_value (codes "Type")) facts ∙ b.kind_is, sym a.size_is ∙ ap (first_value (codes "Size")) facts ∙ b.size_is, sym a.modify_is ∙ ap (first_value (codes "Modify")) facts ∙ b.modify_is, sym a.perm_is ∙ ap (first_value (codes "Perm")) facts ∙ b.perm_is)
+
+-- a fault that `?` passes on
+pub fault_passes : {T : Type 0} (r : Result T FactFault) (f g : FactFault) (P : FactFault → Type 0) → IsErrAnd r (λ e. e ≡ f) → f ≡ g → P g → IfErr r P
+fault_passes (Ok x) f g P is same p = tt
+fault_passes (Err e) f g P is same p = rw (is ∙ same) p
+
+-- a line without parts is refused as such
+pub NoParts-refuses : (line : List ℕ) (fault : FactFault) → NoParts line fault → Refuses line fault
+NoParts-refuses line NoSpace denies = denies
+NoParts-refuses line BadFact denies = (denies.0, λ name kind size modify perm sound. denies.1 name kind size modify perm sound.parts)
+NoParts-refuses line BadMoment denies = absurd denies
+NoParts-refuses line Memory denies = absurd denies
+
+-- and so are one without a pathname and one whose Size is no number
+pub no_name : (line name : List ℕ) (kind size modify perm : Option (List ℕ)) → HasParts line name kind size modify perm → name ≡ [] → Refuses line BadFact
+no_name line name kind size modify perm h empty =
+    (has_space line (facts_text h.facts) name h.written, λ n k s m p sound. sound.named (sym (HasParts-same line name n kind size modify perm k s m p h sound.parts).0 ∙ empty))
+
+pub no_number : (line name : List ℕ) (kind size modify perm : Option (List ℕ)) → HasParts line name kind size modify perm → ¬ (ForSome size IsNumber) → Refuses line BadFact
+no_number line name kind size modify perm h denies =
+    (has_space line (facts_text h.facts) name h.written, λ n k s m p sound. denies (rw (HasParts-same line name n kind size modify perm k s m p h sound.parts).2 sound.sized))
+
+-- a Modify that is no moment is refused
+pub no_moment : (line name : List ℕ) (kind size modify perm : Option (List ℕ)) → IsSound line name kind size modify perm → ¬ (ForSome modify IsMoment) → Refuses line BadMoment
+no_moment line name kind size None perm sound denies = absurd (denies (λ text e. cc))
+no_moment line name kind size (Some modify) perm sound denies =
+    (name, kind, size, modify, perm, sound, λ is. denies (λ text e. let same : text ≡ modify = cc in rw same is))
+
+-- what says a size is a number below 10 ^ 18
+pub SaysFact-number : (text : Option (List ℕ)) (size : Option ℕ) → SaysFact SaysSize text size → ForSome text IsNumber
+SaysFact-number None size says = λ text e. cc
+SaysFact-number (Some value) None says = absurd says
+SaysFact-number (Some value) (Some n) says = λ text e. let same : text ≡ value = cc in rw same says.0
+
+pub SaysFact-fits : (text : Option (List ℕ)) (size : Option ℕ) → SaysFact SaysSize text size → ForSome size (λ n. n < 1_000_000_000_000_000_000)
+SaysFact-fits None None says = λ n e. cc
+SaysFact-fits None (Some n) says = absurd says
+SaysFact-fits (Some value) None says = absurd says
+SaysFact-fits (Some value) (Some size) says = λ n e.
+    let same : n ≡ size = cc in
+    let short : digits_value 10 value < 10 ^ 18 = digits_value_short own value 18 says.0.0 says.0.2 in
+    omega (arith, same, says.1)

@@ -1,0 +1,35 @@
+use Rattle.std.proofs.Common.{refl}
+use Rattle.std.specs.Option.{option_copied}
+use Rattle.ftp_facts.specs.declared.fault.FactFault.TheVariants.{BadFact, BadMoment}
+use Rattle.ftp_facts.specs.Entry.{Refuses}
+use Rattle.ftp_facts.proofs.FactLemmas.{filled, not_empty, emptied}
+use Rattle.ftp_facts.proofs.EntryLemmas.{fault_passes, NoParts-refuses, no_name, no_number, no_moment, SaysFact-number}
+use Rattle.ftp_facts.proofs.reading.see.Goals as goal
+
+pub returns-in_err-parts-clause-refuses : goal.returns-in_err-parts-clause-refuses
+returns-in_err-parts-clause-refuses c =
+    let line = c.args.line.now in
+    let fault = c.in_err-parts.field-0.0 in
+    fault_passes c.from_residual.result fault fault (Refuses line) c.from_residual.ensures.1 refl (NoParts-refuses line fault c.in_err-parts.ensures.silent)
+
+pub returns-then-is_empty-clause-refuses : goal.returns-then-is_empty-clause-refuses
+returns-then-is_empty-clause-refuses c =
+    let parts = c.in_ok-parts.parts in
+    let empty = emptied parts.name.now c.is_empty.result c.if-is_empty.true c.is_empty.ensures in
+    no_name c.args.line.now parts.name.now (option_copied parts.kind) (option_copied parts.size) (option_copied parts.modify) (option_copied parts.perm) c.in_ok-parts.ensures.parts empty
+
+pub returns-in_err-read_size-clause-refuses : goal.returns-in_err-read_size-clause-refuses
+returns-in_err-read_size-clause-refuses c =
+    let line = c.args.line.now in
+    let parts = c.in_ok-parts.parts in
+    let err = c.in_err-read_size.ensures in
+    fault_passes c.from_residual-in_err-read_size.result c.in_err-read_size.field-0.0 BadFact (Refuses line) c.from_residual-in_err-read_size.ensures.1 err.fault (no_number line parts.name.now (option_copied parts.kind) (option_copied parts.size) (option_copied parts.modify) (option_copied parts.perm) c.in_ok-parts.ensures.parts err.silent)
+
+pub returns-in_err-read_modify-clause-refuses : goal.returns-in_err-read_modify-clause-refuses
+returns-in_err-read_modify-clause-refuses c =
+    let line = c.args.line.now in
+    let parts = c.in_ok-parts.parts in
+    let err = c.in_err-read_modify.ensures in
+    let named = not_empty parts.name.now (filled parts.name.now c.is_empty.result c.if-is_empty.false c.is_empty.ensures) in
+    let sized = SaysFact-number (option_copied parts.size) c.in_ok-read_size.field-0 c.in_ok-read_size.ensures.says in
+    fault_passes c.from_residual-in_err-read_modify.result c.in_err-read_modify.field-0.0 BadMoment (Refuses line) c.from_residual-in_err-read_modify.ensures.1 err.fault (no_moment line parts.name.now (option_copied parts.kind) (option_copied parts.size) (option_copied parts.modify) (option_copied parts.perm) (record { parts = c.in_ok-parts.ensures.parts; named = named; sized = sized }) err.silent)
