@@ -1,4 +1,5 @@
 mod CalendarLemmas
 pub mod EntryLemmas
 mod FactLemmas
+mod WritingLemmas
 pub mod MomentLemmas

@@ -1,5 +1,5 @@
 -- An entry of a listing, and the lines that say it (RFC 3659, section 7.2).
-use Rattle.std.specs.Prelude.{◌≡◌, ◌≢◌, ℕ, List, [], ◌∷◌, ◌++◌, All, Option, Some, None, true, ⊤, codes}
+use Rattle.std.specs.Prelude.{◌≡◌, ◌≢◌, ℕ, List, [], ◌∷◌, ◌++◌, All, Option, Some, None, option_map, true, ⊤, codes, decimal}
 use Rattle.std.specs.Option.{ForSome}
 use Rattle.ftp_facts.specs.declared.fault.FactFault.{FactFault}
 use Rattle.ftp_facts.specs.declared.fault.FactFault.TheVariants.{NoSpace, BadFact, BadMoment, Memory}
@@ -7,8 +7,8 @@ use Rattle.ftp_facts.specs.declared.moment.Moment.{Moment}
 use Rattle.ftp_facts.specs.declared.entry.Kind.{Kind}
 use Rattle.ftp_facts.specs.declared.entry.Kind.TheVariants.{File, Dir, CurrentDir, ParentDir, Other}
 use Rattle.ftp_facts.specs.declared.entry.Entry.{Entry}
-use Rattle.ftp_facts.specs.Moment.{SaysMoment}
-use Rattle.ftp_facts.specs.Fact.{Fact, IsFact, Lacks, IsNumber, SaysSize, IsOtherWord, facts_text, first_value, is_word, space, file_word, dir_word, current_word, parent_word}
+use Rattle.ftp_facts.specs.Moment.{SaysMoment, WritesMoment}
+use Rattle.ftp_facts.specs.Fact.{Fact, IsFact, Lacks, IsNumber, SaysSize, IsOtherWord, facts_text, first_value, given, is_word, space, file_word, dir_word, current_word, parent_word}
 
 -- The line is facts, a space and a pathname, the facts end at the first space, and these are the values
 -- of the first Type, Size, Modify and Perm, each where there is one.
@@ -88,3 +88,43 @@ Refuses line BadMoment =
 Refuses line Memory =
     (name : List ℕ) × (kind : Option (List ℕ)) × (size : Option ℕ) × (modify : Option Moment)
     × (perm : Option (List ℕ)) × Says line name kind size modify perm
+
+-- the word of a type
+abbrev pub word_of : {A : Type 0} → Kind A → List ℕ
+word_of File = file_word
+word_of Dir = dir_word
+word_of CurrentDir = current_word
+word_of ParentDir = parent_word
+word_of (Other word) = word
+
+-- the facts of an entry, in the order in which they are written
+abbrev pub facts_of : Option (List ℕ) → Option (List ℕ) → Option (List ℕ) → Option (List ℕ) → List Fact
+facts_of kind size modify perm =
+    given (codes "Type") kind ++ (given (codes "Size") size
+    ++ (given (codes "Modify") modify ++ given (codes "Perm") perm))
+
+-- the digits of a moment
+abbrev pub WritesModify : List ℕ → Moment → Type 0
+WritesModify text moment = WritesMoment text moment.seconds
+
+-- the line of an entry: its facts, a space and its pathname
+pub record WritesEntry {A : Type 0} (line : List ℕ) (entry : Entry A) : Type 0 where
+  pub modify : Option (List ℕ)
+  pub digits : SaysFact WritesModify modify entry.modify
+  pub written : line ≡ facts_text (facts_of (option_map word_of entry.kind) (option_map decimal entry.size) modify entry.perm) ++ space ∷ entry.name
+
+-- the octets have grown by the line of an entry
+pub record AppendsEntry {A : Type 0} (old new : List ℕ) (entry : Entry A) : Type 0 where
+  pub line : List ℕ
+  pub appended : new ≡ old ++ line
+  pub writes : WritesEntry line entry
+
+-- the octets have grown, or are as they were
+abbrev pub GoesOn : List ℕ → List ℕ → Type 0
+GoesOn old new = (more : List ℕ) × (new ≡ old ++ more)
+
+-- the octets have grown by the fact of a Modify
+pub record AppendsModify (old new : List ℕ) (modify : Option Moment) : Type 0 where
+  pub text : Option (List ℕ)
+  pub digits : SaysFact WritesModify text modify
+  pub appended : new ≡ old ++ facts_text (given (codes "Modify") text)

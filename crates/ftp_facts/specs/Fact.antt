@@ -1,5 +1,5 @@
 -- The facts of an entry: `name=value;`, one after another (RFC 3659, section 7.2).
-use Rattle.std.specs.Prelude.{◌≡◌, ◌≢◌, ℕ, ◌≤◌, List, [], ◌∷◌, ◌++◌, length, All, IsTrue, find, Bool, false, Option, option_map, codes}
+use Rattle.std.specs.Prelude.{◌≡◌, ◌≢◌, ℕ, ◌≤◌, List, [], ◌∷◌, ◌++◌, length, All, IsTrue, find, Bool, false, Option, Some, None, option_map, codes}
 use Rattle.std.specs.Str.{str_eq_ignore_ascii_case, all_ascii_digits}
 use Rattle.std.specs.Str.Parse.{digits_value}
 
@@ -90,3 +90,8 @@ pub record HasValue (octets name : List ℕ) (value : Option (List ℕ)) : Type 
   pub facts : List Fact
   pub are : AreFacts octets facts
   pub found : first_value name facts ≡ value
+
+-- the fact of this name, where there is a value for it
+abbrev pub given : List ℕ → Option (List ℕ) → List Fact
+given name None = []
+given name (Some value) = record { name = name; value = value } ∷ []

@@ -11,9 +11,11 @@ pub mod laws;
 mod moment;
 mod reading;
 mod text;
+mod writing;
 
 pub use entry::{Entry, Kind};
 pub use fault::FactFault;
 pub use moment::{Moment, moment_of_text, moment_text};
 pub use reading::read_entry;
 pub use text::Text;
+pub use writing::write_entry;
