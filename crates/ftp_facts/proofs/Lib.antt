@@ -1,4 +1,5 @@
 mod CalendarLemmas
+mod ComesBackLemmas
 pub mod EntryLemmas
 mod FactLemmas
 mod WritingLemmas

@@ -19,7 +19,7 @@ four_digits-same m n xs ys hm hn e =
     let low = two_digits-same (m % 100) (n % 100) xs ys (omega arith) (omega arith) high.1 in
     (omega arith, low.1)
 
-days_fit : (year month day : ℕ) → IsDate year month day → day < 100
+pub days_fit : (year month day : ℕ) → IsDate year month day → day < 100
 days_fit year month day real = grind arith
 
 -- the rest after the year of a date at the front

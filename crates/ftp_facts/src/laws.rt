@@ -1,8 +1,10 @@
 //! What reading and writing are to each other. The calls do nothing that a caller needs: their contracts are the laws.
 ghost use Rattle.std.specs.Prelude.{◌≡◌};
 ghost use Rattle.ftp_facts.specs.Moment.{SaysMoment, WritesMoment};
+ghost use Rattle.ftp_facts.specs.Entry.{SaysEntry, WritesEntry, Refuses};
 
-use crate::{FactFault, Moment, moment_of_text, moment_text};
+use crate::{Entry, FactFault, Moment, moment_of_text, moment_text};
+use std::alloc::Allocator;
 
 /// No text says two moments.
 pub fn one_moment(text: &[u8], first: Moment, second: Moment)
@@ -22,4 +24,11 @@ pub fn moment_comes_back(moment: Moment) -> Result<Moment, FactFault>
     ensures { result ≡ Ok moment }
 {
     moment_of_text(&moment_text(moment))
+}
+
+/// What is written of an entry says that entry.
+pub fn written_entry_is_said<A: Allocator>(line: &[u8], entry: &Entry<A>)
+    requires { WritesEntry line.now entry.now }
+    ensures { SaysEntry line.now entry.now }
+{
 }
