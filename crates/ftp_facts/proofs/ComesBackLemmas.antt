@@ -1,10 +1,7 @@
 -- What is written of an entry says that entry.
-use Rattle.std.proofs.Common.{◌≡◌, ◌≢◌, ℕ, ◌+◌, ◌/◌, ◌%◌, ◌<◌, ◌≤◌, ◌^◌, List, [], ◌∷◌, ◌++◌, length, Option, Some, None, option_map, All, Bool, true, false, not, ◌&&◌, ◌⊎◌, inl, inr, eqb, cond, refl, sym, ap, ◌∙◌, arith, codes, decimal}
+use Rattle.std.proofs.Common.{◌≡◌, ◌≢◌, ℕ, ◌+◌, ◌/◌, ◌%◌, ◌<◌, ◌^◌, List, [], ◌∷◌, ◌++◌, Option, Some, None, option_map, All, Bool, true, false, not, ◌&&◌, ◌⊎◌, inl, inr, eqb, refl, ◌∙◌, arith, codes, decimal}
 use Rattle.std.specs.Option.{ForSome}
-use Rattle.std.specs.List.{find}
 use Rattle.std.specs.Int.{IsInRange}
-use Rattle.std.specs.Str.{all_ascii_digits}
-use Rattle.std.specs.Str.Parse.{digits_value, AllDigits}
 use Rattle.std.proofs.lemmas.List.Elements.{All-cons, All-nil, All-append, All-from_get_or}
 use Rattle.std.proofs.lemmas.Str.Parse.{not_in_digits}
 use Rattle.std.proofs.lemmas.Fmt.{digits_decimal, digits_value-decimal, length-decimal-le, decimal_nonempty}
@@ -12,9 +9,8 @@ use Rattle.ftp_facts.specs.declared.entry.Kind.{Kind}
 use Rattle.ftp_facts.specs.declared.entry.Kind.TheVariants.{File, Dir, CurrentDir, ParentDir, Other}
 use Rattle.ftp_facts.specs.declared.entry.Entry.{Entry}
 use Rattle.ftp_facts.specs.declared.moment.Moment.{Moment}
-use Rattle.ftp_facts.specs.Calendar.{IsDate}
 use Rattle.ftp_facts.specs.Moment.{two_digits, four_digits, date_digits, time_digits, WritesMoment}
-use Rattle.ftp_facts.specs.Fact.{Fact, IsFact, IsValue, IsNumber, SaysSize, IsOtherWord, Lacks, facts_text, first_value, given, is_named, is_word, space, equals, semicolon, file_word, dir_word, current_word, parent_word}
+use Rattle.ftp_facts.specs.Fact.{Fact, IsFact, IsValue, SaysSize, IsOtherWord, Lacks, facts_text, first_value, given, is_word, space, equals, semicolon, file_word, dir_word, current_word, parent_word}
 use Rattle.ftp_facts.specs.Entry.{HasParts, NamesKind, NamesMoment, SaysFact, SaysEntry, WritesEntry, WritesModify, word_of, facts_of}
 use Rattle.ftp_facts.proofs.FactLemmas.{facts_text-append, own}
 use Rattle.ftp_facts.proofs.MomentLemmas.{WritesMoment-says, days_fit}
@@ -29,7 +25,7 @@ lacks_by c [] e = All-nil (λ each. each ≢ c)
 lacks_by c (x ∷ xs) e =
     let parts : (x ≢ c) × (differs c xs ≡ true) = split x c (differs c xs) e in
     All-cons (λ each. each ≢ c) x xs parts.0 (lacks_by c xs parts.1)
-    where
+  where
     split : (x c : ℕ) (rest : Bool) → not (eqb x c) && rest ≡ true → (x ≢ c) × (rest ≡ true)
     split x c true e = ((λ same. grind (arith, e)), refl)
     split x c false e = absurd (grind (arith, e))
@@ -165,14 +161,14 @@ modify_said (Some text) (Some moment) says = WritesMoment-says text moment.secon
 -- what is written of an entry says it
 pub WritesEntry-says : {A : Type 0} (line : List ℕ) (entry : Entry A) → WritesEntry line entry → SaysEntry line entry
 WritesEntry-says line entry w = record {
-    kind = option_map word_of entry.kind;
-    said = record {
-      size_text = option_map decimal entry.size;
-      modify_text = w.modify;
-      parts = values line entry.name (option_map word_of entry.kind) (option_map decimal entry.size) w.modify entry.perm (kind_value entry.kind entry.kind_fits) (size_value entry.size entry.size_fits) (modify_value w.modify entry.modify w.digits) entry.perm_fits w.written;
-      named = entry.named;
-      size_said = size_said entry.size entry.size_fits;
-      modify_said = modify_said w.modify entry.modify w.digits;
-    };
-    kind_said = kind_said entry.kind entry.kind_fits;
+  kind = option_map word_of entry.kind;
+  said = record {
+    size_text = option_map decimal entry.size;
+    modify_text = w.modify;
+    parts = values line entry.name (option_map word_of entry.kind) (option_map decimal entry.size) w.modify entry.perm (kind_value entry.kind entry.kind_fits) (size_value entry.size entry.size_fits) (modify_value w.modify entry.modify w.digits) entry.perm_fits w.written;
+    named = entry.named;
+    size_said = size_said entry.size entry.size_fits;
+    modify_said = modify_said w.modify entry.modify w.digits;
+  };
+  kind_said = kind_said entry.kind entry.kind_fits;
 }

@@ -1,5 +1,5 @@
 -- A line says one entry, or meets one fault.
-use Rattle.std.proofs.Common.{◌≡◌, ◌≢◌, ℕ, ◌<◌, ◌≤◌, ◌^◌, List, [], ◌∷◌, ◌++◌, Option, Some, None, option_map, All, cond, Bool, true, false, refl, sym, ap, ◌∙◌, arith, append-nil, codes, Result, Ok, Err, IfErr}
+use Rattle.std.proofs.Common.{◌≡◌, ◌≢◌, ℕ, ◌<◌, ◌^◌, List, [], ◌∷◌, ◌++◌, Option, Some, None, option_map, All, cond, Bool, true, false, refl, sym, ap, ◌∙◌, arith, append-nil, codes, Result, Ok, Err, IfErr}
 use Rattle.std.specs.Option.{ForSome}
 use Rattle.std.specs.Result.{IsErrAnd}
 use Rattle.ftp_facts.specs.declared.fault.FactFault.{FactFault}
@@ -17,7 +17,7 @@ pub AreFacts-same : (octets : List ℕ) (xs ys : List Fact) → AreFacts octets 
 AreFacts-same octets xs ys a b =
     let more = facts_after ys xs [] b.0 a.0 (sym a.1 ∙ b.1 ∙ sym (append-nil (facts_text ys))) in
     more.2 ∙ ap (λ tail. ys ++ tail) (none_left more.0 more.3) ∙ append-nil ys
-    where
+  where
     none_left : (more : List Fact) → [] ≡ facts_text more → more ≡ []
     none_left [] e = refl
     none_left (f ∷ fs) e = absurd (nonempty f.name equals (f.value ++ semicolon ∷ facts_text fs) e)
@@ -26,7 +26,7 @@ AreFacts-same octets xs ys a b =
 find_meets : (p : Fact → Bool) (P : Fact → Type 0) (xs : List Fact) → All P xs → (f : Fact) → find p xs ≡ Some f → P f
 find_meets p P [] all f e = cc
 find_meets p P (x ∷ xs) all f e = by_test (p x) e (find_meets p P xs (All-tail P x xs all) f)
-    where
+  where
     by_test : (b : Bool) → cond b (Some x) (find p xs) ≡ Some f → (find p xs ≡ Some f → P f) → P f
     by_test true e later = let same : f ≡ x = cc in rw same (All-head P x xs all)
     by_test false e later = later e
@@ -43,7 +43,7 @@ spaceless_values (x ∷ xs) lacks =
 -- so the value that is found can be one
 value_fits : (name : List ℕ) (xs : List Fact) (value : Option (List ℕ)) → All IsFact xs → Lacks (facts_text xs) space → first_value name xs ≡ value → ForSome value IsValue
 value_fits name xs value all lacks is = λ text e. at_found (find (is_named name) xs) refl text (is ∙ e)
-    where
+  where
     at_found : (found : Option Fact) → find (is_named name) xs ≡ found → (text : List ℕ) → option_map (λ fact. fact.value) found ≡ Some text → IsValue text
     at_found None there text e = cc
     at_found (Some f) there text e =
@@ -59,14 +59,14 @@ HasParts-perm line name kind size modify perm h = value_fits (codes "Perm") h.fa
 -- the four values are those of one list of facts
 pub parts_are : (line octets name : List ℕ) (kind size modify perm : Option (List ℕ)) → line ≡ octets ++ space ∷ name → Lacks octets space → HasValue octets (codes "Type") kind → HasValue octets (codes "Size") size → HasValue octets (codes "Modify") modify → HasValue octets (codes "Perm") perm → HasParts line name kind size modify perm
 parts_are line octets name kind size modify perm is cut k s m p = record {
-    facts = k.facts;
-    each = k.are.0;
-    spaceless = rw k.are.1 at cut;
-    written = is ∙ ap (λ front. front ++ space ∷ name) k.are.1;
-    kind_is = k.found;
-    size_is = ap (first_value (codes "Size")) (AreFacts-same octets k.facts s.facts k.are s.are) ∙ s.found;
-    modify_is = ap (first_value (codes "Modify")) (AreFacts-same octets k.facts m.facts k.are m.are) ∙ m.found;
-    perm_is = ap (first_value (codes "Perm")) (AreFacts-same octets k.facts p.facts k.are p.are) ∙ p.found;
+  facts = k.facts;
+  each = k.are.0;
+  spaceless = rw k.are.1 at cut;
+  written = is ∙ ap (λ front. front ++ space ∷ name) k.are.1;
+  kind_is = k.found;
+  size_is = ap (first_value (codes "Size")) (AreFacts-same octets k.facts s.facts k.are s.are) ∙ s.found;
+  modify_is = ap (first_value (codes "Modify")) (AreFacts-same octets k.facts m.facts k.are m.are) ∙ m.found;
+  perm_is = ap (first_value (codes "Perm")) (AreFacts-same octets k.facts p.facts k.are p.are) ∙ p.found;
 }
 
 -- where what stands before the space is no facts, the line has no parts

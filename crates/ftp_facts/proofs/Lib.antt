@@ -2,5 +2,6 @@ mod CalendarLemmas
 mod ComesBackLemmas
 pub mod EntryLemmas
 mod FactLemmas
+pub mod Theorems
 mod WritingLemmas
 pub mod MomentLemmas

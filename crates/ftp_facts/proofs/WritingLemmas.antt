@@ -1,8 +1,8 @@
 -- What is written of an entry.
-use Rattle.std.proofs.Common.{◌≡◌, ℕ, List, ◌∷◌, ◌++◌, Option, Some, option_map, Result, Ok, Err, OnOk, OnErr, refl, sym, ap, ◌∙◌, append_assoc, codes, decimal}
+use Rattle.std.proofs.Common.{◌≡◌, ℕ, List, ◌∷◌, ◌++◌, option_map, Result, Ok, Err, OnOk, OnErr, refl, sym, ap, ◌∙◌, append_assoc, codes, decimal}
 use Rattle.ftp_facts.specs.declared.entry.Entry.{Entry}
 use Rattle.ftp_facts.specs.Fact.{given, facts_text, space}
-use Rattle.ftp_facts.specs.Entry.{word_of, facts_of, AppendsEntry, AppendsModify, GoesOn}
+use Rattle.ftp_facts.specs.Entry.{word_of, AppendsEntry, AppendsModify, GoesOn}
 use Rattle.ftp_facts.proofs.FactLemmas.{facts_text-append}
 
 pub on_ok : {T E : Type 0} (r : Result T E) (P Q : Type 0) → (P → Q) → OnOk r P → OnOk r Q

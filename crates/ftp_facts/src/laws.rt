@@ -1,9 +1,9 @@
 //! What reading and writing are to each other. The calls do nothing that a caller needs: their contracts are the laws.
-ghost use Rattle.std.specs.Prelude.{◌≡◌};
+ghost use Rattle.std.specs.Prelude.{◌≡◌, IfOk, IfErr};
 ghost use Rattle.ftp_facts.specs.Moment.{SaysMoment, WritesMoment};
 ghost use Rattle.ftp_facts.specs.Entry.{SaysEntry, WritesEntry, Refuses};
 
-use crate::{Entry, FactFault, Moment, moment_of_text, moment_text};
+use crate::{Entry, FactFault, Moment, moment_of_text, moment_text, read_entry, write_entry};
 use std::alloc::Allocator;
 
 /// No text says two moments.
@@ -26,9 +26,44 @@ pub fn moment_comes_back(moment: Moment) -> Result<Moment, FactFault>
     moment_of_text(&moment_text(moment))
 }
 
+/// No line says two entries.
+pub fn one_entry<A: Allocator>(line: &[u8], first: &Entry<A>, second: &Entry<A>)
+    requires first { SaysEntry line.now first.now }
+    requires second { SaysEntry line.now second.now }
+    ensures { first.now ≡ second.now }
+{}
+
+/// A line meets one fault.
+pub fn one_fault(line: &[u8], first: FactFault, second: FactFault)
+    requires first { Refuses line.now first }
+    requires second { Refuses line.now second }
+    ensures { first ≡ second }
+{}
+
+/// A line that says an entry meets no fault: only memory can be refused.
+pub fn no_fault<A: Allocator>(line: &[u8], entry: &Entry<A>)
+    requires { SaysEntry line.now entry.now }
+    ensures { Refuses line.now FactFault.Memory }
+{}
+
 /// What is written of an entry says that entry.
 pub fn written_entry_is_said<A: Allocator>(line: &[u8], entry: &Entry<A>)
     requires { WritesEntry line.now entry.now }
     ensures { SaysEntry line.now entry.now }
+{}
+
+/// The line of an entry is read as that entry.
+pub fn entry_comes_back<A: Allocator + Clone>(
+    alloc: A,
+    entry: &Entry<A>,
+) -> Result<Entry<A>, FactFault>
+    ensures back { IfOk result (λ back. back ≡ entry.now) }
+    ensures fault { IfErr result (λ fault. fault ≡ FactFault.Memory) }
 {
+    let mut line = match alloc.clone() {
+        Ok(alloc) => Vec::new(alloc),
+        Err(_) => return Err(FactFault::Memory),
+    };
+    write_entry(entry, &mut line)?;
+    read_entry(alloc, line.as_slice())
 }

@@ -129,7 +129,10 @@ fn keep<A: Allocator + Clone>(alloc: A, seen: Seen<'_>) -> Result<Entry<A>, Allo
     })
 }
 
-fn keep_kind<A: Allocator + Clone>(alloc: &A, word: Option<&[u8]>) -> Result<Option<Kind<A>>, AllocError>
+fn keep_kind<A: Allocator + Clone>(
+    alloc: &A,
+    word: Option<&[u8]>,
+) -> Result<Option<Kind<A>>, AllocError>
     requires { ForSome (option_copied word) IsValue }
     ensures { IfOk result (SaysFact NamesKind (option_copied word.entry)) }
 {
@@ -156,7 +159,10 @@ fn kind_of<A: Allocator + Clone>(alloc: &A, word: &[u8]) -> Result<Kind<A>, Allo
     }
 }
 
-fn keep_text<A: Allocator + Clone>(alloc: &A, text: Option<&[u8]>) -> Result<Option<Text<A>>, AllocError>
+fn keep_text<A: Allocator + Clone>(
+    alloc: &A,
+    text: Option<&[u8]>,
+) -> Result<Option<Text<A>>, AllocError>
     ensures { IfOk result (λ kept. kept ≡ option_copied text.entry) }
 {
     match text {

@@ -9,7 +9,10 @@ use std::alloc::{AllocError, Allocator};
 
 /// Appends the line of an entry, without an end: its Type, Size, Modify and Perm in that order, each where it is
 /// there, a space and the pathname (RFC 3659, section 7.2). Refused memory, `out` is as before.
-pub fn write_entry<A: Allocator, B: Allocator>(entry: &Entry<A>, out: &mut Vec<u8, B>) -> Result<(), FactFault>
+pub fn write_entry<A: Allocator, B: Allocator>(
+    entry: &Entry<A>,
+    out: &mut Vec<u8, B>,
+) -> Result<(), FactFault>
     ensures line { OnOk result (AppendsEntry out.old.items out.new.items entry.now) }
     ensures unchanged { OnErr result (out.new.items ≡ out.old.items) }
     ensures fault { IfErr result (λ fault. fault ≡ FactFault.Memory) }
@@ -24,7 +27,10 @@ pub fn write_entry<A: Allocator, B: Allocator>(entry: &Entry<A>, out: &mut Vec<u
     }
 }
 
-fn append_entry<A: Allocator, B: Allocator>(entry: &Entry<A>, out: &mut Vec<u8, B>) -> Result<(), AllocError>
+fn append_entry<A: Allocator, B: Allocator>(
+    entry: &Entry<A>,
+    out: &mut Vec<u8, B>,
+) -> Result<(), AllocError>
     ensures line { OnOk result (AppendsEntry out.old.items out.new.items entry.now) }
     ensures front { OnErr result (GoesOn out.old.items out.new.items) }
 {
@@ -35,7 +41,10 @@ fn append_entry<A: Allocator, B: Allocator>(entry: &Entry<A>, out: &mut Vec<u8, 
     append_name(&entry.name, out)
 }
 
-fn append_kind<A: Allocator, B: Allocator>(kind: &Option<Kind<A>>, out: &mut Vec<u8, B>) -> Result<(), AllocError>
+fn append_kind<A: Allocator, B: Allocator>(
+    kind: &Option<Kind<A>>,
+    out: &mut Vec<u8, B>,
+) -> Result<(), AllocError>
     ensures fact { OnOk result (out.new.items ≡ out.old.items
         ++ facts_text (given (codes "Type") (option_map word_of kind.now))) }
     ensures front { OnErr result (GoesOn out.old.items out.new.items) }
@@ -57,7 +66,10 @@ fn append_size<B: Allocator>(size: Option<u64>, out: &mut Vec<u8, B>) -> Result<
     }
 }
 
-fn append_modify<B: Allocator>(modify: Option<Moment>, out: &mut Vec<u8, B>) -> Result<(), AllocError>
+fn append_modify<B: Allocator>(
+    modify: Option<Moment>,
+    out: &mut Vec<u8, B>,
+) -> Result<(), AllocError>
     ensures fact { OnOk result (AppendsModify out.old.items out.new.items modify) }
     ensures front { OnErr result (GoesOn out.old.items out.new.items) }
 {
@@ -67,7 +79,10 @@ fn append_modify<B: Allocator>(modify: Option<Moment>, out: &mut Vec<u8, B>) -> 
     }
 }
 
-fn append_perm<A: Allocator, B: Allocator>(perm: &Option<Text<A>>, out: &mut Vec<u8, B>) -> Result<(), AllocError>
+fn append_perm<A: Allocator, B: Allocator>(
+    perm: &Option<Text<A>>,
+    out: &mut Vec<u8, B>,
+) -> Result<(), AllocError>
     ensures fact { OnOk result (out.new.items ≡ out.old.items ++ facts_text (given (codes "Perm") perm.now)) }
     ensures front { OnErr result (GoesOn out.old.items out.new.items) }
 {
@@ -77,7 +92,10 @@ fn append_perm<A: Allocator, B: Allocator>(perm: &Option<Text<A>>, out: &mut Vec
     }
 }
 
-fn append_name<A: Allocator, B: Allocator>(name: &Text<A>, out: &mut Vec<u8, B>) -> Result<(), AllocError>
+fn append_name<A: Allocator, B: Allocator>(
+    name: &Text<A>,
+    out: &mut Vec<u8, B>,
+) -> Result<(), AllocError>
     ensures name { OnOk result (out.new.items ≡ out.old.items ++ space ∷ name.now) }
     ensures front { OnErr result (GoesOn out.old.items out.new.items) }
 {
@@ -86,7 +104,11 @@ fn append_name<A: Allocator, B: Allocator>(name: &Text<A>, out: &mut Vec<u8, B>)
 }
 
 /// Appends `name=value;`.
-fn append_fact<B: Allocator>(name: &[u8], value: &[u8], out: &mut Vec<u8, B>) -> Result<(), AllocError>
+fn append_fact<B: Allocator>(
+    name: &[u8],
+    value: &[u8],
+    out: &mut Vec<u8, B>,
+) -> Result<(), AllocError>
     ensures fact { OnOk result (out.new.items ≡ out.old.items
         ++ (name.now ++ equals ∷ (value.now ++ semicolon ∷ []))) }
     ensures front { OnErr result (GoesOn out.old.items out.new.items) }
