@@ -10,6 +10,8 @@ mod fault;
 pub mod laws;
 mod moment;
 mod reading;
+#[cfg(test)]
+mod tests;
 mod text;
 mod writing;
 

@@ -1,0 +1,4 @@
+mod calendar;
+mod entries;
+mod memory;
+mod moments;

@@ -1,0 +1,118 @@
+//! Lines of a listing, and what is written of the entries that they say.
+use crate::{FactFault, read_entry, write_entry};
+use std::alloc::Global;
+use std::test::Fail;
+
+/// A line, and either the line that is written of its entry or its fault.
+const ROWS: [(&str, &str); 43] = [
+    ("size=3;SIZE=4;type=file; a b", "Type=file;Size=3; a b"),
+    (" x", " x"),
+    ("Unix.mode=0644; a", " a"),
+    ("Type=OS.unix=slink:/x; a", "Type=OS.unix=slink:/x; a"),
+    ("x", "F1 NoSpace"),
+    ("Size=1 a", "F2 BadFact"),
+    ("Size=x; a", "F2 BadFact"),
+    ("Type=file; ", "F2 BadFact"),
+    ("Modify=20000230000000; a", "F3 BadMoment"),
+    // RFC 3659, section 7.7
+    (
+        "Type=file;Size=1024990;Perm=r; /tmp/cap60.pl198.tar.gz",
+        "Type=file;Size=1024990;Perm=r; /tmp/cap60.pl198.tar.gz",
+    ),
+    (
+        "Type=dir;Modify=19981107085215;Perm=el; /tmp",
+        "Type=dir;Modify=19981107085215;Perm=el; /tmp",
+    ),
+    (
+        "Type=cdir;Modify=19981107085215;Perm=el; tmp",
+        "Type=cdir;Modify=19981107085215;Perm=el; tmp",
+    ),
+    (
+        "Type=pdir;Modify=19990112030508;Perm=el; ..",
+        "Type=pdir;Modify=19990112030508;Perm=el; ..",
+    ),
+    (
+        "type=file;perm=r;unique=keVO1+IH4;  leading space",
+        "Type=file;Perm=r;  leading space",
+    ),
+    // letters without case
+    (
+        "TYPE=FILE;sIZE=5;mODIFY=20000101000000;PERM=Ab; f",
+        "Type=file;Size=5;Modify=20000101000000;Perm=Ab; f",
+    ),
+    ("type=CDir; .", "Type=cdir; ."),
+    ("type=pDIR; ..", "Type=pdir; .."),
+    ("Type=files; a", "Type=files; a"),
+    // order, and the first of two
+    (
+        "Perm=r;Modify=20000101000000;Size=1;Type=dir; d",
+        "Type=dir;Size=1;Modify=20000101000000;Perm=r; d",
+    ),
+    ("Size=3;SIZE=x; a", "Size=3; a"),
+    ("Size=3;SIZE; a", "F2 BadFact"),
+    (
+        "Modify=20000101000000;modify=x; a",
+        "Modify=20000101000000; a",
+    ),
+    ("Type=file;type=dir; a", "Type=file; a"),
+    // the pathname
+    ("Type=file; a;b=c; d", "Type=file; a;b=c; d"),
+    ("  ", "  "),
+    (" ", "F2 BadFact"),
+    ("", "F1 NoSpace"),
+    // values
+    ("Type=; a", "Type=; a"),
+    ("Perm=; a", "Perm=; a"),
+    ("Perm=a=b; a", "Perm=a=b; a"),
+    ("=5; a", " a"),
+    ("Size=007; a", "Size=7; a"),
+    ("Size=0; a", "Size=0; a"),
+    ("Size=; a", "F2 BadFact"),
+    ("Size=-1; a", "F2 BadFact"),
+    ("Size=999999999999999999; a", "Size=999999999999999999; a"),
+    ("Size=0000000000000000001; a", "F2 BadFact"),
+    ("Modify=19991231235960.25; a", "Modify=19991231235959; a"),
+    // shapes, and the lowest of several faults
+    ("a=b;; x", "F2 BadFact"),
+    ("Type; a", "F2 BadFact"),
+    ("Modify=x;Size=y; a", "F2 BadFact"),
+    ("Modify=x; ", "F2 BadFact"),
+    ("Modify=x;Size=y;a", "F1 NoSpace"),
+];
+
+/// What is written of a line's entry, or the fault.
+fn answer(alloc: Global, line: &[u8]) -> Result<Vec<u8>, Fail> {
+    let mut out = Vec::new(alloc);
+    match read_entry(alloc, line) {
+        Ok(entry) => write_entry(&entry, &mut out)?,
+        Err(fault) => {
+            let text = fault.to_string(alloc)?;
+            out.extend_from_slice(text.as_bytes())?;
+        }
+    }
+    Ok(out)
+}
+
+#[test]
+fn lines_and_their_answers(rt: HostRuntime) -> Result<(), Fail> {
+    for (line, expected) in ROWS {
+        let out = answer(rt.alloc(), line.as_bytes())?;
+        assert_eq!(&rt; out.as_slice(), expected.as_bytes(), "{line}");
+    }
+    Ok(())
+}
+
+#[test]
+fn faults_as_they_are_printed(rt: HostRuntime) -> Result<(), Fail> {
+    let cases = [
+        (FactFault::NoSpace, "F1 NoSpace"),
+        (FactFault::BadFact, "F2 BadFact"),
+        (FactFault::BadMoment, "F3 BadMoment"),
+        (FactFault::Memory, "F4 Memory"),
+    ];
+    for (fault, expected) in cases {
+        let text = fault.to_string(rt.alloc())?;
+        assert_eq!(&rt; text.as_str(), expected);
+    }
+    Ok(())
+}
