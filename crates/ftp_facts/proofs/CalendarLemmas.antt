@@ -1,10 +1,10 @@
 -- The day number by the calendar's rule is that of `jiff_core`, for a date from 1970 on.
-use Rattle.std.proofs.Common.{◌≡◌, ℕ, zero, suc, ◌+◌, ◌-◌, ◌≤◌, arith, ℤ, pos, ◌<ℤ◌, ◌≤ℤ◌, refl, ap, ◌∙◌}
+use Rattle.std.proofs.Common.{◌≡◌, ℕ, zero, suc, ◌+◌, ◌-◌, ◌≤◌, arith, ℤ, pos, ◌<ℤ◌, ◌≤ℤ◌, refl, ap, ◌∙◌, sym}
 use Rattle.std.proofs.lemmas.Int.{by_lt_z}
 use Rattle.jiff_core.specs.Calendar.{day_count, days_from_civil, IsCivilDate, days_of_months as jiff_days_of_months}
 use Rattle.jiff_core.proofs.SignedLemmas.{signed_arith}
-use Rattle.jiff_core.proofs.CalendarLemmas.{days_from_civil-day_count, day_count-lt_year, day_count-epoch, day_count-day_of_year, day_count-next_year}
-use Rattle.ftp_facts.specs.Calendar.{days_in_month, days_of_years, days_of_months, day_number, IsDate}
+use Rattle.jiff_core.proofs.CalendarLemmas.{days_from_civil-day_count, day_count-lt_year, day_count-epoch, day_count-day_of_year, day_count-next_year, days_of_months_all, day_count-end}
+use Rattle.ftp_facts.specs.Calendar.{days_in_year, days_in_month, days_of_years, days_of_months, day_number, IsDate}
 
 -- before 1970 the day number is negative
 before_epoch : (y : ℤ) (m d : ℕ) → IsCivilDate y m d → y <ℤ pos 1970 → days_from_civil y m d <ℤ pos 0
@@ -57,3 +57,11 @@ date_number y m d year month day number low same_year same_month same_day from i
     let there : pos number ≡ days_from_civil (pos year) month day = rw same_year at (rw same_month at (rw same_day at is)) in
     let both : pos number ≡ pos (day_number year month day) = there ∙ days_from_civil-is year month day from (omega arith) in
     omega (arith, signed_arith, both)
+
+-- the months of a year are its days
+pub months_of_year : (year : ℕ) → days_of_months year 12 ≡ days_in_year year
+months_of_year year = sym (same_months year 12) ∙ days_of_months_all (pos year)
+
+-- the years from 1970 to 9999
+pub years_to_9999 : days_of_years 8_030 ≡ 2_932_897
+years_to_9999 = omega (arith, first_of_year 8_030, day_count-end)

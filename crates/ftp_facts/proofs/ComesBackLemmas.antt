@@ -9,11 +9,12 @@ use Rattle.ftp_facts.specs.declared.entry.Kind.{Kind}
 use Rattle.ftp_facts.specs.declared.entry.Kind.TheVariants.{File, Dir, CurrentDir, ParentDir, Other}
 use Rattle.ftp_facts.specs.declared.entry.Entry.{Entry}
 use Rattle.ftp_facts.specs.declared.moment.Moment.{Moment}
-use Rattle.ftp_facts.specs.Moment.{two_digits, four_digits, date_digits, time_digits, WritesMoment}
+use Rattle.ftp_facts.specs.Moment.{two_digits, four_digits, date_digits, time_digits, moment_digits, WritesMoment}
 use Rattle.ftp_facts.specs.Fact.{Fact, IsFact, IsValue, SaysSize, IsOtherWord, Lacks, facts_text, first_value, given, is_word, space, equals, semicolon, file_word, dir_word, current_word, parent_word}
-use Rattle.ftp_facts.specs.Entry.{HasParts, NamesKind, NamesMoment, SaysFact, SaysEntry, WritesEntry, WritesModify, word_of, facts_of}
+use Rattle.ftp_facts.specs.Entry.{HasParts, NamesKind, NamesMoment, SaysFact, SaysEntry, digits_of, entry_line, word_of, facts_of}
 use Rattle.ftp_facts.proofs.FactLemmas.{facts_text-append, own}
 use Rattle.ftp_facts.proofs.MomentLemmas.{WritesMoment-says, days_fit}
+use Rattle.ftp_facts.proofs.DigitsLemmas.{moment_digits-write}
 
 -- a literal lacks an octet where each of its octets differs
 abbrev differs : ℕ → List ℕ → Bool
@@ -69,13 +70,12 @@ size_value (Some n) fits = λ text e.
     let small : n < 1_000_000_000_000_000_000 = fits n refl in
     rw same (lacks_decimal space n (omega arith) (λ r. omega (arith, r)), lacks_decimal semicolon n (omega arith) (λ r. omega (arith, r)))
 
-modify_value : (text : Option (List ℕ)) (modify : Option Moment) → SaysFact WritesModify text modify → ForSome text IsValue
-modify_value None None says = λ t e. cc
-modify_value None (Some moment) says = absurd says
-modify_value (Some text) None says = absurd says
-modify_value (Some text) (Some moment) says = λ t e.
-    let same : t ≡ text = cc in
-    rw same (lacks_moment space text moment.seconds (inl (omega arith)) says, lacks_moment semicolon text moment.seconds (inr (omega arith)) says)
+modify_value : (modify : Option Moment) → ForSome (option_map digits_of modify) IsValue
+modify_value None = λ t e. cc
+modify_value (Some moment) = λ t e.
+    let same : t ≡ moment_digits moment.seconds = cc in
+    let writes = moment_digits-write moment.seconds moment.in_range in
+    rw same (lacks_moment space (moment_digits moment.seconds) moment.seconds (inl (omega arith)) writes, lacks_moment semicolon (moment_digits moment.seconds) moment.seconds (inr (omega arith)) writes)
 
 -- a given fact is one, and has no space
 given_facts : (name : List ℕ) (value : Option (List ℕ)) → Lacks name equals → Lacks name semicolon → ForSome value IsValue → All IsFact (given name value)
@@ -152,23 +152,21 @@ size_said (Some n) fits =
     let fit : n < 2 ^ 64 = omega arith in
     ((digits_decimal own n fit, decimal_nonempty n fit, length-decimal-le 18 n (omega arith) (omega arith) fit), digits_value-decimal own n fit)
 
-modify_said : (text : Option (List ℕ)) (modify : Option Moment) → SaysFact WritesModify text modify → SaysFact NamesMoment text modify
-modify_said None None says = tt
-modify_said None (Some moment) says = absurd says
-modify_said (Some text) None says = absurd says
-modify_said (Some text) (Some moment) says = WritesMoment-says text moment.seconds says
+modify_said : (modify : Option Moment) → SaysFact NamesMoment (option_map digits_of modify) modify
+modify_said None = tt
+modify_said (Some moment) = WritesMoment-says (moment_digits moment.seconds) moment.seconds (moment_digits-write moment.seconds moment.in_range)
 
--- what is written of an entry says it
-pub WritesEntry-says : {A : Type 0} (line : List ℕ) (entry : Entry A) → WritesEntry line entry → SaysEntry line entry
-WritesEntry-says line entry w = record {
+-- the line of an entry says it
+pub entry_line-says : {A : Type 0} (entry : Entry A) → SaysEntry (entry_line entry) entry
+entry_line-says entry = record {
   kind = option_map word_of entry.kind;
   said = record {
     size_text = option_map decimal entry.size;
-    modify_text = w.modify;
-    parts = values line entry.name (option_map word_of entry.kind) (option_map decimal entry.size) w.modify entry.perm (kind_value entry.kind entry.kind_fits) (size_value entry.size entry.size_fits) (modify_value w.modify entry.modify w.digits) entry.perm_fits w.written;
+    modify_text = option_map digits_of entry.modify;
+    parts = values (entry_line entry) entry.name (option_map word_of entry.kind) (option_map decimal entry.size) (option_map digits_of entry.modify) entry.perm (kind_value entry.kind entry.kind_fits) (size_value entry.size entry.size_fits) (modify_value entry.modify) entry.perm_fits refl;
     named = entry.named;
     size_said = size_said entry.size entry.size_fits;
-    modify_said = modify_said w.modify entry.modify w.digits;
+    modify_said = modify_said entry.modify;
   };
   kind_said = kind_said entry.kind entry.kind_fits;
 }

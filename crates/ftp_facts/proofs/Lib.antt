@@ -1,5 +1,6 @@
 mod CalendarLemmas
 mod ComesBackLemmas
+pub mod DigitsLemmas
 pub mod EntryLemmas
 mod FactLemmas
 pub mod Theorems

@@ -1,5 +1,5 @@
 -- The Gregorian calendar from 1970 on, and the time of day (RFC 3659, section 2.3).
-use Rattle.std.specs.Prelude.{ℕ, zero, suc, ◌+◌, ◌-◌, ◌*◌, ◌%◌, ◌<◌, ◌≤◌, min, Bool, not, ◌&&◌, ◌||◌, ◌==◌, if◌then◌else◌}
+use Rattle.std.specs.Prelude.{ℕ, zero, suc, ◌+◌, ◌-◌, ◌*◌, ◌%◌, ◌<◌, ◌≤◌, min, nat_lt, Bool, not, ◌&&◌, ◌||◌, ◌==◌, if◌then◌else◌}
 use Rattle.std.specs.Int.{IsInRange}
 
 -- every fourth year is a leap year, but of the years that end a century only every fourth
@@ -43,3 +43,18 @@ IsTime hour minute second = (hour < 24) × (minute < 60) × (second ≤ 60)
 -- the seconds of the day before that time. own choice: a second of 60 is 59
 abbrev pub second_of_day : ℕ → ℕ → ℕ → ℕ
 second_of_day hour minute second = hour * 3600 + minute * 60 + min second 59
+
+-- The year in which a day lies and its place there, from 0, where the day has this place in the time from
+-- the given year on. At most so many years are passed.
+unfoldable pub year_and_place : ℕ → ℕ → ℕ → ℕ × ℕ
+year_and_place zero year place = (year, place)
+year_and_place (suc most) year place =
+    if nat_lt place (days_in_year year) then (year, place)
+    else year_and_place most (year + 1) (place - days_in_year year)
+
+-- the month in which a day of the year lies and its place there, in the same way
+unfoldable pub month_and_place : ℕ → ℕ → ℕ → ℕ → ℕ × ℕ
+month_and_place zero year month place = (month, place)
+month_and_place (suc most) year month place =
+    if nat_lt place (days_in_month year month) then (month, place)
+    else month_and_place most year (month + 1) (place - days_in_month year month)

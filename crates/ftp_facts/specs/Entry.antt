@@ -7,7 +7,7 @@ use Rattle.ftp_facts.specs.declared.moment.Moment.{Moment}
 use Rattle.ftp_facts.specs.declared.entry.Kind.{Kind}
 use Rattle.ftp_facts.specs.declared.entry.Kind.TheVariants.{File, Dir, CurrentDir, ParentDir, Other}
 use Rattle.ftp_facts.specs.declared.entry.Entry.{Entry}
-use Rattle.ftp_facts.specs.Moment.{SaysMoment, WritesMoment}
+use Rattle.ftp_facts.specs.Moment.{SaysMoment, moment_digits}
 use Rattle.ftp_facts.specs.Fact.{Fact, IsFact, Lacks, IsNumber, SaysSize, IsOtherWord, facts_text, first_value, given, is_word, space, file_word, dir_word, current_word, parent_word}
 
 -- The line is facts, a space and a pathname, the facts end at the first space, and these are the values
@@ -104,27 +104,17 @@ facts_of kind size modify perm =
     ++ (given (codes "Modify") modify ++ given (codes "Perm") perm))
 
 -- the digits of a moment
-abbrev pub WritesModify : List ℕ → Moment → Type 0
-WritesModify text moment = WritesMoment text moment.seconds
+abbrev pub digits_of : Moment → List ℕ
+digits_of moment = moment_digits moment.seconds
 
 -- the line of an entry: its facts, a space and its pathname
-pub record WritesEntry {A : Type 0} (line : List ℕ) (entry : Entry A) : Type 0 where
-  pub modify : Option (List ℕ)
-  pub digits : SaysFact WritesModify modify entry.modify
-  pub written : line ≡ facts_text (facts_of (option_map word_of entry.kind) (option_map decimal entry.size) modify entry.perm) ++ space ∷ entry.name
-
--- the octets have grown by the line of an entry
-pub record AppendsEntry {A : Type 0} (old new : List ℕ) (entry : Entry A) : Type 0 where
-  pub line : List ℕ
-  pub appended : new ≡ old ++ line
-  pub writes : WritesEntry line entry
+abbrev pub entry_line : {A : Type 0} → Entry A → List ℕ
+entry_line entry =
+    facts_text
+    (facts_of (option_map word_of entry.kind) (option_map decimal entry.size)
+    (option_map digits_of entry.modify) entry.perm)
+    ++ space ∷ entry.name
 
 -- the octets have grown, or are as they were
 abbrev pub GoesOn : List ℕ → List ℕ → Type 0
 GoesOn old new = (more : List ℕ) × (new ≡ old ++ more)
-
--- the octets have grown by the fact of a Modify
-pub record AppendsModify (old new : List ℕ) (modify : Option Moment) : Type 0 where
-  pub text : Option (List ℕ)
-  pub digits : SaysFact WritesModify text modify
-  pub appended : new ≡ old ++ facts_text (given (codes "Modify") text)

@@ -1,7 +1,7 @@
 -- The text of a moment: fourteen digits, YYYYMMDDHHMMSS, in UTC (RFC 3659, section 2.3).
 use Rattle.std.specs.Prelude.{◌≡◌, ◌≢◌, ℕ, ◌+◌, ◌*◌, ◌/◌, ◌%◌, ◌<◌, List, [], ◌∷◌, ◌++◌, All, ⊤}
 use Rattle.std.specs.Int.{IsInRange}
-use Rattle.ftp_facts.specs.Calendar.{IsDate, IsTime, day_number, second_of_day}
+use Rattle.ftp_facts.specs.Calendar.{IsDate, IsTime, day_number, second_of_day, year_and_place, month_and_place}
 
 -- a number below 100, in two digits
 abbrev pub two_digits : ℕ → List ℕ
@@ -71,3 +71,20 @@ pub record WritesMoment (text : List ℕ) (moment : ℕ) : Type 0 where
   pub no_leap : second < 60
   pub written : text ≡ date_digits year month day ++ time_digits hour minute second
   pub counted : moment ≡ day_number year month day * 86_400 + second_of_day hour minute second
+
+-- the digits of a day of a month, whose place in the month is from 0
+abbrev pub month_digits : ℕ → ℕ × ℕ → List ℕ
+month_digits year day = date_digits year day.0 (day.1 + 1)
+
+-- the digits of a day of a year, whose place in the year is from 0
+abbrev pub day_digits : ℕ × ℕ → List ℕ
+day_digits day = month_digits day.0 (month_and_place 11 day.0 1 day.1)
+
+-- the digits of a second of a day
+abbrev pub second_digits : ℕ → List ℕ
+second_digits second = time_digits (second / 3600) (second % 3600 / 60) (second % 60)
+
+-- the fourteen digits of a moment
+abbrev pub moment_digits : ℕ → List ℕ
+moment_digits moment =
+    day_digits (year_and_place 10_000 1970 (moment / 86_400)) ++ second_digits (moment % 86_400)

@@ -1,7 +1,7 @@
 //! What reading and writing are to each other. The calls do nothing that a caller needs: their contracts are the laws.
 ghost use Rattle.std.specs.Prelude.{◌≡◌, IfOk, IfErr};
-ghost use Rattle.ftp_facts.specs.Moment.{SaysMoment, WritesMoment};
-ghost use Rattle.ftp_facts.specs.Entry.{SaysEntry, WritesEntry, Refuses};
+ghost use Rattle.ftp_facts.specs.Moment.{SaysMoment, WritesMoment, moment_digits};
+ghost use Rattle.ftp_facts.specs.Entry.{SaysEntry, Refuses, entry_line};
 
 use crate::{Entry, FactFault, Moment, moment_of_text, moment_text, read_entry, write_entry};
 use std::alloc::Allocator;
@@ -17,6 +17,11 @@ pub fn one_moment(text: &[u8], first: Moment, second: Moment)
 pub fn written_is_said(text: &[u8], moment: Moment)
     requires { WritesMoment text.now moment.seconds }
     ensures { SaysMoment text.now moment.seconds }
+{}
+
+/// The digits of a moment say that moment.
+pub fn moment_digits_say(moment: Moment)
+    ensures { SaysMoment (moment_digits moment.seconds) moment.seconds }
 {}
 
 /// A moment's text is read as that moment.
@@ -46,10 +51,9 @@ pub fn no_fault<A: Allocator>(line: &[u8], entry: &Entry<A>)
     ensures { Refuses line.now FactFault.Memory }
 {}
 
-/// What is written of an entry says that entry.
-pub fn written_entry_is_said<A: Allocator>(line: &[u8], entry: &Entry<A>)
-    requires { WritesEntry line.now entry.now }
-    ensures { SaysEntry line.now entry.now }
+/// The line of an entry says that entry.
+pub fn entry_line_says<A: Allocator>(entry: &Entry<A>)
+    ensures { SaysEntry (entry_line entry.now) entry.now }
 {}
 
 /// The line of an entry is read as that entry.

@@ -1,6 +1,6 @@
 //! A moment and its text.
 ghost use Rattle.std.specs.Prelude.{◌≡◌, ℕ, List, ◌+◌, ◌*◌, ◌<◌, ◌≤◌, IfSome, IfNone, IfOk, IfErr};
-ghost use Rattle.ftp_facts.specs.Moment.{BeginsWithDate, BeginsWithTime, SaysMoment, WritesMoment};
+ghost use Rattle.ftp_facts.specs.Moment.{BeginsWithDate, BeginsWithTime, SaysMoment, WritesMoment, moment_digits};
 
 use crate::FactFault;
 use crate::civil::{date_of, day_number, year_of};
@@ -82,7 +82,8 @@ fn read_time(text: &[u8]) -> Option<(u32, &[u8])>
 
 /// The fourteen digits of a moment, YYYYMMDDHHMMSS (RFC 3659, section 2.3).
 pub fn moment_text(moment: Moment) -> [u8; 14]
-    ensures { WritesMoment result moment.seconds }
+    ensures written { WritesMoment result moment.seconds }
+    ensures digits { result ≡ moment_digits moment.seconds }
 {
     let date = date_of((moment.seconds / 86_400) as u32);
     let year = year_of(date);

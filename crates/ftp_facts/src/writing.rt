@@ -1,7 +1,7 @@
 //! From an entry to its line.
 ghost use Rattle.std.specs.Prelude.{◌≡◌, ◌∷◌, ◌++◌, [], option_map, decimal, codes, OnOk, OnErr, IfErr};
 ghost use Rattle.ftp_facts.specs.Fact.{given, facts_text, space, equals, semicolon};
-ghost use Rattle.ftp_facts.specs.Entry.{word_of, AppendsEntry, AppendsModify, GoesOn};
+ghost use Rattle.ftp_facts.specs.Entry.{word_of, digits_of, entry_line, GoesOn};
 
 use crate::{Entry, FactFault, Kind, Moment, Text, moment_text};
 use itoa::Buffer;
@@ -13,7 +13,7 @@ pub fn write_entry<A: Allocator, B: Allocator>(
     entry: &Entry<A>,
     out: &mut Vec<u8, B>,
 ) -> Result<(), FactFault>
-    ensures line { OnOk result (AppendsEntry out.old.items out.new.items entry.now) }
+    ensures line { OnOk result (out.new.items ≡ out.old.items ++ entry_line entry.now) }
     ensures unchanged { OnErr result (out.new.items ≡ out.old.items) }
     ensures fault { IfErr result (λ fault. fault ≡ FactFault.Memory) }
 {
@@ -31,7 +31,7 @@ fn append_entry<A: Allocator, B: Allocator>(
     entry: &Entry<A>,
     out: &mut Vec<u8, B>,
 ) -> Result<(), AllocError>
-    ensures line { OnOk result (AppendsEntry out.old.items out.new.items entry.now) }
+    ensures line { OnOk result (out.new.items ≡ out.old.items ++ entry_line entry.now) }
     ensures front { OnErr result (GoesOn out.old.items out.new.items) }
 {
     append_kind(&entry.kind, out)?;
@@ -70,7 +70,8 @@ fn append_modify<B: Allocator>(
     modify: Option<Moment>,
     out: &mut Vec<u8, B>,
 ) -> Result<(), AllocError>
-    ensures fact { OnOk result (AppendsModify out.old.items out.new.items modify) }
+    ensures fact { OnOk result (out.new.items ≡ out.old.items
+        ++ facts_text (given (codes "Modify") (option_map digits_of modify))) }
     ensures front { OnErr result (GoesOn out.old.items out.new.items) }
 {
     match modify {

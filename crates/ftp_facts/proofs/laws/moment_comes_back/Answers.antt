@@ -11,4 +11,4 @@ read_back (Err e) m text says ok err = absurd (err m.seconds says)
 
 pub returns : goal.returns
 returns c =
-    read_back c.moment_of_text.result c.args.moment c.moment_text.result (WritesMoment-says c.moment_text.result c.args.moment.seconds c.moment_text.ensures) c.moment_of_text.ensures.says c.moment_of_text.ensures.silent
+    read_back c.moment_of_text.result c.args.moment c.moment_text.result (WritesMoment-says c.moment_text.result c.args.moment.seconds c.moment_text.ensures.written) c.moment_of_text.ensures.says c.moment_of_text.ensures.silent

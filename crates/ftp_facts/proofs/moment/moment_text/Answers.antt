@@ -1,10 +1,11 @@
 use Rattle.std.proofs.Common.{◌≡◌, arith, refl, sym, ◌/◌, ◌%◌}
 use Rattle.ftp_facts.specs.Calendar.{IsDate, day_number}
 use Rattle.ftp_facts.proofs.CalendarLemmas.{date_is, date_number}
+use Rattle.ftp_facts.proofs.DigitsLemmas.{WritesMoment-digits}
 use Rattle.ftp_facts.proofs.moment.moment_text.Goals as goal
 
-pub returns : goal.returns
-returns c =
+pub returns-clause-written : goal.returns-clause-written
+returns-clause-written c =
     let d = c.date_of-date.result in
     let year = c.year_of-year.result in
     let rest = c.args.moment.seconds % 86_400 in
@@ -24,3 +25,6 @@ returns c =
       written = simp (c.two.ensures, c.two-2.ensures, c.two-3.ensures, c.two-4.ensures, c.two-5.ensures, c.two-6.ensures, c.two-7.ensures);
       counted = omega (arith, number);
     }
+
+pub returns-clause-digits : goal.returns-clause-digits
+returns-clause-digits c = WritesMoment-digits _ c.args.moment.seconds (returns-clause-written c)
