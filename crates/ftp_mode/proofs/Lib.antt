@@ -1,0 +1,2 @@
+pub mod ReaderRuns
+pub mod BiteLemmas

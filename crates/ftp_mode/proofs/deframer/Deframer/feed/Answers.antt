@@ -1,0 +1,103 @@
+use Rattle.std.proofs.Common.{◌≡◌, ◌++◌, ◌+◌, ◌<◌, ◌≤◌, List, ℕ, [], length, take, drop, map, get_or, sym, ap, subst, ◌∙◌, arith}
+use Rattle.std.proofs.lemmas.List.{length-take-le}
+use Rattle.ftp_mode.specs.declared.deframer.Gave.{Gave}
+use Rattle.ftp_mode.specs.declared.deframer.Deframer.{Deframer}
+use Rattle.ftp_mode.specs.declared.step.Part.TheVariants.{Data, Marker}
+use Rattle.ftp_mode.specs.declared.deframer.Gave.TheVariants.{Nothing, Octets, Marker as MarkerGiven}
+use Rattle.ftp_mode.specs.Said.{Said, octets_said}
+use Rattle.ftp_mode.specs.Deframing.{reading, owed, last_marker, part_said, gave_said, Moves, Refuses}
+use Rattle.ftp_mode.proofs.BiteLemmas.{next_bite, next_within, heard, said_some, refused_at}
+use Rattle.ftp_mode.proofs.deframer.Deframer.feed.Goals as goal
+
+pub returns-in-Err : goal.returns-in-Err
+returns-in-Err c =
+    let P : List ℕ → Type 0 = λ l. Refuses c.loop-at.self (get_or l 0 0) c.in-Err.fault c.bite.new.self in
+    record {
+      ok = tt;
+      err = (
+        c.loop-at.at + 1,
+        refused_at c.args.self.now c.loop-at.self c.bite.new.self c.args.piece.now c.loop-at.at c.in-Err.fault c.loop-at-test.true
+            c.loop-at.invariant.owed_before c.loop-at.invariant.owes c.loop-at.invariant.quiet (subst P c.split_at.ensures.back c.in-Err.ensures.err),
+      );
+    }
+
+pub returns-in-Octets : goal.returns-in-Octets
+returns-in-Octets c =
+    let old = c.args.self.now in
+    let new = c.bite.new.self in
+    let rest = c.split_at.result.1.now in
+    let bite = c.in-Ok.bite in
+    let bites = c.in-Ok.ensures.ok in
+    let front : c.split_at-in-Octets.result.0.now ≡ take bite.taken rest = c.split_at-in-Octets.ensures.front in
+    let gave : gave_said bite.gave (take bite.taken rest) (last_marker new) ≡ octets_said (take bite.taken rest) = ap (λ g. gave_said g (take bite.taken rest) (last_marker new)) c.in-Octets.is in
+    let some : 0 < length (octets_said c.split_at-in-Octets.result.0.now) =
+    said_some c.split_at-in-Octets.result.0.now (omega (arith, bites.some, length-take-le bite.taken rest bites.within, ap length front)) in
+    record {
+      ok = heard old new c.args.piece.now (c.loop-at.at + bite.taken) (Data c.split_at-in-Octets.result.0) (gave_said bite.gave (take bite.taken rest) (last_marker new) ++ owed new)
+          (next_within c.loop-at.self new c.args.piece.now rest c.loop-at.at bite c.split_at.ensures.back c.loop-at-test.true bites)
+          c.loop-at.invariant.owed_before
+          (next_bite old c.loop-at.self new c.args.piece.now rest c.loop-at.at bite c.split_at.ensures.back c.loop-at.invariant.quiet bites)
+          (ap (λ l. octets_said l ++ owed new) front ∙ ap (λ l. l ++ owed new) (sym gave))
+          some;
+      err = tt;
+    }
+
+pub returns-in-Marker : goal.returns-in-Marker
+returns-in-Marker c =
+    let old = c.args.self.now in
+    let new = c.bite.new.self in
+    let rest = c.split_at.result.1.now in
+    let bite = c.in-Ok.bite in
+    let bites = c.in-Ok.ensures.ok in
+    let gave : gave_said bite.gave (take bite.taken rest) (last_marker new) ≡ part_said Marker (last_marker new) = ap (λ g. gave_said g (take bite.taken rest) (last_marker new)) c.in-Marker.is in
+    record {
+      ok = heard old new c.args.piece.now (c.loop-at.at + bite.taken) Marker (gave_said bite.gave (take bite.taken rest) (last_marker new) ++ owed new)
+          (next_within c.loop-at.self new c.args.piece.now rest c.loop-at.at bite c.split_at.ensures.back c.loop-at-test.true bites)
+          c.loop-at.invariant.owed_before
+          (next_bite old c.loop-at.self new c.args.piece.now rest c.loop-at.at bite c.split_at.ensures.back c.loop-at.invariant.quiet bites)
+          (ap (λ l. l ++ owed new) (sym gave))
+          (omega arith);
+      err = tt;
+    }
+
+pub returns-in-Some-owed_part : goal.returns-in-Some-owed_part
+returns-in-Some-owed_part c =
+    let old = c.args.self.now in
+    let mid = c.bite.new.self in
+    let new = c.owed_part-in-loop-at.new.self in
+    let rest = c.split_at.result.1.now in
+    let bite = c.in-Ok.bite in
+    let bites = c.in-Ok.ensures.ok in
+    let part = c.in-Some-owed_part.part in
+    let gave : gave_said bite.gave (take bite.taken rest) (last_marker mid) ++ owed mid ≡ owed mid = ap (λ g. gave_said g (take bite.taken rest) (last_marker mid) ++ owed mid) c.in-Nothing.is in
+    let P : List Said → Type 0 = λ l. Moves (reading old) (reading mid) (take (c.loop-at.at + bite.taken) c.args.piece.now) l in
+    let moves : P (owed mid) = subst P gave (next_bite old c.loop-at.self mid c.args.piece.now rest c.loop-at.at bite c.split_at.ensures.back c.loop-at.invariant.quiet bites) in
+    record {
+      ok = heard old new c.args.piece.now (c.loop-at.at + bite.taken) part (owed mid)
+          (next_within c.loop-at.self mid c.args.piece.now rest c.loop-at.at bite c.split_at.ensures.back c.loop-at-test.true bites)
+          c.loop-at.invariant.owed_before
+          (record { state = c.owed_part-in-loop-at.ensures.state ∙ moves.state; says = moves.says })
+          (c.in-Some-owed_part.ensures.some (last_marker new))
+          (c.in-Some-owed_part.ensures.full (last_marker new));
+      err = tt;
+    }
+
+pub loop-at-preserved : goal.loop-at-preserved
+loop-at-preserved c =
+    let old = c.args.self.now in
+    let mid = c.bite.new.self in
+    let rest = c.split_at.result.1.now in
+    let bite = c.in-Ok.bite in
+    let bites = c.in-Ok.ensures.ok in
+    let none : owed mid ≡ [] = c.in_default-owed_part.ensures.none in
+    let same : c.owed_part-in-loop-at.new.self ≡ mid = c.in_default-owed_part.ensures.owes in
+    let gave : gave_said bite.gave (take bite.taken rest) (last_marker mid) ++ owed mid ≡ [] =
+    ap (λ g. gave_said g (take bite.taken rest) (last_marker mid) ++ owed mid) c.in-Nothing.is ∙ none in
+    let P : List Said → Type 0 = λ l. Moves (reading old) (reading mid) (take (c.loop-at.at + bite.taken) c.args.piece.now) l in
+    let moves : P [] = subst P gave (next_bite old c.loop-at.self mid c.args.piece.now rest c.loop-at.at bite c.split_at.ensures.back c.loop-at.invariant.quiet bites) in
+    record {
+      within = next_within c.loop-at.self mid c.args.piece.now rest c.loop-at.at bite c.split_at.ensures.back c.loop-at-test.true bites;
+      quiet = record { state = c.owed_part-in-loop-at.ensures.state ∙ moves.state; says = moves.says };
+      owes = ap owed same ∙ none;
+      owed_before = c.loop-at.invariant.owed_before;
+    }

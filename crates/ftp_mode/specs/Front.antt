@@ -1,0 +1,68 @@
+-- What a wire settles that was cut: its longest row of whole units.
+use Rattle.std.specs.Prelude.{◌≡◌, ℕ, ◌<◌, ◌⊎◌, List, [], ◌∷◌, ◌++◌, length, true, false}
+use Rattle.std.specs.List.{AllByRecursion}
+use Rattle.ftp_repr.specs.declared.form.Structure.{Structure}
+use Rattle.ftp_repr.specs.declared.form.Structure.TheVariants.{File, Record}
+use Rattle.ftp_mode.specs.declared.mode.Mode.{Mode}
+use Rattle.ftp_mode.specs.declared.mode.Mode.TheVariants.{Stream, Block as Blocks}
+use Rattle.ftp_mode.specs.declared.fault.FrameFault.{FrameFault}
+use Rattle.ftp_mode.specs.Said.{Said, octets_said}
+use Rattle.ftp_mode.specs.Block.{has, count_of}
+use Rattle.ftp_mode.specs.Marker.{is_marker_octet}
+use Rattle.ftp_mode.specs.Units.{WireUnit, GoesOn, units_octets, units_said, IsText}
+use Rattle.ftp_mode.specs.Fault.{is_no_length, IsFault}
+
+-- a cut header: a descriptor without suspected errors, and perhaps half of the count
+abbrev pub IsCutHeader : List ℕ → Type 0
+IsCutHeader w = ((d : ℕ) × (has d 32 ≡ false) × (w ≡ d ∷ [])) ⊎ ((d high : ℕ) × (has d 32 ≡ false) × (w ≡ d ∷ high ∷ []))
+
+-- a cut block of data: its octets count
+pub record IsCutData (w : List ℕ) (said : List Said) : Type 0 where
+  pub descriptor : ℕ
+  pub high : ℕ
+  pub low : ℕ
+  pub octets : List ℕ
+  pub is : w ≡ descriptor ∷ high ∷ low ∷ octets
+  pub sound : has descriptor 32 ≡ false
+  pub plain : has descriptor 16 ≡ false
+  pub short : length octets < count_of high low
+  pub says : said ≡ octets_said octets
+
+-- a cut marker says nothing
+pub record IsCutMarker (w : List ℕ) : Type 0 where
+  pub descriptor : ℕ
+  pub high : ℕ
+  pub low : ℕ
+  pub octets : List ℕ
+  pub is : w ≡ descriptor ∷ high ∷ low ∷ octets
+  pub sound : has descriptor 32 ≡ false
+  pub marker : has descriptor 16 ≡ true
+  pub fits : is_no_length (count_of high low) ≡ false
+  pub short : length octets < count_of high low
+  pub each : AllByRecursion (λ c. is_marker_octet c ≡ true) octets
+
+-- a unit that was cut, and what it says
+abbrev pub IsCut : Mode → Structure → List ℕ → List Said → Type 0
+IsCut Stream File w said = ⊥
+IsCut Stream Record w said = (w ≡ 255 ∷ []) × (said ≡ [])
+IsCut Blocks s w said = (IsCutHeader w × (said ≡ [])) ⊎ IsCutData w said ⊎ (IsCutMarker w × (said ≡ []))
+
+-- a wire that something may still follow: whole units, and perhaps one that was cut
+pub record IsOpen (m : Mode) (s : Structure) (w : List ℕ) (said : List Said) : Type 0 where
+  pub units : List WireUnit
+  pub each : AllByRecursion (GoesOn m s) units
+  pub rest : List ℕ
+  pub cut : List Said
+  pub is : w ≡ units_octets units ++ rest
+  pub says : said ≡ units_said units ++ cut
+  pub kind : ((rest ≡ []) × (cut ≡ [])) ⊎ IsCut m s rest cut
+
+-- a wire with a fault settles what stands before it
+pub record IsFaulty (m : Mode) (s : Structure) (w : List ℕ) (said : List Said) : Type 0 where
+  pub fault : FrameFault
+  pub is : IsFault m s w fault
+  pub says : said ≡ units_said is.units
+
+-- what a wire settles: all that it says up to where it was cut, ended or stands in no text
+abbrev pub Front : Mode → Structure → List ℕ → List Said → Type 0
+Front m s w said = IsOpen m s w said ⊎ IsText m s w said ⊎ IsFaulty m s w said

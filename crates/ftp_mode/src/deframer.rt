@@ -1,0 +1,434 @@
+ghost use Rattle.std.specs.Prelude.{◌≡◌, ◌≢◌, ◌+◌, ◌<◌, ◌≤◌, ◌⊎◌, ◌++◌, ℕ, List, [], ◌∷◌, ◌-◌, ◌^◌, ◌↔◌, min, length, take, drop, IfOk, IfErr, OnOk, OnErr, IsOk, IsTrue, IsFalse, IfSome, IfNone, slice_index};
+ghost use Rattle.ftp_mode.specs.Reading.{Reading, start, at_end, broken_state, going, failed, after_block, count_on, is_complete};
+ghost use Rattle.ftp_mode.specs.Deframing.{reading, owed, last_marker, part_said, Hears, Fails, Bites, Reads, Refuses, IsControl};
+ghost use Rattle.ftp_mode.specs.Block.{ends_of};
+
+use crate::fault::FrameFault;
+use crate::mode::Mode;
+use crate::step::{Part, Step};
+use arrayvec::ArrayVec;
+use ftp_repr::{Structure, first_ff};
+
+/// Where in a text the next octet stands.
+#[derive(Clone, Copy, Debug, PartialEq, Eq)]
+enum State {
+    /// In the data of stream mode and file structure.
+    Plain,
+    /// In the data of stream mode with records.
+    Outside,
+    /// Behind an escape octet.
+    Escaped,
+    /// At a descriptor.
+    Head,
+    /// At the higher octet of a count, behind this descriptor.
+    High(u8),
+    /// At the lower octet of a count, behind this descriptor and the higher octet.
+    Low(u8, u8),
+    /// In the data of a block with this descriptor, so many octets before the last.
+    Inside(u8, u16),
+    /// The same in a marker.
+    Marking(u8, u8),
+    /// Behind the end of file.
+    Ended,
+    Failed(FrameFault),
+}
+
+/// Ends that were read and not yet given.
+#[derive(Clone, Copy, Debug, PartialEq, Eq)]
+enum Owed {
+    Nothing,
+    Record,
+    Both,
+    File,
+}
+
+/// What a few octets gave before any ends.
+#[derive(Clone, Copy, Debug, PartialEq, Eq)]
+enum Gave {
+    Nothing,
+    /// Themselves.
+    Octets,
+    /// The marker that the last of them ends.
+    Marker,
+}
+
+/// A few octets in front of a piece, and what they gave.
+#[derive(Clone, Copy, Debug, PartialEq, Eq)]
+struct Bite {
+    taken: usize,
+    gave: Gave,
+}
+
+/// Reads the octets of a data connection, in any pieces (RFC 959, sections 3.4.1 and 3.4.2). It takes no memory.
+#[derive(Drop)]
+pub struct Deframer {
+    state: State,
+    owed: Owed,
+    place: u64,
+    marker: ArrayVec<u8, 255>,
+}
+
+impl Deframer {
+    /// A reader of one file in this mode and structure.
+    pub fn new(mode: Mode, structure: Structure) -> Deframer
+        ensures state { reading result ≡ start mode structure }
+        ensures owes { owed result ≡ [] }
+    {
+        let state = match mode {
+            Mode::Block => State::Head,
+            Mode::Stream => match structure {
+                Structure::File => State::Plain,
+                Structure::Record => State::Outside,
+            },
+        };
+        Deframer {
+            state,
+            owed: Owed::Nothing,
+            place: 0,
+            marker: ArrayVec::new(),
+        }
+    }
+
+    /// Reads wire octets until they give a part or the piece is used up.
+    ///
+    /// `piece` has the next octets of the data connection, any number of them; `taken` counts those used. A part may
+    /// come with none taken: an end that stood behind another. Data is lent from `piece`; octets behind the end of
+    /// file are taken and say nothing. Faults name their place, in wire octets from 0. After one, each call answers
+    /// it again.
+    pub fn feed<'a>(&mut self, piece: &'a [u8]) -> Result<Step<'a>, FrameFault>
+        ensures ok { IfOk result (λ step. Hears self.old piece.now step self.new) }
+        ensures err { IfErr result (λ fault. Fails self.old piece.now fault self.new) }
+    {
+        if let Some(part) = self.owed_part() {
+            return Ok(Step { taken: 0, part });
+        }
+        if let State::Failed(fault) = self.state {
+            return Err(fault);
+        }
+        let mut at = 0;
+        while at < piece.len() {
+            let (_, rest) = piece.split_at(at);
+            let bite = match self.bite(rest) {
+                Ok(bite) => bite,
+                Err(fault) => return Err(fault),
+            };
+            at += bite.taken;
+            match bite.gave {
+                Gave::Octets => {
+                    let (octets, _) = rest.split_at(bite.taken);
+                    return Ok(Step {
+                        taken: at,
+                        part: Part::Data(octets),
+                    });
+                }
+                Gave::Marker => {
+                    return Ok(Step {
+                        taken: at,
+                        part: Part::Marker,
+                    })
+                }
+                Gave::Nothing => {}
+            }
+            if let Some(part) = self.owed_part() {
+                return Ok(Step { taken: at, part });
+            }
+        }
+        Ok(Step {
+            taken: at,
+            part: Part::Need,
+        })
+    }
+    /// The marker that `feed` gave last, until the next call of it.
+    pub fn marker(&self) -> &[u8]
+        ensures { result.now ≡ last_marker self.now }
+    {
+        self.marker.as_slice()
+    }
+
+    /// The connection has ended: a fault where the end of file is missing (RFC 959, section 3.4).
+    ///
+    /// In stream mode and file structure the end of the connection is the end of file. After a fault each call
+    /// answers it again.
+    pub fn end(&mut self) -> Result<(), FrameFault>
+        ensures state { reading self.new ≡ at_end (reading self.old) }
+        ensures ok { OnOk result (is_complete (reading self.new)) }
+        ensures err { IfErr result (λ fault. reading self.new ≡ failed fault) }
+        ensures owes { owed self.new ≡ owed self.old }
+    {
+        match self.state {
+            State::Plain | State::Ended => Ok(()),
+            State::Failed(fault) => Err(fault),
+            _ => {
+                self.state = State::Failed(FrameFault::EndedEarly);
+                Err(FrameFault::EndedEarly)
+            }
+        }
+    }
+
+    /// The connection broke: no octet follows. What was read stays to be given.
+    pub fn broken(&mut self)
+        ensures state { reading self.new ≡ broken_state (reading self.old) }
+        ensures owes { owed self.new ≡ owed self.old }
+    {
+        match self.state {
+            State::Ended | State::Failed(_) => {}
+            _ => self.state = State::Failed(FrameFault::EndedEarly),
+        }
+    }
+
+    /// Takes the first end that is owed.
+    fn owed_part<'a>(&mut self) -> Option<Part<'a>>
+        ensures some { IfSome result (λ part. (text : List ℕ) → part_said part text ++ owed self.new ≡ owed self.old) }
+        ensures full { IfSome result (λ part. (text : List ℕ) → 0 < length (part_said part text)) }
+        ensures none { IfNone result (owed self.old ≡ []) }
+        ensures state { reading self.new ≡ reading self.old }
+        ensures marker { last_marker self.new ≡ last_marker self.old }
+        ensures owes { IfNone result (self.new ≡ self.old) }
+    {
+        match self.owed {
+            Owed::Nothing => None,
+            Owed::Record => {
+                self.owed = Owed::Nothing;
+                Some(Part::EndRecord)
+            }
+            Owed::Both => {
+                self.owed = Owed::File;
+                Some(Part::EndRecord)
+            }
+            Owed::File => {
+                self.owed = Owed::Nothing;
+                Some(Part::EndFile)
+            }
+        }
+    }
+
+    /// Takes the octets in front of a piece that give data, or one other.
+    fn bite(&mut self, piece: &[u8]) -> Result<Bite, FrameFault>
+        requires some { 0 < length piece.now }
+        requires owes { owed self.old ≡ [] }
+        ensures ok { IfOk result (λ bite. Bites self.old piece.now bite self.new) }
+        ensures err { IfErr result (λ fault. Refuses self.old (slice_index piece.now 0) fault self.new) }
+    {
+        match self.state {
+            State::Plain => Ok(self.all(piece, Gave::Octets)),
+            State::Ended => Ok(self.all(piece, Gave::Nothing)),
+            State::Outside => Ok(self.outside(piece)),
+            State::Inside(descriptor, more) => Ok(self.inside(piece, descriptor, more)),
+            State::Escaped
+            | State::Head
+            | State::High(_)
+            | State::Low(_, _)
+            | State::Marking(_, _)
+            | State::Failed(_) => {
+                match self.octet(piece[0]) {
+                    Ok(gave) => Ok(Bite { taken: 1, gave }),
+                    Err(fault) => Err(fault),
+                }
+            }
+        }
+    }
+
+    fn moved(&mut self, count: usize)
+        ensures place { self.new.place ≡ count_on self.old.place count }
+        ensures state { self.new.state ≡ self.old.state }
+        ensures owes { self.new.owed ≡ self.old.owed }
+        ensures marker { last_marker self.new ≡ last_marker self.old }
+    {
+        self.place = self.place.saturating_add(count as u64);
+    }
+
+    /// Takes a piece whole, as data or behind the end of file.
+    fn all(&mut self, piece: &[u8], gave: Gave) -> Bite
+        requires some { 0 < length piece.now }
+        requires owes { owed self.old ≡ [] }
+        requires place { ((self.old.state ≡ State.Plain) × (gave ≡ Gave.Octets)) ⊎ ((self.old.state ≡ State.Ended) × (gave ≡ Gave.Nothing)) }
+        ensures { Bites self.old piece.now result self.new }
+    {
+        self.moved(piece.len());
+        Bite {
+            taken: piece.len(),
+            gave,
+        }
+    }
+
+    /// Takes the data before an escape octet, or that octet.
+    fn outside(&mut self, piece: &[u8]) -> Bite
+        requires some { 0 < length piece.now }
+        requires owes { owed self.old ≡ [] }
+        requires place { self.old.state ≡ State.Outside }
+        ensures { Bites self.old piece.now result self.new }
+    {
+        let run = first_ff(piece);
+        if run > 0 {
+            self.moved(run);
+            return Bite {
+                taken: run,
+                gave: Gave::Octets,
+            };
+        }
+        self.moved(1);
+        self.state = State::Escaped;
+        Bite {
+            taken: 1,
+            gave: Gave::Nothing,
+        }
+    }
+
+    /// Takes the data of a block.
+    fn inside(&mut self, piece: &[u8], descriptor: u8, more: u16) -> Bite
+        requires some { 0 < length piece.now }
+        requires owes { owed self.old ≡ [] }
+        requires place { self.old.state ≡ State.Inside descriptor more }
+        ensures { Bites self.old piece.now result self.new }
+    {
+        let left = usize::from(more) + 1;
+        if piece.len() < left {
+            self.moved(piece.len());
+            self.state = State::Inside(descriptor, (left - piece.len() - 1) as u16);
+            return Bite {
+                taken: piece.len(),
+                gave: Gave::Octets,
+            };
+        }
+        self.moved(left);
+        self.close(descriptor);
+        Bite {
+            taken: left,
+            gave: Gave::Octets,
+        }
+    }
+
+    /// Ends a block: its ends are owed.
+    fn close(&mut self, descriptor: u8)
+        ensures state { reading self.new ≡ going self.old.place (after_block descriptor) }
+        ensures owes { owed self.new ≡ ends_of descriptor }
+        ensures place { self.new.place ≡ self.old.place }
+        ensures marker { last_marker self.new ≡ last_marker self.old }
+    {
+        let record = descriptor & 128 != 0;
+        if descriptor & 64 != 0 {
+            self.state = State::Ended;
+            self.owed = if record { Owed::Both } else { Owed::File };
+        } else {
+            self.state = State::Head;
+            self.owed = if record { Owed::Record } else { Owed::Nothing };
+        }
+    }
+
+    /// Takes an octet that is no data of a file as it stands there.
+    fn octet(&mut self, octet: u8) -> Result<Gave, FrameFault>
+        requires owes { owed self.old ≡ [] }
+        requires place { IsControl self.old.state }
+        ensures ok { IfOk result (λ gave. Reads self.old octet gave self.new) }
+        ensures err { IfErr result (λ fault. Refuses self.old octet fault self.new) }
+    {
+        match self.state {
+            State::Escaped => self.code(octet),
+            State::Head => self.descriptor(octet),
+            State::High(descriptor) => {
+                self.moved(1);
+                self.state = State::Low(descriptor, octet);
+                Ok(Gave::Nothing)
+            }
+            State::Low(descriptor, high) => self.count(descriptor, high, octet),
+            State::Marking(descriptor, more) => self.marker_octet(descriptor, more, octet),
+            State::Failed(fault) => Err(fault),
+            State::Plain | State::Outside | State::Inside(_, _) | State::Ended => Ok(Gave::Nothing),
+        }
+    }
+
+    /// Fails at the present octet, or so many before it.
+    fn fail(&mut self, fault: FrameFault) -> FrameFault
+        ensures fault { result ≡ fault }
+        ensures state { reading self.new ≡ failed fault }
+        ensures owes { owed self.new ≡ owed self.old }
+    {
+        self.state = State::Failed(fault);
+        fault
+    }
+
+    /// The octet behind an escape octet.
+    fn code(&mut self, octet: u8) -> Result<Gave, FrameFault>
+        requires owes { owed self.old ≡ [] }
+        requires place { self.old.state ≡ State.Escaped }
+        ensures ok { IfOk result (λ gave. Reads self.old octet gave self.new) }
+        ensures err { IfErr result (λ fault. Refuses self.old octet fault self.new) }
+    {
+        let place = self.place;
+        self.moved(1);
+        self.state = State::Outside;
+        match octet {
+            255 => return Ok(Gave::Octets),
+            1 => self.owed = Owed::Record,
+            2 => {
+                self.state = State::Ended;
+                self.owed = Owed::File;
+            }
+            3 => {
+                self.state = State::Ended;
+                self.owed = Owed::Both;
+            }
+            _ => return Err(self.fail(FrameFault::BadEscape(place))),
+        }
+        Ok(Gave::Nothing)
+    }
+
+    fn descriptor(&mut self, octet: u8) -> Result<Gave, FrameFault>
+        requires owes { owed self.old ≡ [] }
+        requires place { self.old.state ≡ State.Head }
+        ensures ok { IfOk result (λ gave. Reads self.old octet gave self.new) }
+        ensures err { IfErr result (λ fault. Refuses self.old octet fault self.new) }
+    {
+        let place = self.place;
+        if octet & 32 != 0 {
+            return Err(self.fail(FrameFault::Suspect(place)));
+        }
+        self.moved(1);
+        self.state = State::High(octet);
+        Ok(Gave::Nothing)
+    }
+
+    /// The last octet of a header.
+    fn count(&mut self, descriptor: u8, high: u8, low: u8) -> Result<Gave, FrameFault>
+        requires owes { owed self.old ≡ [] }
+        requires place { self.old.state ≡ State.Low descriptor high }
+        ensures ok { IfOk result (λ gave. Reads self.old low gave self.new) }
+        ensures err { IfErr result (λ fault. Refuses self.old low fault self.new) }
+    {
+        let place = self.place;
+        let count = u16::from(high) * 256 + u16::from(low);
+        self.moved(1);
+        if descriptor & 16 != 0 {
+            if count == 0 || count > 255 {
+                return Err(self.fail(FrameFault::BadMarker(place.saturating_sub(2))));
+            }
+            self.marker.clear();
+            self.state = State::Marking(descriptor, (count - 1) as u8);
+        } else if count == 0 {
+            self.close(descriptor);
+        } else {
+            self.state = State::Inside(descriptor, count - 1);
+        }
+        Ok(Gave::Nothing)
+    }
+
+    fn marker_octet(&mut self, descriptor: u8, more: u8, octet: u8) -> Result<Gave, FrameFault>
+        requires owes { owed self.old ≡ [] }
+        requires place { self.old.state ≡ State.Marking descriptor more }
+        ensures ok { IfOk result (λ gave. Reads self.old octet gave self.new) }
+        ensures err { IfErr result (λ fault. Refuses self.old octet fault self.new) }
+    {
+        let place = self.place;
+        if octet < 33 || octet > 126 || self.marker.len() >= 255 {
+            return Err(self.fail(FrameFault::BadMarker(place)));
+        }
+        self.moved(1);
+        self.marker.push(octet);
+        if more == 0 {
+            self.close(descriptor);
+            return Ok(Gave::Marker);
+        }
+        self.state = State::Marking(descriptor, more - 1);
+        Ok(Gave::Nothing)
+    }
+}

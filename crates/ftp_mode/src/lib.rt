@@ -1,0 +1,13 @@
+//! Items to the octets of a data connection and back, in any pieces, without IO: stream mode and block mode with
+//! restart markers (RFC 959, sections 3.4 and 3.5).
+#![tactic(auto)]
+
+mod deframer;
+mod fault;
+mod mode;
+mod step;
+
+pub use deframer::Deframer;
+pub use fault::FrameFault;
+pub use mode::Mode;
+pub use step::{Part, Step};
