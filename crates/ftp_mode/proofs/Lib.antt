@@ -1,2 +1,3 @@
 pub mod ReaderRuns
 pub mod BiteLemmas
+pub mod FramingLemmas

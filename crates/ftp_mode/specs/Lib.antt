@@ -8,3 +8,4 @@ pub mod Fault
 pub mod Reading
 pub mod Writing
 pub mod Deframing
+pub mod Framing

@@ -4,10 +4,12 @@
 
 mod deframer;
 mod fault;
+mod framer;
 mod mode;
 mod step;
 
 pub use deframer::Deframer;
 pub use fault::FrameFault;
+pub use framer::{Framer, Moved};
 pub use mode::Mode;
 pub use step::{Part, Step};
