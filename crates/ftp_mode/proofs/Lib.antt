@@ -1,3 +1,6 @@
 pub mod ReaderRuns
 pub mod BiteLemmas
 pub mod FramingLemmas
+pub mod MoveLemmas
+pub mod UnitLemmas
+pub mod CutLemmas

@@ -1,0 +1,96 @@
+-- The reader over the units of a wire.
+use Rattle.std.proofs.Common.{◌≡◌, ℕ, ◌+◌, ◌-◌, ◌<◌, ◌≤◌, ◌^◌, ◌⊎◌, inl, inr, min, List, [], ◌∷◌, ◌++◌, map, length, Bool, true, false, ◌==◌, if◌then◌else◌, refl, ap, sym, subst, ◌∙◌, arith, append_assoc, append-nil, length-append}
+use Rattle.std.specs.List.{flat_map, AllByRecursion}
+use Rattle.std.proofs.lemmas.Bool.{ne_eqb}
+use Rattle.ftp_repr.specs.Machine.{after, gives}
+use Rattle.ftp_repr.specs.declared.form.Structure.{Structure}
+use Rattle.ftp_repr.specs.declared.form.Structure.TheVariants.{File, Record}
+use Rattle.ftp_mode.specs.declared.mode.Mode.{Mode}
+use Rattle.ftp_mode.specs.declared.mode.Mode.TheVariants.{Stream, Block as Blocks}
+use Rattle.ftp_mode.specs.declared.fault.FrameFault.{FrameFault}
+use Rattle.ftp_mode.specs.declared.fault.FrameFault.TheVariants.{BadEscape, Suspect, BadMarker, EndedEarly}
+use Rattle.ftp_mode.specs.Said.{Said, says, marker, octets_said}
+use Rattle.ftp_mode.specs.Stream.{is_code, code_said, code_ends}
+use Rattle.ftp_mode.specs.Marker.{is_marker_octet, IsMarker}
+use Rattle.ftp_mode.specs.Block.{Block, block_octets, block_said, IsBlock, has, count_of, ends_of}
+use Rattle.ftp_mode.specs.Units.{WireUnit, one, escape, whole, unit_octets, unit_said, unit_ends, IsUnit, GoesOn, units_octets, units_said, IsText}
+use Rattle.ftp_mode.specs.Fault.{is_no_length, Begins, IsBadEscape, IsSuspect, IsBadLength, IsBadOctet, IsFault}
+use Rattle.ftp_mode.specs.Front.{IsCutHeader, IsCutData, IsCutMarker, IsCut, IsOpen}
+use Rattle.ftp_mode.specs.Reading.{Reading, going, failed, Place, outside, escaped, at_head, at_high, at_low, inside, marking, ended, count_on, next, after_block, place_step, is_complete_at, first_place, start, reader}
+use Rattle.ftp_mode.specs.Deframing.{Moves}
+use Rattle.ftp_mode.proofs.ReaderRuns.{short_after, short_gives, failed_after, failed_gives, ended_gives}
+use Rattle.ftp_mode.proofs.MoveLemmas.{moves_append, count_count, counted, third, block_moves, into_data, into_marker, cut_mark, bad_mark, Opens}
+
+-- where the reader is behind a unit
+abbrev pub unit_next : Mode → Structure → WireUnit → Place
+unit_next m s u = if unit_ends u then ended else first_place m s
+
+code_moves : (n code : ℕ) → is_code code ≡ true
+  → Moves (going n outside) (going (count_on n 2) (if code_ends code then ended else outside)) (255 ∷ code ∷ []) (code_said code)
+code_moves n code is = record {
+  state = rw is (ap (λ k. going k (if code_ends code then ended else outside)) (omega arith));
+  says = sym (append-nil (code_said code));
+}
+
+pub unit_moves : (m : Mode) (s : Structure) (n : ℕ) (u : WireUnit) → IsUnit m s u
+  → Moves (going n (first_place m s)) (going (count_on n (length (unit_octets u))) (unit_next m s u)) (unit_octets u) (unit_said u)
+unit_moves Stream File n (one c) h = record { state = refl; says = refl }
+unit_moves Stream File n (escape code) h = absurd h
+unit_moves Stream File n (whole b) h = absurd h
+unit_moves Stream Record n (one c) h = record { state = rw h refl; says = rw h refl }
+unit_moves Stream Record n (escape code) h = code_moves n code h
+unit_moves Stream Record n (whole b) h = absurd h
+unit_moves Blocks s n (one c) h = absurd h
+unit_moves Blocks s n (escape code) h = absurd h
+unit_moves Blocks s n (whole b) h = block_moves n b h
+
+-- a unit that something follows
+going_on : (m : Mode) (s : Structure) (n : ℕ) (u : WireUnit) → GoesOn m s u
+  → Moves (going n (first_place m s)) (going (count_on n (length (unit_octets u))) (first_place m s)) (unit_octets u) (unit_said u)
+going_on m s n u h =
+    let P : Place → Type 0 = λ p. Moves (going n (first_place m s)) (going (count_on n (length (unit_octets u))) p) (unit_octets u) (unit_said u) in
+    subst P (ap (λ b. if b then ended else first_place m s) h.1) (unit_moves m s n u h.0)
+
+-- the last unit
+ending : (m : Mode) (s : Structure) (n : ℕ) (u : WireUnit) → IsUnit m s u → unit_ends u ≡ true
+  → Moves (going n (first_place m s)) (going (count_on n (length (unit_octets u))) ended) (unit_octets u) (unit_said u)
+ending m s n u h e =
+    let P : Place → Type 0 = λ p. Moves (going n (first_place m s)) (going (count_on n (length (unit_octets u))) p) (unit_octets u) (unit_said u) in
+    subst P (ap (λ b. if b then ended else first_place m s) e) (unit_moves m s n u h)
+
+pub units_moves : (m : Mode) (s : Structure) (n : ℕ) (us : List WireUnit) → n ≤ 2 ^ 64 - 1 → AllByRecursion (GoesOn m s) us
+  → Moves (going n (first_place m s)) (going (count_on n (length (units_octets us))) (first_place m s)) (units_octets us) (units_said us)
+units_moves m s n [] fits each = record { state = ap (λ k. going k (first_place m s)) (omega arith); says = refl }
+units_moves m s n (u ∷ us) fits each =
+    let k = count_on n (length (unit_octets u)) in
+    let all = moves_append (going n (first_place m s)) (going k (first_place m s)) (going (count_on k (length (units_octets us))) (first_place m s))
+      (unit_octets u) (units_octets us) (unit_said u) (units_said us) (going_on m s n u each.0) (units_moves m s k us (omega arith) each.1) in
+    record {
+      state = ap (λ i. going i (first_place m s)) (omega (arith, length-append (unit_octets u) (units_octets us))) ∙ all.state;
+      says = all.says;
+    }
+
+ended_counts : (n : ℕ) (w : List ℕ) → Moves (going n ended) (going (counted n w) ended) w []
+ended_counts n [] = record { state = refl; says = refl }
+ended_counts n (c ∷ w) = let rest = ended_counts (next n) w in record { state = rest.state; says = rest.says }
+
+-- behind a text the reader is at its end
+pub record Ends (m : Mode) (s : Structure) (w : List ℕ) (said : List Said) : Type 0 where
+  pub count : ℕ
+  pub moves : Moves (start m s) (going count ended) w said
+
+pub text_moves : (m : Mode) (s : Structure) (w : List ℕ) (said : List Said) → IsText m s w said → Ends m s w said
+text_moves m s w said t =
+    let n = count_on 0 (length (units_octets t.units)) in
+    let k = count_on n (length (unit_octets t.last)) in
+    let last = moves_append (going n (first_place m s)) (going k ended) (going (counted k t.rest) ended) (unit_octets t.last) t.rest (unit_said t.last) []
+      (ending m s n t.last t.fits t.ends) (ended_counts k t.rest) in
+    let all = moves_append (start m s) (going n (first_place m s)) (going (counted k t.rest) ended) (units_octets t.units) (unit_octets t.last ++ t.rest)
+      (units_said t.units) (unit_said t.last ++ []) (units_moves m s 0 t.units (omega arith) t.each) last in
+    record {
+      count = counted k t.rest;
+      moves = record {
+        state = all.state ∙ ap (after reader (start m s)) (sym t.is);
+        says = t.says ∙ ap (λ l. units_said t.units ++ l) (sym (append-nil (unit_said t.last))) ∙ all.says ∙ ap (gives reader (start m s)) (sym t.is);
+      };
+    }
