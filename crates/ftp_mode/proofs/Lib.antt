@@ -4,3 +4,4 @@ pub mod FramingLemmas
 pub mod MoveLemmas
 pub mod UnitLemmas
 pub mod CutLemmas
+pub mod ShapeLemmas
