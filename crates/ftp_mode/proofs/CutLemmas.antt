@@ -146,7 +146,7 @@ data_by n d k (x ∷ xs) short = record {
   moves = record { state = sym (short_after n d k x xs short); says = sym (short_gives n d k (x ∷ xs) short) };
 }
 
-opens_behind : (a b : Reading) (xs ys : List ℕ) (s t : List Said) → Moves a b xs s → Opens b ys t → Opens a (xs ++ ys) (s ++ t)
+pub opens_behind : (a b : Reading) (xs ys : List ℕ) (s t : List Said) → Moves a b xs s → Opens b ys t → Opens a (xs ++ ys) (s ++ t)
 opens_behind a b xs ys s t first second = record {
   count = second.count;
   at = second.at;
@@ -179,7 +179,7 @@ cut_marker n w b =
 with_said : (r : Reading) (w : List ℕ) (said : List Said) → said ≡ [] → Opens r w [] → Opens r w said
 with_said r w said e o = let P : List Said → Type 0 = λ l. Opens r w l in subst P (sym e) o
 
-cut_moves : (m : Mode) (s : Structure) (n : ℕ) (w : List ℕ) (said : List Said) → IsCut m s w said → Opens (going n (first_place m s)) w said
+pub cut_moves : (m : Mode) (s : Structure) (n : ℕ) (w : List ℕ) (said : List Said) → IsCut m s w said → Opens (going n (first_place m s)) w said
 cut_moves Stream File n w said c = absurd c
 cut_moves Stream Record n w said c =
     let P : List ℕ → Type 0 = λ l. Opens (going n outside) l [] in

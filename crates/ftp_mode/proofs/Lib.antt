@@ -5,3 +5,4 @@ pub mod MoveLemmas
 pub mod UnitLemmas
 pub mod CutLemmas
 pub mod ShapeLemmas
+pub mod ExactLemmas

@@ -1,7 +1,7 @@
 -- Every wire is open, a text or faulty.
 use Rattle.std.proofs.Common.{◌≡◌, ℕ, zero, suc, ◌+◌, ◌-◌, ◌<◌, ◌≤◌, ◌⊎◌, inl, inr, List, [], ◌∷◌, ◌++◌, length, take, drop, Bool, true, false, ◌==◌, refl, ap, sym, subst, ◌∙◌, arith, append_assoc, append-nil, length-append, length-drop}
 use Rattle.std.specs.List.{flat_map, AllByRecursion}
-use Rattle.std.proofs.lemmas.Bool.{eqb-true, eqb-false, false≢true}
+use Rattle.std.proofs.lemmas.Bool.{eqb-true, cases_lt, false≢true}
 use Rattle.std.proofs.lemmas.List.{length-take-le, take_all, take-append-drop, length-take}
 use Rattle.ftp_repr.specs.declared.form.Structure.{Structure}
 use Rattle.ftp_repr.specs.declared.form.Structure.TheVariants.{File, Record}
@@ -145,7 +145,7 @@ block_shape s d h l w sound full marked rest =
 data_shape : (s : Structure) (d h l : ℕ) (w : List ℕ) → has d 32 ≡ false → has d 16 ≡ false
   → Shape Blocks s (drop (count_of h l) w) → Shape Blocks s (headed d h l w)
 data_shape s d h l w sound plain rest =
-    elim (Rattle.std.proofs.lemmas.Bool.cases_lt (length w) (count_of h l)) [
+    elim (cases_lt (length w) (count_of h l)) [
       inl less ↦ shape_cut Blocks s (headed d h l w) (octets_said w)
         (inr (inl (record { descriptor = d; high = h; low = l; octets = w; is = refl; sound = sound; plain = plain; short = less; says = refl })))
     | inr full ↦ block_shape s d h l w sound full (λ e. absurd (false≢true (sym plain ∙ e))) rest
@@ -168,7 +168,7 @@ marker_shape : (s : Structure) (d h l : ℕ) (w : List ℕ) → has d 32 ≡ fal
 marker_shape s d h l w sound kind fits rest =
     let n = count_of h l in
     elim (scan (take n w)) [
-      inl all ↦ elim (Rattle.std.proofs.lemmas.Bool.cases_lt (length w) n) [
+      inl all ↦ elim (cases_lt (length w) n) [
         inl less ↦ (let P : List ℕ → Type 0 = λ v. AllByRecursion (λ c. is_marker_octet c ≡ true) v in
           shape_cut Blocks s (headed d h l w) []
           (inr (inr (record { descriptor = d; high = h; low = l; octets = w; is = refl; sound = sound; marker = kind; fits = fits; short = less;

@@ -9,3 +9,4 @@ pub mod Reading
 pub mod Writing
 pub mod Deframing
 pub mod Framing
+pub mod Laws
