@@ -6,3 +6,4 @@ pub mod UnitLemmas
 pub mod CutLemmas
 pub mod ShapeLemmas
 pub mod ExactLemmas
+pub mod TextLemmas

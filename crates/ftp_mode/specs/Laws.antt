@@ -2,7 +2,8 @@
 use Rattle.std.specs.Prelude.{◌≡◌, ℕ, List, [], ◌∷◌, ◌++◌}
 use Rattle.ftp_repr.specs.Machine.{after, gives}
 use Rattle.ftp_repr.specs.Signs.{Sign, end_file, Form, signs_of}
-use Rattle.ftp_repr.specs.Receiving.{receiving, fresh}
+use Rattle.ftp_repr.specs.Content.{content}
+use Rattle.ftp_repr.specs.declared.form.Kind.TheVariants.{Image}
 use Rattle.ftp_repr.specs.declared.form.Structure.{Structure}
 use Rattle.ftp_repr.specs.declared.form.Structure.TheVariants.{File, Record}
 use Rattle.ftp_mode.specs.declared.mode.Mode.{Mode}
@@ -36,8 +37,18 @@ wire m f b = wire_text m f.structure (signs_of f b)
 
 -- the octets of the file that a wire settles which was cut
 abbrev pub settled_content : Mode → Form → List ℕ → List ℕ
-settled_content m f w = gives (receiving f) fresh (file_signs (gives reader (start m f.structure) w))
+settled_content m f w = content f (file_signs (gives reader (start m f.structure) w))
 
 -- the octets of the file that a wire says which ended well
 abbrev pub ended_content : Mode → Form → List ℕ → List ℕ
-ended_content m f w = gives (receiving f) fresh (file_signs (gives reader (start m f.structure) w) ++ end_file ∷ [])
+ended_content m f w = content f (file_signs (gives reader (start m f.structure) w ++ unsaid_end m f.structure))
+
+-- type I and file structure
+abbrev pub image_file : Form
+image_file = record { kind = Image; structure = File }
+
+-- a file's octets end the wire by themselves: anything may follow
+abbrev pub EndsItself : Mode → Structure → Type 0
+EndsItself Stream File = ⊥
+EndsItself Stream Record = Unit {0}
+EndsItself Blocks s = Unit {0}
