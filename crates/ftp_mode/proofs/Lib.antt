@@ -7,3 +7,5 @@ pub mod CutLemmas
 pub mod ShapeLemmas
 pub mod ExactLemmas
 pub mod TextLemmas
+pub mod WriterLemmas
+pub mod MarkLemmas

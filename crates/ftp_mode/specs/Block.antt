@@ -73,7 +73,8 @@ rows_text before (end_file ∷ ss) = data_text 64 before
 abbrev pub marks_text : ℕ → ℕ → List ℕ → List ℕ
 marks_text zero start b = data_text 64 b
 marks_text (suc k) start b =
-    data_text 0 (take (to_place start) b) ++ marker_text (start + to_place start) ++ marks_text k (start + to_place start) (drop (to_place start) b)
+    data_text 0 (take (to_place start) b)
+    ++ (marker_text (start + to_place start) ++ marks_text k (start + to_place start) (drop (to_place start) b))
 
 -- the text of a file in file structure with own markers, which count the octets of the file from a start
 abbrev pub marked_text : ℕ → List ℕ → List ℕ
