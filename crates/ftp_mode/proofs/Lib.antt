@@ -9,3 +9,5 @@ pub mod ExactLemmas
 pub mod TextLemmas
 pub mod WriterLemmas
 pub mod MarkLemmas
+pub mod MarkedText
+pub mod LawLemmas

@@ -1,8 +1,6 @@
 -- The one text of a file is a text, and says the signs of the file.
 use Rattle.std.proofs.Common.{◌≡◌, ℕ, zero, suc, ◌+◌, ◌-◌, ◌*◌, ◌/◌, ◌%◌, ◌<◌, ◌≤◌, ◌^◌, ◌⊎◌, inl, inr, List, [], ◌∷◌, ◌++◌, map, length, take, drop, Bool, true, false, ◌==◌, if◌then◌else◌, leb, le-leb, refl, ap, sym, subst, ◌∙◌, arith, append_assoc, append-nil, length-append}
 use Rattle.std.specs.List.{AllByRecursion}
-use Rattle.std.specs.Fmt.{decimal}
-use Rattle.std.proofs.lemmas.Fmt.{decimal_by_steps, decimal_nonempty, length-decimal-le}
 use Rattle.std.proofs.lemmas.Bool.{eqb-true, false≢true}
 use Rattle.std.proofs.lemmas.List.{take-append-drop, map-append}
 use Rattle.ftp_repr.specs.Signs.{Sign, octet, end_record, end_file}
@@ -19,7 +17,7 @@ use Rattle.ftp_mode.specs.Block.{Block, block_octets, block_said, IsBlock, has, 
 use Rattle.ftp_mode.specs.Units.{WireUnit, one, escape, whole, unit_octets, unit_said, unit_ends, IsUnit, GoesOn, units_octets, units_said, IsText}
 
 -- one more unit in front of a text
-text_more : (m : Mode) (s : Structure) (u : WireUnit) (w : List ℕ) (said : List Said) → GoesOn m s u → IsText m s w said → IsText m s (unit_octets u ++ w) (unit_said u ++ said)
+pub text_more : (m : Mode) (s : Structure) (u : WireUnit) (w : List ℕ) (said : List Said) → GoesOn m s u → IsText m s w said → IsText m s (unit_octets u ++ w) (unit_said u ++ said)
 text_more m s u w said h t = record {
   units = u ∷ t.units;
   each = (h, t.each);
@@ -35,7 +33,7 @@ text_last : (m : Mode) (s : Structure) (u : WireUnit) (rest : List ℕ) → IsUn
 text_last m s u rest h e = record { units = []; each = tt; last = u; fits = h; ends = e; rest = rest; is = refl; says = refl }
 
 -- the same text or the same signs, written otherwise
-text_is : (m : Mode) (s : Structure) (v w : List ℕ) (a b : List Said) → v ≡ w → a ≡ b → IsText m s v a → IsText m s w b
+pub text_is : (m : Mode) (s : Structure) (v w : List ℕ) (a b : List Said) → v ≡ w → a ≡ b → IsText m s v a → IsText m s w b
 text_is m s v w a b e f t =
     let P : List ℕ → Type 0 = λ l. IsText m s l b in
     let Q : List Said → Type 0 = λ l. IsText m s v l in subst P e (subst Q f t)
@@ -98,7 +96,7 @@ written_is : (d : ℕ) (xs : List ℕ) → has d 32 ≡ false → has d 16 ≡ f
 unfolding written_block
 written_is d xs sound plain = record { sound = sound; counted = count_is (length xs); marked = λ e. absurd (false≢true (sym plain ∙ e)) }
 
-block_more : (s : Structure) (d : ℕ) (xs w : List ℕ) (said : List Said) → has d 32 ≡ false → has d 16 ≡ false → has d 64 ≡ false
+pub block_more : (s : Structure) (d : ℕ) (xs w : List ℕ) (said : List Said) → has d 32 ≡ false → has d 16 ≡ false → has d 64 ≡ false
   → IsText Blocks s w said → IsText Blocks s (block_text d xs ++ w) ((octets_said xs ++ ends_of d) ++ said)
 unfolding written_block
 block_more s d xs w said sound plain on t =
@@ -121,7 +119,7 @@ said_split n xs rest =
     ∙ sym (append_assoc (octets_said (take n xs)) (octets_said (drop n xs)) rest)
     ∙ ap (λ l. l ++ rest) (sym (map-append (λ c. says (octet c)) (take n xs) (drop n xs)) ∙ ap octets_said (take-append-drop n xs))
 
-blocks_more : (s : Structure) (k d : ℕ) (xs w : List ℕ) (said : List Said) → has d 32 ≡ false → has d 16 ≡ false → has d 64 ≡ false
+pub blocks_more : (s : Structure) (k d : ℕ) (xs w : List ℕ) (said : List Said) → has d 32 ≡ false → has d 16 ≡ false → has d 64 ≡ false
   → IsText Blocks s w said → IsText Blocks s (blocks_text k d xs ++ w) (octets_said xs ++ (ends_of d ++ said))
 blocks_more s zero d xs w said sound plain on t =
     text_is Blocks s (block_text d xs ++ w) (block_text d xs ++ w) ((octets_said xs ++ ends_of d) ++ said) (octets_said xs ++ (ends_of d ++ said)) refl
@@ -133,7 +131,7 @@ blocks_more s (suc k) d xs w said sound plain on t =
       (block_more s 0 (take 8192 xs) (blocks_text k d (drop 8192 xs) ++ w) (octets_said (drop 8192 xs) ++ (ends_of d ++ said)) refl refl refl
         (blocks_more s k d (drop 8192 xs) w said sound plain on t))
 
-blocks_last : (s : Structure) (k d : ℕ) (xs w : List ℕ) → has d 32 ≡ false → has d 16 ≡ false → has d 64 ≡ true
+pub blocks_last : (s : Structure) (k d : ℕ) (xs w : List ℕ) → has d 32 ≡ false → has d 16 ≡ false → has d 64 ≡ true
   → IsText Blocks s (blocks_text k d xs ++ w) (octets_said xs ++ ends_of d)
 blocks_last s zero d xs w sound plain last = block_last s d xs w sound plain last
 blocks_last s (suc k) d xs w sound plain last =

@@ -5,11 +5,13 @@
 mod deframer;
 mod fault;
 mod framer;
+mod laws;
 mod mode;
 mod step;
 
 pub use deframer::Deframer;
 pub use fault::FrameFault;
 pub use framer::{Framer, Moved};
+pub use laws::{early, faults, front, one_text, reads, reads_again, round_trip, settles};
 pub use mode::Mode;
 pub use step::{Part, Step};
