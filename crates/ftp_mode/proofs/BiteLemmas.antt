@@ -1,5 +1,5 @@
 -- What a deframer takes in one go.
-use Rattle.std.proofs.Common.{◌≡◌, ℕ, ◌+◌, ◌-◌, ◌<◌, ◌≤◌, List, [], ◌∷◌, ◌++◌, map, length, take, drop, get_or, Bool, true, false, ◌==◌, refl, ap, sym, subst, ◌∙◌, arith, inl, append-nil, length-drop}
+use Rattle.std.proofs.Common.{◌≡◌, ℕ, ◌+◌, ◌-◌, ◌<◌, ◌≤◌, List, [], ◌∷◌, ◌++◌, map, length, take, drop, get_or, Bool, true, false, ◌==◌, refl, ap, sym, subst, ◌∙◌, arith, inl, inr, ◌⊎◌, append-nil, length-append, length-drop}
 use Rattle.std.specs.List.{AllByRecursion}
 use Rattle.std.proofs.lemmas.List.{length-take-le, take_all}
 use Rattle.std.proofs.Math.Seq.{take-add}
@@ -10,10 +10,11 @@ use Rattle.ftp_mode.specs.declared.deframer.Gave.{Gave}
 use Rattle.ftp_mode.specs.declared.deframer.Bite.{Bite}
 use Rattle.ftp_mode.specs.declared.step.Part.{Part}
 use Rattle.ftp_mode.specs.declared.deframer.State.{State}
-use Rattle.ftp_mode.specs.declared.deframer.State.TheVariants.{Plain, Outside, Inside, Ended}
+use Rattle.ftp_mode.specs.declared.deframer.State.TheVariants.{Plain, Outside, Escaped, Head, High, Low, Inside, Marking, Ended, Failed}
+use Rattle.ftp_mode.specs.declared.fault.FrameFault.{FrameFault}
 use Rattle.ftp_mode.specs.Said.{Said, octets_said}
 use Rattle.ftp_mode.specs.Block.{ends_of}
-use Rattle.ftp_mode.specs.Reading.{Reading, going, failed, plain, outside, inside, ended, count_on, after_block, reader}
+use Rattle.ftp_mode.specs.Reading.{Reading, IsGoing, going, failed, Place, plain, outside, inside, ended, count_on, after_block, reader}
 use Rattle.ftp_mode.specs.Deframing.{reading_of, reading, owed, last_marker, gave_said, part_said, Moves, Bites, Reads, Refuses, FailsAt, Hears}
 use Rattle.ftp_mode.proofs.ReaderRuns.{run_after, run_gives, plain_runs, outside_runs, ended_after, ended_gives, short_after, short_gives, full_after, full_gives}
 
@@ -125,14 +126,46 @@ next_within mid new piece rest at bite cut less bites =
 -- the part that ends a call
 pub heard : (old new : Deframer) (piece : List ℕ) (n : ℕ) (part : Part) (said : List Said) → n ≤ length piece → owed old ≡ []
     → Moves (reading old) (reading new) (take n piece) said → part_said part (last_marker new) ++ owed new ≡ said
-    → 0 < length (part_said part (last_marker new)) → Hears old piece (record { taken = n; part = part }) new
-heard old new piece n part said within none moves says some = record {
+    → 0 < length (part_said part (last_marker new)) → IsGoing (reading new) → Hears old piece (record { taken = n; part = part }) new
+heard old new piece n part said within none moves says some fine = record {
   within = within;
   state = moves.state;
   says = says ∙ moves.says ∙ ap (λ l. l ++ gives reader (reading old) (take n piece)) (sym none);
   some = inl some;
+  fine = λ e. fine;
 }
 
 pub said_some : (xs : List ℕ) → 0 < length xs → 0 < length (octets_said xs)
 said_some [] some = absurd (omega arith)
 said_some (c ∷ xs) some = omega arith
+
+-- a reader at these places has not failed
+pub going_by : (s t : State) (n : ℕ) (text : List ℕ) → (s ≡ Outside) ⊎ (s ≡ Plain) ⊎ (s ≡ Ended) → t ≡ s → IsGoing (reading_of t n text)
+going_by s t n text is same =
+    let P : State → Type 0 = λ x. IsGoing (reading_of x n text) in
+    elim is [
+      inl e ↦ subst P (sym (same ∙ e)) tt
+    | inr f ↦ elim f [ inl e ↦ subst P (sym (same ∙ e)) tt | inr e ↦ subst P (sym (same ∙ e)) tt ]
+    ]
+
+pub closed_going : (r : Reading) (n : ℕ) (p : Place) → r ≡ going n p → IsGoing r
+closed_going r n p e = let P : Reading → Type 0 = λ x. IsGoing x in subst P (sym e) tt
+
+-- a reader that did not fail
+pub state_going : (s : State) (n : ℕ) (text : List ℕ) → ((fault : FrameFault) → s ≡ Failed fault → ⊥) → IsGoing (reading_of s n text)
+state_going Plain n text h = tt
+state_going Outside n text h = tt
+state_going Escaped n text h = tt
+state_going Head n text h = tt
+state_going (High d) n text h = tt
+state_going (Low d high) n text h = tt
+state_going (Inside d more) n text h = tt
+state_going (Marking d more) n text h = tt
+state_going Ended n text h = tt
+state_going (Failed fault) n text h = h fault refl
+
+pub same_going : (r s : Reading) → s ≡ r → IsGoing r → IsGoing s
+same_going r s e h = let P : Reading → Type 0 = λ x. IsGoing x in subst P (sym e) h
+
+pub owes_some : (a b c : List Said) → a ++ b ≡ c → 0 < length a → c ≡ [] → ⊥
+owes_some a b c e some none = omega (arith, some, ap length (e ∙ none), length-append a b)

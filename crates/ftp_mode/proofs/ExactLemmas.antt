@@ -42,20 +42,22 @@ stands_cut Stream Record n w said c = let o = cut_moves Stream Record n w said c
 stands_cut Blocks s n w said c = let o = cut_moves Blocks s n w said c in (o.count, o.at, o.early, o.moves)
 
 stands_kind : (m : Mode) (s : Structure) (n : ℕ) (w : List ℕ) (said : List Said) → ((w ≡ []) × (said ≡ [])) ⊎ IsCut m s w said
-  → (k : ℕ) × (p : Place) × (is_complete_at p ≡ is_complete_at (first_place m s)) × Moves (going n (first_place m s)) (going k p) w said
+    → (k : ℕ) × (p : Place) × (is_complete_at p ≡ is_complete_at (first_place m s)) × Moves (going n (first_place m s)) (going k p) w said
 stands_kind m s n w said kind = elim kind [
-    inl e ↦ (n, first_place m s, refl, record { state = sym (ap (after reader (going n (first_place m s))) e.0); says = e.1 ∙ sym (ap (gives reader (going n (first_place m s))) e.0) })
+  | inl e ↦ (n, first_place m s, refl, record { state = sym (ap (after reader (going n (first_place m s))) e.0); says = e.1 ∙ sym (ap (gives reader (going n (first_place m s))) e.0) })
   | inr c ↦ stands_cut m s n w said c
-  ]
+]
 
 pub open_stands : (m : Mode) (s : Structure) (w : List ℕ) (said : List Said) → IsOpen m s w said → Stands m s w said
 open_stands m s w said o =
     let n = count_on 0 (length (units_octets o.units)) in
     let cut = stands_kind m s n o.rest o.cut o.kind in
     let all = moves_append (start m s) (going n (first_place m s)) (going cut.0 cut.1) (units_octets o.units) o.rest (units_said o.units) o.cut
-      (units_moves m s 0 o.units (omega arith) o.each) cut.3 in
+    (units_moves m s 0 o.units (omega arith) o.each) cut.3 in
     record {
-      count = cut.0; at = cut.1; early = cut.2;
+      count = cut.0;
+      at = cut.1;
+      early = cut.2;
       moves = record { state = all.state ∙ ap (after reader (start m s)) (sym o.is); says = o.says ∙ all.says ∙ ap (gives reader (start m s)) (sym o.is) };
     }
 
@@ -89,12 +91,12 @@ fails_fault m s w fault fits e = fails_by m s w fault fits (shape_of m s w) e
 -- what a wire settles is what the reader says
 pub front_says : (m : Mode) (s : Structure) (w : List ℕ) (said : List Said) → length w < 2 ^ 64 → Front m s w said → said ≡ gives reader (start m s) w
 front_says m s w said fits f = elim f [
-    inl o ↦ (open_stands m s w said o).moves.says
+  | inl o ↦ (open_stands m s w said o).moves.says
   | inr e ↦ elim e [
-      inl t ↦ (text_moves m s w said t).moves.says
+    | inl t ↦ (text_moves m s w said t).moves.says
     | inr b ↦ b.says ∙ (fault_moves m s w b.fault fits b.is).says
-    ]
   ]
+]
 
 front_by : (m : Mode) (s : Structure) (w : List ℕ) → length w < 2 ^ 64 → Shape m s w → Front m s w (gives reader (start m s) w)
 front_by m s w fits (is_open said o) =
@@ -161,12 +163,12 @@ no_early : (m : Mode) (s : Structure) (place : ℕ) (w : List ℕ) → Begins m 
 no_early Stream File place w b = absurd b
 no_early Stream Record place w b = absurd (let e : EndedEarly ≡ BadEscape (place + 1) = b.named in cc)
 no_early Blocks s place w b = elim b [
-    inl f ↦ absurd (let e : EndedEarly ≡ Suspect place = f.named in cc)
+  | inl f ↦ absurd (let e : EndedEarly ≡ Suspect place = f.named in cc)
   | inr g ↦ elim g [
-      inl f ↦ absurd (let e : EndedEarly ≡ BadMarker place = f.named in cc)
+    | inl f ↦ absurd (let e : EndedEarly ≡ BadMarker place = f.named in cc)
     | inr f ↦ absurd (let e : EndedEarly ≡ BadMarker (place + 3 + length f.good) = f.named in cc)
-    ]
   ]
+]
 
 complete_end : (r : Reading) → is_complete r → at_end r ≡ failed EndedEarly → ⊥
 complete_end (going n p) done e = absurd (let x : going n p ≡ failed EndedEarly = sym (rw done refl) ∙ e in cc)
@@ -188,13 +190,13 @@ early_stands m s w said early o =
     ap at_end (sym x.moves.state) ∙ rw none refl
 
 early_by : (m : Mode) (s : Structure) (w : List ℕ) → is_complete_at (first_place m s) ≡ false → Shape m s w
-  → ((said : List Said) → IsText m s w said → ⊥) → ((fault : FrameFault) → IsFault m s w fault → ⊥) → at_end (after reader (start m s) w) ≡ failed EndedEarly
+    → ((said : List Said) → IsText m s w said → ⊥) → ((fault : FrameFault) → IsFault m s w fault → ⊥) → at_end (after reader (start m s) w) ≡ failed EndedEarly
 early_by m s w early (is_open said o) no_text no_fault = early_stands m s w said early o
 early_by m s w early (is_text said t) no_text no_fault = absurd (no_text said t)
 early_by m s w early (is_bad b) no_text no_fault = absurd (let f = bad_fault m s w b in no_fault f.0 f.1)
 
 pub neither_early : (m : Mode) (s : Structure) (w : List ℕ) → ((said : List Said) → Reads m s w said → ⊥) → ((fault : FrameFault) → IsFault m s w fault → ⊥)
-  → at_end (after reader (start m s) w) ≡ failed EndedEarly
+    → at_end (after reader (start m s) w) ≡ failed EndedEarly
 neither_early Stream File w no_text no_fault = absurd (no_text (octets_said w ++ says end_file ∷ []) refl)
 neither_early Stream Record w no_text no_fault = early_by Stream Record w refl (shape_of Stream Record w) no_text no_fault
 neither_early Blocks s w no_text no_fault = early_by Blocks s w refl (shape_of Blocks s w) no_text no_fault

@@ -12,7 +12,7 @@ use Rattle.ftp_mode.specs.Framing.{writing, owed_block, owed_octets, still_to_wr
 
 -- an octet goes into the room
 pub copy_step : (room text : List ℕ) (made next : ℕ) (v : ℕ) → made < length room → next < length text → v ≡ get_or text next 0
-  → take (made + 1) (set room made v) ++ drop (next + 1) text ≡ take made room ++ drop next text
+    → take (made + 1) (set room made v) ++ drop (next + 1) text ≡ take made room ++ drop next text
 copy_step room text made next v in_room in_text is =
     ap (λ l. l ++ drop (next + 1) text) (take_more_set room made v in_room)
     ∙ append_assoc (take made room) (v ∷ []) (drop (next + 1) text)
@@ -36,7 +36,7 @@ clear_owes f clear = ap (λ l. l ++ f.owed.items) (open_block f.stage f.block.it
 
 -- what is moved out changes nothing of what follows
 pub moved_text : (f g : Framer) (a b : List ℕ) (ss : List Sign) → a ++ owed_octets f ≡ b ++ owed_octets g → writing f ≡ writing g
-  → a ++ still_to_write f ss ≡ b ++ still_to_write g ss
+    → a ++ still_to_write f ss ≡ b ++ still_to_write g ss
 moved_text f g a b ss moved same =
     sym (append_assoc a (owed_octets f) (gives writer (writing f) ss))
     ∙ ap (λ l. l ++ gives writer (writing f) ss) moved
@@ -62,11 +62,11 @@ closed_text f more shut =
     ap (λ s. owed_octets f ++ gives writer s more) shut ∙ ap (λ s. owed_octets f ++ gives writer s (end_file ∷ more)) (sym shut)
 
 pub next_octet : (f : Framer) (piece : List ℕ) (n : ℕ) (more : List Sign) → n < length piece
-  → still_to_write f (map octet (drop n piece) ++ more) ≡ still_to_write f (octet (get_or piece n 0) ∷ (map octet (drop (n + 1) piece) ++ more))
+    → still_to_write f (map octet (drop n piece) ++ more) ≡ still_to_write f (octet (get_or piece n 0) ∷ (map octet (drop (n + 1) piece) ++ more))
 next_octet f piece n more less = ap (λ l. still_to_write f (map octet l ++ more)) (drop_more piece n 0 less)
 
 pub rest_octets : (f : Framer) (piece : List ℕ) (n : ℕ) (more : List Sign)
-  → still_to_write f (map octet (drop n piece) ++ more) ≡ still_to_write f (drop n (map octet piece) ++ more)
+    → still_to_write f (map octet (drop n piece) ++ more) ≡ still_to_write f (drop n (map octet piece) ++ more)
 rest_octets f piece n more = ap (λ l. still_to_write f (l ++ more)) (sym (drop-map octet n piece))
 
 take_len : (n : ℕ) (room b : List ℕ) → n ≤ length room → length (take n room ++ b) ≡ n + length b
@@ -74,10 +74,10 @@ take_len n room b within = length-append (take n room) b ∙ ap (λ k. k + lengt
 
 -- how far what is owed moves
 pub moved_len : (at made : ℕ) (room after b a : List ℕ) → at ≤ length room → made ≤ length after → take made after ++ b ≡ take at room ++ a
-  → made + length b ≡ at + length a
+    → made + length b ≡ at + length a
 moved_len at made room after b a within fits moved = sym (take_len made after b fits) ∙ ap length moved ∙ take_len at room a within
 
 -- the same, as a text in front
 pub poured_text : (f g : Framer) (room after : List ℕ) (at made : ℕ) (ss : List Sign) → take made after ++ owed_octets g ≡ take at room ++ owed_octets f → writing g ≡ writing f
-  → take at room ++ still_to_write f ss ≡ take made after ++ still_to_write g ss
+    → take at room ++ still_to_write f ss ≡ take made after ++ still_to_write g ss
 poured_text f g room after at made ss moved same = moved_text f g (take at room) (take made after) ss (sym moved) (sym same)

@@ -41,7 +41,7 @@ image_signs [] = refl
 image_signs (c ∷ b) = signs_of-cons image_file c b ∙ ap (λ l. octet c ∷ l) (image_signs b)
 
 pub writes_marked : (from : ℕ) (b : List ℕ) → from + length b < 2 ^ 64
-  → gives writer (with_marks from (blank Blocks File)) (signs_of image_file b) ≡ marked_text from b
+    → gives writer (with_marks from (blank Blocks File)) (signs_of image_file b) ≡ marked_text from b
 writes_marked from b fits = ap (gives writer (with_marks from (blank Blocks File))) (image_signs b) ∙ gives-marked from b fits
 
 -- in file structure a file is octets and the end of file
@@ -61,17 +61,17 @@ reads_by Stream k File b = plain_says (signs_of (record { kind = k; structure = 
 reads_by Stream k Record b =
     let f : Form = record { kind = k; structure = Record } in
     text_is Stream Record (wire Stream f b ++ []) (wire Stream f b) (row_said (signs_of f b)) (row_said (signs_of f b)) (append-nil (wire Stream f b)) refl
-      (record_is_text (signs_of f b) [] (whole-signs_of f b))
+    (record_is_text (signs_of f b) [] (whole-signs_of f b))
 reads_by Blocks k s b =
     let f : Form = record { kind = k; structure = s } in
     text_is Blocks s (wire Blocks f b ++ []) (wire Blocks f b) (row_said (signs_of f b)) (row_said (signs_of f b)) (append-nil (wire Blocks f b)) refl
-      (rows_are_text s [] (signs_of f b) [] (whole-signs_of f b))
+    (rows_are_text s [] (signs_of f b) [] (whole-signs_of f b))
 
 pub reads_wire : (m : Mode) (f : Form) (b : List ℕ) → Reads m f.structure (wire m f b) (map (λ x. says x) (signs_of f b))
 reads_wire m f b = reads_by m f.kind f.structure b
 
 behind_by : (m : Mode) (k : Kind) (s : Structure) (b more : List ℕ) → EndsItself m s
-  → Reads m s (wire m (record { kind = k; structure = s }) b ++ more) (row_said (signs_of (record { kind = k; structure = s }) b))
+    → Reads m s (wire m (record { kind = k; structure = s }) b ++ more) (row_said (signs_of (record { kind = k; structure = s }) b))
 behind_by Stream k File b more h = absurd h
 behind_by Stream k Record b more h = let f : Form = record { kind = k; structure = Record } in record_is_text (signs_of f b) more (whole-signs_of f b)
 behind_by Blocks k s b more h = let f : Form = record { kind = k; structure = s } in rows_are_text s [] (signs_of f b) more (whole-signs_of f b)
@@ -91,7 +91,7 @@ pub again_behind : (m : Mode) (f : Form) (b more : List ℕ) → EndsItself m f.
 again_behind m f b more h = content_of m f b (wire m f b ++ more) (row_said (signs_of f b)) (reads_behind m f b more h) (file-row_said (signs_of f b))
 
 pub marked_reads : (from : ℕ) (b more : List ℕ) → from + length b < 2 ^ 64
-  → (said : List Said) × Reads Blocks File (marked_text from b ++ more) said × (file_signs said ≡ signs_of image_file b)
+    → (said : List Said) × Reads Blocks File (marked_text from b ++ more) said × (file_signs said ≡ signs_of image_file b)
 marked_reads from b more fits =
     let row = marked_says File from b more fits in (row.said, row.is, row.signs ∙ sym (image_signs b))
 
@@ -116,7 +116,7 @@ front_of m f b w v front is =
     let said = front_end (gives reader (start m f.structure) w) (gives reader (start m f.structure) v) (unsaid_end m f.structure) (gives-front reader (start m f.structure) w v front) in
     let P : List ℕ → Type 0 = λ l. IsFront (settled_content m f w) l in
     subst P is (content_front f (file_signs (gives reader (start m f.structure) w)) (file_signs (gives reader (start m f.structure) v ++ unsaid_end m f.structure))
-      (signs_front (gives reader (start m f.structure) w) (gives reader (start m f.structure) v ++ unsaid_end m f.structure) said))
+    (signs_front (gives reader (start m f.structure) w) (gives reader (start m f.structure) v ++ unsaid_end m f.structure) said))
 
 pub front_again : (m : Mode) (f : Form) (b w : List ℕ) → IsFront w (wire m f b) → IsFront (settled_content m f w) b
 front_again m f b w front = front_of m f b w (wire m f b) front (again m f b)

@@ -78,12 +78,12 @@ marks_say s (suc k) start b more count fits =
     let w = marks_text k (start + p) (drop p b) ++ more in
     let front = data_text 0 (take p b) in
     let text = blocks_more s ((length (take p b) - 1) / 8192) 0 (take p b) (marker_text (start + p) ++ w) (marker (decimal (start + p)) ∷ rest.said) refl refl refl
-      (marker_more s (start + p) w rest.said (omega (arith, fits, before)) rest.is) in
+    (marker_more s (start + p) w rest.said (omega (arith, fits, before)) rest.is) in
     record {
       said = octets_said (take p b) ++ marker (decimal (start + p)) ∷ rest.said;
       is = text_is Blocks s (front ++ (marker_text (start + p) ++ w)) (marks_text (suc k) start b ++ more) (octets_said (take p b) ++ marker (decimal (start + p)) ∷ rest.said)
-        (octets_said (take p b) ++ marker (decimal (start + p)) ∷ rest.said)
-        (ap (λ l. front ++ l) (sym (append_assoc (marker_text (start + p)) (marks_text k (start + p) (drop p b)) more))
+          (octets_said (take p b) ++ marker (decimal (start + p)) ∷ rest.said)
+          (ap (λ l. front ++ l) (sym (append_assoc (marker_text (start + p)) (marks_text k (start + p) (drop p b)) more))
           ∙ sym (append_assoc front (marker_text (start + p) ++ marks_text k (start + p) (drop p b)) more)) refl text;
       signs = file-octets (take p b) (marker (decimal (start + p)) ∷ rest.said) ∙ ap (λ l. map octet (take p b) ++ l) rest.signs ∙ row_split p b;
     }

@@ -72,8 +72,8 @@ shape_last m s u rest h e = is_text (unit_said u) (record { units = []; each = t
 shape_unit : (m : Mode) (s : Structure) (u : WireUnit) (w : List ℕ) → IsUnit m s u → Shape m s w → Shape m s (unit_octets u ++ w)
 shape_unit m s u w h rest =
     elim (decided (unit_ends u)) [
-      inl e ↦ shape_last m s u w h e
-    | inr e ↦ shape_more m s u w (h, e) rest
+      | inl e ↦ shape_last m s u w h e
+      | inr e ↦ shape_more m s u w (h, e) rest
     ]
 
 shape_none : (m : Mode) (s : Structure) → Shape m s []
@@ -92,15 +92,15 @@ plain_shape (c ∷ w) = shape_more Stream File (one c) w (tt, refl) (plain_shape
 code_shape : (code : ℕ) (w : List ℕ) → Shape Stream Record w → Shape Stream Record (255 ∷ code ∷ w)
 code_shape code w rest =
     elim (decided (is_code code)) [
-      inl e ↦ shape_unit Stream Record (escape code) w e rest
-    | inr e ↦ shape_stops Stream Record (255 ∷ code ∷ w) (λ place. (BadEscape (place + 1), record { code = code; rest = w; is = refl; wrong = e; named = refl }))
+      | inl e ↦ shape_unit Stream Record (escape code) w e rest
+      | inr e ↦ shape_stops Stream Record (255 ∷ code ∷ w) (λ place. (BadEscape (place + 1), record { code = code; rest = w; is = refl; wrong = e; named = refl }))
     ]
 
 record_first : (c : ℕ) (w : List ℕ) → Shape Stream Record w → Shape Stream Record (255 ∷ w) → Shape Stream Record (c ∷ w)
 record_first c w rest escaped =
     elim (decided (c == 255)) [
-      inl e ↦ (let P : ℕ → Type 0 = λ k. Shape Stream Record (k ∷ w) in subst P (sym (eqb-true c 255 e)) escaped)
-    | inr e ↦ shape_more Stream Record (one c) w (e, refl) rest
+      | inl e ↦ (let P : ℕ → Type 0 = λ k. Shape Stream Record (k ∷ w) in subst P (sym (eqb-true c 255 e)) escaped)
+      | inr e ↦ shape_more Stream Record (one c) w (e, refl) rest
     ]
 
 record_shape : (w : List ℕ) → Shape Stream Record w
@@ -121,11 +121,11 @@ scan : (xs : List ℕ) → AllByRecursion (λ c. is_marker_octet c ≡ true) xs 
 scan [] = inl tt
 scan (c ∷ xs) =
     elim (decided (is_marker_octet c)) [
-      inl e ↦ elim (scan xs) [
-        inl all ↦ inl (e, all)
-      | inr b ↦ inr (record { good = c ∷ b.good; bad = b.bad; rest = b.rest; is = ap (λ l. c ∷ l) b.is; each = (e, b.each); wrong = b.wrong })
+      | inl e ↦ elim (scan xs) [
+        | inl all ↦ inl (e, all)
+        | inr b ↦ inr (record { good = c ∷ b.good; bad = b.bad; rest = b.rest; is = ap (λ l. c ∷ l) b.is; each = (e, b.each); wrong = b.wrong })
       ]
-    | inr e ↦ inr (record { good = []; bad = c; rest = xs; is = refl; each = tt; wrong = e })
+      | inr e ↦ inr (record { good = []; bad = c; rest = xs; is = refl; each = tt; wrong = e })
     ]
 
 -- the header of a block and what follows
@@ -134,7 +134,7 @@ headed d h l w = d ∷ h ∷ l ∷ w
 
 -- a block with all of its octets
 block_shape : (s : Structure) (d h l : ℕ) (w : List ℕ) → has d 32 ≡ false → count_of h l ≤ length w
-  → (has d 16 ≡ true → IsMarker (take (count_of h l) w)) → Shape Blocks s (drop (count_of h l) w) → Shape Blocks s (headed d h l w)
+    → (has d 16 ≡ true → IsMarker (take (count_of h l) w)) → Shape Blocks s (drop (count_of h l) w) → Shape Blocks s (headed d h l w)
 block_shape s d h l w sound full marked rest =
     let n = count_of h l in
     let b : Block = record { descriptor = d; high = h; low = l; octets = take n w } in
@@ -143,52 +143,91 @@ block_shape s d h l w sound full marked rest =
     subst P (take-append-drop n w) (shape_unit Blocks s (whole b) (drop n w) is rest)
 
 data_shape : (s : Structure) (d h l : ℕ) (w : List ℕ) → has d 32 ≡ false → has d 16 ≡ false
-  → Shape Blocks s (drop (count_of h l) w) → Shape Blocks s (headed d h l w)
+    → Shape Blocks s (drop (count_of h l) w) → Shape Blocks s (headed d h l w)
 data_shape s d h l w sound plain rest =
     elim (cases_lt (length w) (count_of h l)) [
-      inl less ↦ shape_cut Blocks s (headed d h l w) (octets_said w)
-        (inr (inl (record { descriptor = d; high = h; low = l; octets = w; is = refl; sound = sound; plain = plain; short = less; says = refl })))
-    | inr full ↦ block_shape s d h l w sound full (λ e. absurd (false≢true (sym plain ∙ e))) rest
+      | inl less ↦ shape_cut Blocks s (headed d h l w) (octets_said w)
+          (inr (inl (record { descriptor = d; high = h; low = l; octets = w; is = refl; sound = sound; plain = plain; short = less; says = refl })))
+      | inr full ↦ block_shape s d h l w sound full (λ e. absurd (false≢true (sym plain ∙ e))) rest
     ]
 
 wrong_octet : (s : Structure) (d h l : ℕ) (w : List ℕ) → has d 32 ≡ false → has d 16 ≡ true → is_no_length (count_of h l) ≡ false
-  → FirstBad (take (count_of h l) w) → Shape Blocks s (headed d h l w)
+    → FirstBad (take (count_of h l) w) → Shape Blocks s (headed d h l w)
 wrong_octet s d h l w sound kind fits b =
     let n = count_of h l in
     let cut : w ≡ b.good ++ b.bad ∷ (b.rest ++ drop n w) =
-      sym (take-append-drop n w) ∙ ap (λ v. v ++ drop n w) b.is ∙ append_assoc b.good (b.bad ∷ b.rest) (drop n w) in
+    sym (take-append-drop n w) ∙ ap (λ v. v ++ drop n w) b.is ∙ append_assoc b.good (b.bad ∷ b.rest) (drop n w) in
     let less : length b.good < n = omega (arith, ap length b.is, length-append b.good (b.bad ∷ b.rest), length-take n w) in
-    shape_stops Blocks s (headed d h l w) (λ place. (BadMarker (place + 3 + length b.good), inr (inr (record {
-      descriptor = d; high = h; low = l; good = b.good; bad = b.bad; rest = b.rest ++ drop n w;
-      is = ap (headed d h l) cut; sound = sound; marker = kind; fits = fits; within = less; each = b.each; wrong = b.wrong; named = refl;
-    }))))
+    shape_stops Blocks s (headed d h l w) (λ place. (
+      BadMarker (place + 3 + length b.good),
+      inr (inr (record {
+        descriptor = d;
+        high = h;
+        low = l;
+        good = b.good;
+        bad = b.bad;
+        rest = b.rest ++ drop n w;
+        is = ap (headed d h l) cut;
+        sound = sound;
+        marker = kind;
+        fits = fits;
+        within = less;
+        each = b.each;
+        wrong = b.wrong;
+        named = refl;
+      })),
+    ))
 
 marker_shape : (s : Structure) (d h l : ℕ) (w : List ℕ) → has d 32 ≡ false → has d 16 ≡ true → is_no_length (count_of h l) ≡ false
-  → Shape Blocks s (drop (count_of h l) w) → Shape Blocks s (headed d h l w)
+    → Shape Blocks s (drop (count_of h l) w) → Shape Blocks s (headed d h l w)
 marker_shape s d h l w sound kind fits rest =
     let n = count_of h l in
     elim (scan (take n w)) [
-      inl all ↦ elim (cases_lt (length w) n) [
-        inl less ↦ (let P : List ℕ → Type 0 = λ v. AllByRecursion (λ c. is_marker_octet c ≡ true) v in
-          shape_cut Blocks s (headed d h l w) []
-          (inr (inr (record { descriptor = d; high = h; low = l; octets = w; is = refl; sound = sound; marker = kind; fits = fits; short = less;
-            each = subst P (take_all n w (omega arith)) all }, refl))))
-      | inr full ↦ (let size = length_fits n fits in let len = length-take-le n w full in
-          block_shape s d h l w sound full (λ e. record { some = omega (arith, size.0, len); short = omega (arith, size.1, len); each = all }) rest)
+      | inl all ↦ elim (cases_lt (length w) n) [
+        | inl less ↦ (let P : List ℕ → Type 0 = λ v. AllByRecursion (λ c. is_marker_octet c ≡ true) v in
+            shape_cut Blocks s (headed d h l w) []
+            (inr (inr (
+              record {
+                descriptor = d;
+                high = h;
+                low = l;
+                octets = w;
+                is = refl;
+                sound = sound;
+                marker = kind;
+                fits = fits;
+                short = less;
+                each = subst P (take_all n w (omega arith)) all;
+              },
+              refl,
+            ))))
+        | inr full ↦ (let size = length_fits n fits in let len = length-take-le n w full in
+            block_shape s d h l w sound full (λ e. record { some = omega (arith, size.0, len); short = omega (arith, size.1, len); each = all }) rest)
       ]
-    | inr b ↦ wrong_octet s d h l w sound kind fits b
+      | inr b ↦ wrong_octet s d h l w sound kind fits b
     ]
 
 head_shape : (s : Structure) (d h l : ℕ) (w : List ℕ) → has d 32 ≡ false → Shape Blocks s (drop (count_of h l) w) → Shape Blocks s (headed d h l w)
 head_shape s d h l w sound rest =
     elim (decided (has d 16)) [
-      inl kind ↦ elim (decided (is_no_length (count_of h l))) [
-        inl wrong ↦ shape_stops Blocks s (headed d h l w) (λ place. (BadMarker place, inr (inl (record {
-          descriptor = d; high = h; low = l; rest = w; is = refl; sound = sound; marker = kind; wrong = wrong; named = refl;
-        }))))
-      | inr fits ↦ marker_shape s d h l w sound kind fits rest
+      | inl kind ↦ elim (decided (is_no_length (count_of h l))) [
+        | inl wrong ↦ shape_stops Blocks s (headed d h l w) (λ place. (
+          BadMarker place,
+          inr (inl (record {
+            descriptor = d;
+            high = h;
+            low = l;
+            rest = w;
+            is = refl;
+            sound = sound;
+            marker = kind;
+            wrong = wrong;
+            named = refl;
+          })),
+        ))
+        | inr fits ↦ marker_shape s d h l w sound kind fits rest
       ]
-    | inr plain ↦ data_shape s d h l w sound plain rest
+      | inr plain ↦ data_shape s d h l w sound plain rest
     ]
 
 suspect_shape : (s : Structure) (d : ℕ) (w : List ℕ) → has d 32 ≡ true → Shape Blocks s (d ∷ w)
@@ -199,18 +238,18 @@ blocks_shape s zero w less = absurd (omega arith)
 blocks_shape s (suc k) [] less = shape_none Blocks s
 blocks_shape s (suc k) (d ∷ []) less =
     elim (decided (has d 32)) [
-      inl e ↦ suspect_shape s d [] e
-    | inr e ↦ shape_cut Blocks s (d ∷ []) [] (inl (inl (d, e, refl), refl))
+      | inl e ↦ suspect_shape s d [] e
+      | inr e ↦ shape_cut Blocks s (d ∷ []) [] (inl (inl (d, e, refl), refl))
     ]
 blocks_shape s (suc k) (d ∷ h ∷ []) less =
     elim (decided (has d 32)) [
-      inl e ↦ suspect_shape s d (h ∷ []) e
-    | inr e ↦ shape_cut Blocks s (d ∷ h ∷ []) [] (inl (inr (d, h, e, refl), refl))
+      | inl e ↦ suspect_shape s d (h ∷ []) e
+      | inr e ↦ shape_cut Blocks s (d ∷ h ∷ []) [] (inl (inr (d, h, e, refl), refl))
     ]
 blocks_shape s (suc k) (d ∷ h ∷ l ∷ w) less =
     elim (decided (has d 32)) [
-      inl e ↦ suspect_shape s d (h ∷ l ∷ w) e
-    | inr e ↦ head_shape s d h l w e (blocks_shape s k (drop (count_of h l) w) (omega (arith, length-drop (count_of h l) w)))
+      | inl e ↦ suspect_shape s d (h ∷ l ∷ w) e
+      | inr e ↦ head_shape s d h l w e (blocks_shape s k (drop (count_of h l) w) (omega (arith, length-drop (count_of h l) w)))
     ]
 
 -- every wire is one of the three

@@ -49,9 +49,9 @@ file-row_said (x ∷ ss) = ap (λ l. x ∷ l) (file-row_said ss)
 octet_text : (c : ℕ) (w : List ℕ) (said : List Said) → IsText Stream Record w said → IsText Stream Record (escaped_octet c ++ w) (says (octet c) ∷ said)
 octet_text c w said t =
     elim (decided (c == 255)) [
-      inl e ↦ (let P : ℕ → Type 0 = λ k. IsText Stream Record (escaped_octet k ++ w) (says (octet k) ∷ said) in
-        subst P (sym (eqb-true c 255 e)) (text_more Stream Record (escape 255) w said (refl, refl) t))
-    | inr e ↦ rw e (text_more Stream Record (one c) w said (e, refl) t)
+      | inl e ↦ (let P : ℕ → Type 0 = λ k. IsText Stream Record (escaped_octet k ++ w) (says (octet k) ∷ said) in
+          subst P (sym (eqb-true c 255 e)) (text_more Stream Record (escape 255) w said (refl, refl) t))
+      | inr e ↦ rw e (text_more Stream Record (one c) w said (e, refl) t)
     ]
 
 -- the text of records
@@ -59,7 +59,7 @@ pub record_is_text : (ss : List Sign) (more : List ℕ) → IsWhole ss → IsTex
 record_is_text [] more h = absurd h
 record_is_text (octet c ∷ ss) more h =
     text_is Stream Record (escaped_octet c ++ (record_text ss ++ more)) (record_text (octet c ∷ ss) ++ more) (row_said (octet c ∷ ss)) (row_said (octet c ∷ ss))
-      (sym (append_assoc (escaped_octet c) (record_text ss) more)) refl (octet_text c (record_text ss ++ more) (row_said ss) (record_is_text ss more h))
+    (sym (append_assoc (escaped_octet c) (record_text ss) more)) refl (octet_text c (record_text ss ++ more) (row_said ss) (record_is_text ss more h))
 record_is_text (end_record ∷ []) more h = absurd h
 record_is_text (end_record ∷ octet c ∷ ss) more h =
     text_more Stream Record (escape 1) (record_text (octet c ∷ ss) ++ more) (row_said (octet c ∷ ss)) (refl, refl) (record_is_text (octet c ∷ ss) more h)
@@ -97,20 +97,20 @@ unfolding written_block
 written_is d xs sound plain = record { sound = sound; counted = count_is (length xs); marked = λ e. absurd (false≢true (sym plain ∙ e)) }
 
 pub block_more : (s : Structure) (d : ℕ) (xs w : List ℕ) (said : List Said) → has d 32 ≡ false → has d 16 ≡ false → has d 64 ≡ false
-  → IsText Blocks s w said → IsText Blocks s (block_text d xs ++ w) ((octets_said xs ++ ends_of d) ++ said)
+    → IsText Blocks s w said → IsText Blocks s (block_text d xs ++ w) ((octets_said xs ++ ends_of d) ++ said)
 unfolding written_block
 block_more s d xs w said sound plain on t =
     let kind : block_said (written_block d xs) ≡ octets_said xs ++ ends_of d = rw plain refl in
     text_is Blocks s (block_text d xs ++ w) (block_text d xs ++ w) (block_said (written_block d xs) ++ said) ((octets_said xs ++ ends_of d) ++ said) refl (ap (λ l. l ++ said) kind)
-      (text_more Blocks s (whole (written_block d xs)) w said (written_is d xs sound plain, on) t)
+    (text_more Blocks s (whole (written_block d xs)) w said (written_is d xs sound plain, on) t)
 
 block_last : (s : Structure) (d : ℕ) (xs w : List ℕ) → has d 32 ≡ false → has d 16 ≡ false → has d 64 ≡ true
-  → IsText Blocks s (block_text d xs ++ w) (octets_said xs ++ ends_of d)
+    → IsText Blocks s (block_text d xs ++ w) (octets_said xs ++ ends_of d)
 unfolding written_block
 block_last s d xs w sound plain last =
     let kind : block_said (written_block d xs) ≡ octets_said xs ++ ends_of d = rw plain refl in
     text_is Blocks s (block_text d xs ++ w) (block_text d xs ++ w) (block_said (written_block d xs)) (octets_said xs ++ ends_of d) refl kind
-      (text_last Blocks s (whole (written_block d xs)) w (written_is d xs sound plain) last)
+    (text_last Blocks s (whole (written_block d xs)) w (written_is d xs sound plain) last)
 
 -- blocks with no ends, in front of a text of the rest
 said_split : (n : ℕ) (xs : List ℕ) (rest : List Said) → (octets_said (take n xs) ++ []) ++ (octets_said (drop n xs) ++ rest) ≡ octets_said xs ++ rest
@@ -120,26 +120,26 @@ said_split n xs rest =
     ∙ ap (λ l. l ++ rest) (sym (map-append (λ c. says (octet c)) (take n xs) (drop n xs)) ∙ ap octets_said (take-append-drop n xs))
 
 pub blocks_more : (s : Structure) (k d : ℕ) (xs w : List ℕ) (said : List Said) → has d 32 ≡ false → has d 16 ≡ false → has d 64 ≡ false
-  → IsText Blocks s w said → IsText Blocks s (blocks_text k d xs ++ w) (octets_said xs ++ (ends_of d ++ said))
+    → IsText Blocks s w said → IsText Blocks s (blocks_text k d xs ++ w) (octets_said xs ++ (ends_of d ++ said))
 blocks_more s zero d xs w said sound plain on t =
     text_is Blocks s (block_text d xs ++ w) (block_text d xs ++ w) ((octets_said xs ++ ends_of d) ++ said) (octets_said xs ++ (ends_of d ++ said)) refl
-      (append_assoc (octets_said xs) (ends_of d) said) (block_more s d xs w said sound plain on t)
+    (append_assoc (octets_said xs) (ends_of d) said) (block_more s d xs w said sound plain on t)
 blocks_more s (suc k) d xs w said sound plain on t =
     text_is Blocks s (block_text 0 (take 8192 xs) ++ (blocks_text k d (drop 8192 xs) ++ w)) (blocks_text (suc k) d xs ++ w)
-      ((octets_said (take 8192 xs) ++ []) ++ (octets_said (drop 8192 xs) ++ (ends_of d ++ said))) (octets_said xs ++ (ends_of d ++ said))
-      (sym (append_assoc (block_text 0 (take 8192 xs)) (blocks_text k d (drop 8192 xs)) w)) (said_split 8192 xs (ends_of d ++ said))
-      (block_more s 0 (take 8192 xs) (blocks_text k d (drop 8192 xs) ++ w) (octets_said (drop 8192 xs) ++ (ends_of d ++ said)) refl refl refl
-        (blocks_more s k d (drop 8192 xs) w said sound plain on t))
+    ((octets_said (take 8192 xs) ++ []) ++ (octets_said (drop 8192 xs) ++ (ends_of d ++ said))) (octets_said xs ++ (ends_of d ++ said))
+    (sym (append_assoc (block_text 0 (take 8192 xs)) (blocks_text k d (drop 8192 xs)) w)) (said_split 8192 xs (ends_of d ++ said))
+    (block_more s 0 (take 8192 xs) (blocks_text k d (drop 8192 xs) ++ w) (octets_said (drop 8192 xs) ++ (ends_of d ++ said)) refl refl refl
+    (blocks_more s k d (drop 8192 xs) w said sound plain on t))
 
 pub blocks_last : (s : Structure) (k d : ℕ) (xs w : List ℕ) → has d 32 ≡ false → has d 16 ≡ false → has d 64 ≡ true
-  → IsText Blocks s (blocks_text k d xs ++ w) (octets_said xs ++ ends_of d)
+    → IsText Blocks s (blocks_text k d xs ++ w) (octets_said xs ++ ends_of d)
 blocks_last s zero d xs w sound plain last = block_last s d xs w sound plain last
 blocks_last s (suc k) d xs w sound plain last =
     text_is Blocks s (block_text 0 (take 8192 xs) ++ (blocks_text k d (drop 8192 xs) ++ w)) (blocks_text (suc k) d xs ++ w)
-      ((octets_said (take 8192 xs) ++ []) ++ (octets_said (drop 8192 xs) ++ ends_of d)) (octets_said xs ++ ends_of d)
-      (sym (append_assoc (block_text 0 (take 8192 xs)) (blocks_text k d (drop 8192 xs)) w)) (said_split 8192 xs (ends_of d))
-      (block_more s 0 (take 8192 xs) (blocks_text k d (drop 8192 xs) ++ w) (octets_said (drop 8192 xs) ++ ends_of d) refl refl refl
-        (blocks_last s k d (drop 8192 xs) w sound plain last))
+    ((octets_said (take 8192 xs) ++ []) ++ (octets_said (drop 8192 xs) ++ ends_of d)) (octets_said xs ++ ends_of d)
+    (sym (append_assoc (block_text 0 (take 8192 xs)) (blocks_text k d (drop 8192 xs)) w)) (said_split 8192 xs (ends_of d))
+    (block_more s 0 (take 8192 xs) (blocks_text k d (drop 8192 xs) ++ w) (octets_said (drop 8192 xs) ++ ends_of d) refl refl refl
+    (blocks_last s k d (drop 8192 xs) w sound plain last))
 
 push_said : (before : List ℕ) (c : ℕ) (rest : List Said) → octets_said (before ++ c ∷ []) ++ rest ≡ octets_said before ++ says (octet c) ∷ rest
 push_said before c rest = ap (λ l. l ++ rest) (map-append (λ x. says (octet x)) before (c ∷ [])) ∙ append_assoc (octets_said before) (says (octet c) ∷ []) rest
@@ -149,18 +149,18 @@ pub rows_are_text : (s : Structure) (before : List ℕ) (ss : List Sign) (more :
 rows_are_text s before [] more h = absurd h
 rows_are_text s before (octet c ∷ ss) more h =
     text_is Blocks s (rows_text before (octet c ∷ ss) ++ more) (rows_text before (octet c ∷ ss) ++ more) (octets_said (before ++ c ∷ []) ++ row_said ss) (octets_said before ++ row_said (octet c ∷ ss))
-      refl (push_said before c (row_said ss)) (rows_are_text s (before ++ c ∷ []) ss more h)
+    refl (push_said before c (row_said ss)) (rows_are_text s (before ++ c ∷ []) ss more h)
 rows_are_text s before (end_record ∷ []) more h = absurd h
 rows_are_text s before (end_record ∷ octet c ∷ ss) more h =
     text_is Blocks s (data_text 128 before ++ (rows_text [] (octet c ∷ ss) ++ more)) (rows_text before (end_record ∷ octet c ∷ ss) ++ more)
-      (octets_said before ++ (ends_of 128 ++ row_said (octet c ∷ ss))) (octets_said before ++ row_said (end_record ∷ octet c ∷ ss))
-      (sym (append_assoc (data_text 128 before) (rows_text [] (octet c ∷ ss)) more)) refl
-      (blocks_more s ((length before - 1) / 8192) 128 before (rows_text [] (octet c ∷ ss) ++ more) (row_said (octet c ∷ ss)) refl refl refl (rows_are_text s [] (octet c ∷ ss) more h))
+    (octets_said before ++ (ends_of 128 ++ row_said (octet c ∷ ss))) (octets_said before ++ row_said (end_record ∷ octet c ∷ ss))
+    (sym (append_assoc (data_text 128 before) (rows_text [] (octet c ∷ ss)) more)) refl
+    (blocks_more s ((length before - 1) / 8192) 128 before (rows_text [] (octet c ∷ ss) ++ more) (row_said (octet c ∷ ss)) refl refl refl (rows_are_text s [] (octet c ∷ ss) more h))
 rows_are_text s before (end_record ∷ end_record ∷ ss) more h =
     text_is Blocks s (data_text 128 before ++ (rows_text [] (end_record ∷ ss) ++ more)) (rows_text before (end_record ∷ end_record ∷ ss) ++ more)
-      (octets_said before ++ (ends_of 128 ++ row_said (end_record ∷ ss))) (octets_said before ++ row_said (end_record ∷ end_record ∷ ss))
-      (sym (append_assoc (data_text 128 before) (rows_text [] (end_record ∷ ss)) more)) refl
-      (blocks_more s ((length before - 1) / 8192) 128 before (rows_text [] (end_record ∷ ss) ++ more) (row_said (end_record ∷ ss)) refl refl refl (rows_are_text s [] (end_record ∷ ss) more h))
+    (octets_said before ++ (ends_of 128 ++ row_said (end_record ∷ ss))) (octets_said before ++ row_said (end_record ∷ end_record ∷ ss))
+    (sym (append_assoc (data_text 128 before) (rows_text [] (end_record ∷ ss)) more)) refl
+    (blocks_more s ((length before - 1) / 8192) 128 before (rows_text [] (end_record ∷ ss) ++ more) (row_said (end_record ∷ ss)) refl refl refl (rows_are_text s [] (end_record ∷ ss) more h))
 rows_are_text s before (end_record ∷ end_file ∷ ss) more h =
     let P : List Sign → Type 0 = λ l. IsText Blocks s (data_text 192 before ++ more) (octets_said before ++ row_said (end_record ∷ end_file ∷ l)) in
     subst P (sym h) (blocks_last s ((length before - 1) / 8192) 192 before more refl refl refl)

@@ -26,14 +26,14 @@ abbrev pub unit_next : Mode → Structure → WireUnit → Place
 unit_next m s u = if unit_ends u then ended else first_place m s
 
 code_moves : (n code : ℕ) → is_code code ≡ true
-  → Moves (going n outside) (going (count_on n 2) (if code_ends code then ended else outside)) (255 ∷ code ∷ []) (code_said code)
+    → Moves (going n outside) (going (count_on n 2) (if code_ends code then ended else outside)) (255 ∷ code ∷ []) (code_said code)
 code_moves n code is = record {
   state = rw is (ap (λ k. going k (if code_ends code then ended else outside)) (omega arith));
   says = sym (append-nil (code_said code));
 }
 
 pub unit_moves : (m : Mode) (s : Structure) (n : ℕ) (u : WireUnit) → IsUnit m s u
-  → Moves (going n (first_place m s)) (going (count_on n (length (unit_octets u))) (unit_next m s u)) (unit_octets u) (unit_said u)
+    → Moves (going n (first_place m s)) (going (count_on n (length (unit_octets u))) (unit_next m s u)) (unit_octets u) (unit_said u)
 unit_moves Stream File n (one c) h = record { state = refl; says = refl }
 unit_moves Stream File n (escape code) h = absurd h
 unit_moves Stream File n (whole b) h = absurd h
@@ -46,25 +46,25 @@ unit_moves Blocks s n (whole b) h = block_moves n b h
 
 -- a unit that something follows
 going_on : (m : Mode) (s : Structure) (n : ℕ) (u : WireUnit) → GoesOn m s u
-  → Moves (going n (first_place m s)) (going (count_on n (length (unit_octets u))) (first_place m s)) (unit_octets u) (unit_said u)
+    → Moves (going n (first_place m s)) (going (count_on n (length (unit_octets u))) (first_place m s)) (unit_octets u) (unit_said u)
 going_on m s n u h =
     let P : Place → Type 0 = λ p. Moves (going n (first_place m s)) (going (count_on n (length (unit_octets u))) p) (unit_octets u) (unit_said u) in
     subst P (ap (λ b. if b then ended else first_place m s) h.1) (unit_moves m s n u h.0)
 
 -- the last unit
 ending : (m : Mode) (s : Structure) (n : ℕ) (u : WireUnit) → IsUnit m s u → unit_ends u ≡ true
-  → Moves (going n (first_place m s)) (going (count_on n (length (unit_octets u))) ended) (unit_octets u) (unit_said u)
+    → Moves (going n (first_place m s)) (going (count_on n (length (unit_octets u))) ended) (unit_octets u) (unit_said u)
 ending m s n u h e =
     let P : Place → Type 0 = λ p. Moves (going n (first_place m s)) (going (count_on n (length (unit_octets u))) p) (unit_octets u) (unit_said u) in
     subst P (ap (λ b. if b then ended else first_place m s) e) (unit_moves m s n u h)
 
 pub units_moves : (m : Mode) (s : Structure) (n : ℕ) (us : List WireUnit) → n ≤ 2 ^ 64 - 1 → AllByRecursion (GoesOn m s) us
-  → Moves (going n (first_place m s)) (going (count_on n (length (units_octets us))) (first_place m s)) (units_octets us) (units_said us)
+    → Moves (going n (first_place m s)) (going (count_on n (length (units_octets us))) (first_place m s)) (units_octets us) (units_said us)
 units_moves m s n [] fits each = record { state = ap (λ k. going k (first_place m s)) (omega arith); says = refl }
 units_moves m s n (u ∷ us) fits each =
     let k = count_on n (length (unit_octets u)) in
     let all = moves_append (going n (first_place m s)) (going k (first_place m s)) (going (count_on k (length (units_octets us))) (first_place m s))
-      (unit_octets u) (units_octets us) (unit_said u) (units_said us) (going_on m s n u each.0) (units_moves m s k us (omega arith) each.1) in
+    (unit_octets u) (units_octets us) (unit_said u) (units_said us) (going_on m s n u each.0) (units_moves m s k us (omega arith) each.1) in
     record {
       state = ap (λ i. going i (first_place m s)) (omega (arith, length-append (unit_octets u) (units_octets us))) ∙ all.state;
       says = all.says;
@@ -84,9 +84,9 @@ text_moves m s w said t =
     let n = count_on 0 (length (units_octets t.units)) in
     let k = count_on n (length (unit_octets t.last)) in
     let last = moves_append (going n (first_place m s)) (going k ended) (going (counted k t.rest) ended) (unit_octets t.last) t.rest (unit_said t.last) []
-      (ending m s n t.last t.fits t.ends) (ended_counts k t.rest) in
+    (ending m s n t.last t.fits t.ends) (ended_counts k t.rest) in
     let all = moves_append (start m s) (going n (first_place m s)) (going (counted k t.rest) ended) (units_octets t.units) (unit_octets t.last ++ t.rest)
-      (units_said t.units) (unit_said t.last ++ []) (units_moves m s 0 t.units (omega arith) t.each) last in
+    (units_said t.units) (unit_said t.last ++ []) (units_moves m s 0 t.units (omega arith) t.each) last in
     record {
       count = counted k t.rest;
       moves = record {

@@ -71,10 +71,10 @@ gives-filling n xs (octet c ∷ ss) q short h =
     let due = q.due in
     let same = q.same in
     elim (decided (length xs == 8192)) [
-      inl e ↦ rw (due, e) (ap (λ m. block_text 0 xs ++ gives writer (filling (c ∷ []) m) ss) same
-        ∙ ap (λ l. block_text 0 xs ++ l) (gives-filling n (c ∷ []) ss q (omega arith) h) ∙ sym (rows_full xs c [] ss (eqb-true (length xs) 8192 e) h))
-    | inr e ↦ rw (due, e) (ap (λ m. gives writer (filling (xs ++ c ∷ []) m) ss) same
-        ∙ gives-filling n (xs ++ c ∷ []) ss q (omega (arith, short, eqb-false (length xs) 8192 e, length-append xs (c ∷ []))) h)
+      | inl e ↦ rw (due, e) (ap (λ m. block_text 0 xs ++ gives writer (filling (c ∷ []) m) ss) same
+          ∙ ap (λ l. block_text 0 xs ++ l) (gives-filling n (c ∷ []) ss q (omega arith) h) ∙ sym (rows_full xs c [] ss (eqb-true (length xs) 8192 e) h))
+      | inr e ↦ rw (due, e) (ap (λ m. gives writer (filling (xs ++ c ∷ []) m) ss) same
+          ∙ gives-filling n (xs ++ c ∷ []) ss q (omega (arith, short, eqb-false (length xs) 8192 e, length-append xs (c ∷ []))) h)
     ]
 gives-filling n xs (end_record ∷ []) q short h = absurd h
 gives-filling n xs (end_record ∷ octet c ∷ ss) q short h =

@@ -15,7 +15,7 @@ use Rattle.ftp_mode.specs.declared.deframer.Gave.TheVariants.{Nothing as GaveNot
 use Rattle.ftp_mode.specs.declared.deframer.Bite.{Bite}
 use Rattle.ftp_mode.specs.declared.deframer.Deframer.{Deframer}
 use Rattle.ftp_mode.specs.Said.{Said, says, marker, octets_said}
-use Rattle.ftp_mode.specs.Reading.{Reading, going, failed, plain, outside, escaped, at_head, at_high, at_low, inside, marking, ended, reader, read_step, read_out}
+use Rattle.ftp_mode.specs.Reading.{Reading, IsGoing, going, failed, plain, outside, escaped, at_head, at_high, at_low, inside, marking, ended, reader, read_step, read_out}
 
 -- what a part says, where this is the last marker
 abbrev pub part_said : Part → List ℕ → List Said
@@ -55,12 +55,14 @@ owed_said File = says end_file ∷ []
 abbrev pub owed : Deframer → List Said
 owed f = owed_said f.owed
 
--- the octets that were taken give the part, and what is owed behind it
+-- the octets that were taken give the part, and what is owed behind it; nothing, only where the piece was taken whole;
+-- and but for ends that are owed, only where no fault was met
 pub record Hears (old : Deframer) (piece : List ℕ) (step : Step) (new : Deframer) : Type 0 where
   pub within : step.taken ≤ length piece
   pub state : reading new ≡ after reader (reading old) (take step.taken piece)
   pub says : part_said step.part (last_marker new) ++ owed new ≡ owed old ++ gives reader (reading old) (take step.taken piece)
   pub some : (0 < length (part_said step.part (last_marker new))) ⊎ ((step.part ≡ Need) × (step.taken ≡ length piece))
+  pub fine : owed old ≡ [] → IsGoing (reading new)
 
 -- the first octets give nothing, and the last of them stands in no text; of none, it was so before
 pub record FailsAt (old : Deframer) (piece : List ℕ) (count : ℕ) (fault : FrameFault) (new : Deframer) : Type 0 where
@@ -90,11 +92,13 @@ pub record Bites (old : Deframer) (piece : List ℕ) (bite : Bite) (new : Defram
   pub within : bite.taken ≤ length piece
   pub moves : Moves (reading old) (reading new) (take bite.taken piece)
       (gave_said bite.gave (take bite.taken piece) (last_marker new) ++ owed new)
+  pub fine : IsGoing (reading new)
 
 -- one octet
 pub record Reads (old : Deframer) (octet : ℕ) (gave : Gave) (new : Deframer) : Type 0 where
   pub state : reading new ≡ read_step (reading old) octet
   pub says : gave_said gave (octet ∷ []) (last_marker new) ++ owed new ≡ read_out (reading old) octet
+  pub fine : IsGoing (reading new)
 
 pub record Refuses (old : Deframer) (octet : ℕ) (fault : FrameFault) (new : Deframer) : Type 0 where
   pub state : reading new ≡ read_step (reading old) octet

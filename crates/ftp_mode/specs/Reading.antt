@@ -93,6 +93,11 @@ first_place Blocks s = at_head
 abbrev pub start : Mode → Structure → Reading
 start m s = going 0 (first_place m s)
 
+-- no octet stood in no text, and the connection has not ended early
+abbrev pub IsGoing : Reading → Type 0
+IsGoing (going n at) = Unit {0}
+IsGoing (failed fault) = ⊥
+
 -- a connection that ends there ends the file: the end of file came, or no wire of the kind has one
 abbrev pub is_complete_at : Place → Bool
 is_complete_at plain = true

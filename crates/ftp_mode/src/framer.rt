@@ -97,6 +97,9 @@ impl Framer {
         ensures text { (more : List Sign) → still_to_write self.old (signs item.entry ++ more)
             ≡ take result.made room.new ++ still_to_write self.new (drop result.taken (signs item.entry) ++ more) }
         ensures some { 0 < length room.old → 0 < length (signs item.entry) → 0 < result.taken + result.made }
+
+        // The end of file is taken once all is out.
+        ensures out { item.entry ≡ Item.EndFile → result.taken ≡ 1 → owed_octets self.new ≡ [] }
     {
         let first = self.pour(room, 0);
         if !self.is_clear() {

@@ -8,6 +8,8 @@ mod framer;
 mod laws;
 mod mode;
 mod step;
+#[cfg(test)]
+mod tests;
 
 pub use deframer::Deframer;
 pub use fault::FrameFault;

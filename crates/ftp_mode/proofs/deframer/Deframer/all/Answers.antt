@@ -5,7 +5,7 @@ use Rattle.ftp_mode.specs.declared.deframer.Gave.TheVariants.{Nothing, Octets}
 use Rattle.ftp_mode.specs.Said.{Said, octets_said}
 use Rattle.ftp_mode.specs.Reading.{count_on}
 use Rattle.ftp_mode.specs.Deframing.{reading, owed, owed_said, last_marker, gave_said, Moves}
-use Rattle.ftp_mode.proofs.BiteLemmas.{plain_moves, ended_moves}
+use Rattle.ftp_mode.proofs.BiteLemmas.{plain_moves, ended_moves, going_by}
 use Rattle.ftp_mode.proofs.deframer.Deframer.all.Goals as goal
 
 pub returns : goal.returns
@@ -22,6 +22,10 @@ returns c =
     let P : Gave → List Said → Type 0 = λ g l. Moves (reading old) (reading new) front (gave_said g front (last_marker new) ++ l) in
     let Q : List Said → Type 0 = λ l. Moves (reading old) (reading new) front l in
     record {
+      fine = elim c.requires.place [
+          inl h ↦ going_by old.state new.state new.place (last_marker new) (inr (inl h.0)) c.moved.ensures.state
+        | inr h ↦ going_by old.state new.state new.place (last_marker new) (inr (inr h.0)) c.moved.ensures.state
+        ];
       some = c.requires.some;
       within = omega arith;
       moves = elim c.requires.place [

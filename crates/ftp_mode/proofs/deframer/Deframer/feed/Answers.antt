@@ -1,4 +1,4 @@
-use Rattle.std.proofs.Common.{◌≡◌, ◌++◌, ◌+◌, ◌<◌, ◌≤◌, List, ℕ, [], length, take, drop, map, get_or, sym, ap, subst, ◌∙◌, arith}
+use Rattle.std.proofs.Common.{◌≡◌, ◌++◌, ◌+◌, ◌<◌, ◌≤◌, List, ℕ, [], length, take, drop, map, get_or, sym, ap, subst, ◌∙◌, arith, inl, append-nil}
 use Rattle.std.proofs.lemmas.List.{length-take-le}
 use Rattle.ftp_mode.specs.declared.deframer.Gave.{Gave}
 use Rattle.ftp_mode.specs.declared.deframer.Deframer.{Deframer}
@@ -6,7 +6,7 @@ use Rattle.ftp_mode.specs.declared.step.Part.TheVariants.{Data, Marker}
 use Rattle.ftp_mode.specs.declared.deframer.Gave.TheVariants.{Nothing, Octets, Marker as MarkerGiven}
 use Rattle.ftp_mode.specs.Said.{Said, octets_said}
 use Rattle.ftp_mode.specs.Deframing.{reading, owed, last_marker, part_said, gave_said, Moves, Refuses}
-use Rattle.ftp_mode.proofs.BiteLemmas.{next_bite, next_within, heard, said_some, refused_at}
+use Rattle.ftp_mode.proofs.BiteLemmas.{next_bite, next_within, heard, said_some, same_going, owes_some, refused_at}
 use Rattle.ftp_mode.proofs.deframer.Deframer.feed.Goals as goal
 
 pub returns-in-Err : goal.returns-in-Err
@@ -38,7 +38,8 @@ returns-in-Octets c =
           c.loop-at.invariant.owed_before
           (next_bite old c.loop-at.self new c.args.piece.now rest c.loop-at.at bite c.split_at.ensures.back c.loop-at.invariant.quiet bites)
           (ap (λ l. octets_said l ++ owed new) front ∙ ap (λ l. l ++ owed new) (sym gave))
-          some;
+          some
+        bites.fine;
       err = tt;
     }
 
@@ -56,7 +57,8 @@ returns-in-Marker c =
           c.loop-at.invariant.owed_before
           (next_bite old c.loop-at.self new c.args.piece.now rest c.loop-at.at bite c.split_at.ensures.back c.loop-at.invariant.quiet bites)
           (ap (λ l. l ++ owed new) (sym gave))
-          (omega arith);
+          (omega arith)
+        bites.fine;
       err = tt;
     }
 
@@ -78,7 +80,8 @@ returns-in-Some-owed_part c =
           c.loop-at.invariant.owed_before
           (record { state = c.owed_part-in-loop-at.ensures.state ∙ moves.state; says = moves.says })
           (c.in-Some-owed_part.ensures.some (last_marker new))
-          (c.in-Some-owed_part.ensures.full (last_marker new));
+          (c.in-Some-owed_part.ensures.full (last_marker new))
+        (same_going (reading mid) (reading new) c.owed_part-in-loop-at.ensures.state bites.fine);
       err = tt;
     }
 
@@ -99,5 +102,20 @@ loop-at-preserved c =
       within = next_within c.loop-at.self mid c.args.piece.now rest c.loop-at.at bite c.split_at.ensures.back c.loop-at-test.true bites;
       quiet = record { state = c.owed_part-in-loop-at.ensures.state ∙ moves.state; says = moves.says };
       owes = ap owed same ∙ none;
+      fine = same_going (reading mid) (reading c.owed_part-in-loop-at.new.self) c.owed_part-in-loop-at.ensures.state bites.fine;
       owed_before = c.loop-at.invariant.owed_before;
+    }
+
+pub returns-in-Some-clause-ok : goal.returns-in-Some-clause-ok
+returns-in-Some-clause-ok c =
+    let old = c.args.self.now in
+    let new = c.owed_part.new.self in
+    let said = c.in-Some.ensures.some (last_marker new) in
+    let full = c.in-Some.ensures.full (last_marker new) in
+    record {
+      within = omega arith;
+      state = c.owed_part.ensures.state;
+      says = said ∙ sym (append-nil (owed old));
+      some = inl full;
+      fine = λ none. absurd (owes_some (part_said c.in-Some.part (last_marker new)) (owed new) (owed old) said full none);
     }

@@ -1,11 +1,11 @@
-use Rattle.std.proofs.Common.{◌≡◌, ◌++◌, ◌+◌, ◌-◌, ◌<◌, ◌≤◌, List, ℕ, [], length, take, sym, ap, subst, ◌∙◌, append-nil, arith}
+use Rattle.std.proofs.Common.{◌≡◌, ◌++◌, ◌+◌, ◌-◌, ◌<◌, ◌≤◌, List, ℕ, [], length, take, sym, ap, subst, ◌∙◌, append-nil, arith, inl, inr}
 use Rattle.std.proofs.lemmas.List.{length-take-le}
 use Rattle.ftp_mode.specs.Said.{Said, octets_said}
 use Rattle.ftp_mode.specs.Block.{ends_of}
 use Rattle.ftp_mode.specs.Reading.{count_on}
 use Rattle.ftp_mode.specs.Deframing.{reading, reading_of, owed, owed_said, last_marker, Moves}
 use Rattle.ftp_mode.specs.declared.deframer.State.TheVariants.{Inside}
-use Rattle.ftp_mode.proofs.BiteLemmas.{short_moves, full_moves}
+use Rattle.ftp_mode.proofs.BiteLemmas.{short_moves, full_moves, closed_going}
 use Rattle.ftp_mode.proofs.deframer.Deframer.inside.Goals as goal
 
 pub returns-then-piece-left : goal.returns-then-piece-left
@@ -24,6 +24,7 @@ returns-then-piece-left c =
     let said : octets_said front ≡ octets_said front ++ owed_said mid.owed = sym (ap (λ l. octets_said front ++ l) none ∙ append-nil (octets_said front)) in
     let Q : List Said → Type 0 = λ l. Moves (reading old) (reading_of (Inside c.args.descriptor rest) mid.place (last_marker mid)) front l in
     record {
+      fine = tt;
       some = c.requires.some;
       within = omega arith;
       moves = subst Q said (short_moves old.state old.place mid.place c.args.descriptor c.args.more rest (last_marker old) (last_marker mid) front
@@ -43,6 +44,7 @@ returns c =
     let said : octets_said front ++ ends_of c.args.descriptor ≡ octets_said front ++ owed new = ap (λ l. octets_said front ++ l) (sym c.close.ensures.owes) in
     let Q : List Said → Type 0 = λ l. Moves (reading old) (reading new) front l in
     record {
+      fine = closed_going (reading new) _ _ c.close.ensures.state;
       some = omega arith;
       within = c.if-piece-left.false;
       moves = subst Q said (full_moves old.state (reading new) old.place c.moved-2.new.self.place c.args.descriptor c.args.more (last_marker old) front

@@ -1,9 +1,9 @@
-use Rattle.std.proofs.Common.{◌≡◌, ◌++◌, ◌<◌, ◌≤◌, List, ℕ, [], length, take, sym, ap, subst, ◌∙◌, append-nil, arith}
+use Rattle.std.proofs.Common.{◌≡◌, ◌++◌, ◌<◌, ◌≤◌, List, ℕ, [], length, take, sym, ap, subst, ◌∙◌, append-nil, arith, inl, inr}
 use Rattle.std.proofs.lemmas.List.{length-take-le}
 use Rattle.ftp_mode.specs.Said.{Said, octets_said}
 use Rattle.ftp_mode.specs.Reading.{count_on}
 use Rattle.ftp_mode.specs.Deframing.{reading, owed, owed_said, last_marker, Moves}
-use Rattle.ftp_mode.proofs.BiteLemmas.{outside_moves}
+use Rattle.ftp_mode.proofs.BiteLemmas.{outside_moves, going_by}
 use Rattle.ftp_mode.proofs.deframer.Deframer.outside.Goals as goal
 
 pub returns-then-run-gt0 : goal.returns-then-run-gt0
@@ -20,6 +20,7 @@ returns-then-run-gt0 c =
     let said : octets_said front ≡ octets_said front ++ owed new = sym (ap (λ l. octets_said front ++ l) none ∙ append-nil (octets_said front)) in
     let Q : List Said → Type 0 = λ l. Moves (reading old) (reading new) front l in
     record {
+      fine = going_by old.state new.state new.place (last_marker new) (inl c.requires.place) c.moved.ensures.state;
       some = c.if-run-gt0.true;
       within = run.within;
       moves = subst Q said (outside_moves old.state new.state old.place new.place (last_marker old) (last_marker new) front some c.requires.place c.moved.ensures.state place run.others);

@@ -16,7 +16,7 @@ returns-then-not-octet-clause-text c = λ more.
     let rest = map octet (drop (n + 1) piece) ++ more in
     c.loop-taken.invariant.text more
     ∙ ap (λ l. take c.loop-taken.made room ++ l) (next_octet f piece n more less ∙ waits_text f g (octet c_at) rest c.loop-taken.invariant.clear (c.octet.ensures.no c.if-not-octet.true)
-      ∙ sym (next_octet g piece n more less) ∙ rest_octets g piece n more)
+    ∙ sym (next_octet g piece n more less) ∙ rest_octets g piece n more)
     ∙ poured_text g c.pour-made.new.self room c.pour-made.new.room c.loop-taken.made c.pour-made.result (drop n (map octet piece) ++ more) c.pour-made.ensures.text c.pour-made.ensures.state
 
 pub returns-then-not-is_clear-clause-text : goal.returns-then-not-is_clear-clause-text

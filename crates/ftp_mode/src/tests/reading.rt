@@ -1,0 +1,253 @@
+use crate::tests::helpers::{
+    ASCII_FILE, ASCII_RECORD, ASCII_STREAM, FILE_BLOCK, How, RECORD_BLOCK, RECORD_STREAM, reads_as,
+};
+use crate::{Deframer, FrameFault, Mode, Part, Step};
+use ftp_repr::Structure;
+use std::alloc::Global;
+use std::test::Fail;
+
+/// A wire, the file that it settles and its fault, by hand from RFC 959, sections 3.4.1, 3.4.2 and 3.5.
+type Row<'a> = (How, &'a [u8], &'a [u8], Option<FrameFault>);
+
+const WIRES: [Row<'static>; 21] = [
+    (
+        FILE_BLOCK,
+        &[0x10, 0x00, 0x00],
+        &[],
+        Some(FrameFault::BadMarker(0)),
+    ),
+    (
+        FILE_BLOCK,
+        &[0x10, 0x00, 0x01, 0x20],
+        &[],
+        Some(FrameFault::BadMarker(3)),
+    ),
+    (
+        FILE_BLOCK,
+        &[0x00, 0x00, 0x01, 0x61, 0x20, 0x00, 0x00],
+        &[0x61],
+        Some(FrameFault::Suspect(4)),
+    ),
+    (
+        FILE_BLOCK,
+        &[0x00, 0x00, 0x01, 0x61],
+        &[0x61],
+        Some(FrameFault::EndedEarly),
+    ),
+    (FILE_BLOCK, &[0xC0, 0x00, 0x00], &[], None),
+    (
+        ASCII_FILE,
+        &[0x80, 0x00, 0x01, 0x0D, 0x40, 0x00, 0x01, 0x0A],
+        &[0x0A],
+        None,
+    ),
+    (
+        ASCII_RECORD,
+        &[0x80, 0x00, 0x01, 0x0D, 0x40, 0x00, 0x01, 0x0A],
+        &[0x0D, 0x0A, 0x0A],
+        None,
+    ),
+    (
+        RECORD_STREAM,
+        &[0x61, 0xFF, 0x04],
+        &[0x61],
+        Some(FrameFault::BadEscape(2)),
+    ),
+    (
+        RECORD_STREAM,
+        &[0x61, 0xFF, 0x01],
+        &[0x61, 0x0A],
+        Some(FrameFault::EndedEarly),
+    ),
+    (
+        RECORD_STREAM,
+        &[0x61, 0xFF],
+        &[0x61],
+        Some(FrameFault::EndedEarly),
+    ),
+    // What stands behind an end of file is dropped.
+    (
+        RECORD_STREAM,
+        &[0x61, 0xFF, 0x02, 0xFF, 0x04],
+        &[0x61],
+        None,
+    ),
+    (
+        FILE_BLOCK,
+        &[0x40, 0x00, 0x01, 0x61, 0x20, 0x00],
+        &[0x61],
+        None,
+    ),
+    // Data of a cut block counts, a cut header does not; the low bits of a descriptor say nothing.
+    (
+        FILE_BLOCK,
+        &[0x0F, 0x00, 0x03, 0x61, 0x62],
+        &[0x61, 0x62],
+        Some(FrameFault::EndedEarly),
+    ),
+    (FILE_BLOCK, &[0x00, 0x00], &[], Some(FrameFault::EndedEarly)),
+    // A marker of 256 octets, of DEL, one between data and the end of file, and one that is cut.
+    (
+        FILE_BLOCK,
+        &[0x10, 0x01, 0x00],
+        &[],
+        Some(FrameFault::BadMarker(0)),
+    ),
+    (
+        FILE_BLOCK,
+        &[0x10, 0x00, 0x01, 0x7F],
+        &[],
+        Some(FrameFault::BadMarker(3)),
+    ),
+    (
+        FILE_BLOCK,
+        &[0x00, 0x00, 0x01, 0x61, 0x50, 0x00, 0x01, 0x21],
+        &[0x61],
+        None,
+    ),
+    (
+        FILE_BLOCK,
+        &[0x50, 0x00, 0x02, 0x21],
+        &[],
+        Some(FrameFault::EndedEarly),
+    ),
+    // A CR that nothing settles: kept at the end, dropped at a fault and where the end of file is missing.
+    (ASCII_STREAM, &[0x61, 0x0D], &[0x61, 0x0D], None),
+    (
+        ASCII_FILE,
+        &[0x00, 0x00, 0x01, 0x0D, 0x20],
+        &[],
+        Some(FrameFault::Suspect(4)),
+    ),
+    (
+        ASCII_FILE,
+        &[0x00, 0x00, 0x01, 0x0D],
+        &[],
+        Some(FrameFault::EndedEarly),
+    ),
+];
+
+/// Whether a row holds, by pieces of several sizes.
+fn row_holds(alloc: Global, row: Row<'_>) -> Result<bool, Fail> {
+    let (how, wire, file, fault) = row;
+    for piece in [1, 2, 3, 64] {
+        if !reads_as(alloc, how, wire, file, fault, piece)? {
+            return Ok(false);
+        }
+    }
+    Ok(true)
+}
+
+#[test]
+fn wires_read_with_their_faults(rt: HostRuntime) -> Result<(), Fail> {
+    for (at, row) in WIRES.into_iter().enumerate() {
+        assert!(&rt; row_holds(rt.alloc(), row)?, "row {at}");
+    }
+    Ok(())
+}
+
+/// A block of so many octets of one kind.
+fn block(alloc: Global, header: &[u8], octet: u8, count: usize) -> Result<Vec<u8>, Fail> {
+    let mut wire = Vec::new(alloc);
+    wire.extend_from_slice(header)?;
+    for _ in 0..count {
+        wire.push(octet)?;
+    }
+    Ok(wire)
+}
+
+#[test]
+fn a_block_of_65535_octets(rt: HostRuntime) -> Result<(), Fail> {
+    let file = block(rt.alloc(), &[], b'x', 65_535)?;
+    let wire = block(rt.alloc(), &[0x40, 0xFF, 0xFF], b'x', 65_535)?;
+    for piece in [1, 4096, 70_000] {
+        assert!(&rt;
+            reads_as(
+                rt.alloc(),
+                FILE_BLOCK,
+                wire.as_slice(),
+                file.as_slice(),
+                None,
+                piece
+            )?,
+            "by {piece}"
+        );
+    }
+    Ok(())
+}
+
+#[test]
+fn a_marker_of_255_octets_before_an_end(rt: HostRuntime) -> Result<(), Fail> {
+    let wire = block(rt.alloc(), &[0xD0, 0x00, 0xFF], b'~', 255)?;
+    for piece in [1, 64, 300] {
+        assert!(&rt;
+            reads_as(
+                rt.alloc(),
+                RECORD_BLOCK,
+                wire.as_slice(),
+                &[0x0A],
+                None,
+                piece
+            )?,
+            "by {piece}"
+        );
+    }
+    Ok(())
+}
+
+#[test]
+fn a_marker_is_lent(rt: HostRuntime) {
+    let mut deframer = Deframer::new(Mode::Block, Structure::File);
+    let more = Ok(Step {
+        taken: 5,
+        part: Part::Need,
+    });
+    assert_eq!(&rt; deframer.feed(b"\x10\x00\x0565"), more);
+    let ended = Ok(Step {
+        taken: 3,
+        part: Part::Marker,
+    });
+    assert_eq!(&rt; deframer.feed(b"536\x00"), ended);
+    assert_eq!(&rt; deframer.marker(), b"65536".as_slice());
+}
+
+#[test]
+fn a_fault_stays(rt: HostRuntime) {
+    let mut deframer = Deframer::new(Mode::Stream, Structure::Record);
+    let fault = Err(FrameFault::BadEscape(1));
+    assert_eq!(&rt; deframer.feed(&[0xFF, 0x04, 0x61]), fault);
+    assert_eq!(&rt; deframer.feed(&[0x61]), fault);
+    deframer.broken();
+    assert_eq!(&rt; deframer.end(), Err(FrameFault::BadEscape(1)));
+}
+
+#[test]
+fn a_break_leaves_what_was_read(rt: HostRuntime) {
+    // The end of a record that came is still given; then the end of file is missing.
+    let mut deframer = Deframer::new(Mode::Block, Structure::Record);
+    let data: &[u8] = b"a";
+    let given = Ok(Step {
+        taken: 4,
+        part: Part::Data(data),
+    });
+    assert_eq!(&rt; deframer.feed(b"\x80\x00\x01a"), given);
+    deframer.broken();
+    let ended = Ok(Step {
+        taken: 0,
+        part: Part::EndRecord,
+    });
+    assert_eq!(&rt; deframer.feed(&[]), ended);
+    assert_eq!(&rt; deframer.feed(&[]), Err(FrameFault::EndedEarly));
+}
+
+#[test]
+fn behind_an_end_of_file_a_break_breaks_nothing(rt: HostRuntime) {
+    let mut deframer = Deframer::new(Mode::Block, Structure::File);
+    let ended = Ok(Step {
+        taken: 3,
+        part: Part::EndFile,
+    });
+    assert_eq!(&rt; deframer.feed(&[0x40, 0x00, 0x00]), ended);
+    deframer.broken();
+    assert_eq!(&rt; deframer.end(), Ok(()));
+}
