@@ -1,0 +1,3 @@
+pub mod LinesLemmas
+pub mod ReplyLemmas
+pub mod ReaderLemmas

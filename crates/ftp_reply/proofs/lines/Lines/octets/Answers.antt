@@ -1,0 +1,15 @@
+use Rattle.std.proofs.Common.{arith, rules, ◌<◌, length}
+use Rattle.ftp_reply.proofs.LinesLemmas.{octets_at}
+use Rattle.ftp_reply.proofs.lines.Lines.octets.Goals as goal
+
+pub overflow_sub-result : goal.overflow_sub-result
+overflow_sub-result g c =
+    let some : 0 < length c.self.inside.lens.items = search rules in
+    let e = octets_at c.self.inside.buffer.items c.self.inside.lens.items c.self.invariant.0 some in
+    omega arith
+
+pub returns-clause-count : goal.returns-clause-count
+returns-clause-count g c =
+    let some : 0 < length c.self.inside.lens.items = search rules in
+    let e = octets_at c.self.inside.buffer.items c.self.inside.lens.items c.self.invariant.0 some in
+    rw (← c.self.view_is) (omega arith)

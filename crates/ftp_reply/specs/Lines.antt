@@ -1,0 +1,30 @@
+-- Texts of lines, and how they lie in one buffer.
+use Rattle.std.specs.Prelude.{◌≡◌, ℕ, ◌+◌, ◌≤◌, List, [], ◌∷◌, length, take, drop, map}
+use Rattle.std.specs.List.{join_with_byte, sum_by}
+
+-- a line of the control connection without its end, or a part of one
+abbrev pub Text : Type 0
+Text = List ℕ
+
+-- how many octets the lines have together, their ends not counted
+abbrev pub octets_of : List Text → ℕ
+octets_of lines = sum_by length lines
+
+-- own choice: the text of several lines is the lines joined by LF
+abbrev pub joined : List Text → Text
+joined lines = join_with_byte 10 lines
+
+-- the lines of these lengths that stand in a buffer, an octet between two
+abbrev pub lines_at : Text → List ℕ → List Text
+lines_at buffer [] = []
+lines_at buffer (len ∷ lens) = take len buffer ∷ lines_at (drop (len + 1) buffer) lens
+
+-- the buffer is just those lines, an LF between two
+pub record AreCut (buffer : Text) (lens : List ℕ) : Type 0 where
+  pub buffer_is : buffer ≡ joined (lines_at buffer lens)
+  pub lens_are : lens ≡ map length (lines_at buffer lens)
+
+-- own limits: at most 64 lines of at most 8,192 octets together
+pub record AreWithin (lines : List Text) : Type 0 where
+  pub count : length lines ≤ 64
+  pub octets : octets_of lines ≤ 8192

@@ -1,0 +1,106 @@
+//! Where a line stands in a reply: before anything is kept or changed.
+ghost use Rattle.std.specs.Prelude.{◌≡◌, ◌≢◌, ◌++◌, ◌∷◌, [], List, ℕ, IfOk, IfErr, IfSome, IfNone, OnOk, true, false};
+ghost use Rattle.ftp_reply.specs.Reply.{IsCode, code_text, last_line, IsLast, Fits};
+ghost use Rattle.ftp_reply.specs.Reader.{heard_at, AreKept, IsPlaced, HasNoPlace};
+
+use crate::fault::ReplyFault;
+
+/// How far a reader has come.
+#[derive(Clone, Copy, Debug, PartialEq, Eq)]
+pub enum Stage {
+    Between,
+    /// The code of the opening line.
+    Begun(u16),
+    Failed,
+}
+
+/// A line's part in a reply.
+#[derive(Clone, Copy)]
+pub struct Place<'a> {
+    pub code: u16,
+    /// What the reply keeps of the line.
+    pub text: &'a [u8],
+    /// Whether the reply ends with this line.
+    pub ends: bool,
+}
+
+/// Where a line stands in the reply that a reader is at.
+pub fn place_of(stage: Stage, line: &[u8]) -> Result<Place<'_>, ReplyFault>
+    ensures ok { IfOk result (λ place. (lines : List (List ℕ)) → AreKept stage lines
+        → IsPlaced place.ends (heard_at stage lines ++ line.now ∷ []) place.code (lines ++ place.text.now ∷ [])) }
+    ensures reading { OnOk result (stage ≢ Stage.Failed) }
+    ensures err { IfErr result (λ fault. HasNoPlace stage line.now fault) }
+{
+    match stage {
+        Stage::Between => match first_place(line) {
+            Some(place) => Ok(place),
+            None => Err(ReplyFault::BadCode),
+        },
+        Stage::Begun(code) => Ok(later_place(code, line)),
+        Stage::Failed => Err(ReplyFault::Failed),
+    }
+}
+
+/// The place of a reply's first line. The code alone is a reply too.
+fn first_place(line: &[u8]) -> Option<Place<'_>>
+    ensures found { IfSome result (λ place. IsPlaced place.ends (line.now ∷ []) place.code (place.text.now ∷ [])) }
+    ensures none { IfNone result ((code : ℕ) (lines : List (List ℕ)) → Fits (line.now ∷ []) code lines → ⊥) }
+{
+    let (code, rest) = code_of(line)?;
+    let (text, ends) = match rest {
+        [] => (rest, true),
+        [b' ', text @ ..] => (text, true),
+        [b'-', text @ ..] => (text, false),
+        _ => return None,
+    };
+    Some(Place { code, text, ends })
+}
+
+/// The place of a line in a reply that this code opened.
+fn later_place(code: u16, line: &[u8]) -> Place<'_>
+    ensures code { result.code ≡ code }
+    ensures last { result.ends ≡ true → line.now ≡ last_line code result.text.now }
+    ensures between { result.ends ≡ false → result.text.now ≡ line.now }
+    ensures goes_on { result.ends ≡ false → IsCode code → IsLast code line.now → ⊥ }
+{
+    match last_text(code, line) {
+        Some(text) => Place {
+            code,
+            text,
+            ends: true,
+        },
+        None => Place {
+            code,
+            text: line,
+            ends: false,
+        },
+    }
+}
+
+/// The text of a line that begins with this code and SP.
+fn last_text(code: u16, line: &[u8]) -> Option<&[u8]>
+    ensures found { IfSome result (λ text. line.now ≡ last_line code text.now) }
+    ensures none { IfNone result (IsCode code → IsLast code line.now → ⊥) }
+{
+    let (found, rest) = code_of(line)?;
+    match rest {
+        [b' ', text @ ..] if found == code => Some(text),
+        _ => None,
+    }
+}
+
+/// The code that a line begins with, and what follows it.
+fn code_of(line: &[u8]) -> Option<(u16, &[u8])>
+    ensures found { IfSome result (λ found. IsCode found.0 × (line.now ≡ code_text found.0 ++ found.1.now)) }
+    ensures none { IfNone result ((code : ℕ) (rest : List ℕ) → IsCode code → line.now ≢ code_text code ++ rest) }
+{
+    match line {
+        [a @ b'1'..=b'5', b @ b'0'..=b'9', c @ b'0'..=b'9', rest @ ..] => {
+            let code = 100 * u16::from(*a - b'0')
+                + 10 * u16::from(*b - b'0')
+                + u16::from(*c - b'0');
+            Some((code, rest))
+        }
+        _ => None,
+    }
+}

@@ -1,0 +1,88 @@
+//! Lines to replies.
+ghost use Rattle.std.specs.Prelude.{◌≡◌, [], IfOk, IfErr, IsErrOf, MatchOption};
+
+use crate::fault::ReplyFault;
+use crate::lines::Lines;
+use crate::place::{Stage, place_of};
+use crate::reply::Reply;
+use std::alloc::Allocator;
+use std::marker::Model;
+
+/// Reads replies line by line. Contracts see it as the lines of the reply that has begun and not ended, as they
+/// came, or as stopped.
+#[derive(Debug, Drop)]
+pub struct Reader<A: Allocator> {
+    stage: Stage,
+    lines: Lines<A>,
+}
+
+impl<A: Allocator> Model for Reader<A> {
+    ghost use Rattle.ftp_reply.specs.Reader.{Standing, standing_at, AreKept};
+
+    ghost Value = { Standing };
+
+    ghost view = { λ reader. standing_at reader.stage reader.lines };
+
+    ghost invariant = { λ reader. AreKept reader.stage reader.lines };
+}
+
+impl<A: Allocator> Reader<A> {
+    ghost use Rattle.ftp_reply.specs.Reader.{Reading};
+
+    /// No line heard yet. Takes no memory.
+    pub fn new(alloc: A) -> Reader<A>
+        ensures { result ≡ Reading [] }
+    {
+        Reader {
+            stage: Stage::Between,
+            lines: Lines::new(alloc),
+        }
+    }
+}
+
+impl<A: Allocator + Clone> Reader<A> {
+    ghost use Rattle.ftp_reply.specs.Reader.{GoesOn, Ends, BeginsNone, PassesLimits, Refuses, Stopped};
+
+    /// Takes a line without its end. Answers a reply with its last line, until then nothing.
+    ///
+    /// A reply of several lines ends at the first later line that begins with its own code and SP.
+    /// Faults: `BadCode` where no reply begins with the line, `TooMany` where it passes the limits; then, and from
+    /// then on, nothing is read any more and each call answers `Failed`. `Memory` leaves all as before.
+    pub fn line(&mut self, line: &[u8]) -> Result<Option<Reply<A>>, ReplyFault>
+        ensures ok { IfOk result (λ answer. MatchOption answer (GoesOn self.old line.now self.new)
+            (λ reply. Ends self.old line.now reply.code reply.lines self.new)) }
+        ensures err { IfErr result (λ fault. Refuses self.old line.now fault self.new) }
+
+        // Each fault also comes wherever it belongs.
+        ensures bad_code { BeginsNone self.old line.now → IsErrOf result ReplyFault.BadCode }
+        ensures too_many { PassesLimits self.old line.now → IsErrOf result ReplyFault.TooMany }
+        ensures failed { self.old ≡ Stopped → IsErrOf result ReplyFault.Failed }
+    {
+        let place = match place_of(self.stage, line) {
+            Ok(place) => place,
+            Err(fault) => {
+                self.stage = Stage::Failed;
+                return Err(fault);
+            }
+        };
+        if !self.lines.has_room(place.text) {
+            self.stage = Stage::Failed;
+            return Err(ReplyFault::TooMany);
+        }
+        if place.ends {
+            let Ok(lines) = self.lines.finish(place.text) else {
+                return Err(ReplyFault::Memory);
+            };
+            self.stage = Stage::Between;
+            return Ok(Some(Reply {
+                code: place.code,
+                lines,
+            }));
+        }
+        if self.lines.push(place.text).is_err() {
+            return Err(ReplyFault::Memory);
+        }
+        self.stage = Stage::Begun(place.code);
+        Ok(None)
+    }
+}
