@@ -1,3 +1,8 @@
 pub mod LinesLemmas
 pub mod ReplyLemmas
 pub mod ReaderLemmas
+pub mod WritingLemmas
+pub mod QuotedLemmas
+pub mod FirstLemmas
+pub mod MarkLemmas
+pub mod LawLemmas

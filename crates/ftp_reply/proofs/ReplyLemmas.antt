@@ -1,5 +1,5 @@
 -- Lines say one reply at most.
-use Rattle.std.proofs.Common.{◌≡◌, ℕ, ◌+◌, ◌/◌, ◌%◌, ◌⊎◌, inl, inr, List, [], ◌∷◌, ◌++◌, get_or, All, refl, ap, sym, ◌∙◌, subst, arith}
+use Rattle.std.proofs.Common.{◌≡◌, ℕ, ◌+◌, ◌/◌, ◌%◌, ◌⊎◌, inl, inr, List, [], ◌∷◌, ◌++◌, get_or, All, refl, ap, sym, ◌∙◌, subst, append_assoc, arith}
 use Rattle.std.proofs.lemmas.List.Elements.{All-head, All-tail}
 use Rattle.ftp_reply.specs.Lines.{Text}
 use Rattle.ftp_reply.specs.Reply.{IsCode, code_text, last_line, opening_line, IsLast, IsOneLine, Begins, IsSeveral, IsWhole, Fits}
@@ -128,3 +128,45 @@ fits_once heard code code' lines lines' (inr a) (inr b) = begun_once heard code 
 pub whole_only : (heard : List Text) (code code' : ℕ) (lines lines' : List Text) → IsWhole heard code lines → Begins heard code' lines' → ⊥
 whole_only heard code code' lines lines' (inl a) b = one_line_only heard code code' lines b.first b.between a b.code_is b.heard_is
 whole_only heard code code' lines lines' (inr a) b = several_only heard code code' lines lines' (opened heard code lines a) b
+
+-- where lines end at a last line that none of them is, nothing follows the first last line
+cut_once : (code : ℕ) (between between' : List Text) (last last' : Text) (more : List Text) → IsLast code last → All (λ line. ¬ IsLast code line) between' → between ++ last ∷ more ≡ between' ++ last' ∷ [] → more ≡ []
+cut_once code [] [] last last' more is all e = cc
+cut_once code [] (y ∷ ys) last last' more is all e = let h : y ≡ last = cc in absurd (All-head (λ line. ¬ IsLast code line) y ys all (subst (λ (l : Text). IsLast code l) (sym h) is))
+cut_once code (x ∷ xs) [] last last' more is all e = let h : xs ++ last ∷ more ≡ [] = cc in absurd (some xs last more h)
+  where
+    some : (xs : List Text) (last : Text) (more : List Text) → xs ++ last ∷ more ≡ [] → ⊥
+    some [] last more e = cc
+    some (x ∷ xs) last more e = cc
+cut_once code (x ∷ xs) (y ∷ ys) last last' more is all e = cut_once code xs ys last last' more is (All-tail (λ line. ¬ IsLast code line) y ys all) cc
+
+one_line_of : (heard : List Text) (code : ℕ) (lines : List Text) → IsOneLine heard code lines → (line : Text) × (heard ≡ line ∷ [])
+one_line_of heard code lines a = let r = rest_of heard code a.text a.heard_is in (code_text code ++ r.0, r.1)
+
+-- no more lines go on from a reply
+pub whole_ended : (heard more : List Text) (code code' : ℕ) (lines lines' : List Text) → IsWhole heard code lines → IsWhole (heard ++ more) code' lines' → more ≡ []
+whole_ended heard more code code' lines lines' (inl a) (inl b) =
+    let x = one_line_of heard code lines a in
+    let y = one_line_of (heard ++ more) code' lines' b in
+    let e : x.0 ∷ more ≡ y.0 ∷ [] = ap (λ (hs : List Text). hs ++ more) (sym x.1) ∙ y.1 in
+    cc
+whole_ended heard more code code' lines lines' (inl a) (inr b) =
+    let x = one_line_of heard code lines a in
+    let o = opened (heard ++ more) code' lines' b in
+    let e : x.0 ∷ more ≡ opening_line code' o.first ∷ (o.between ++ last_line code' o.last ∷ []) = ap (λ (hs : List Text). hs ++ more) (sym x.1) ∙ o.heard_is in
+    let h : x.0 ≡ opening_line code' o.first = cc in
+    absurd (one_line_only heard code code' lines o.first [] a o.code_is (x.1 ∙ ap (λ (l : Text). l ∷ []) h))
+whole_ended heard more code code' lines lines' (inr a) (inl b) =
+    let o = opened heard code lines a in
+    let y = one_line_of (heard ++ more) code' lines' b in
+    let e : opening_line code o.first ∷ ((o.between ++ last_line code o.last ∷ []) ++ more) ≡ y.0 ∷ [] = ap (λ (hs : List Text). hs ++ more) (sym o.heard_is) ∙ y.1 in
+    let h : opening_line code o.first ≡ y.0 = cc in
+    absurd (one_line_only (heard ++ more) code' code lines' o.first [] b o.code_is (y.1 ∙ ap (λ (l : Text). l ∷ []) (sym h)))
+whole_ended heard more code code' lines lines' (inr a) (inr b) =
+    let o = opened heard code lines a in
+    let p = opened (heard ++ more) code' lines' b in
+    let e : opening_line code o.first ∷ ((o.between ++ last_line code o.last ∷ []) ++ more) ≡ opening_line code' p.first ∷ (p.between ++ last_line code' p.last ∷ []) = ap (λ (hs : List Text). hs ++ more) (sym o.heard_is) ∙ p.heard_is in
+    let q = opening_once code code' o.first p.first ((o.between ++ last_line code o.last ∷ []) ++ more) (p.between ++ last_line code' p.last ∷ []) o.code_is p.code_is e in
+    let all : All (λ line. ¬ IsLast code line) p.between = subst (λ (k : ℕ). All (λ line. ¬ IsLast k line) p.between) (sym q.0) p.goes_on in
+    let cut : o.between ++ last_line code o.last ∷ more ≡ p.between ++ last_line code' p.last ∷ [] = sym (append_assoc o.between (last_line code o.last ∷ []) more) ∙ q.2 in
+    cut_once code o.between p.between (last_line code o.last) (last_line code' p.last) more (o.last, refl) all cut

@@ -1,3 +1,4 @@
 pub mod Lines
 pub mod Reply
 pub mod Reader
+pub mod Values

@@ -99,3 +99,13 @@ HasNoPlace stage line faults.Memory = ⊥
 HasNoPlace stage line faults.NoEndpoint = ⊥
 HasNoPlace stage line faults.NoPath = ⊥
 HasNoPlace stage line faults.NoNumber = ⊥
+
+-- these lines are the replies one behind another, and then the rest
+abbrev pub AreHeard : List Text → List (ℕ × List Text) → List Text → Type 0
+AreHeard all [] rest = all ≡ rest
+AreHeard all (reply ∷ replies) rest =
+    (heard : List Text) × (after : List Text) × (all ≡ heard ++ after) × Says heard reply.0 reply.1 × AreHeard after replies rest
+
+-- so far: a reader can stand here after all these lines, which said these replies
+abbrev pub StandsAfter : Standing → List Text → List (ℕ × List Text) → Type 0
+StandsAfter standing all replies = (rest : List Text) × (standing ≡ Reading rest) × AreHeard all replies rest

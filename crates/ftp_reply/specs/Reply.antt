@@ -1,5 +1,6 @@
 -- Replies as the lines of the control connection, without their ends (RFC 959, section 4.2).
-use Rattle.std.specs.Prelude.{◌≡◌, ℕ, ◌+◌, ◌≤◌, ◌/◌, ◌%◌, ◌⊎◌, List, [], ◌∷◌, ◌++◌, All}
+use Rattle.std.specs.Prelude.{◌≡◌, ℕ, ◌+◌, ◌≤◌, ◌/◌, ◌%◌, ◌⊎◌, List, [], ◌∷◌, ◌++◌, All, Bool, false, ◌&&◌, if◌then◌else◌}
+use Rattle.std.specs.Char.{is_ascii_digit}
 use Rattle.ftp_reply.specs.Lines.{Text, AreWithin}
 
 -- a code of three digits, the first of them 1 to 5
@@ -60,3 +61,41 @@ pub record Says (heard : List Text) (code : ℕ) (lines : List Text) : Type 0 wh
 -- the lines are a reply, or the beginning of one
 abbrev pub Fits : List Text → ℕ → List Text → Type 0
 Fits heard code lines = IsWhole heard code lines ⊎ Begins heard code lines
+
+-- whether a line begins with three digits
+abbrev pub begins_with_digits : Text → Bool
+begins_with_digits (a ∷ b ∷ c ∷ rest) = is_ascii_digit a && is_ascii_digit b && is_ascii_digit c
+begins_with_digits (a ∷ b ∷ []) = false
+begins_with_digits (a ∷ []) = false
+begins_with_digits [] = false
+
+-- a line between as it is written: with one SP before it where it begins with three digits
+abbrev pub padded : Text → Text
+padded line = if begins_with_digits line then 32 ∷ line else line
+
+-- the lines after the first as they are written
+abbrev pub written_after : ℕ → List Text → List Text
+written_after code [] = []
+written_after code (last ∷ []) = last_line code last ∷ []
+written_after code (line ∷ next ∷ more) = padded line ∷ written_after code (next ∷ more)
+
+-- the lines that a reply is written as
+abbrev pub written : ℕ → List Text → List Text
+written code [] = []
+written code (text ∷ []) = last_line code text ∷ []
+written code (first ∷ next ∷ more) = opening_line code first ∷ written_after code (next ∷ more)
+
+-- the lines that stand before the last
+abbrev pub but_last : List Text → List Text
+but_last [] = []
+but_last (last ∷ []) = []
+but_last (line ∷ next ∷ more) = line ∷ but_last (next ∷ more)
+
+-- the lines between the first and the last
+abbrev pub inner_lines : List Text → List Text
+inner_lines [] = []
+inner_lines (first ∷ more) = but_last more
+
+-- no inner line begins with three digits
+abbrev pub HasPlainLines : List Text → Type 0
+HasPlainLines lines = All (λ line. begins_with_digits line ≡ false) (inner_lines lines)

@@ -2,13 +2,23 @@
 //! their texts carry. No IO.
 #![tactic(auto)]
 
+mod endpoint;
 mod fault;
+mod first;
+pub mod laws;
 mod lines;
+mod number;
 mod place;
+mod quoted;
 mod reader;
 mod reply;
+mod writing;
 
+pub use endpoint::{extended_of, passive_of};
 pub use fault::ReplyFault;
 pub use lines::Lines;
+pub use number::{mark_of, size_of};
+pub use quoted::quoted_of;
 pub use reader::Reader;
 pub use reply::Reply;
+pub use writing::write;

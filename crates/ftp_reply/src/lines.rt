@@ -1,5 +1,5 @@
 //! The texts of a reply's lines, in one buffer.
-ghost use Rattle.std.specs.Prelude.{◌≡◌, ◌+◌, ◌<◌, ◌≤◌, ◌++◌, ◌∷◌, [], List, length, OnOk, OnErr, IfOk, IsTrue, ◌↔◌, option_copied, slice_get, take, drop};
+ghost use Rattle.std.specs.Prelude.{◌≡◌, ◌+◌, ◌<◌, ◌≤◌, ◌++◌, ◌∷◌, [], List, length, OnOk, OnErr, IfOk, IsTrue, IsSome, ◌↔◌, ◌<◌, option_copied, slice_get, take, drop};
 ghost use Rattle.ftp_reply.specs.Lines.{octets_of, joined, AreWithin};
 
 use arrayvec::ArrayVec;
@@ -13,7 +13,8 @@ pub const MAX_LINES: usize = 64;
 /// How many octets the texts of a reply's lines have together at most.
 pub const MAX_OCTETS: usize = 8192;
 
-const LF: u8 = 10;
+/// Stands between two lines of a buffer.
+pub const LF: u8 = 10;
 
 /// The texts of up to 64 lines, of up to 8,192 octets together. Contracts see them as a list of texts.
 #[derive(Debug, Drop)]
@@ -111,7 +112,8 @@ impl<A: Allocator> Lines<A> {
 
     /// The text of a line, counted from 0.
     pub fn get(&self, index: usize) -> Option<&[u8]>
-        ensures { option_copied result ≡ slice_get self.now index }
+        ensures text { option_copied result ≡ slice_get self.now index }
+        ensures some { IsSome result ↔ (index < length self.now) }
     {
         if index >= self.lens.len() {
             return None;

@@ -11,8 +11,8 @@ loop-i-preserved g c =
     let len : get_or c.as_slice.result.now c.loop-i.i 0 ≡ get_or lens c.loop-i.i 0 = ap (λ (ns : List ℕ). get_or ns c.loop-i.i 0) c.as_slice.ensures.value in
     rw (c.cut.ensures.rest, len) behind
 
-pub returns : goal.returns
-returns g c =
+pub returns-clause-text : goal.returns-clause-text
+returns-clause-text g c =
     let lens = c.self.inside.lens.items in
     let lines = lines_at c.self.inside.buffer.items lens in
     let here_is : c.loop-i.i ≡ c.args.index = omega arith in

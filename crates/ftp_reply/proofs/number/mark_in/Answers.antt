@@ -1,0 +1,29 @@
+use Rattle.std.proofs.Common.{◌≡◌, ◌++◌, ℕ, List, IsTrue, codes, sym, ◌∙◌, subst}
+use Rattle.ftp_command.specs.Number.{IsNumber}
+use Rattle.ftp_reply.specs.Values.{IsMarker}
+use Rattle.ftp_reply.proofs.MarkLemmas.{mark_rest, theirs_once, behind_once}
+use Rattle.ftp_reply.proofs.number.mark_in.Goals as goal
+
+pub returns-then-not-is_marker-clause-none : goal.returns-then-not-is_marker-clause-none
+returns-then-not-is_marker-clause-none c = λ mark says.
+    let rest = mark_rest c.args.text.now c.in-Some.rest.now mark c.in-Some.ensures.some says in
+    let cut = c.in-Some-cut_at.ensures in
+    let theirs = theirs_once c.in-Some.rest.now c.in-Some-cut_at.theirs.now c.in-Some-cut_at.behind.now says.theirs (codes "= " ++ says.digits) cut.first says.marker cut.cut rest in
+    let is_marker : IsTrue c.is_marker.result = c.is_marker.ensures.1 (subst (λ (t : List ℕ). IsMarker t) theirs says.marker) in
+    let not_marker = c.if-not-is_marker.true in
+    cc
+
+pub returns-in_default-behind_sign-clause-none : goal.returns-in_default-behind_sign-clause-none
+returns-in_default-behind_sign-clause-none c = λ mark says.
+    let rest = mark_rest c.args.text.now c.in-Some.rest.now mark c.in-Some.ensures.some says in
+    let cut = c.in-Some-cut_at.ensures in
+    c.in_default-behind_sign.ensures.none says.digits (behind_once c.in-Some.rest.now c.in-Some-cut_at.theirs.now c.in-Some-cut_at.behind.now says.theirs (codes "= " ++ says.digits) cut.first says.marker cut.cut rest)
+
+pub returns-in-None-clause-none : goal.returns-in-None-clause-none
+returns-in-None-clause-none c = λ mark says.
+    let rest = mark_rest c.args.text.now c.in-Some.rest.now mark c.in-Some.ensures.some says in
+    let cut = c.in-Some-cut_at.ensures in
+    let behind = behind_once c.in-Some.rest.now c.in-Some-cut_at.theirs.now c.in-Some-cut_at.behind.now says.theirs (codes "= " ++ says.digits) cut.first says.marker cut.cut rest in
+    let both : codes "= " ++ says.digits ≡ codes "= " ++ c.in-Some-behind_sign.digits.now = sym behind ∙ c.in-Some-behind_sign.ensures.some in
+    let digits : says.digits ≡ c.in-Some-behind_sign.digits.now = cc in
+    c.in-None.ensures.says (subst (λ (t : List ℕ). IsNumber t) digits says.number.0)
