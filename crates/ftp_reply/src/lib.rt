@@ -22,3 +22,6 @@ pub use quoted::quoted_of;
 pub use reader::Reader;
 pub use reply::Reply;
 pub use writing::write;
+
+#[cfg(test)]
+mod tests;
