@@ -1,0 +1,2 @@
+pub mod Endpoint
+pub mod Number

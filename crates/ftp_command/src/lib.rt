@@ -1,0 +1,11 @@
+//! Command lines of FTP as values, both ways, and the endpoints that commands and replies name (RFC 959,
+//! sections 4.1 and 5.3; RFC 2389, RFC 2428, RFC 3659). Octets in, values out: no IO.
+#![tactic(auto)]
+
+mod decimal;
+mod endpoint;
+mod host;
+
+pub use decimal::{number, octet, octet_in_front, port, split_digits};
+pub use endpoint::{Endpoint, after, is_delimiter, port_in_front, six_in_front, six_numbers};
+pub use host::Host;
