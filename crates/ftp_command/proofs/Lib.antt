@@ -1,2 +1,5 @@
 pub mod NumberLemmas
 pub mod EndpointLemmas
+pub mod VerbLemmas
+pub mod ArgumentLemmas
+pub mod SettingLemmas

@@ -1,2 +1,5 @@
+pub mod Argument
+pub mod Command
 pub mod Endpoint
 pub mod Number
+pub mod Verb

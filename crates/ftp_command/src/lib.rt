@@ -2,10 +2,20 @@
 //! sections 4.1 and 5.3; RFC 2389, RFC 2428, RFC 3659). Octets in, values out: no IO.
 #![tactic(auto)]
 
+mod argument;
+mod command;
 mod decimal;
 mod endpoint;
+mod fault;
 mod host;
+mod setting;
+mod text;
+mod verb;
 
+pub use command::{Command, Kind, Mode, Passive, Structure};
 pub use decimal::{number, octet, octet_in_front, port, split_digits};
 pub use endpoint::{Endpoint, after, is_delimiter, port_in_front, six_in_front, six_numbers};
+pub use fault::CommandFault;
 pub use host::Host;
+pub use text::Text;
+pub use verb::{Verb, verb_of};

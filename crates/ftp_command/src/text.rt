@@ -1,0 +1,51 @@
+// A text that a command owns.
+ghost use Rattle.std.specs.Prelude.{◌≡◌, IfOk};
+
+use std::alloc::{AllocError, Allocator};
+use std::marker::Model;
+
+/// A text that a command owns: a path, a name, a password or the words of an argument.
+#[derive(Drop)]
+pub struct Text<A: Allocator> {
+    octets: Vec<u8, A>,
+}
+
+impl<A: Allocator> Model for Text<A> {
+    ghost use Rattle.std.specs.Prelude.{ℕ, List};
+
+    ghost Value = { List ℕ };
+
+    ghost view = { λ t. t.octets.items };
+}
+
+impl<A: Allocator> Text<A> {
+    /// A copy of these octets; only memory can be refused.
+    pub fn new(alloc: A, octets: &[u8]) -> Result<Text<A>, AllocError>
+        ensures { IfOk result (λ text. text ≡ octets.now) }
+    {
+        let octets = Vec::from_slice(alloc, octets)?;
+        Ok(Text { octets })
+    }
+
+    /// The text of a vector's octets, with no copy.
+    pub fn from_vec(octets: Vec<u8, A>) -> Text<A>
+        ensures { result ≡ octets.items }
+    {
+        Text { octets }
+    }
+
+    /// The vector that holds the octets.
+    pub fn into_vec(self) -> Vec<u8, A>
+        ensures { result.items ≡ self }
+    {
+        let Text { octets } = self;
+        octets
+    }
+
+    /// The octets, lent.
+    pub fn octets(&self) -> &[u8]
+        ensures { result.now ≡ self.now }
+    {
+        self.octets.as_slice()
+    }
+}
