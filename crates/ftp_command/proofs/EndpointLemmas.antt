@@ -20,6 +20,10 @@ pub none_weaker : {A : Type 0} (r : Option A) (P Q : Type 0) → IfNone r P → 
 none_weaker None P Q p f = f p
 none_weaker (Some x) P Q p f = tt
 
+pub some_weaker : {A : Type 0} (r : Option A) (P Q : A → Type 0) → IfSome r P → ((x : A) → P x → Q x) → IfSome r Q
+some_weaker None P Q p f = tt
+some_weaker (Some x) P Q p f = f x p
+
 -- a call that gives a value exactly where P holds, by its outcome
 pub iff_some : {A : Type 0} (r : Option A) (P : Type 0) (v : A) (Q : A → Type 0) → SomeIff r P v → ((n : A) → P → n ≡ v → Q n) → IfSome r Q
 iff_some None P v Q h f = tt
@@ -29,7 +33,7 @@ pub iff_none : {A : Type 0} (r : Option A) (P : Type 0) (v : A) (N : Type 0) →
 iff_none None P v N h f = f h
 iff_none (Some x) P v N h f = tt
 
-not_digit : (b : Bool) → IsTrue (not b) → b ≡ false
+pub not_digit : (b : Bool) → IsTrue (not b) → b ≡ false
 not_digit false t = refl
 not_digit true t = absurd (search rules)
 

@@ -4,7 +4,7 @@ use Rattle.std.specs.Char.{is_ascii_digit}
 use Rattle.ftp_command.specs.declared.endpoint.Endpoint.{Endpoint}
 use Rattle.ftp_command.specs.declared.host.Host.{Host}
 use Rattle.ftp_command.specs.declared.host.Host.TheVariants.{V4, V6}
-use Rattle.ftp_command.specs.Number.{SaysOctet, SaysPort, front_digits, behind_digits}
+use Rattle.ftp_command.specs.Number.{SaysNumber, SaysOctet, SaysPort, front_digits, behind_digits}
 
 -- the text begins with these numbers, each a whole run of digits, joined by the separator; the rest is behind them
 abbrev pub BeginsWith : ℕ → List ℕ → List ℕ → List ℕ → Type 0
@@ -47,3 +47,20 @@ pub record BeginsWithPort (text : List ℕ) (port : ℕ) : Type 0 where
   pub delimiter : IsDelimiter d
   pub text_is : text ≡ 40 ∷ d ∷ d ∷ d ∷ rest
   pub closes : ClosesWithPort d rest port
+
+-- the text ends with this port between two delimiters; what is before them is the address
+pub record EndsWithPort (d : ℕ) (text address : List ℕ) (port : ℕ) : Type 0 where
+  pub digits : List ℕ
+  pub number : SaysPort digits port
+  pub text_is : text ≡ address ++ d ∷ (digits ++ d ∷ [])
+
+-- <d>proto<d>address<d>port<d>, the same delimiter each time; the address may have it too (RFC 2428, section 2)
+pub record HasShape (text : List ℕ) (proto : ℕ) (address : List ℕ) (port : ℕ) : Type 0 where
+  pub d : ℕ
+  pub rest : List ℕ
+  pub more : List ℕ
+  pub delimiter : IsDelimiter d
+  pub text_is : text ≡ d ∷ rest
+  pub number : SaysNumber (front_digits rest) proto
+  pub behind : behind_digits rest ≡ d ∷ more
+  pub ends : EndsWithPort d more address port

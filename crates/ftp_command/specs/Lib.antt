@@ -1,5 +1,7 @@
 pub mod Argument
 pub mod Command
+pub mod Decline
 pub mod Endpoint
+pub mod Host
 pub mod Number
 pub mod Verb

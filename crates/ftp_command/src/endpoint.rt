@@ -19,11 +19,11 @@ pub fn six_in_front(text: &[u8]) -> Option<(Endpoint, &[u8])>
     ensures some { IfSome result (λ r. BeginsWithSix text.now r.0 r.1.now) }
     ensures none { IfNone result ((endpoint : Endpoint) (rest : List ℕ) → ¬ BeginsWithSix text.now endpoint rest) }
 {
-    let (h1, text) = octet_before_comma(text)?;
-    let (h2, text) = octet_before_comma(text)?;
-    let (h3, text) = octet_before_comma(text)?;
-    let (h4, text) = octet_before_comma(text)?;
-    let (p1, text) = octet_before_comma(text)?;
+    let (h1, text) = octet_before(b',', text)?;
+    let (h2, text) = octet_before(b',', text)?;
+    let (h3, text) = octet_before(b',', text)?;
+    let (h4, text) = octet_before(b',', text)?;
+    let (p1, text) = octet_before(b',', text)?;
     let (p2, text) = octet_in_front(text)?;
     let endpoint = Endpoint {
         host: Host::V4([h1, h2, h3, h4]),
@@ -32,16 +32,14 @@ pub fn six_in_front(text: &[u8]) -> Option<(Endpoint, &[u8])>
     Some((endpoint, text))
 }
 
-// The octet's number in front of a comma, and what is behind the comma.
-fn octet_before_comma(text: &[u8]) -> Option<(u8, &[u8])>
-    ensures some { IfSome result (λ r. SaysOctet (front_digits text.now) r.0 × (behind_digits text.now ≡ 44 ∷ r.1.now)) }
-    ensures none { IfNone result ((next : List ℕ) → IsOctet (front_digits text.now) → ¬ (behind_digits text.now ≡ 44 ∷ next)) }
+/// Reads the octet's number in front of a separator, and gives what is behind that.
+pub(crate) fn octet_before(separator: u8, text: &[u8]) -> Option<(u8, &[u8])>
+    ensures some { IfSome result (λ r. SaysOctet (front_digits text.now) r.0 × (behind_digits text.now ≡ separator ∷ r.1.now)) }
+    ensures none { IfNone result ((next : List ℕ) → IsOctet (front_digits text.now) → ¬ (behind_digits text.now ≡ separator ∷ next)) }
 {
     let (number, behind) = octet_in_front(text)?;
-    match behind {
-        [b',', next @ ..] => Some((number, next)),
-        _ => None,
-    }
+    let next = after(separator, behind)?;
+    Some((number, next))
 }
 
 /// Reads six numbers, and nothing behind them: the argument of PORT.

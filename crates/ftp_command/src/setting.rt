@@ -1,7 +1,7 @@
 // The parameters of TYPE, STRU, MODE, EPSV and ALLO.
 ghost use Rattle.std.specs.Prelude.{◌≡◌, ◌≢◌, ◌↔◌, ℕ, List, IfErr, IfNone, IfOk, IfSome, IsTrue, Option};
 ghost use Rattle.ftp_command.specs.Argument.{IsOtherFamily, IsOtherKind, IsOtherMode, IsOtherName, IsOtherStructure, SaysEbcdic, SaysKind, SaysLocal, SaysLongest, SaysMode, SaysPassive, SaysSizes, SaysStructure};
-ghost use Rattle.ftp_command.specs.Command.{Declines, DeclinesFamily};
+ghost use Rattle.ftp_command.specs.Decline.{Declines, DeclinesFamily};
 ghost use Rattle.ftp_command.specs.declared.command.Passive.{Passive};
 
 use crate::command::{Kind, Mode, Passive, Structure};
