@@ -19,5 +19,6 @@ pub use decimal::{number, octet, octet_in_front, port, split_digits};
 pub use endpoint::{Endpoint, after, is_delimiter, port_in_front, six_in_front, six_numbers};
 pub use fault::CommandFault;
 pub use host::Host;
+pub use reading::read;
 pub use text::Text;
 pub use verb::{Verb, verb_of};

@@ -1,13 +1,15 @@
 // Reading a command line.
-ghost use Rattle.std.specs.Prelude.{◌≡◌, ◌⊎◌, ◌≤◌, ℕ, List, [], IfErr, IfOk, IfSome, IfNone, IsTrue, length};
-ghost use Rattle.ftp_command.specs.Argument.{IsName, IsPassword, IsPath, SaysPathOrNone, SaysTextOrNone, argument, trimmed, without_options, word};
-ghost use Rattle.ftp_command.specs.Command.{Argues, Declined, Fits, Refuses, Says, verb_of};
+ghost use Rattle.std.specs.Prelude.{◌≡◌, ◌⊎◌, ◌≤◌, ℕ, List, [], IfErr, IfOk, IfSome, IfNone, IsTrue, OnOk, Option, length};
+ghost use Rattle.ftp_command.specs.Argument.{IsBlank, IsName, IsPassword, IsPath, SaysPathOrNone, SaysSizes, SaysTextOrNone, argument, trimmed, without_options, word};
+ghost use Rattle.ftp_command.specs.Command.{Argues, Declined, Refuses, Says, verb_of};
+ghost use Rattle.ftp_command.specs.Endpoint.{SaysSix};
+ghost use Rattle.ftp_command.specs.Number.{SaysNumber};
 ghost use Rattle.ftp_command.specs.Verb.{Names};
 
 use crate::argument::{drop_options, is_blank, is_name, is_password, is_path, split_line, trim};
 use crate::command::Command;
 use crate::decimal::number;
-use crate::endpoint::six_numbers;
+use crate::endpoint::{Endpoint, six_numbers};
 use crate::extended::extended;
 use crate::fault::CommandFault;
 use crate::setting::{kind, mode, passive, sizes, structure};
@@ -56,8 +58,92 @@ fn read_argument<A: Allocator>(alloc: A, verb: Verb, argument: &[u8]) -> Result<
         Verb::Mkd => Ok(Command::Mkd(path(alloc, argument)?)),
         Verb::Size => Ok(Command::Size(path(alloc, argument)?)),
         Verb::Mdtm => Ok(Command::Mdtm(path(alloc, argument)?)),
-        _ => Err(CommandFault::NotDone),
+        Verb::Cdup => {
+            blank(argument)?;
+            Ok(Command::Cdup)
+        }
+        Verb::Rein => {
+            blank(argument)?;
+            Ok(Command::Rein)
+        }
+        Verb::Quit => {
+            blank(argument)?;
+            Ok(Command::Quit)
+        }
+        Verb::Pasv => {
+            blank(argument)?;
+            Ok(Command::Pasv)
+        }
+        Verb::Abor => {
+            blank(argument)?;
+            Ok(Command::Abor)
+        }
+        Verb::Pwd => {
+            blank(argument)?;
+            Ok(Command::Pwd)
+        }
+        Verb::Syst => {
+            blank(argument)?;
+            Ok(Command::Syst)
+        }
+        Verb::Noop => {
+            blank(argument)?;
+            Ok(Command::Noop)
+        }
+        Verb::Feat => {
+            blank(argument)?;
+            Ok(Command::Feat)
+        }
+        Verb::Stat if is_blank(argument) => Ok(Command::Stat),
+        Verb::Stat | Verb::Smnt | Verb::Stou | Verb::Site => Err(CommandFault::NotDone),
+        Verb::Port => Ok(Command::Port(six(trim(argument))?)),
+        Verb::Eprt => Ok(Command::Eprt(extended(trim(argument))?)),
+        Verb::Epsv => Ok(Command::Epsv(passive(trim(argument))?)),
+        Verb::Repr => Ok(Command::Repr(kind(trim(argument))?)),
+        Verb::Stru => Ok(Command::Stru(structure(trim(argument))?)),
+        Verb::Mode => Ok(Command::Mode(mode(trim(argument))?)),
+        Verb::Rest => Ok(Command::Rest(place(trim(argument))?)),
+        Verb::Allo => {
+            let (octets, longest) = space(trim(argument))?;
+            Ok(Command::Allo(octets, longest))
+        }
     }
+}
+
+// No argument, but for spaces.
+fn blank(argument: &[u8]) -> Result<(), CommandFault>
+    ensures ok { OnOk result (IsBlank argument.now) }
+    ensures err { IfErr result (λ fault. (fault ≡ CommandFault.BadArgument) × (¬ IsBlank argument.now)) }
+{
+    if is_blank(argument) {
+        Ok(())
+    } else {
+        Err(CommandFault::BadArgument)
+    }
+}
+
+// Six numbers.
+fn six(text: &[u8]) -> Result<Endpoint, CommandFault>
+    ensures ok { IfOk result (λ endpoint. SaysSix text.now endpoint) }
+    ensures err { IfErr result (λ fault. (fault ≡ CommandFault.BadArgument) × ((endpoint : Endpoint) → ¬ SaysSix text.now endpoint)) }
+{
+    six_numbers(text).ok_or(CommandFault::BadArgument)
+}
+
+// A place to restart at.
+fn place(text: &[u8]) -> Result<u64, CommandFault>
+    ensures ok { IfOk result (λ n. SaysNumber text.now n) }
+    ensures err { IfErr result (λ fault. (fault ≡ CommandFault.BadArgument) × ((n : ℕ) → ¬ SaysNumber text.now n)) }
+{
+    number(text).ok_or(CommandFault::BadArgument)
+}
+
+// What ALLO asks for.
+fn space(text: &[u8]) -> Result<(u64, Option<u64>), CommandFault>
+    ensures ok { IfOk result (λ r. SaysSizes text.now r.0 r.1) }
+    ensures err { IfErr result (λ fault. (fault ≡ CommandFault.BadArgument) × ((octets : ℕ) (longest : Option ℕ) → ¬ SaysSizes text.now octets longest)) }
+{
+    sizes(text).ok_or(CommandFault::BadArgument)
 }
 
 // A path text.
