@@ -104,3 +104,14 @@ without-done (x ∷ xs) e = without-step (length xs) (x ∷ xs) false e
 pub without-option : (text : List ℕ) → begins_with 45 text ≡ true → without_options (behind_word text) ≡ without_options text
 without-option [] e = absurd (false≢true e)
 without-option (x ∷ xs) e = without-more x xs e
+
+-- a text that loses no octet has no space at its end
+keeps-cons : (c : ℕ) (cs : List ℕ) (b : Bool) → list_all is_space (c ∷ cs) ≡ b → (length (trimmed cs) ≡ length cs → trimmed cs ≡ cs) → length (trimmed (c ∷ cs)) ≡ length (c ∷ cs) → trimmed (c ∷ cs) ≡ c ∷ cs
+keeps-cons c cs true e rest h = absurd (omega (arith, ap length (trimmed-cons c cs true e)))
+keeps-cons c cs false e rest h =
+    let front = trimmed-cons c cs false e in
+    front ∙ ap (λ ys. c ∷ ys) (rest (omega (arith, ap length front)))
+
+pub trimmed-keeps : (text : List ℕ) → length (trimmed text) ≡ length text → trimmed text ≡ text
+trimmed-keeps [] h = refl
+trimmed-keeps (c ∷ cs) h = keeps-cons c cs (list_all is_space (c ∷ cs)) refl (trimmed-keeps cs) h

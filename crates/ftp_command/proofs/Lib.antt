@@ -6,3 +6,4 @@ pub mod SettingLemmas
 pub mod HostLemmas
 pub mod ExtendedLemmas
 pub mod CommandLemmas
+pub mod LineLemmas

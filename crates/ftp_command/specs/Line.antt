@@ -1,6 +1,6 @@
 -- The line that is written for a command, and the commands that have one.
-use Rattle.std.specs.Prelude.{◌≡◌, ◌+◌, ◌*◌, ◌/◌, ◌%◌, ◌^◌, ◌<◌, ◌≤◌, ◌==◌, ℕ, Bool, true, false, not, List, [], ◌∷◌, ◌++◌, length, map, count_by, decimal, IsTrue, Option, Some, None, codes}
-use Rattle.std.specs.Fmt.{digits}
+use Rattle.std.specs.Prelude.{◌≡◌, ◌+◌, ◌*◌, ◌/◌, ◌%◌, ◌^◌, ◌<◌, ◌≤◌, ◌==◌, ℕ, Bool, true, false, not, List, [], ◌∷◌, ◌++◌, length, map, count_by, decimal, IsTrue, if◌then◌else◌, nat_lt, Option, Some, None, codes}
+use Rattle.std.specs.Char.{digit_char}
 use Rattle.std.specs.List.{join_with_byte, list_all}
 use Rattle.ftp_command.specs.Argument.{IsName, IsPassword, IsPath, begins_with, trimmed}
 use Rattle.ftp_command.specs.Command.{verb_of}
@@ -34,7 +34,7 @@ numbers_text separator octets = join_with_byte separator (map decimal octets)
 
 -- h1,h2,h3,h4,p1,p2; of a host of IPv6 there is no such text
 abbrev pub six_of : Host → ℕ → List ℕ
-six_of (V4 octets) port = numbers_text 44 (octets ++ port / 256 ∷ port % 256 ∷ [])
+six_of (V4 octets) port = numbers_text 44 octets ++ (44 ∷ (decimal (port / 256) ++ (44 ∷ decimal (port % 256))))
 six_of (V6 octets) port = []
 
 abbrev pub six_text : Endpoint → List ℕ
@@ -42,13 +42,16 @@ six_text endpoint = six_of endpoint.host endpoint.port
 
 -- a group in lower case, without leading zeros
 abbrev pub hex : ℕ → List ℕ
-hex n = digits 16 false n
+hex n = if nat_lt n 16 then digit_char n ∷ []
+    else (if nat_lt n 256 then digit_char (n / 16) ∷ digit_char (n % 16) ∷ []
+    else (if nat_lt n 4096 then digit_char (n / 256) ∷ digit_char (n / 16 % 16) ∷ digit_char (n % 16) ∷ []
+    else digit_char (n / 4096) ∷ digit_char (n / 256 % 16) ∷ digit_char (n / 16 % 16) ∷ digit_char (n % 16) ∷ []))
 
 -- the groups of octets, the higher octet of each first
 abbrev pub groups_of : List ℕ → List ℕ
 groups_of [] = []
 groups_of (a ∷ []) = []
-groups_of (a ∷ b ∷ octets) = (256 * a + b) ∷ groups_of octets
+groups_of (a ∷ b ∷ octets) = (a * 256 + b) ∷ groups_of octets
 
 -- |1|dotted decimal|port| or |2|eight groups|port|, written without "::" (own choice)
 abbrev pub address_text : Host → List ℕ

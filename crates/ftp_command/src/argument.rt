@@ -121,7 +121,7 @@ pub(crate) fn drop_options(text: &[u8]) -> &[u8]
     rest
 }
 
-fn begins_option(text: &[u8]) -> bool
+pub(crate) fn begins_option(text: &[u8]) -> bool
     ensures { result ≡ begins_with 45 text.now }
 {
     match text {

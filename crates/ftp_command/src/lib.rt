@@ -9,10 +9,12 @@ mod endpoint;
 mod extended;
 mod fault;
 mod host;
+mod line;
 mod reading;
 mod setting;
 mod text;
 mod verb;
+mod writing;
 
 pub use command::{Command, Kind, Mode, Passive, Structure};
 pub use decimal::{number, octet, octet_in_front, port, split_digits};
@@ -22,3 +24,4 @@ pub use host::Host;
 pub use reading::read;
 pub use text::Text;
 pub use verb::{Verb, verb_of};
+pub use writing::write;

@@ -1,5 +1,5 @@
 // The verbs, and the words that name them.
-ghost use Rattle.std.specs.Prelude.{◌≡◌, ◌↔◌, IfSome, IfNone, IsTrue};
+ghost use Rattle.std.specs.Prelude.{◌≡◌, ◌↔◌, IfSome, IfNone, IsTrue, length, ◌≤◌};
 ghost use Rattle.ftp_command.specs.Verb.{Names, letters, old_letters};
 
 /// A verb of RFC 959, section 4.1, RFC 2389, RFC 2428 or RFC 3659.
@@ -96,7 +96,8 @@ const VERBS: [Verb; 41] = [
 impl Verb {
     /// The word that `write` gives.
     pub fn letters(self) -> &'static [u8]
-        ensures { result.now ≡ letters self }
+        ensures text { result.now ≡ letters self }
+        ensures short { length result.now ≤ 4 }
     {
         match self {
             Verb::User => b"USER",

@@ -1,0 +1,314 @@
+// The line of a command, made on the stack: a line that is written has at most 1,024 octets.
+ghost use Rattle.std.specs.Prelude.{◌≡◌, ◌+◌, ◌*◌, ◌/◌, ◌%◌, ◌^◌, ◌<◌, ◌≤◌, ◌++◌, ℕ, List, [], ◌∷◌, codes, decimal, if◌then◌else◌, length, map};
+ghost use Rattle.std.specs.Char.{digit_char};
+ghost use Rattle.std.specs.List.{join_with_byte};
+ghost use Rattle.ftp_command.specs.Command.{verb_of};
+ghost use Rattle.ftp_command.specs.Line.{IsStated, IsV4, address_text, extended_text, groups_of, hex, line_of as line_text, longest_text, numbers_text, passive_text as passive_words, six_text, spaced, tail_of};
+
+use crate::command::{Command, Kind, Mode, Passive, Structure};
+use crate::endpoint::Endpoint;
+use crate::host::Host;
+use crate::text::Text;
+use crate::verb::Verb;
+use arrayvec::ArrayVec;
+use itoa::Buffer;
+use std::alloc::Allocator;
+
+type Line = ArrayVec<u8, 1024>;
+
+/// The line of a command that one stands for.
+pub(crate) fn line_of<A: Allocator>(command: &Command<Text<A>>) -> Line
+    requires { IsStated command.now }
+    ensures { result.items ≡ line_text command.now }
+{
+    let mut line = Line::new();
+    put(command_verb(command).letters(), &mut line);
+    put_tail(command, &mut line);
+    line
+}
+
+fn command_verb<A: Allocator>(command: &Command<Text<A>>) -> Verb
+    ensures { result ≡ verb_of command.now }
+{
+    match command {
+        Command::User(_) => Verb::User,
+        Command::Pass(_) => Verb::Pass,
+        Command::Acct(_) => Verb::Acct,
+        Command::Cwd(_) => Verb::Cwd,
+        Command::Cdup => Verb::Cdup,
+        Command::Rein => Verb::Rein,
+        Command::Quit => Verb::Quit,
+        Command::Port(_) => Verb::Port,
+        Command::Pasv => Verb::Pasv,
+        Command::Eprt(_) => Verb::Eprt,
+        Command::Epsv(_) => Verb::Epsv,
+        Command::Repr(_) => Verb::Repr,
+        Command::Stru(_) => Verb::Stru,
+        Command::Mode(_) => Verb::Mode,
+        Command::Retr(_) => Verb::Retr,
+        Command::Stor(_) => Verb::Stor,
+        Command::Appe(_) => Verb::Appe,
+        Command::Allo(_, _) => Verb::Allo,
+        Command::Rest(_) => Verb::Rest,
+        Command::Rnfr(_) => Verb::Rnfr,
+        Command::Rnto(_) => Verb::Rnto,
+        Command::Abor => Verb::Abor,
+        Command::Dele(_) => Verb::Dele,
+        Command::Rmd(_) => Verb::Rmd,
+        Command::Mkd(_) => Verb::Mkd,
+        Command::Pwd => Verb::Pwd,
+        Command::List(_) => Verb::List,
+        Command::Nlst(_) => Verb::Nlst,
+        Command::Mlst(_) => Verb::Mlst,
+        Command::Mlsd(_) => Verb::Mlsd,
+        Command::Size(_) => Verb::Size,
+        Command::Mdtm(_) => Verb::Mdtm,
+        Command::Syst => Verb::Syst,
+        Command::Stat => Verb::Stat,
+        Command::Help(_) => Verb::Help,
+        Command::Noop => Verb::Noop,
+        Command::Feat => Verb::Feat,
+        Command::Opts(_) => Verb::Opts,
+    }
+}
+
+// What is behind the verb: nothing, or SP and the argument.
+fn put_tail<A: Allocator>(command: &Command<Text<A>>, line: &mut Line)
+    requires stated { IsStated command.now }
+    requires room { length line.old.items ≤ 4 }
+    ensures { line.new.items ≡ line.old.items ++ tail_of command.now }
+{
+    match command {
+        Command::User(text) => put_spaced(text.octets(), line),
+        Command::Pass(text) => put_spaced(text.octets(), line),
+        Command::Acct(text) => put_spaced(text.octets(), line),
+        Command::Cwd(text) => put_spaced(text.octets(), line),
+        Command::Cdup => {}
+        Command::Rein => {}
+        Command::Quit => {}
+        Command::Pasv => {}
+        Command::Retr(text) => put_spaced(text.octets(), line),
+        Command::Stor(text) => put_spaced(text.octets(), line),
+        Command::Appe(text) => put_spaced(text.octets(), line),
+        Command::Rnfr(text) => put_spaced(text.octets(), line),
+        Command::Rnto(text) => put_spaced(text.octets(), line),
+        Command::Abor => {}
+        Command::Dele(text) => put_spaced(text.octets(), line),
+        Command::Rmd(text) => put_spaced(text.octets(), line),
+        Command::Mkd(text) => put_spaced(text.octets(), line),
+        Command::Pwd => {}
+        Command::List(Some(text)) => put_spaced(text.octets(), line),
+        Command::List(None) => {}
+        Command::Nlst(Some(text)) => put_spaced(text.octets(), line),
+        Command::Nlst(None) => {}
+        Command::Mlst(Some(text)) => put_spaced(text.octets(), line),
+        Command::Mlst(None) => {}
+        Command::Mlsd(Some(text)) => put_spaced(text.octets(), line),
+        Command::Mlsd(None) => {}
+        Command::Size(text) => put_spaced(text.octets(), line),
+        Command::Mdtm(text) => put_spaced(text.octets(), line),
+        Command::Syst => {}
+        Command::Stat => {}
+        Command::Help(Some(text)) => put_spaced(text.octets(), line),
+        Command::Help(None) => {}
+        Command::Noop => {}
+        Command::Feat => {}
+        Command::Opts(text) => put_spaced(text.octets(), line),
+        Command::Port(endpoint) => put_six(*endpoint, line),
+        Command::Eprt(endpoint) => put_extended(*endpoint, line),
+        Command::Epsv(passive) => put(passive_text(*passive), line),
+        Command::Repr(Kind::Ascii) => put(b" A", line),
+        Command::Repr(Kind::Image) => put(b" I", line),
+        Command::Stru(Structure::File) => put(b" F", line),
+        Command::Stru(Structure::Record) => put(b" R", line),
+        Command::Mode(Mode::Stream) => put(b" S", line),
+        Command::Mode(Mode::Block) => put(b" B", line),
+        Command::Rest(place) => {
+            put(b" ", line);
+            put_decimal(*place, line);
+        }
+        Command::Allo(octets, longest) => put_sizes(*octets, *longest, line),
+    }
+}
+
+fn passive_text(passive: Passive) -> &'static [u8]
+    ensures text { result.now ≡ passive_words passive }
+    ensures short { length result.now ≤ 4 }
+{
+    match passive {
+        Passive::Any => b"",
+        Passive::Ipv4 => b" 1",
+        Passive::Ipv6 => b" 2",
+        Passive::Only => b" ALL",
+    }
+}
+
+fn put_sizes(octets: u64, longest: Option<u64>, line: &mut Line)
+    requires { length line.old.items ≤ 4 }
+    ensures { line.new.items ≡ line.old.items ++ (codes " " ++ (decimal octets ++ longest_text longest)) }
+{
+    put(b" ", line);
+    put_decimal(octets, line);
+    if let Some(longest) = longest {
+        put(b" R ", line);
+        put_decimal(longest, line);
+    }
+}
+
+// SP and a text, or nothing where it is empty.
+fn put_spaced(text: &[u8], line: &mut Line)
+    requires { length line.old.items + length text.now + 1 ≤ 1024 }
+    ensures { line.new.items ≡ line.old.items ++ spaced text.now }
+{
+    if !text.is_empty() {
+        put(b" ", line);
+        put(text, line);
+    }
+}
+
+fn put(text: &[u8], line: &mut Line)
+    requires { length line.old.items + length text.now ≤ 1024 }
+    ensures { line.new.items ≡ line.old.items ++ text.now }
+{
+    line.try_extend_from_slice(text).unwrap()
+}
+
+fn put_decimal(number: u64, line: &mut Line)
+    requires { length line.old.items + 20 ≤ 1024 }
+    ensures text { line.new.items ≡ line.old.items ++ decimal number }
+    ensures bound { length line.new.items ≤ length line.old.items + 20 }
+{
+    let mut buffer = Buffer::new();
+    put(buffer.format(number).as_bytes(), line)
+}
+
+// SP and six numbers.
+fn put_six(endpoint: Endpoint, line: &mut Line)
+    requires v4 { IsV4 endpoint.host }
+    requires room { length line.old.items ≤ 4 }
+    ensures { line.new.items ≡ line.old.items ++ (codes " " ++ six_text endpoint) }
+{
+    let Endpoint { host, port } = endpoint;
+    put(b" ", line);
+    match host {
+        Host::V4(octets) => {
+            put_numbers(b',', octets, line);
+            put(b",", line);
+            put_decimal(u64::from(port / 256), line);
+            put(b",", line);
+            put_decimal(u64::from(port % 256), line);
+        }
+        Host::V6(_) => {}
+    }
+}
+
+// Four numbers joined by a separator.
+fn put_numbers(separator: u8, octets: [u8; 4], line: &mut Line)
+    requires { length line.old.items ≤ 10 }
+    ensures text { line.new.items ≡ line.old.items ++ numbers_text separator octets }
+    ensures bound { length line.new.items ≤ length line.old.items + 83 }
+{
+    let [a, b, c, d] = octets;
+    put_decimal(u64::from(a), line);
+    put(&[separator], line);
+    put_decimal(u64::from(b), line);
+    put(&[separator], line);
+    put_decimal(u64::from(c), line);
+    put(&[separator], line);
+    put_decimal(u64::from(d), line);
+}
+
+// SP, a protocol, an address and a port.
+fn put_extended(endpoint: Endpoint, line: &mut Line)
+    requires { length line.old.items ≤ 4 }
+    ensures { line.new.items ≡ line.old.items ++ (codes " " ++ extended_text endpoint) }
+{
+    let Endpoint { host, port } = endpoint;
+    put(b" ", line);
+    put_address(host, line);
+    put(b"|", line);
+    put_decimal(u64::from(port), line);
+    put(b"|", line);
+}
+
+fn put_address(host: Host, line: &mut Line)
+    requires { length line.old.items ≤ 5 }
+    ensures text { line.new.items ≡ line.old.items ++ address_text host }
+    ensures bound { length line.new.items ≤ 500 }
+{
+    match host {
+        Host::V4(octets) => {
+            put(b"|1|", line);
+            put_numbers(b'.', octets, line);
+        }
+        Host::V6(octets) => {
+            put(b"|2|", line);
+            put_groups(&groups(octets), line);
+        }
+    }
+}
+
+// The groups of a host of IPv6.
+fn groups(octets: [u8; 16]) -> [u16; 8]
+    ensures { result ≡ groups_of octets }
+{
+    let [a, b, c, d, e, f, g, h, i, j, k, l, m, n, o, p] = octets;
+    let [r, s] = two(a, b, c, d);
+    let [t, u] = two(e, f, g, h);
+    let [v, w] = two(i, j, k, l);
+    let [x, y] = two(m, n, o, p);
+    [r, s, t, u, v, w, x, y]
+}
+
+fn two(a: u8, b: u8, c: u8, d: u8) -> [u16; 2]
+    ensures { result ≡ (a * 256 + b) ∷ (c * 256 + d) ∷ [] }
+{
+    [
+        u16::from(a) * 256 + u16::from(b),
+        u16::from(c) * 256 + u16::from(d),
+    ]
+}
+
+// Groups in lower case, joined by colons.
+fn put_groups(groups: &[u16], line: &mut Line)
+    requires few { length groups.now ≤ 8 }
+    requires room { length line.old.items ≤ 8 }
+    ensures text { line.new.items ≡ line.old.items ++ join_with_byte 58 (map hex groups.now) }
+    ensures bound { length line.new.items ≤ length line.old.items + 40 }
+{
+    for (i, group) in groups.iter().enumerate() {
+        put_group(i > 0, *group, line);
+    }
+}
+
+// A group without leading zeros, behind a colon unless it is the first.
+fn put_group(behind: bool, group: u16, line: &mut Line)
+    requires { length line.old.items + 5 ≤ 1024 }
+    ensures text { line.new.items ≡ line.old.items ++ ((if behind then codes ":" else []) ++ hex group) }
+    ensures bound { length line.new.items ≤ length line.old.items + 5 }
+{
+    if behind {
+        line.push(b':');
+    }
+    if group >= 4096 {
+        line.push(hex_digit(group / 4096));
+    }
+    if group >= 256 {
+        line.push(hex_digit(group / 256 % 16));
+    }
+    if group >= 16 {
+        line.push(hex_digit(group / 16 % 16));
+    }
+    line.push(hex_digit(group % 16));
+}
+
+fn hex_digit(digit: u16) -> u8
+    requires { digit < 16 }
+    ensures { result ≡ digit_char digit }
+{
+    if digit < 10 {
+        b'0' + digit as u8
+    } else {
+        b'a' + (digit - 10) as u8
+    }
+}

@@ -1,0 +1,108 @@
+// Writing a command line.
+ghost use Rattle.std.specs.Prelude.{◌≡◌, ◌⊎◌, ◌↔◌, ◌+◌, ◌*◌, ◌≤◌, ◌++◌, ◌==◌, IfErr, IsTrue, OnOk, Option, count_by, decimal, length};
+ghost use Rattle.std.specs.List.{list_all};
+ghost use Rattle.ftp_command.specs.Argument.{IsPath, begins_with, trimmed};
+ghost use Rattle.ftp_command.specs.Command.{verb_of};
+ghost use Rattle.ftp_command.specs.Line.{IfGiven, IfShort, IsListed, IsStated, IsV4, IsWords, is_no_feed, line_of as line_text};
+
+use crate::argument::{begins_option, is_name, is_password, is_path, trim};
+use crate::command::Command;
+use crate::fault::CommandFault;
+use crate::host::Host;
+use crate::line::line_of;
+use crate::text::Text;
+use std::alloc::Allocator;
+
+/// Writes a command as a line without its end: the verb in capitals, and SP and the argument where there is one.
+///
+/// BadArgument: no line stands for the value, as a path of no octet, or a host of IPv6 in PORT. Memory: a growth was
+/// refused. After either, `out` is as it was.
+pub fn write<A: Allocator, B: Allocator>(command: &Command<Text<A>>, out: &mut Vec<u8, B>) -> Result<(), CommandFault>
+    ensures ok { OnOk result (IsStated command.now × (out.new.items ≡ out.old.items ++ line_text command.now)) }
+    ensures err { IfErr result (λ fault. (fault ≡ CommandFault.Memory) ⊎ ((fault ≡ CommandFault.BadArgument) × (¬ IsStated command.now))) }
+    ensures kept { IfErr result (λ _. out.new.items ≡ out.old.items) }
+{
+    if !is_stated(command) {
+        return Err(CommandFault::BadArgument);
+    }
+    let line = line_of(command);
+    match out.extend_from_slice(line.as_slice()) {
+        Ok(()) => Ok(()),
+        Err(_) => Err(CommandFault::Memory),
+    }
+}
+
+// Whether a line stands for a command.
+fn is_stated<A: Allocator>(command: &Command<Text<A>>) -> bool
+    ensures { IsTrue result ↔ IsStated command.now }
+{
+    match command {
+        Command::User(name) => is_name(name.octets()),
+        Command::Pass(password) => is_password(password.octets()),
+        Command::Acct(words) => are_words(words.octets()),
+        Command::Opts(words) => are_words(words.octets()),
+        Command::Help(Some(words)) => are_words(words.octets()),
+        Command::Cwd(path) => is_path(path.octets()),
+        Command::Retr(path) => is_path(path.octets()),
+        Command::Stor(path) => is_path(path.octets()),
+        Command::Appe(path) => is_path(path.octets()),
+        Command::Rnfr(path) => is_path(path.octets()),
+        Command::Rnto(path) => is_path(path.octets()),
+        Command::Dele(path) => is_path(path.octets()),
+        Command::Rmd(path) => is_path(path.octets()),
+        Command::Mkd(path) => is_path(path.octets()),
+        Command::Size(path) => is_path(path.octets()),
+        Command::Mdtm(path) => is_path(path.octets()),
+        Command::Mlst(Some(path)) => is_path(path.octets()),
+        Command::Mlsd(Some(path)) => is_path(path.octets()),
+        Command::List(Some(path)) => is_listed(path.octets()),
+        Command::Nlst(Some(path)) => is_listed(path.octets()),
+        Command::Port(endpoint) => matches!(endpoint.host, Host::V4(_)),
+        Command::Eprt(endpoint) => endpoint.port > 0,
+        Command::Rest(place) => *place < MOST,
+        Command::Allo(octets, None) => *octets < MOST,
+        Command::Allo(octets, Some(longest)) => *octets < MOST && *longest < MOST,
+        _ => true,
+    }
+}
+
+// Below it a number has at most 18 digits.
+const MOST: u64 = 1_000_000_000_000_000_000;
+
+// Whether a path is one that LIST would not take for an option.
+fn is_listed(path: &[u8]) -> bool
+    ensures { IsTrue result ↔ IsListed path.now }
+{
+    is_path(path) && !begins_option(path)
+}
+
+// Whether words fit a line of 1,024 octets behind a verb of four letters and SP.
+fn are_words(words: &[u8]) -> bool
+    ensures { IsTrue result ↔ IsWords words.now }
+{
+    if words.is_empty() || words.len() > 1024 {
+        return false;
+    }
+    is_trimmed(words) && has_no_feed(words) && words.len() + returns(words) + 7 <= 1024
+}
+
+// Whether words do not end with SP.
+fn is_trimmed(words: &[u8]) -> bool
+    ensures { IsTrue result ↔ (trimmed words.now ≡ words.now) }
+{
+    let front = trim(words);
+    front.len() == words.len()
+}
+
+fn has_no_feed(words: &[u8]) -> bool
+    ensures { result ≡ list_all is_no_feed words.now }
+{
+    words.iter().all(|c| *c != b'\n')
+}
+
+fn returns(words: &[u8]) -> usize
+    ensures count { result ≡ count_by (λ c. c == 13) words.now }
+    ensures within { result ≤ length words.now }
+{
+    words.iter().filter(|c| **c == b'\r').count()
+}
