@@ -139,12 +139,11 @@ no_shape text none = (λ h. none h.proto h.address h.port h.shape, λ endpoint h
 pub no_host : (text : List ℕ) (proto : ℕ) (address : List ℕ) (port : ℕ) → HasShape text proto address port → (proto ≡ 1) ⊎ (proto ≡ 2) → ((host : Host) → SaysHost proto address host → ⊥) → (IsOtherProtocol text → ⊥) × ((endpoint : Endpoint) → SaysExtended text endpoint → ⊥)
 no_host text proto address port shape known none = (
   λ h.
-    let same = same_shape text h.proto proto h.address address h.port port h.shape shape in
-    not_other h.proto proto same.0 known h.not_v4 h.not_v6,
+      let same = same_shape text h.proto proto h.address address h.port port h.shape shape in
+      not_other h.proto proto same.0 known h.not_v4 h.not_v6,
   λ endpoint h.
-    let same = same_shape text h.proto proto h.address address endpoint.port port h.shape shape in
-    let P : ℕ → Type 0 = λ x. SaysHost x h.address endpoint.host in
-    let Q : List ℕ → Type 0 = λ x. SaysHost proto x endpoint.host in
-    none endpoint.host (subst Q same.1 (subst P same.0 h.host)),
+      let same = same_shape text h.proto proto h.address address endpoint.port port h.shape shape in
+      let P : ℕ → Type 0 = λ x. SaysHost x h.address endpoint.host in
+      let Q : List ℕ → Type 0 = λ x. SaysHost proto x endpoint.host in
+      none endpoint.host (subst Q same.1 (subst P same.0 h.host)),
 )
-

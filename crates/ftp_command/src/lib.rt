@@ -12,6 +12,8 @@ mod host;
 mod line;
 mod reading;
 mod setting;
+#[cfg(test)]
+mod tests;
 mod text;
 mod verb;
 mod writing;

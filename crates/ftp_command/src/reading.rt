@@ -33,7 +33,11 @@ pub fn read<A: Allocator>(alloc: A, line: &[u8]) -> Result<Command<Text<A>>, Com
 }
 
 // The command of a verb with this argument.
-fn read_argument<A: Allocator>(alloc: A, verb: Verb, argument: &[u8]) -> Result<Command<Text<A>>, CommandFault>
+fn read_argument<A: Allocator>(
+    alloc: A,
+    verb: Verb,
+    argument: &[u8],
+) -> Result<Command<Text<A>>, CommandFault>
     ensures says { IfOk result (λ command. (verb_of command ≡ verb) × Argues argument.now command) }
     ensures refuses { IfErr result (λ fault. (fault ≡ CommandFault.Memory) ⊎ Declined argument.now verb fault) }
 {

@@ -17,7 +17,10 @@ use std::alloc::Allocator;
 ///
 /// BadArgument: no line stands for the value, as a path of no octet, or a host of IPv6 in PORT. Memory: a growth was
 /// refused. After either, `out` is as it was.
-pub fn write<A: Allocator, B: Allocator>(command: &Command<Text<A>>, out: &mut Vec<u8, B>) -> Result<(), CommandFault>
+pub fn write<A: Allocator, B: Allocator>(
+    command: &Command<Text<A>>,
+    out: &mut Vec<u8, B>,
+) -> Result<(), CommandFault>
     ensures ok { OnOk result (IsStated command.now × (out.new.items ≡ out.old.items ++ line_text command.now)) }
     ensures err { IfErr result (λ fault. (fault ≡ CommandFault.Memory) ⊎ ((fault ≡ CommandFault.BadArgument) × (¬ IsStated command.now))) }
     ensures kept { IfErr result (λ _. out.new.items ≡ out.old.items) }

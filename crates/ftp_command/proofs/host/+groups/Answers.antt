@@ -8,7 +8,7 @@ use Rattle.ftp_command.proofs.host.+groups.Goals as goal
 pub returns-in_err-group-clause-none : goal.returns-in_err-group-clause-none
 returns-in_err-group-clause-none t c =
     let none : NoGroups c.args.text.now (length c.args.out.now.items) = λ ns rest some room stops h.
-        c.in_err-group.ensures.none (first_group c.args.text.now ns rest some h) in
+    c.in_err-group.ensures.none (first_group c.args.text.now ns rest some h) in
     if_none _ _ none
 
 pub returns-in_err-next-clause-none : goal.returns-in_err-next-clause-none
@@ -16,8 +16,8 @@ returns-in_err-next-clause-none t c =
     let is = c.in_ok-group.ensures.some in
     let not_here : Stops (behind_hex c.args.text.now) → ⊥ = λ s. not_from _ _ c.stops.ensures c.if-stops.false (subst Stops (sym is.2) s) in
     let none : NoGroups c.args.text.now (length c.args.out.now.items) = λ ns rest some room stops h.
-        let on = goes_on c.args.text.now ns rest some stops h not_here in
-        c.in_err-next.ensures.none on.next (is.2 ∙ on.behind) in
+    let on = goes_on c.args.text.now ns rest some stops h not_here in
+    c.in_err-next.ensures.none on.next (is.2 ∙ on.behind) in
     if_none _ _ none
 
 pub returns-clause-some : goal.returns-clause-some
@@ -38,11 +38,11 @@ returns-clause-none t c =
     let is = c.in_ok-group.ensures.some in
     let not_here : Stops (behind_hex c.args.text.now) → ⊥ = λ s. not_from _ _ c.stops.ensures c.if-stops.false (subst Stops (sym is.2) s) in
     let none : NoGroups c.in_ok-next.next.now (length c.push.new.self.items) → NoGroups c.args.text.now (length c.args.out.now.items) = λ inner ns rest some room stops h.
-        let on = goes_on c.args.text.now ns rest some stops h not_here in
-        let behind = on.behind in
-        let here = c.in_ok-next.ensures.some in
-        let at = is.2 in
-        let same : on.next ≡ c.in_ok-next.next.now = cc in
-        let P : List ℕ → Type 0 = λ x. BeginsWithGroups x on.ms rest in
-        inner on.ms rest on.some (omega (arith, c.push.ensures.len, ap length on.ns_are)) stops (subst P same on.groups) in
+    let on = goes_on c.args.text.now ns rest some stops h not_here in
+    let behind = on.behind in
+    let here = c.in_ok-next.ensures.some in
+    let at = is.2 in
+    let same : on.next ≡ c.in_ok-next.next.now = cc in
+    let P : List ℕ → Type 0 = λ x. BeginsWithGroups x on.ms rest in
+    inner on.ms rest on.some (omega (arith, c.push.ensures.len, ap length on.ns_are)) stops (subst P same on.groups) in
     none_weaker _ _ _ c.groups.ensures.none none

@@ -14,7 +14,7 @@ pub returns-clause-none : goal.returns-clause-none
 returns-clause-none c =
     let reads : ReadsSome c.args.text.now [] c.some_groups.new.out.items c.in_ok-rest.rest.now = from_new _ _ _ _ c.new-front.ensures c.in_ok-rest.ensures.some in
     let end : c.in_ok-rest.rest.now ≡ 58 ∷ 58 ∷ c.in_ok-behind-2.behind.now =
-        c.in_ok-behind.ensures.some ∙ ap (λ x. 58 ∷ x) c.in_ok-behind-2.ensures.some in
+    c.in_ok-behind.ensures.some ∙ ap (λ x. 58 ∷ x) c.in_ok-behind-2.ensures.some in
     let none : NoneFilled c.some_groups.new.out.items c.in_ok-behind-2.behind.now → NoneWritten c.args.text.now = λ inner.
-        none_short c.args.text.now c.some_groups.new.out.items c.in_ok-rest.rest.now c.in_ok-behind-2.behind.now reads end inner in
+    none_short c.args.text.now c.some_groups.new.out.items c.in_ok-rest.rest.now c.in_ok-behind-2.behind.now reads end inner in
     none_weaker _ _ _ c.filled.ensures.none none

@@ -9,8 +9,7 @@ loop-i-preserved c =
     let old : List ℕ = c.args.line.now.items in
     let done : List ℕ = join_with_byte 58 (map hex (take c.loop-i.i c.args.groups.now)) in
     let next : List ℕ = cond (nat_lt 0 c.loop-i.i) (codes ":") [] ++ hex (get_or c.args.groups.now c.loop-i.i 0) in
-    let more = groups_more c.args.groups.now c.loop-i.i c.loop-i-test.true in
-    (
+    let more = groups_more c.args.groups.now c.loop-i.i c.loop-i-test.true in (
       c.put_group.ensures.text ∙ (ap (λ x. x ++ next) c.loop-i.invariant.0 ∙ (append_assoc old done next ∙ ap (λ x. old ++ x) (sym more))),
       omega (arith, c.put_group.ensures.bound, c.loop-i.invariant.1),
     )

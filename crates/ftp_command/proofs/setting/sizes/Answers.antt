@@ -12,5 +12,5 @@ returns-in_err-longest-clause-none c =
     let P : List ℕ → Type 0 = λ x. (n : ℕ) → SaysLongest x n → ⊥ in
     let some : behind_digits c.args.text.now ≡ [] → ⊥ = λ e. not_empty _ _ c.is_empty.ensures c.if-is_empty.false (behind ∙ e) in
     let none : (octets : ℕ) (longest : Option ℕ) → SaysSizes c.args.text.now octets longest → ⊥ =
-        no_sizes text some (subst P behind c.in_err-longest.ensures.none) in
+    no_sizes text some (subst P behind c.in_err-longest.ensures.none) in
     if_none _ _ none

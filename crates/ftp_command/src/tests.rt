@@ -1,0 +1,290 @@
+//! Rows of the table of verbs, of RFC 959, RFC 2428 and RFC 3659, and refused growths.
+use crate::*;
+use ftp_refusing::Refusing;
+use std::alloc::{Allocator, Global};
+use std::test::Fail;
+
+type Row = (&'static [u8], Result<&'static [u8], CommandFault>);
+
+/// The line that is written for what a line says.
+fn rewritten<A: Allocator + Clone>(alloc: &A, line: &[u8]) -> Result<Vec<u8, A>, CommandFault> {
+    let here = alloc.clone().map_err(|_| CommandFault::Memory)?;
+    let there = alloc.clone().map_err(|_| CommandFault::Memory)?;
+    let command = read(here, line)?;
+    let mut out = Vec::new(there);
+    write(&command, &mut out)?;
+    Ok(out)
+}
+
+/// Whether the line says what another line is written for, or is refused with this fault.
+fn agrees(alloc: Global, row: Row) -> bool {
+    match (rewritten(&alloc, row.0), row.1) {
+        (Ok(out), Ok(line)) => out.as_slice() == line,
+        (Err(fault), Err(expected)) => fault == expected,
+        _ => false,
+    }
+}
+
+const VERBS: [Row; 32] = [
+    (b"USER guest", Ok(b"USER guest")),
+    (b"user Guest ", Ok(b"USER Guest ")),
+    (b"PASS", Ok(b"PASS")),
+    (b"PASS ", Ok(b"PASS")),
+    (b"Pass  x", Ok(b"PASS  x")),
+    (b"ACCT a b  ", Ok(b"ACCT a b")),
+    (b"CWD  a", Ok(b"CWD  a")),
+    (b"xcwd /d", Ok(b"CWD /d")),
+    (b"XCUP", Ok(b"CDUP")),
+    (b"xmkd d ", Ok(b"MKD d ")),
+    (b"XPWD  ", Ok(b"PWD")),
+    (b"XRMD d", Ok(b"RMD d")),
+    (b"noop", Ok(b"NOOP")),
+    (b"NOOP     ", Ok(b"NOOP")),
+    (b"NOOP x", Err(CommandFault::BadArgument)),
+    (b" NOOP", Err(CommandFault::Unknown)),
+    (b"", Err(CommandFault::Unknown)),
+    (b"NOOPS", Err(CommandFault::Unknown)),
+    (b"NO", Err(CommandFault::Unknown)),
+    (b"stou", Err(CommandFault::NotDone)),
+    (b"SMNT /", Err(CommandFault::NotDone)),
+    (b"SITE", Err(CommandFault::NotDone)),
+    (b"STAT  ", Ok(b"STAT")),
+    (b"STAT f", Err(CommandFault::NotDone)),
+    (b"RNTO", Err(CommandFault::BadArgument)),
+    (b"RNTO ", Err(CommandFault::BadArgument)),
+    (b"USER", Err(CommandFault::BadArgument)),
+    (b"USER a\rb", Err(CommandFault::BadArgument)),
+    (b"MKD a\x7f", Err(CommandFault::BadArgument)),
+    (b"ACCT   ", Err(CommandFault::BadArgument)),
+    (b"HELP   ", Ok(b"HELP")),
+    (b"OPTS MLST x;y; ", Ok(b"OPTS MLST x;y;")),
+];
+
+#[test]
+fn verbs_and_their_texts(rt: HostRuntime) {
+    for row in VERBS {
+        assert!(rt; agrees(rt.alloc(), row), "{:?}", row.0);
+    }
+}
+
+const PARAMETERS: [Row; 44] = [
+    (b"PORT 127,0,0,1,007,138", Ok(b"PORT 127,0,0,1,7,138")),
+    (b"PORT 10,0,0,9,0,0  ", Ok(b"PORT 10,0,0,9,0,0")),
+    (b"PORT 1,2,3,4,5", Err(CommandFault::BadArgument)),
+    (b"PORT 1,2,3,4,5,256", Err(CommandFault::BadArgument)),
+    (b"PORT 1,2,3,4,5,0006", Err(CommandFault::BadArgument)),
+    (b"PORT 1,2,3,4,5,6,", Err(CommandFault::BadArgument)),
+    (b"TYPE a t", Ok(b"TYPE A")),
+    (b"type A N ", Ok(b"TYPE A")),
+    (b"TYPE i", Ok(b"TYPE I")),
+    (b"TYPE l 08", Ok(b"TYPE I")),
+    (b"TYPE L 16", Err(CommandFault::BadParameter)),
+    (b"TYPE E", Err(CommandFault::BadParameter)),
+    (b"TYPE e x", Err(CommandFault::BadParameter)),
+    (b"TYPE A C", Err(CommandFault::BadParameter)),
+    (b"TYPE Q", Err(CommandFault::BadArgument)),
+    (b"TYPE A  N", Err(CommandFault::BadArgument)),
+    (b"TYPE L", Err(CommandFault::BadArgument)),
+    (b"TYPE E 1", Err(CommandFault::BadArgument)),
+    (b"STRU r", Ok(b"STRU R")),
+    (b"STRU P", Err(CommandFault::BadParameter)),
+    (b"STRU x", Err(CommandFault::BadArgument)),
+    (b"MODE b", Ok(b"MODE B")),
+    (b"mode c", Err(CommandFault::BadParameter)),
+    (b"MODE", Err(CommandFault::BadArgument)),
+    (b"EPSV", Ok(b"EPSV")),
+    (b"EPSV all", Ok(b"EPSV ALL")),
+    (b"EPSV 01", Ok(b"EPSV 1")),
+    (b"EPSV 2", Ok(b"EPSV 2")),
+    (b"EPSV 3", Err(CommandFault::Protocol)),
+    (b"EPSV x", Err(CommandFault::BadArgument)),
+    (b"REST 000000000000000005", Ok(b"REST 5")),
+    (b"REST 999999999999999999", Ok(b"REST 999999999999999999")),
+    (b"REST 0000000000000000005", Err(CommandFault::BadArgument)),
+    (b"REST", Err(CommandFault::BadArgument)),
+    (b"REST 5x", Err(CommandFault::BadArgument)),
+    (b"ALLO 5", Ok(b"ALLO 5")),
+    (b"ALLO 05 r 007 ", Ok(b"ALLO 5 R 7")),
+    (b"ALLO 5 R", Err(CommandFault::BadArgument)),
+    (b"ALLO 5  R 7", Err(CommandFault::BadArgument)),
+    (b"LIST -a d", Ok(b"LIST d")),
+    (b"NLST -a  -bc", Ok(b"NLST")),
+    (b"LIST  ", Ok(b"LIST  ")),
+    (b"MLSD -a", Ok(b"MLSD -a")),
+    (b"MLST ", Ok(b"MLST")),
+];
+
+#[test]
+fn parameters_by_their_verbs(rt: HostRuntime) {
+    for row in PARAMETERS {
+        assert!(rt; agrees(rt.alloc(), row), "{:?}", row.0);
+    }
+}
+
+const EXTENDED: [Row; 24] = [
+    (
+        b"EPRT |1|132.235.1.2|6275|",
+        Ok(b"EPRT |1|132.235.1.2|6275|"),
+    ),
+    (
+        b"EPRT |2|1080::8:800:200C:417A|5282|",
+        Ok(b"EPRT |2|1080:0:0:0:8:800:200c:417a|5282|"),
+    ),
+    (b"EPRT |2|::1|1930|", Ok(b"EPRT |2|0:0:0:0:0:0:0:1|1930|")),
+    (b"EPRT |2|::|1|", Ok(b"EPRT |2|0:0:0:0:0:0:0:0|1|")),
+    (b"EPRT |2|1::|1|", Ok(b"EPRT |2|1:0:0:0:0:0:0:0|1|")),
+    (b"EPRT :2:::1:1930:", Ok(b"EPRT |2|0:0:0:0:0:0:0:1|1930|")),
+    (
+        b"EPRT |2|1:2:3:4:5:6:7::|1|",
+        Ok(b"EPRT |2|1:2:3:4:5:6:7:0|1|"),
+    ),
+    (
+        b"EPRT |01|010.0.0.1|0001930|  ",
+        Ok(b"EPRT |1|10.0.0.1|1930|"),
+    ),
+    (b"EPRT |3|x|1930|", Err(CommandFault::Protocol)),
+    (b"EPRT |3||1930|", Err(CommandFault::Protocol)),
+    (b"EPRT |3|x|0|", Err(CommandFault::BadArgument)),
+    (b"EPRT |x|x|1930|", Err(CommandFault::BadArgument)),
+    (b"EPRT |1|1930|", Err(CommandFault::BadArgument)),
+    (b"EPRT 1111111", Err(CommandFault::BadArgument)),
+    (b"EPRT |1|300.0.0.1|1930|", Err(CommandFault::BadArgument)),
+    (b"EPRT |1|1.2.3.4|65536|", Err(CommandFault::BadArgument)),
+    (b"EPRT |1|1.2.3.4|0|", Err(CommandFault::BadArgument)),
+    (b"EPRT |1|1.2.3.4.5|1|", Err(CommandFault::BadArgument)),
+    (b"EPRT |2|1::2::3|1930|", Err(CommandFault::BadArgument)),
+    (b"EPRT |2|1:2:3:4:5:6:7|1|", Err(CommandFault::BadArgument)),
+    (
+        b"EPRT |2|1:2:3:4:5:6:7:8:9|1|",
+        Err(CommandFault::BadArgument),
+    ),
+    (
+        b"EPRT |2|1:2:3:4:5:6:7:8::|1|",
+        Err(CommandFault::BadArgument),
+    ),
+    (b"EPRT |2|00001::|1|", Err(CommandFault::BadArgument)),
+    (b"EPRT |2|::1.2.3.4|1|", Err(CommandFault::BadArgument)),
+];
+
+#[test]
+fn extended_addresses_of_rfc_2428(rt: HostRuntime) {
+    for row in EXTENDED {
+        assert!(rt; agrees(rt.alloc(), row), "{:?}", row.0);
+    }
+}
+
+#[test]
+fn endpoints_of_both_families(rt: HostRuntime) -> Result<(), Fail> {
+    let local = Endpoint {
+        host: Host::V4([127, 0, 0, 1]),
+        port: 1930,
+    };
+    let last = Endpoint {
+        host: Host::V6([0, 0, 0, 0, 0, 0, 0, 0, 0, 0, 0, 0, 0, 0, 0, 1]),
+        port: 1930,
+    };
+    let port = read(rt.alloc(), b"PORT 127,0,0,1,007,138")?;
+    assert!(rt; matches!(port, Command::Port(endpoint) if endpoint == local));
+    let extended = read(rt.alloc(), b"EPRT |2|::1|1930|")?;
+    assert!(rt; matches!(extended, Command::Eprt(endpoint) if endpoint == last));
+    Ok(())
+}
+
+#[test]
+fn values_that_no_line_stands_for(rt: HostRuntime) -> Result<(), Fail> {
+    let v6 = Endpoint {
+        host: Host::V6([0; 16]),
+        port: 1,
+    };
+    let none = Endpoint {
+        host: Host::V4([1, 2, 3, 4]),
+        port: 0,
+    };
+    let values = [
+        Command::User(Text::new(rt.alloc(), b"")?),
+        Command::Cwd(Text::new(rt.alloc(), b"")?),
+        Command::Acct(Text::new(rt.alloc(), b"a ")?),
+        Command::Opts(Text::new(rt.alloc(), b"a\nb")?),
+        Command::Help(Some(Text::new(rt.alloc(), b"")?)),
+        Command::List(Some(Text::new(rt.alloc(), b"-a")?)),
+        Command::Port(v6),
+        Command::Eprt(none),
+        Command::Rest(1_000_000_000_000_000_000),
+        Command::Allo(1, Some(1_000_000_000_000_000_000)),
+    ];
+    for value in values {
+        let mut out = Vec::from_slice(rt.alloc(), b"x")?;
+        assert_eq!(rt; write(&value, &mut out), Err(CommandFault::BadArgument));
+        assert_eq!(rt; out.as_slice(), b"x".as_slice());
+    }
+    Ok(())
+}
+
+#[test]
+fn the_longest_words(rt: HostRuntime) -> Result<(), Fail> {
+    let mut words = Vec::new(rt.alloc());
+    for _ in 0..1_017 {
+        words.push(b'x')?;
+    }
+    let fits = Command::Opts(Text::new(rt.alloc(), &words)?);
+    let mut out = Vec::new(rt.alloc());
+    assert_eq!(rt; write(&fits, &mut out), Ok(()));
+    assert_eq!(rt; out.len(), 1_022);
+    words.push(b'x')?;
+    let longer = Command::Opts(Text::new(rt.alloc(), &words)?);
+    assert_eq!(rt; write(&longer, &mut out), Err(CommandFault::BadArgument));
+    Ok(())
+}
+
+const READ_IN_REPLIES: [(&[u8], Option<u16>); 8] = [
+    (b"(|||6446|)", Some(6446)),
+    (b"(!!!1!) more", Some(1)),
+    (b"(|||65536|)", None),
+    (b"(|||0|)", None),
+    (b"(||1|)", None),
+    (b"(||||1|)", None),
+    (b"(1111|)", None),
+    (b"|||1|)", None),
+];
+
+#[test]
+fn ports_of_extended_replies(rt: HostRuntime) {
+    for (text, expected) in READ_IN_REPLIES {
+        assert_eq!(rt; port_in_front(text), expected, "{text:?}");
+    }
+}
+
+#[test]
+fn a_refused_growth_is_memory(rt: HostRuntime) -> Result<(), Fail> {
+    for line in [
+        b"USER guest".as_slice(),
+        b"LIST d",
+        b"EPRT |2|::1|1930|",
+        b"REST 5",
+    ] {
+        let heap = Refusing::new(rt.alloc(), 0);
+        assert!(rt; rewritten(&&heap, line).is_ok());
+        let growths = 0u64.wrapping_sub(heap.left());
+        for refused in 1..=growths {
+            let heap = Refusing::new(rt.alloc(), refused);
+            let fault = match rewritten(&&heap, line) {
+                Ok(_) => None,
+                Err(fault) => Some(fault),
+            };
+            assert_eq!(rt; fault, Some(CommandFault::Memory), "{refused} of {line:?}");
+        }
+    }
+    Ok(())
+}
+
+#[test]
+fn a_refused_growth_leaves_the_vector(rt: HostRuntime) -> Result<(), Fail> {
+    let heap = Refusing::new(rt.alloc(), 2);
+    let mut out = Vec::from_slice(&heap, b"x")?;
+    let command: Command<Text<Global>> = Command::Pwd;
+    assert_eq!(rt; write(&command, &mut out), Err(CommandFault::Memory));
+    assert_eq!(rt; out.as_slice(), b"x".as_slice());
+    assert_eq!(rt; write(&command, &mut out), Ok(()));
+    assert_eq!(rt; out.as_slice(), b"xPWD".as_slice());
+    Ok(())
+}
