@@ -39,9 +39,13 @@ line_end_then_behind octet before =
       | inr e ↦ rw e refl
     ]
 
-cut-nil : (octet : ℕ) → cut (octet ∷ []) ≡ cut_behind (cut []) octet
+cut-one : (octet : ℕ) → cut (octet ∷ []) ≡ cut_behind (cut []) octet
 unfolding cut
-cut-nil octet = refl
+cut-one octet = refl
+
+pub cut-nil : cut [] ≡ record { ended = []; rest = [] }
+unfolding cut
+cut-nil = refl
 
 cut-line_end : (first : ℕ) (octets : List ℕ) → (first == 10) ≡ true → cut (first ∷ octets) ≡ with_line_end (cut octets)
 unfolding cut
@@ -53,7 +57,7 @@ cut-octet first octets e = rw e refl
 
 -- one more octet behind is cut off alone
 pub cut-append : (octets : List ℕ) (octet : ℕ) → cut (octets ++ octet ∷ []) ≡ cut_behind (cut octets) octet
-cut-append [] octet = cut-nil octet
+cut-append [] octet = cut-one octet
 cut-append (first ∷ octets) octet =
     elim (decided (first == 10)) [
       | inl e ↦ cut-line_end first (octets ++ octet ∷ []) e ∙ ap with_line_end (cut-append octets octet) ∙ line_end_then_behind octet (cut octets) ∙ ap (λ k. cut_behind k octet) (sym (cut-line_end first octets e))
@@ -132,7 +136,7 @@ lines_of-cut_behind limit k octet =
       ]
     ]
 
-lines-cut : (limit : ℕ) (octets : List ℕ) → lines limit octets ≡ lines_of limit (cut octets)
+pub lines-cut : (limit : ℕ) (octets : List ℕ) → lines limit octets ≡ lines_of limit (cut octets)
 unfolding lines
 lines-cut limit octets = refl
 

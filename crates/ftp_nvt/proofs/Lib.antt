@@ -3,3 +3,4 @@ pub mod CutLemmas
 pub mod EarLemmas
 pub mod LineLemmas
 pub mod TelnetLemmas
+pub mod Theorems

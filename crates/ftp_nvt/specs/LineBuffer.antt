@@ -3,6 +3,7 @@ use Rattle.std.specs.Prelude.{◌≡◌, ℕ, ◌<◌, List, [], ◌∷◌, ◌+
 use Rattle.ftp_nvt.specs.Lines.{NvtEvent, cut, last_octet, text_of, settled, lines}
 use Rattle.ftp_nvt.specs.declared.event.Event.{Event}
 use Rattle.ftp_nvt.specs.Event.{event_list}
+use Rattle.ftp_nvt.specs.declared.line.TheConstants.{LF, CR}
 use Rattle.ftp_nvt.specs.declared.line.Stage.{Stage}
 use Rattle.ftp_nvt.specs.declared.line.Stage.TheVariants.{Start, Inside, AfterReturn, Past}
 use Rattle.ftp_nvt.specs.declared.line.LineBuffer.{LineBuffer}
@@ -15,8 +16,8 @@ pub record IsWithin (count : ℕ) (text rest : List ℕ) : Type 0 where
 -- a buffer at this place can stand behind these octets of an unfinished line
 abbrev pub StandsAt : Stage → ℕ → ℕ → List ℕ → List ℕ → Type 0
 StandsAt Start limit count text rest = rest ≡ []
-StandsAt Inside limit count text rest = IsWithin count text rest × ((last_octet 10 rest == 13) ≡ false)
-StandsAt AfterReturn limit count text rest = IsWithin count text rest × ((last_octet 10 rest == 13) ≡ true)
+StandsAt Inside limit count text rest = IsWithin count text rest × ((last_octet LF rest == CR) ≡ false)
+StandsAt AfterReturn limit count text rest = IsWithin count text rest × ((last_octet LF rest == CR) ≡ true)
 StandsAt Past limit count text rest = limit < length rest
 
 -- the same of a buffer
@@ -36,5 +37,5 @@ pub record Reads {A : Type 0} (old : LineBuffer A) (taken : List ℕ) (added : L
 -- a buffer takes one octet, told by its unfinished line
 pub record Steps {A : Type 0} (old : LineBuffer A) (octet : ℕ) (event : Event) (new : LineBuffer A) : Type 0 where
   pub limit : new.limit ≡ old.limit
-  pub stands : (rest : List ℕ) → Stands old rest → Stands new (if octet == 10 then [] else rest ++ octet ∷ [])
+  pub stands : (rest : List ℕ) → Stands old rest → Stands new (if octet == LF then [] else rest ++ octet ∷ [])
   pub said : (rest : List ℕ) → Stands old rest → settled old.limit rest octet ≡ event_list event new.text.items

@@ -1,6 +1,8 @@
 -- What the octets of a control connection say: lines, and owed answers (RFC 854, "The NVT printer and keyboard"; RFC 959, section 4).
 use Rattle.std.specs.Prelude.{◌≡◌, false, ℕ, ◌+◌, ◌-◌, List, [], ◌∷◌, ◌++◌, map, length, take, drop, ◌==◌, ◌&&◌, nat_le, if◌then◌else◌}
-use Rattle.std.specs.List.{AllByRecursion}
+use Rattle.std.specs.List.{AllByRecursion, flat_map}
+use Rattle.ftp_nvt.specs.declared.line.TheConstants.{NUL, LF, CR}
+use Rattle.ftp_nvt.specs.declared.telnet.TheConstants.{IAC}
 use Rattle.ftp_nvt.specs.Telnet.{TelnetUnit, units, bare_of, owed_of}
 
 -- what octets say: a line's text without its end, that a line was too long, or the answer that Telnet octets are owed
@@ -28,7 +30,7 @@ unfoldable pub cut : List ℕ → Cut
 cut [] = record { ended = []; rest = [] }
 cut (octet ∷ octets) =
     let later = cut octets in
-    if octet == 10 then with_line_end later else with_octet octet later.ended later.rest
+    if octet == LF then with_line_end later else with_octet octet later.ended later.rest
 
 -- the last of these octets, which stand behind another
 abbrev pub last_octet : ℕ → List ℕ → ℕ
@@ -40,15 +42,15 @@ last_octet before (octet ∷ octets) = last_octet octet octets
 unfoldable pub text_behind : ℕ → List ℕ → List ℕ
 text_behind before [] = []
 text_behind before (octet ∷ octets) =
-    if (before == 13) && (octet == 0) then text_behind octet octets else octet ∷ text_behind octet octets
+    if (before == CR) && (octet == NUL) then text_behind octet octets else octet ∷ text_behind octet octets
 
 -- the octets of a line as they stand so far, with CR NUL as CR
 abbrev pub text_of : List ℕ → List ℕ
-text_of octets = text_behind 10 octets
+text_of octets = text_behind LF octets
 
 -- the octets before an LF, without the CR that may stand right before it
 abbrev pub without_return : List ℕ → List ℕ
-without_return octets = if last_octet 10 octets == 13 then take (length octets - 1) octets else octets
+without_return octets = if last_octet LF octets == CR then take (length octets - 1) octets else octets
 
 -- what the octets before an LF say: a line, where they and the LF keep the limit
 abbrev pub said : ℕ → List ℕ → NvtEvent
@@ -81,8 +83,16 @@ events limit octets = events_behind limit [] (units octets)
 abbrev pub settled : ℕ → List ℕ → ℕ → List NvtEvent
 settled limit rest octet =
     if length rest == limit then too_long ∷ []
-    else (if nat_le limit (length rest) then [] else (if octet == 10 then line (text_of (without_return rest)) ∷ [] else []))
+    else (if nat_le limit (length rest) then [] else (if octet == LF then line (text_of (without_return rest)) ∷ [] else []))
 
 -- none of these octets is this one
 abbrev pub Lacks : ℕ → List ℕ → Type 0
 Lacks octet octets = AllByRecursion (λ other. (other == octet) ≡ false) octets
+
+-- how an octet of a line's text is written: 255 doubled, CR as CR NUL
+abbrev pub written_octet : ℕ → List ℕ
+written_octet octet = if octet == IAC then IAC ∷ IAC ∷ [] else (if octet == CR then CR ∷ NUL ∷ [] else octet ∷ [])
+
+-- how a line is written, which ends with CR LF
+abbrev pub written_line : List ℕ → List ℕ
+written_line text = flat_map written_octet text ++ CR ∷ LF ∷ []

@@ -1,6 +1,6 @@
 -- The Telnet octets of a control connection: a row of units (RFC 854; RFC 1123, section 4.1.2.12).
-use Rattle.std.specs.Prelude.{◌≡◌, ◌≢◌, ℕ, List, [], ◌∷◌, ◌++◌, Bool, true, false, IsTrue, ◌==◌, ◌&&◌, nat_le, if◌then◌else◌}
-use Rattle.std.specs.List.{flat_map}
+use Rattle.std.specs.Prelude.{◌≡◌, ◌≢◌, ℕ, List, [], ◌∷◌, ◌++◌, Bool, true, false, ◌==◌, ◌&&◌, nat_le, if◌then◌else◌}
+use Rattle.std.specs.List.{flat_map, AllByRecursion}
 use Rattle.ftp_nvt.specs.declared.telnet.Place.{Place}
 use Rattle.ftp_nvt.specs.declared.telnet.Place.TheVariants as At
 use Rattle.ftp_nvt.specs.declared.telnet.TheConstants.{IAC, SB, SE, WILL, WONT, DO, DONT}
@@ -16,17 +16,25 @@ pub data TelnetUnit : Type 0 where
 abbrev pub is_verb : ℕ → Bool
 is_verb octet = nat_le WILL octet && nat_le octet DONT
 
--- what stands in a subnegotiation: octets other than IAC, and pairs of IAC and an octet other than SE
-pub data Content : List ℕ → Type 0 where
-  nothing : Content []
-  one : (octet : ℕ) (later : List ℕ) → (octet == IAC) ≡ false → Content later → Content (octet ∷ later)
-  pair : (octet : ℕ) (later : List ℕ) → (octet == SE) ≡ false → Content later → Content (IAC ∷ octet ∷ later)
+-- what stands in a subnegotiation: octets, and pairs of IAC and an octet
+pub data Content : Type 0 where
+  octet_alone : (octet : ℕ) → Content
+  behind_command : (octet : ℕ) → Content
+
+-- no octet alone is IAC, and no pair is IAC SE, which ends the subnegotiation
+abbrev pub IsContent : Content → Type 0
+IsContent (octet_alone octet) = (octet == IAC) ≡ false
+IsContent (behind_command octet) = (octet == SE) ≡ false
+
+abbrev pub content_text : Content → List ℕ
+content_text (octet_alone octet) = octet ∷ []
+content_text (behind_command octet) = IAC ∷ octet ∷ []
 
 -- the octets of a unit: a data octet 255 is doubled
 abbrev pub IsUnit : TelnetUnit → List ℕ → Type 0
 IsUnit (data_octet octet) text = text ≡ (if octet == IAC then IAC ∷ IAC ∷ [] else octet ∷ [])
-IsUnit (option verb octet) text = IsTrue (is_verb verb) × (text ≡ IAC ∷ verb ∷ octet ∷ [])
-IsUnit subnegotiation text = (content : List ℕ) × Content content × (text ≡ IAC ∷ SB ∷ content ++ IAC ∷ SE ∷ [])
+IsUnit (option verb octet) text = (is_verb verb ≡ true) × (text ≡ IAC ∷ verb ∷ octet ∷ [])
+IsUnit subnegotiation text = (content : List Content) × AllByRecursion IsContent content × (text ≡ IAC ∷ SB ∷ (flat_map content_text content ++ IAC ∷ SE ∷ []))
 IsUnit (command octet) text = ((octet == IAC) ≡ false) × ((octet == SB) ≡ false) × (is_verb octet ≡ false) × (text ≡ IAC ∷ octet ∷ [])
 
 -- where in a unit one more octet leads

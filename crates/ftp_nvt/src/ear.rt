@@ -35,7 +35,8 @@ impl<A: Allocator> Ear<A> {
     /// Takes octets until they settle something or the piece is used up. Takes no memory.
     pub fn feed(&mut self, piece: &[u8]) -> Heard
         ensures within { result.taken ≤ length piece.now }
-        ensures hears { Hears self.old (take result.taken piece.now) (event_list result.event (line_of self.new)) self.new }
+        ensures hears { Hears self.old (take result.taken piece.now)
+            (event_list result.event (line_of self.new)) self.new }
         ensures some { 0 < length piece.now → 0 < result.taken }
         ensures all { (result.event ≡ Event.More) → result.taken ≡ length piece.now }
     {
@@ -66,7 +67,8 @@ impl<A: Allocator> Ear<A> {
     fn bite(&mut self, piece: &[u8]) -> Heard
         requires { 0 < length piece.now }
         ensures within { result.taken ≤ length piece.now }
-        ensures hears { Hears self.old (take result.taken piece.now) (event_list result.event (line_of self.new)) self.new }
+        ensures hears { Hears self.old (take result.taken piece.now)
+            (event_list result.event (line_of self.new)) self.new }
         ensures some { 0 < result.taken }
     {
         let octet = piece[0];
@@ -87,7 +89,8 @@ impl<A: Allocator> Ear<A> {
         requires content { slice_index piece.now 0 ≢ IAC }
         requires place { self.old.place ≡ Place.Inside }
         ensures within { result.taken ≤ length piece.now }
-        ensures hears { Hears self.old (take result.taken piece.now) (event_list result.event (line_of self.new)) self.new }
+        ensures hears { Hears self.old (take result.taken piece.now)
+            (event_list result.event (line_of self.new)) self.new }
         ensures some { 0 < result.taken }
     {
         Heard {

@@ -5,13 +5,16 @@
 mod ear;
 mod event;
 mod fault;
+pub mod laws;
 mod line;
+mod put;
 mod run;
 mod telnet;
 
 pub use ear::Ear;
 pub use event::{Event, Heard};
 pub use fault::NvtFault;
+pub use put::put_line;
 
 #[cfg(test)]
 mod tests;

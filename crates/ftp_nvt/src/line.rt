@@ -68,7 +68,8 @@ impl<A: Allocator> LineBuffer<A> {
         requires bare { slice_index piece.now 0 ≢ IAC }
         ensures within { result.taken ≤ length piece.now }
         ensures bare { Lacks IAC (take result.taken piece.now) }
-        ensures reads { Reads self.old (take result.taken piece.now) (event_list result.event self.new.text.items) self.new }
+        ensures reads { Reads self.old (take result.taken piece.now)
+            (event_list result.event self.new.text.items) self.new }
         ensures some { 0 < result.taken }
     {
         match self.stage {
@@ -114,7 +115,8 @@ impl<A: Allocator> LineBuffer<A> {
         requires stage { self.old.stage ≡ Stage.Past }
         ensures within { result.taken ≤ length piece.now }
         ensures bare { Lacks IAC (take result.taken piece.now) }
-        ensures reads { Reads self.old (take result.taken piece.now) (event_list result.event self.new.text.items) self.new }
+        ensures reads { Reads self.old (take result.taken piece.now)
+            (event_list result.event self.new.text.items) self.new }
         ensures some { 0 < result.taken }
     {
         let taken = skipped_run(piece);
@@ -138,7 +140,8 @@ impl<A: Allocator> LineBuffer<A> {
         requires stage { self.old.stage ≡ Stage.Inside }
         ensures within { result.taken ≤ length piece.now }
         ensures bare { Lacks IAC (take result.taken piece.now) }
-        ensures reads { Reads self.old (take result.taken piece.now) (event_list result.event self.new.text.items) self.new }
+        ensures reads { Reads self.old (take result.taken piece.now)
+            (event_list result.event self.new.text.items) self.new }
         ensures some { 0 < result.taken }
     {
         let taken = plain_run(piece).min(self.limit - self.count);
@@ -172,7 +175,8 @@ impl<A: Allocator> LineBuffer<A> {
         requires stage { (self.old.stage ≡ Stage.Inside) ⊎ (self.old.stage ≡ Stage.AfterReturn) }
         ensures taken { result.taken ≡ 1 }
         ensures bare { Lacks IAC (take 1 piece.now) }
-        ensures reads { Reads self.old (take 1 piece.now) (event_list result.event self.new.text.items) self.new }
+        ensures reads { Reads self.old (take 1 piece.now)
+            (event_list result.event self.new.text.items) self.new }
     {
         let event = self.octet(piece[0]);
         Heard { taken: 1, event }
@@ -203,7 +207,8 @@ impl<A: Allocator> LineBuffer<A> {
     fn end(&mut self) -> Event
         ensures event { result ≡ Event.Line }
         ensures stage { self.new.stage ≡ Stage.Start }
-        ensures after_return { (self.old.stage ≡ Stage.AfterReturn) → self.new.text.items ≡ take (length self.old.text.items - 1) self.old.text.items }
+        ensures after_return { (self.old.stage ≡ Stage.AfterReturn)
+            → self.new.text.items ≡ take (length self.old.text.items - 1) self.old.text.items }
         ensures inside { (self.old.stage ≡ Stage.Inside) → self.new.text.items ≡ self.old.text.items }
         ensures limit { self.new.limit ≡ self.old.limit }
     {

@@ -16,7 +16,8 @@ pub fn plain_run(piece: &[u8]) -> usize
 pub fn skipped_run(piece: &[u8]) -> usize
     ensures within { result ≤ length piece.now }
     ensures plain { (k : ℕ) → k < result → is_byte2 LF IAC (slice_index piece.now k) ≡ false }
-    ensures stops { result < length piece.now → (slice_index piece.now result ≡ LF) ⊎ (slice_index piece.now result ≡ IAC) }
+    ensures stops { result < length piece.now
+        → (slice_index piece.now result ≡ LF) ⊎ (slice_index piece.now result ≡ IAC) }
 {
     memchr::memchr2(LF, IAC, piece).unwrap_or(piece.len())
 }

@@ -130,7 +130,10 @@ fn holds<A: Allocator + Clone>(alloc: A, limit: usize, octets: &[u8], expected: 
             let Ok(alloc) = alloc.clone() else {
                 return false;
             };
-            if said(alloc, limit, octets, at, size).as_deref() != Some(expected) {
+            let Some(out) = said(alloc, limit, octets, at, size) else {
+                return false;
+            };
+            if out.as_slice() != expected {
                 return false;
             }
         }
@@ -189,5 +192,49 @@ fn memory_is_asked_for_once(rt: HostRuntime) -> Result<(), Fail> {
     let mut ear = Ear::new(&heap, 8)?;
     assert_eq!(&rt; events_in(&mut ear, b"1234567\n12345678\n\n"), 3);
     assert_eq!(&rt; heap.left(), 1);
+    Ok(())
+}
+
+/// Texts, and how they are written.
+const WRITTEN_ROWS: [(&[u8], &[u8]); 7] = [
+    (b"", b"\r\n"),
+    (b"NOOP", b"NOOP\r\n"),
+    (b"a\rb", b"a\r\0b\r\n"),
+    (b"\r", b"\r\0\r\n"),
+    (b"\r\0", b"\r\0\0\r\n"),
+    (b"\xFF", b"\xFF\xFF\r\n"),
+    (b"STOR \xFF\xFD\x01", b"STOR \xFF\xFF\xFD\x01\r\n"),
+];
+
+#[test]
+fn texts_are_written(rt: HostRuntime) -> Result<(), Fail> {
+    for (text, expected) in WRITTEN_ROWS {
+        let mut out = Vec::new(rt.alloc());
+        put_line(text, &mut out)?;
+        assert!(&rt; out.as_slice() == expected, "{text:?}");
+    }
+    Ok(())
+}
+
+#[test]
+fn each_growth_of_a_written_line_refused(rt: HostRuntime) -> Result<(), Fail> {
+    let text = b"257 \"/\xFF\r\" is the current directory, and more than a growth";
+    let heap = Refusing::new(rt.alloc(), 0);
+    let mut out = Vec::from_slice(&heap, b"220 Ready\r\n")?;
+    put_line(text, &mut out)?;
+    let growths = 0u64.wrapping_sub(heap.left());
+    assert!(&rt; growths > 2);
+    for refused in 2..=growths {
+        let heap = Refusing::new(rt.alloc(), refused);
+        let mut out = Vec::from_slice(&heap, b"220 Ready\r\n")?;
+        assert!(&rt;
+            put_line(text, &mut out) == Err(NvtFault::Memory),
+            "at {refused}"
+        );
+        assert!(&rt;
+            out.as_slice() == b"220 Ready\r\n".as_slice(),
+            "at {refused}"
+        );
+    }
     Ok(())
 }

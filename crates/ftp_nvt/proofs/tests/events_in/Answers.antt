@@ -2,7 +2,7 @@ use Rattle.std.proofs.Common.{arith, length, length-append, List, [], ◌∷◌,
 use Rattle.ftp_nvt.specs.Lines.{NvtEvent}
 use Rattle.ftp_nvt.specs.Ear.{event_list, line_of}
 use Rattle.ftp_nvt.specs.declared.event.Event.{Event}
-use Rattle.ftp_nvt.specs.declared.event.Event.TheVariants.{More, Line, TooLong}
+use Rattle.ftp_nvt.specs.declared.event.Event.TheVariants.{More, Line, TooLong, Owed}
 use Rattle.ftp_nvt.proofs.EarLemmas.{Hears-rest}
 use Rattle.ftp_nvt.proofs.tests.events_in.Goals as goal
 
@@ -13,6 +13,7 @@ one : (event : Event) (text : List ℕ) → (event ≡ More → ⊥) → length 
 one More text not = absurd (not refl)
 one Line text not = refl
 one TooLong text not = refl
+one (Owed answer) text not = refl
 
 pub loop-taken-preserved-in-More : goal.loop-taken-preserved-in-More
 loop-taken-preserved-in-More g c =
