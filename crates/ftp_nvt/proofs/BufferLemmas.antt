@@ -1,7 +1,7 @@
 -- What an unfinished line has read, step by step.
-use Rattle.std.proofs.Common.{◌≡◌, ◌≢◌, ℕ, ◌+◌, ◌-◌, ◌<◌, ◌≤◌, List, [], ◌∷◌, ◌++◌, Bool, true, false, cond, ◌==◌, ◌&&◌, ◌⊎◌, inl, inr, refl, ap, sym, subst, ◌∙◌, append_assoc, append-nil, arith, length, length-append, take, drop, take-add, ne_eqb, eq-eqb, eqb-true}
+use Rattle.std.proofs.Common.{◌≡◌, ◌≢◌, ℕ, ◌+◌, ◌-◌, ◌<◌, ◌≤◌, List, [], ◌∷◌, ◌++◌, true, false, ◌==◌, ◌&&◌, ◌⊎◌, inl, inr, refl, ap, sym, subst, ◌∙◌, append_assoc, append-nil, arith, length, length-append, take, ne_eqb, eq-eqb}
 use Rattle.std.specs.Prelude.{nat_le, if◌then◌else◌}
-use Rattle.ftp_nvt.specs.Lines.{NvtEvent, line, too_long, cut, last_octet, text_behind, text_of, without_return, lines, settled}
+use Rattle.ftp_nvt.specs.Lines.{NvtEvent, line, cut, last_octet, text_behind, text_of, without_return, lines, settled}
 use Rattle.ftp_nvt.specs.Event.{event_list}
 use Rattle.ftp_nvt.specs.LineBuffer.{IsWithin, StandsAt, Stands, HasRead, Reads, Steps}
 use Rattle.ftp_nvt.specs.declared.event.Event.{Event}

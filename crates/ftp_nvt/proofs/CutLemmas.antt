@@ -1,5 +1,5 @@
 -- What one more octet changes.
-use Rattle.std.proofs.Common.{◌≡◌, ℕ, zero, suc, get_or, ◌||◌, ◌+◌, ◌-◌, ◌<◌, ◌≤◌, List, [], ◌∷◌, ◌++◌, Bool, true, false, cond, ◌==◌, ◌&&◌, ◌⊎◌, inl, inr, refl, ap, sym, subst, ◌∙◌, append_assoc, append-nil, arith, length, length-append, take, map, eqb-true, le-leb, leb-true, ne_eqb, eq-eqb, lt_irrefl, lt_of_le_of_lt, true≢false}
+use Rattle.std.proofs.Common.{◌≡◌, ℕ, zero, suc, get_or, ◌||◌, ◌+◌, ◌-◌, ◌<◌, ◌≤◌, List, [], ◌∷◌, ◌++◌, Bool, true, false, ◌==◌, ◌&&◌, ◌⊎◌, inl, inr, refl, ap, sym, ◌∙◌, append_assoc, append-nil, arith, length, length-append, take, map, eqb-true, le-leb, leb-true, ne_eqb, eq-eqb, lt_irrefl, lt_of_le_of_lt, true≢false}
 use Rattle.std.specs.List.{AllByRecursion}
 use Rattle.memchr.specs.Find.{is_byte3}
 use Rattle.ftp_nvt.specs.Lines.{Lacks}

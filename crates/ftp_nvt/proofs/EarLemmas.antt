@@ -1,17 +1,17 @@
 -- What an ear has heard, step by step.
 use Rattle.std.proofs.Common.{◌≡◌, ◌≢◌, ◌==◌, ◌⊎◌, inl, inr, false, ne_eqb, ℕ, ◌+◌, List, [], ◌∷◌, ◌++◌, map, refl, ap, sym, subst, ◌∙◌, append_assoc, append-nil, take, drop, take-add}
 use Rattle.std.specs.List.{flat_map}
-use Rattle.ftp_nvt.specs.Lines.{NvtEvent, owed, Lacks, lines, lines_added, events_behind, events}
-use Rattle.ftp_nvt.specs.Telnet.{TelnetUnit, data_octet, option, is_verb, place_from, units_from, place_behind, unit_ended, place, bare_of, owed_of, bare}
+use Rattle.ftp_nvt.specs.Lines.{NvtEvent, owed, Lacks, lines_added, events_behind, events}
+use Rattle.ftp_nvt.specs.Telnet.{TelnetUnit, data_octet, option, is_verb, place_from, units_from, place_behind, unit_ended, bare_of, owed_of, bare}
 use Rattle.ftp_nvt.specs.LineBuffer.{HasRead, Reads}
-use Rattle.ftp_nvt.specs.Ear.{limit_of, line_of, HasHeard, Hears}
+use Rattle.ftp_nvt.specs.Ear.{limit_of, HasHeard, Hears}
 use Rattle.ftp_nvt.specs.declared.telnet.Place.{Place}
 use Rattle.ftp_nvt.specs.declared.telnet.Place.TheVariants as At
 use Rattle.ftp_nvt.specs.declared.line.LineBuffer.{LineBuffer}
 use Rattle.ftp_nvt.specs.declared.ear.Ear.{Ear}
 use Rattle.ftp_nvt.proofs.BufferLemmas.{Reads-nil}
 use Rattle.ftp_nvt.proofs.CutLemmas.{decided}
-use Rattle.ftp_nvt.proofs.TelnetLemmas.{place-nil, place-append, bare-nil, bare-append, units_from-data, place_from-data, bare-data, units_from-inside, place_from-inside}
+use Rattle.ftp_nvt.proofs.TelnetLemmas.{place-append, bare-append, units_from-data, place_from-data, bare-data, units_from-inside, place_from-inside}
 use Rattle.ftp_nvt.proofs.LineLemmas.{lines_added-is, events_behind-data, events_behind-quiet, events-append}
 
 -- what an ear heard in two pieces, it heard in one

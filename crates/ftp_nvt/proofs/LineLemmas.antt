@@ -4,7 +4,7 @@ use Rattle.std.specs.List.{flat_map}
 use Rattle.std.proofs.Math.Seq.{drop-append_seam}
 use Rattle.ftp_nvt.specs.Lines.{NvtEvent, owed, lines, lines_added, events_behind, events}
 use Rattle.ftp_nvt.specs.Telnet.{TelnetUnit, data_octet, units_from, units, place, bare_of, owed_of, bare}
-use Rattle.ftp_nvt.proofs.CutLemmas.{lines_after, lines-append, lines-nil}
+use Rattle.ftp_nvt.proofs.CutLemmas.{lines_after, lines-append}
 use Rattle.ftp_nvt.proofs.TelnetLemmas.{units-append, units-nil}
 
 -- what the lines grew by

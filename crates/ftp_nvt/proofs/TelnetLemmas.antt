@@ -1,9 +1,9 @@
 -- Units of octets that are cut.
-use Rattle.std.proofs.Common.{◌≡◌, ℕ, List, [], ◌∷◌, ◌++◌, Bool, true, false, ◌==◌, map, refl, ap, sym, ◌∙◌, append_assoc}
+use Rattle.std.proofs.Common.{◌≡◌, ℕ, List, [], ◌∷◌, ◌++◌, map, refl, ap, sym, ◌∙◌, append_assoc}
 use Rattle.std.specs.List.{flat_map}
 use Rattle.std.proofs.lemmas.Grind.{flat_map-append}
 use Rattle.ftp_nvt.specs.Lines.{Lacks}
-use Rattle.ftp_nvt.specs.Telnet.{TelnetUnit, data_octet, place_behind, unit_ended, place_from, units_from, units, place, bare_of, bare}
+use Rattle.ftp_nvt.specs.Telnet.{data_octet, place_behind, unit_ended, place_from, units_from, units, place, bare_of, bare}
 use Rattle.ftp_nvt.specs.declared.telnet.Place.{Place}
 use Rattle.ftp_nvt.specs.declared.telnet.Place.TheVariants as At
 

@@ -1,16 +1,16 @@
 -- What holds of units, events and written lines.
-use Rattle.std.proofs.Common.{◌≡◌, ◌≢◌, ℕ, ◌+◌, ◌<◌, ◌≤◌, List, [], ◌∷◌, ◌++◌, Bool, true, false, IsTrue, ◌==◌, ◌&&◌, ◌⊎◌, inl, inr, refl, ap, sym, subst, ◌∙◌, append_assoc, append-nil, arith, length, length-append, map, take, drop, get_or, ◌-◌, ne_eqb, eqb-true, le-leb, leb-true, true≢false}
+use Rattle.std.proofs.Common.{◌≡◌, ℕ, ◌+◌, ◌≤◌, List, [], ◌∷◌, ◌++◌, Bool, true, false, ◌==◌, ◌&&◌, inl, inr, refl, ap, sym, subst, ◌∙◌, append_assoc, append-nil, arith, length, length-append, map, take, drop, get_or, ◌-◌, ne_eqb, eqb-true, le-leb, leb-true, true≢false}
 use Rattle.std.specs.Prelude.{nat_le, if◌then◌else◌}
 use Rattle.std.specs.List.{flat_map, AllByRecursion}
 use Rattle.std.proofs.Math.Seq.{take-append_seam}
 use Rattle.ftp_nvt.specs.Telnet.{TelnetUnit, data_octet, option, subnegotiation, command, is_verb, Content, octet_alone, behind_command, IsContent, content_text, IsUnit, place_behind, unit_ended, place_from, units_from, units, place, bare_of, owed_of, bare, owed_answers}
-use Rattle.ftp_nvt.specs.Lines.{NvtEvent, line, too_long, owed, Lacks, cut, last_octet, text_behind, text_of, without_return, said, said_early, lines, lines_added, events_behind, events, settled, written_octet, written_line}
+use Rattle.ftp_nvt.specs.Lines.{NvtEvent, line, too_long, owed, Lacks, cut, text_behind, text_of, without_return, said_early, lines, lines_added, events_behind, events, settled, written_octet, written_line}
 use Rattle.ftp_nvt.specs.Laws.{lines_in, answers_in}
 use Rattle.ftp_nvt.specs.declared.telnet.Place.{Place}
 use Rattle.ftp_nvt.specs.declared.telnet.Place.TheVariants as At
 use Rattle.ftp_nvt.proofs.CutLemmas.{decided, all_append, cut_behind, cut-nil, cut-append, cut-append-inside, last_octet-append, lines_of, lines-cut, lines_after, lines-append, lines-nil, rest-append-octet, rest-nil}
-use Rattle.ftp_nvt.proofs.TelnetLemmas.{units_from-append, place_from-append, bare-data, units_from-data, place_from-data}
-use Rattle.ftp_nvt.proofs.LineLemmas.{lines_added-is, lines-grow, events_behind-append, events_behind-data, events_after, events-append}
+use Rattle.ftp_nvt.proofs.TelnetLemmas.{bare-data}
+use Rattle.ftp_nvt.proofs.LineLemmas.{lines_added-is, lines-grow, events_behind-data, events_after, events-append}
 
 -- the lines and the answers among events, part by part
 

@@ -60,7 +60,8 @@ said limit octets = if nat_le (length octets + 1) limit then line (text_of (with
 abbrev pub said_early : ℕ → List ℕ → List NvtEvent
 said_early limit octets = if nat_le (length octets) limit then [] else too_long ∷ []
 
--- the lines of bare octets; a line's length counts its octets, CR NUL as two and its end included
+-- the lines of bare octets; own choice: a line's length counts its octets, CR NUL as two and its end included, and it
+-- is too long at the first octet past the limit, once
 unfoldable pub lines : ℕ → List ℕ → List NvtEvent
 lines limit bare = map (said limit) (cut bare).ended ++ said_early limit (cut bare).rest
 

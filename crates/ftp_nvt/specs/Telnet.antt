@@ -1,11 +1,12 @@
 -- The Telnet octets of a control connection: a row of units (RFC 854; RFC 1123, section 4.1.2.12).
-use Rattle.std.specs.Prelude.{◌≡◌, ◌≢◌, ℕ, List, [], ◌∷◌, ◌++◌, Bool, true, false, ◌==◌, ◌&&◌, nat_le, if◌then◌else◌}
+use Rattle.std.specs.Prelude.{◌≡◌, ℕ, List, [], ◌∷◌, ◌++◌, Bool, true, false, ◌==◌, ◌&&◌, nat_le, if◌then◌else◌}
 use Rattle.std.specs.List.{flat_map, AllByRecursion}
 use Rattle.ftp_nvt.specs.declared.telnet.Place.{Place}
 use Rattle.ftp_nvt.specs.declared.telnet.Place.TheVariants as At
 use Rattle.ftp_nvt.specs.declared.telnet.TheConstants.{IAC, SB, SE, WILL, WONT, DO, DONT}
 
--- a unit: a data octet, IAC with a verb and an option, a whole subnegotiation, or any other octet behind IAC
+-- a unit: a data octet, IAC with a verb and an option, a whole subnegotiation, or any other octet behind IAC;
+-- own choice: such an octet is dropped with its IAC, whatever it asks for
 pub data TelnetUnit : Type 0 where
   data_octet : (octet : ℕ) → TelnetUnit
   option : (verb octet : ℕ) → TelnetUnit
@@ -26,6 +27,7 @@ abbrev pub IsContent : Content → Type 0
 IsContent (octet_alone octet) = (octet == IAC) ≡ false
 IsContent (behind_command octet) = (octet == SE) ≡ false
 
+-- their octets
 abbrev pub content_text : Content → List ℕ
 content_text (octet_alone octet) = octet ∷ []
 content_text (behind_command octet) = IAC ∷ octet ∷ []
@@ -34,8 +36,10 @@ content_text (behind_command octet) = IAC ∷ octet ∷ []
 abbrev pub IsUnit : TelnetUnit → List ℕ → Type 0
 IsUnit (data_octet octet) text = text ≡ (if octet == IAC then IAC ∷ IAC ∷ [] else octet ∷ [])
 IsUnit (option verb octet) text = (is_verb verb ≡ true) × (text ≡ IAC ∷ verb ∷ octet ∷ [])
-IsUnit subnegotiation text = (content : List Content) × AllByRecursion IsContent content × (text ≡ IAC ∷ SB ∷ (flat_map content_text content ++ IAC ∷ SE ∷ []))
-IsUnit (command octet) text = ((octet == IAC) ≡ false) × ((octet == SB) ≡ false) × (is_verb octet ≡ false) × (text ≡ IAC ∷ octet ∷ [])
+IsUnit subnegotiation text =
+    (content : List Content) × AllByRecursion IsContent content × (text ≡ IAC ∷ SB ∷ (flat_map content_text content ++ IAC ∷ SE ∷ []))
+IsUnit (command octet) text =
+    ((octet == IAC) ≡ false) × ((octet == SB) ≡ false) × (is_verb octet ≡ false) × (text ≡ IAC ∷ octet ∷ [])
 
 -- where in a unit one more octet leads
 abbrev pub place_behind : Place → ℕ → Place

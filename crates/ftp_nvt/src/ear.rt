@@ -32,7 +32,9 @@ impl<A: Allocator> Ear<A> {
         })
     }
 
-    /// Takes octets until they settle something or the piece is used up. Takes no memory.
+    /// Takes octets until they settle something or the piece is used up; `taken` counts them. Takes no memory.
+    ///
+    /// A line is lent by `line` until the next call. Octets behind those taken are for the next call.
     pub fn feed(&mut self, piece: &[u8]) -> Heard
         ensures within { result.taken ≤ length piece.now }
         ensures hears { Hears self.old (take result.taken piece.now)

@@ -1,4 +1,4 @@
-ghost use Rattle.std.specs.Prelude.{◌≡◌, ◌<◌, ◌≤◌, ◌⊎◌, ℕ, length, slice_index, false};
+ghost use Rattle.std.specs.Prelude.{◌≡◌, ◌<◌, ◌≤◌, ◌⊎◌, ℕ, length, slice_index, true, false};
 ghost use Rattle.memchr.specs.Find.{is_byte2, is_byte3};
 
 use crate::line::{CR, LF};
@@ -8,6 +8,7 @@ use crate::telnet::IAC;
 pub fn plain_run(piece: &[u8]) -> usize
     ensures within { result ≤ length piece.now }
     ensures plain { (k : ℕ) → k < result → is_byte3 LF CR IAC (slice_index piece.now k) ≡ false }
+    ensures stops { result < length piece.now → is_byte3 LF CR IAC (slice_index piece.now result) ≡ true }
 {
     memchr::memchr3(LF, CR, IAC, piece).unwrap_or(piece.len())
 }

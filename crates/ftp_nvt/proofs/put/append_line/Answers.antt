@@ -1,4 +1,4 @@
-use Rattle.std.proofs.Common.{◌<◌, ◌+◌, ◌≤◌, ◌++◌, ◌≡◌, ℕ, List, [], ◌∷◌, zero, suc, length, length-append, take, get_or, arith, ap, ◌∙◌}
+use Rattle.std.proofs.Common.{◌<◌, ◌+◌, ◌≤◌, ◌≡◌, ℕ, List, [], ◌∷◌, zero, suc, length, length-append, take, get_or, arith, ap, ◌∙◌}
 use Rattle.std.specs.List.{flat_map}
 use Rattle.std.specs.Prelude.{vec_capacity, Result, Ok, Err, OnErr}
 use Rattle.ftp_nvt.specs.Lines.{written_octet, written_line}

@@ -1,5 +1,4 @@
-use Rattle.std.proofs.Common.{arith, length, length-append, List, [], ◌∷◌, ◌++◌, ◌+◌, ◌≡◌, ◌∙◌, ◌≢◌, ap, sym, refl, ℕ}
-use Rattle.ftp_nvt.specs.Lines.{NvtEvent}
+use Rattle.std.proofs.Common.{arith, length, length-append, List, ◌++◌, ◌≡◌, ap, refl, ℕ}
 use Rattle.ftp_nvt.specs.Ear.{event_list, line_of}
 use Rattle.ftp_nvt.specs.declared.event.Event.{Event}
 use Rattle.ftp_nvt.specs.declared.event.Event.TheVariants.{More, Line, TooLong, Owed}

@@ -1,4 +1,4 @@
-use Rattle.std.proofs.Common.{take, ◌==◌, ◌≡◌, false, ne_eqb, get_or, ◌<◌}
+use Rattle.std.proofs.Common.{take, ◌==◌, ◌≡◌, false, ne_eqb, get_or}
 use Rattle.ftp_nvt.proofs.CutLemmas.{all_take}
 use Rattle.ftp_nvt.proofs.EarLemmas.{inside_hears}
 use Rattle.ftp_nvt.proofs.ear.Ear.skip.Goals as goal

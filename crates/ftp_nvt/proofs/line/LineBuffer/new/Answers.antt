@@ -1,4 +1,3 @@
-use Rattle.std.proofs.Common.{rules, refl}
 use Rattle.ftp_nvt.proofs.CutLemmas.{rest-nil}
 use Rattle.ftp_nvt.proofs.line.LineBuffer.new.Goals as goal
 

@@ -1,4 +1,4 @@
-use Rattle.std.proofs.Common.{refl, rules, arith, ◌<◌, ◌≢◌}
+use Rattle.std.proofs.Common.{refl, rules, arith, ◌<◌}
 use Rattle.ftp_nvt.specs.declared.event.Event.TheVariants.{More, Line}
 use Rattle.ftp_nvt.proofs.BufferLemmas.{end_steps, octet_steps, step_as}
 use Rattle.ftp_nvt.proofs.line.LineBuffer.octet.Goals as goal

@@ -1,9 +1,9 @@
-use Rattle.std.proofs.Common.{arith, rules, length, take, get_or, ◌≡◌, ◌<◌, ◌≤◌, ◌+◌, ◌∷◌, [], ◌++◌, ◌∙◌, ap, sym, subst, refl, false, ℕ, List, ◌==◌}
+use Rattle.std.proofs.Common.{length, take, get_or, ◌≡◌, ◌<◌, ◌≤◌, ◌+◌, ◌∷◌, [], ◌++◌, ◌∙◌, ap, sym, subst, refl, false, ℕ, List, ◌==◌}
 use Rattle.std.proofs.lemmas.Grind.{take_at_read}
 use Rattle.memchr.specs.Find.{is_byte2}
 use Rattle.ftp_nvt.specs.Lines.{Lacks}
 use Rattle.ftp_nvt.proofs.BufferLemmas.{skip_reads, skip_through}
-use Rattle.ftp_nvt.proofs.CutLemmas.{all_take, all_give, all_append, first_false, second_false}
+use Rattle.ftp_nvt.proofs.CutLemmas.{all_take, all_append, first_false, second_false}
 use Rattle.ftp_nvt.proofs.line.LineBuffer.skip.Goals as goal
 
 no_line_end : (piece : List ℕ) (run : ℕ) → run ≤ length piece → ((k : ℕ) → k < run → is_byte2 10 255 (get_or piece k 0) ≡ false) → Lacks 10 (take run piece)
