@@ -16,3 +16,20 @@ pub enum FactFault {
     #[error("F4 Memory")]
     Memory,
 }
+
+impl FactFault {
+    ghost use Rattle.std.specs.Prelude.{◌≡◌};
+    ghost use Rattle.ftp_facts.specs.Fault.{fault_text};
+
+    /// The number and the name, as `Display` prints them.
+    pub fn text(self) -> &'static str
+        ensures { result.now ≡ fault_text self }
+    {
+        match self {
+            FactFault::NoSpace => "F1 NoSpace",
+            FactFault::BadFact => "F2 BadFact",
+            FactFault::BadMoment => "F3 BadMoment",
+            FactFault::Memory => "F4 Memory",
+        }
+    }
+}

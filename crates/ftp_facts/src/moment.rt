@@ -88,12 +88,27 @@ pub fn moment_text(moment: Moment) -> [u8; 14]
     let date = date_of((moment.seconds / 86_400) as u32);
     let year = year_of(date);
     let rest = (moment.seconds % 86_400) as u32;
-    let [y, e] = two((year / 100) as u8);
-    let [a, r] = two((year % 100) as u8);
-    let [m, o] = two(date.month);
-    let [d, i] = two(date.day);
-    let [h, u] = two((rest / 3600) as u8);
-    let [n, t] = two((rest % 3600 / 60) as u8);
-    let [s, c] = two((rest % 60) as u8);
-    [y, e, a, r, m, o, d, i, h, u, n, t, s, c]
+    let [thousands, hundreds] = two((year / 100) as u8);
+    let [tens, ones] = two((year % 100) as u8);
+    let [month_tens, month_ones] = two(date.month);
+    let [day_tens, day_ones] = two(date.day);
+    let [hour_tens, hour_ones] = two((rest / 3600) as u8);
+    let [minute_tens, minute_ones] = two((rest % 3600 / 60) as u8);
+    let [second_tens, second_ones] = two((rest % 60) as u8);
+    [
+        thousands,
+        hundreds,
+        tens,
+        ones,
+        month_tens,
+        month_ones,
+        day_tens,
+        day_ones,
+        hour_tens,
+        hour_ones,
+        minute_tens,
+        minute_ones,
+        second_tens,
+        second_ones,
+    ]
 }

@@ -113,6 +113,7 @@ fn faults_as_they_are_printed(rt: HostRuntime) -> Result<(), Fail> {
     for (fault, expected) in cases {
         let text = fault.to_string(rt.alloc())?;
         assert_eq!(&rt; text.as_str(), expected);
+        assert_eq!(&rt; fault.text(), expected);
     }
     Ok(())
 }

@@ -24,12 +24,12 @@ returns-then-not-is_ascii_digit-clause-none c = λ (size : ℕ) (says : SaysSize
 
 pub overflow_mul-size : goal.overflow_mul-size
 overflow_mul-size c =
-    let lt = below c.args.digits.now c.loop-digit.digit-index c.loop-digit-test.true c.if-digits-gt18.false c.loop-digit.invariant.0 in
+    let lt = below c.args.digits.now c.loop-digit.digit-index c.loop-digit-test.true c.if-digits-gt-MOST_DIGITS.false c.loop-digit.invariant.0 in
     omega (arith, c.loop-digit.invariant.1)
 
 pub overflow_add-size : goal.overflow_add-size
 overflow_add-size c =
-    let lt = below c.args.digits.now c.loop-digit.digit-index c.loop-digit-test.true c.if-digits-gt18.false c.loop-digit.invariant.0 in
+    let lt = below c.args.digits.now c.loop-digit.digit-index c.loop-digit-test.true c.if-digits-gt-MOST_DIGITS.false c.loop-digit.invariant.0 in
     omega (arith, c.loop-digit.invariant.1, c.type_inv.digits c.loop-digit.digit-index)
 
 pub loop-digit-preserved : goal.loop-digit-preserved
@@ -45,4 +45,4 @@ pub returns-clause-some : goal.returns-clause-some
 returns-clause-some c =
     let all : take c.loop-digit.digit-index c.args.digits.now ≡ c.args.digits.now = take_all c.loop-digit.digit-index c.args.digits.now c.loop-digit-test.false in
     let is = rw all at c.loop-digit.invariant in
-    ((own.from c.args.digits.now is.0, filled c.args.digits.now c.is_empty.result c.if-is_empty.false c.is_empty.ensures, c.if-digits-gt18.false), sym is.1)
+    ((own.from c.args.digits.now is.0, filled c.args.digits.now c.is_empty.result c.if-is_empty.false c.is_empty.ensures, c.if-digits-gt-MOST_DIGITS.false), sym is.1)

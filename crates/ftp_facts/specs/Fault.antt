@@ -1,0 +1,11 @@
+-- The faults as programs print them.
+use Rattle.std.specs.Prelude.{ℕ, List, codes}
+use Rattle.ftp_facts.specs.declared.fault.FactFault.{FactFault}
+use Rattle.ftp_facts.specs.declared.fault.FactFault.TheVariants.{NoSpace, BadFact, BadMoment, Memory}
+
+-- the number and the name of a fault
+abbrev pub fault_text : FactFault → List ℕ
+fault_text NoSpace = codes "F1 NoSpace"
+fault_text BadFact = codes "F2 BadFact"
+fault_text BadMoment = codes "F3 BadMoment"
+fault_text Memory = codes "F4 Memory"
