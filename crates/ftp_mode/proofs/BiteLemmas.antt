@@ -1,7 +1,6 @@
 -- What a deframer takes in one go.
-use Rattle.std.proofs.Common.{◌≡◌, ℕ, ◌+◌, ◌-◌, ◌<◌, ◌≤◌, List, [], ◌∷◌, ◌++◌, map, length, take, drop, get_or, Bool, true, false, ◌==◌, refl, ap, sym, subst, ◌∙◌, arith, inl, inr, ◌⊎◌, append-nil, length-append, length-drop}
+use Rattle.std.proofs.Common.{◌≡◌, ℕ, ◌+◌, ◌-◌, ◌<◌, ◌≤◌, List, [], ◌∷◌, ◌++◌, length, take, drop, get_or, false, ◌==◌, refl, ap, sym, subst, ◌∙◌, arith, inl, inr, ◌⊎◌, append-nil, length-append, length-drop}
 use Rattle.std.specs.List.{AllByRecursion}
-use Rattle.std.proofs.lemmas.List.{length-take-le, take_all}
 use Rattle.std.proofs.Math.Seq.{take-add}
 use Rattle.ftp_repr.specs.Machine.{after, gives}
 use Rattle.ftp_repr.proofs.MachineLemmas.{after-append, gives-append}
@@ -14,7 +13,7 @@ use Rattle.ftp_mode.specs.declared.deframer.State.TheVariants.{Plain, Outside, E
 use Rattle.ftp_mode.specs.declared.fault.FrameFault.{FrameFault}
 use Rattle.ftp_mode.specs.Said.{Said, octets_said}
 use Rattle.ftp_mode.specs.Block.{ends_of}
-use Rattle.ftp_mode.specs.Reading.{Reading, IsGoing, going, failed, Place, plain, outside, inside, ended, count_on, after_block, reader}
+use Rattle.ftp_mode.specs.Reading.{Reading, IsGoing, going, Place, plain, outside, inside, count_on, after_block, reader}
 use Rattle.ftp_mode.specs.Deframing.{reading_of, reading, owed, last_marker, gave_said, part_said, Moves, Bites, Reads, Refuses, FailsAt, Hears}
 use Rattle.ftp_mode.proofs.ReaderRuns.{run_after, run_gives, plain_runs, outside_runs, ended_after, ended_gives, short_after, short_gives, full_after, full_gives}
 
@@ -144,8 +143,8 @@ pub going_by : (s t : State) (n : ℕ) (text : List ℕ) → (s ≡ Outside) ⊎
 going_by s t n text is same =
     let P : State → Type 0 = λ x. IsGoing (reading_of x n text) in
     elim is [
-      inl e ↦ subst P (sym (same ∙ e)) tt
-    | inr f ↦ elim f [ inl e ↦ subst P (sym (same ∙ e)) tt | inr e ↦ subst P (sym (same ∙ e)) tt ]
+      | inl e ↦ subst P (sym (same ∙ e)) tt
+      | inr f ↦ elim f [ inl e ↦ subst P (sym (same ∙ e)) tt | inr e ↦ subst P (sym (same ∙ e)) tt ]
     ]
 
 pub closed_going : (r : Reading) (n : ℕ) (p : Place) → r ≡ going n p → IsGoing r

@@ -1,7 +1,6 @@
 -- The reader over a wire that was cut or stands in no text.
-use Rattle.std.proofs.Common.{◌≡◌, ℕ, ◌+◌, ◌-◌, ◌<◌, ◌≤◌, ◌^◌, ◌⊎◌, inl, inr, min, List, [], ◌∷◌, ◌++◌, map, length, Bool, true, false, ◌==◌, ◌||◌, if◌then◌else◌, ltb, refl, ap, sym, subst, ◌∙◌, arith, append_assoc, append-nil, length-append}
-use Rattle.std.specs.List.{flat_map, AllByRecursion}
-use Rattle.std.proofs.lemmas.Bool.{ne_eqb, eqb-false, ltb-false, false≢true}
+use Rattle.std.proofs.Common.{◌≡◌, ℕ, ◌+◌, ◌-◌, ◌<◌, ◌≤◌, ◌^◌, inl, inr, List, [], ◌∷◌, ◌++◌, length, false, ◌==◌, ltb, refl, ap, sym, subst, ◌∙◌, arith, append-nil, length-append}
+use Rattle.std.proofs.lemmas.Bool.{eqb-false, ltb-false, false≢true}
 use Rattle.ftp_repr.specs.Machine.{after, gives}
 use Rattle.ftp_repr.specs.declared.form.Structure.{Structure}
 use Rattle.ftp_repr.specs.declared.form.Structure.TheVariants.{File, Record}
@@ -9,15 +8,14 @@ use Rattle.ftp_repr.proofs.AsciiLemmas.{decided}
 use Rattle.ftp_mode.specs.declared.mode.Mode.{Mode}
 use Rattle.ftp_mode.specs.declared.mode.Mode.TheVariants.{Stream, Block as Blocks}
 use Rattle.ftp_mode.specs.declared.fault.FrameFault.{FrameFault}
-use Rattle.ftp_mode.specs.declared.fault.FrameFault.TheVariants.{BadEscape, Suspect, BadMarker, EndedEarly}
+use Rattle.ftp_mode.specs.declared.fault.FrameFault.TheVariants.{BadEscape, Suspect, BadMarker}
 use Rattle.ftp_mode.specs.Said.{Said, octets_said}
 use Rattle.ftp_mode.specs.Stream.{is_code, code_said}
-use Rattle.ftp_mode.specs.Marker.{is_marker_octet}
-use Rattle.ftp_mode.specs.Block.{has, count_of}
-use Rattle.ftp_mode.specs.Units.{WireUnit, GoesOn, units_octets, units_said}
+use Rattle.ftp_mode.specs.Block.{count_of}
+use Rattle.ftp_mode.specs.Units.{units_octets, units_said}
 use Rattle.ftp_mode.specs.Fault.{is_no_length, Begins, IsBadEscape, IsSuspect, IsBadLength, IsBadOctet, IsFault}
-use Rattle.ftp_mode.specs.Front.{IsCutHeader, IsCutData, IsCutMarker, IsCut, IsOpen}
-use Rattle.ftp_mode.specs.Reading.{Reading, going, failed, Place, plain, outside, escaped, at_head, at_high, at_low, inside, marking, ended, count_on, next, place_step, is_complete_at, first_place, start, reader}
+use Rattle.ftp_mode.specs.Front.{IsCutHeader, IsCutData, IsCutMarker, IsCut}
+use Rattle.ftp_mode.specs.Reading.{Reading, going, failed, outside, escaped, at_head, at_high, at_low, inside, marking, count_on, next, first_place, start, reader}
 use Rattle.ftp_mode.specs.Deframing.{Moves}
 use Rattle.ftp_mode.proofs.ReaderRuns.{short_after, short_gives, failed_after, failed_gives}
 use Rattle.ftp_mode.proofs.MoveLemmas.{moves_append, counted, third, head_moves, into_data, into_marker, cut_mark, bad_mark, Opens}

@@ -1,6 +1,5 @@
 -- The reader fails, ends and settles exactly where whole wires say so.
-use Rattle.std.proofs.Common.{◌≡◌, ℕ, ◌+◌, ◌<◌, ◌≤◌, ◌^◌, ◌⊎◌, inl, inr, List, [], ◌∷◌, ◌++◌, length, Bool, true, false, IsTrue, refl, ap, sym, subst, ◌∙◌, arith, append-nil}
-use Rattle.std.specs.List.{AllByRecursion}
+use Rattle.std.proofs.Common.{◌≡◌, ℕ, ◌+◌, ◌<◌, ◌^◌, ◌⊎◌, inl, inr, List, [], ◌∷◌, ◌++◌, length, false, refl, ap, sym, subst, ◌∙◌, arith, append-nil}
 use Rattle.std.proofs.lemmas.Bool.{false≢true}
 use Rattle.ftp_repr.specs.Machine.{after, gives}
 use Rattle.ftp_repr.specs.Signs.{end_file}
@@ -11,16 +10,16 @@ use Rattle.ftp_mode.specs.declared.mode.Mode.TheVariants.{Stream, Block as Block
 use Rattle.ftp_mode.specs.declared.fault.FrameFault.{FrameFault}
 use Rattle.ftp_mode.specs.declared.fault.FrameFault.TheVariants.{BadEscape, Suspect, BadMarker, EndedEarly}
 use Rattle.ftp_mode.specs.Said.{Said, says, octets_said}
-use Rattle.ftp_mode.specs.Units.{WireUnit, one, escape, whole, unit_ends, IsUnit, GoesOn, units_octets, units_said, IsText, Reads}
+use Rattle.ftp_mode.specs.Units.{units_octets, units_said, IsText, Reads}
 use Rattle.ftp_mode.specs.Fault.{Begins, IsFault}
-use Rattle.ftp_mode.specs.Front.{IsCut, IsOpen, IsFaulty, Front}
+use Rattle.ftp_mode.specs.Front.{IsCut, IsOpen, Front}
 use Rattle.ftp_mode.specs.Reading.{Reading, going, failed, Place, plain, ended, count_on, next, is_complete_at, is_complete, first_place, start, at_end, reader}
 use Rattle.ftp_mode.specs.Deframing.{Moves}
-use Rattle.ftp_mode.specs.Laws.{unsaid_end, ReadsTo}
+use Rattle.ftp_mode.specs.Laws.{ReadsTo}
 use Rattle.ftp_mode.proofs.ReaderRuns.{run_gives, plain_runs}
-use Rattle.ftp_mode.proofs.MoveLemmas.{moves_append, counted, Opens}
-use Rattle.ftp_mode.proofs.UnitLemmas.{units_moves, Ends, text_moves}
-use Rattle.ftp_mode.proofs.CutLemmas.{cut_moves, fault_moves, opens_behind}
+use Rattle.ftp_mode.proofs.MoveLemmas.{moves_append}
+use Rattle.ftp_mode.proofs.UnitLemmas.{units_moves, text_moves}
+use Rattle.ftp_mode.proofs.CutLemmas.{cut_moves, fault_moves}
 use Rattle.ftp_mode.proofs.ShapeLemmas.{Shape, is_open, is_text, is_bad, IsBad, shape_of}
 
 -- an open wire leaves the reader where no connection ends well, but for stream mode and file structure

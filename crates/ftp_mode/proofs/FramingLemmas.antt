@@ -1,5 +1,5 @@
 -- What leaves a framer, and what it takes.
-use Rattle.std.proofs.Common.{◌≡◌, ◌+◌, ◌<◌, ◌≤◌, ℕ, List, [], ◌∷◌, ◌++◌, length, take, drop, map, set, get_or, Bool, true, refl, ap, sym, ◌∙◌, append_assoc, append-nil, length-append, arith}
+use Rattle.std.proofs.Common.{◌≡◌, ◌+◌, ◌<◌, ◌≤◌, ℕ, List, [], ◌∷◌, ◌++◌, length, take, drop, map, set, get_or, true, refl, ap, sym, ◌∙◌, append_assoc, length-append}
 use Rattle.std.proofs.lemmas.List.{take_more_set, drop_more, drop-map, length-take-le}
 use Rattle.ftp_repr.specs.Machine.{gives}
 use Rattle.ftp_repr.specs.Signs.{Sign, octet, end_file}
@@ -7,7 +7,7 @@ use Rattle.ftp_mode.specs.declared.framer.Stage.{Stage}
 use Rattle.ftp_mode.specs.declared.framer.Stage.TheVariants.{Copying, Free, Held, Filling, AtRecord, Leaving, Last, Closed}
 use Rattle.std.proofs.lemmas.Bool.{false≢true}
 use Rattle.ftp_mode.specs.declared.framer.Framer.{Framer}
-use Rattle.ftp_mode.specs.Writing.{Writing, closed, writer, write_step, write_out}
+use Rattle.ftp_mode.specs.Writing.{closed, writer, write_step, write_out}
 use Rattle.ftp_mode.specs.Framing.{writing, owed_block, owed_octets, still_to_write, is_open, IsClear, Takes, Waits}
 
 -- an octet goes into the room

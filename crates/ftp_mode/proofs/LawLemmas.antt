@@ -1,11 +1,9 @@
 -- The laws over whole files, for each mode, type and structure.
-use Rattle.std.proofs.Common.{◌≡◌, ℕ, ◌+◌, ◌<◌, ◌≤◌, ◌^◌, List, [], ◌∷◌, ◌++◌, map, length, Bool, true, false, refl, ap, sym, subst, ◌∙◌, arith, append_assoc, append-nil}
-use Rattle.std.specs.List.{flat_map}
-use Rattle.ftp_repr.specs.Machine.{after, gives, IsFront}
-use Rattle.ftp_repr.specs.Signs.{Sign, octet, end_record, end_file, Form, wire_octets, signs_of_octet, signs_of}
+use Rattle.std.proofs.Common.{◌≡◌, ℕ, ◌+◌, ◌<◌, ◌^◌, List, [], ◌∷◌, ◌++◌, map, length, refl, ap, sym, subst, ◌∙◌, arith, append_assoc, append-nil}
+use Rattle.ftp_repr.specs.Machine.{gives, IsFront}
+use Rattle.ftp_repr.specs.Signs.{Sign, octet, Form, wire_octets, signs_of}
 use Rattle.ftp_repr.specs.Content.{content}
 use Rattle.ftp_repr.specs.declared.form.Kind.{Kind}
-use Rattle.ftp_repr.specs.declared.form.Kind.TheVariants.{Ascii, Image}
 use Rattle.ftp_repr.specs.declared.form.Structure.{Structure}
 use Rattle.ftp_repr.specs.declared.form.Structure.TheVariants.{File, Record}
 use Rattle.ftp_repr.proofs.MachineLemmas.{gives-front}
@@ -13,13 +11,12 @@ use Rattle.ftp_repr.proofs.SignLemmas.{IsWhole, whole-signs_of, signs_of-cons}
 use Rattle.ftp_repr.proofs.ContentLemmas.{content-signs_of, content_front}
 use Rattle.ftp_mode.specs.declared.mode.Mode.{Mode}
 use Rattle.ftp_mode.specs.declared.mode.Mode.TheVariants.{Stream, Block as Blocks}
-use Rattle.ftp_mode.specs.Said.{Said, says, marker, octets_said, file_signs}
-use Rattle.ftp_mode.specs.Stream.{plain_text}
+use Rattle.ftp_mode.specs.Said.{Said, says, marker, file_signs}
 use Rattle.ftp_mode.specs.Block.{marked_text}
-use Rattle.ftp_mode.specs.Units.{IsText, Reads}
+use Rattle.ftp_mode.specs.Units.{Reads}
 use Rattle.ftp_mode.specs.Reading.{start, reader}
 use Rattle.ftp_mode.specs.Writing.{blank, writer, with_marks, unmarked, never}
-use Rattle.ftp_mode.specs.Laws.{unsaid_end, ReadsTo, wire_text, wire, settled_content, ended_content, image_file, EndsItself}
+use Rattle.ftp_mode.specs.Laws.{unsaid_end, wire_text, wire, settled_content, ended_content, image_file, EndsItself}
 use Rattle.ftp_mode.proofs.ExactLemmas.{reads_to}
 use Rattle.ftp_mode.proofs.TextLemmas.{row_said, file-row_said, record_is_text, IsPlainRow, plain_says, rows_are_text, text_is}
 use Rattle.ftp_mode.proofs.WriterLemmas.{gives-copying, gives-free, gives-filling}

@@ -1,19 +1,16 @@
 -- Own markers: the writer gives the one text, and it is read as the file.
-use Rattle.std.proofs.Common.{◌≡◌, ◌≢◌, ℕ, zero, suc, ◌+◌, ◌-◌, ◌*◌, ◌/◌, ◌%◌, ◌<◌, ◌≤◌, ◌^◌, ◌⊎◌, inl, inr, List, [], ◌∷◌, ◌++◌, map, length, take, drop, Bool, true, false, ◌==◌, ◌&&◌, if◌then◌else◌, ltb, lt-ltb, le-ltb, leb, le-leb, refl, ap, sym, subst, ◌∙◌, arith, append_assoc, append-nil, length-append, length-drop}
-use Rattle.std.specs.List.{AllByRecursion}
-use Rattle.std.specs.Fmt.{decimal}
-use Rattle.std.proofs.lemmas.Fmt.{decimal_by_steps, decimal_nonempty, length-decimal-le}
+use Rattle.std.proofs.Common.{◌≡◌, ◌≢◌, ℕ, zero, suc, ◌+◌, ◌-◌, ◌%◌, ◌<◌, ◌≤◌, ◌^◌, ◌⊎◌, inl, inr, List, [], ◌∷◌, ◌++◌, map, length, take, drop, Bool, true, false, ◌==◌, ◌&&◌, ltb, lt-ltb, le-ltb, refl, ap, sym, ◌∙◌, arith, append_assoc, append-nil, length-append, length-drop}
 use Rattle.std.proofs.lemmas.Bool.{eqb-true, eqb-false, ne_eqb, eq-eqb, cases_lt}
-use Rattle.std.proofs.lemmas.List.{take_at, take-append-drop}
-use Rattle.std.proofs.Math.Seq.{take-append-add, drop-append-add, take-append_seam, drop-append_seam}
+use Rattle.std.proofs.lemmas.List.{take_at}
+use Rattle.std.proofs.Math.Seq.{take-append-add, drop-append-add, drop-append_seam}
 use Rattle.ftp_repr.specs.Machine.{gives}
-use Rattle.ftp_repr.specs.Signs.{Sign, octet, end_record, end_file}
+use Rattle.ftp_repr.specs.Signs.{Sign, octet, end_file}
 use Rattle.ftp_repr.proofs.AsciiLemmas.{decided}
 use Rattle.ftp_mode.specs.Marker.{to_place, places}
-use Rattle.ftp_mode.specs.Block.{block_text, marker_text, blocks_text, data_text, marks_text, marked_text}
+use Rattle.ftp_mode.specs.Block.{block_text, marker_text, data_text, marks_text, marked_text}
 use Rattle.ftp_mode.specs.Reading.{next}
-use Rattle.ftp_mode.specs.Writing.{Writing, filling, closed, Counting, counted, is_due, counted_on, writer}
-use Rattle.ftp_mode.proofs.WriterLemmas.{gives-closed, data_small, data_full}
+use Rattle.ftp_mode.specs.Writing.{filling, counted, is_due, writer}
+use Rattle.ftp_mode.proofs.WriterLemmas.{data_small, data_full}
 
 no_places : (start n : ℕ) → n ≤ to_place start → places start n ≡ 0
 no_places start n short = omega arith

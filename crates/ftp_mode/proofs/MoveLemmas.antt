@@ -1,19 +1,17 @@
 -- Moves of the reader, one behind the other.
-use Rattle.std.proofs.Common.{◌≡◌, ℕ, ◌+◌, ◌-◌, ◌<◌, ◌≤◌, ◌^◌, min, List, [], ◌∷◌, ◌++◌, length, Bool, true, false, ◌==◌, ltb, lt-ltb, le-ltb, if◌then◌else◌, ◌⊎◌, inl, inr, refl, ap, sym, ◌∙◌, arith, append_assoc, append-nil, length-append}
+use Rattle.std.proofs.Common.{◌≡◌, ℕ, ◌+◌, ◌-◌, ◌<◌, ◌≤◌, List, [], ◌∷◌, ◌++◌, length, Bool, true, false, ◌==◌, ltb, lt-ltb, le-ltb, if◌then◌else◌, refl, ap, sym, ◌∙◌, arith, append_assoc, append-nil, length-append}
 use Rattle.std.specs.List.{AllByRecursion}
 use Rattle.std.proofs.lemmas.Bool.{ne_eqb}
 use Rattle.ftp_repr.specs.Machine.{after, gives}
-use Rattle.ftp_repr.specs.Signs.{octet}
 use Rattle.ftp_repr.proofs.MachineLemmas.{after-append, gives-append}
-use Rattle.ftp_mode.specs.declared.fault.FrameFault.{FrameFault}
-use Rattle.ftp_mode.specs.declared.fault.FrameFault.TheVariants.{BadEscape, Suspect, BadMarker, EndedEarly}
-use Rattle.ftp_mode.specs.Said.{Said, says, marker, octets_said}
+use Rattle.ftp_mode.specs.declared.fault.FrameFault.TheVariants.{BadMarker}
+use Rattle.ftp_mode.specs.Said.{Said, marker, octets_said}
 use Rattle.ftp_mode.specs.Marker.{is_marker_octet, IsMarker}
 use Rattle.ftp_mode.specs.Block.{Block, block_octets, block_said, IsBlock, has, count_of, ends_of}
 use Rattle.ftp_mode.specs.Fault.{is_no_length}
-use Rattle.ftp_mode.specs.Reading.{Reading, going, failed, Place, at_head, at_low, inside, marking, ended, count_on, next, after_block, is_complete_at, place_step, place_out, reader}
+use Rattle.ftp_mode.specs.Reading.{Reading, going, failed, Place, at_head, at_low, inside, marking, count_on, next, after_block, is_complete_at, place_step, place_out, reader}
 use Rattle.ftp_mode.specs.Deframing.{Moves}
-use Rattle.ftp_mode.proofs.ReaderRuns.{short_after, short_gives, full_after, full_gives, failed_after, failed_gives}
+use Rattle.ftp_mode.proofs.ReaderRuns.{full_after, full_gives, failed_after, failed_gives}
 
 pub moves_append : (a b c : Reading) (xs ys : List ℕ) (s t : List Said) → Moves a b xs s → Moves b c ys t → Moves a c (xs ++ ys) (s ++ t)
 moves_append a b c xs ys s t first second = record {

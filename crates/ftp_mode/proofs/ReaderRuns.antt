@@ -1,13 +1,13 @@
 -- The reader over runs of octets.
-use Rattle.std.proofs.Common.{◌≡◌, ℕ, ◌+◌, ◌-◌, ◌<◌, List, [], ◌∷◌, ◌++◌, map, length, Bool, true, false, ◌==◌, refl, ap, sym, ◌∙◌, arith, append-nil}
+use Rattle.std.proofs.Common.{◌≡◌, ℕ, ◌-◌, ◌<◌, List, [], ◌∷◌, ◌++◌, length, true, false, ◌==◌, refl, ap, sym, ◌∙◌, arith, append-nil}
 use Rattle.std.specs.List.{AllByRecursion}
 use Rattle.std.proofs.lemmas.Bool.{ne_eqb}
 use Rattle.ftp_repr.specs.Machine.{after, gives}
 use Rattle.ftp_repr.specs.Signs.{octet}
 use Rattle.ftp_mode.specs.declared.fault.FrameFault.{FrameFault}
-use Rattle.ftp_mode.specs.Said.{Said, says, octets_said}
+use Rattle.ftp_mode.specs.Said.{says, octets_said}
 use Rattle.ftp_mode.specs.Block.{ends_of}
-use Rattle.ftp_mode.specs.Reading.{Reading, going, failed, Place, plain, outside, inside, ended, count_on, next, after_block, place_step, place_out, reader}
+use Rattle.ftp_mode.specs.Reading.{going, failed, Place, plain, outside, inside, ended, count_on, next, after_block, place_step, place_out, reader}
 
 count_next : (n c d : ℕ) (w : List ℕ) → count_on (next n) (length (d ∷ w)) ≡ count_on n (length (c ∷ d ∷ w))
 count_next n c d w = omega arith

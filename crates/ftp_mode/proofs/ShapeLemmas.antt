@@ -1,6 +1,6 @@
 -- Every wire is open, a text or faulty.
-use Rattle.std.proofs.Common.{◌≡◌, ℕ, zero, suc, ◌+◌, ◌-◌, ◌<◌, ◌≤◌, ◌⊎◌, inl, inr, List, [], ◌∷◌, ◌++◌, length, take, drop, Bool, true, false, ◌==◌, refl, ap, sym, subst, ◌∙◌, arith, append_assoc, append-nil, length-append, length-drop}
-use Rattle.std.specs.List.{flat_map, AllByRecursion}
+use Rattle.std.proofs.Common.{◌≡◌, ℕ, zero, suc, ◌+◌, ◌<◌, ◌≤◌, ◌⊎◌, inl, inr, List, [], ◌∷◌, ◌++◌, length, take, drop, true, false, ◌==◌, refl, ap, sym, subst, ◌∙◌, arith, append_assoc, length-append, length-drop}
+use Rattle.std.specs.List.{AllByRecursion}
 use Rattle.std.proofs.lemmas.Bool.{eqb-true, cases_lt, false≢true}
 use Rattle.std.proofs.lemmas.List.{length-take-le, take_all, take-append-drop, length-take}
 use Rattle.ftp_repr.specs.declared.form.Structure.{Structure}
@@ -11,12 +11,12 @@ use Rattle.ftp_mode.specs.declared.mode.Mode.TheVariants.{Stream, Block as Block
 use Rattle.ftp_mode.specs.declared.fault.FrameFault.{FrameFault}
 use Rattle.ftp_mode.specs.declared.fault.FrameFault.TheVariants.{BadEscape, Suspect, BadMarker}
 use Rattle.ftp_mode.specs.Said.{Said, octets_said}
-use Rattle.ftp_mode.specs.Stream.{is_code, code_ends}
+use Rattle.ftp_mode.specs.Stream.{is_code}
 use Rattle.ftp_mode.specs.Marker.{is_marker_octet, IsMarker}
-use Rattle.ftp_mode.specs.Block.{Block, block_octets, IsBlock, has, count_of}
+use Rattle.ftp_mode.specs.Block.{Block, IsBlock, has, count_of}
 use Rattle.ftp_mode.specs.Units.{WireUnit, one, escape, whole, unit_octets, unit_said, unit_ends, IsUnit, GoesOn, units_octets, units_said, IsText}
-use Rattle.ftp_mode.specs.Fault.{is_no_length, Begins, IsBadEscape, IsSuspect, IsBadLength, IsBadOctet}
-use Rattle.ftp_mode.specs.Front.{IsCutHeader, IsCutData, IsCutMarker, IsCut, IsOpen}
+use Rattle.ftp_mode.specs.Fault.{is_no_length, Begins}
+use Rattle.ftp_mode.specs.Front.{IsCut, IsOpen}
 use Rattle.ftp_mode.proofs.CutLemmas.{length_fits}
 
 -- what begins stands in no text, wherever it begins

@@ -1,19 +1,17 @@
 -- The one text of a file is a text, and says the signs of the file.
-use Rattle.std.proofs.Common.{◌≡◌, ℕ, zero, suc, ◌+◌, ◌-◌, ◌*◌, ◌/◌, ◌%◌, ◌<◌, ◌≤◌, ◌^◌, ◌⊎◌, inl, inr, List, [], ◌∷◌, ◌++◌, map, length, take, drop, Bool, true, false, ◌==◌, if◌then◌else◌, leb, le-leb, refl, ap, sym, subst, ◌∙◌, arith, append_assoc, append-nil, length-append}
-use Rattle.std.specs.List.{AllByRecursion}
+use Rattle.std.proofs.Common.{◌≡◌, ℕ, zero, suc, ◌-◌, ◌/◌, ◌%◌, inl, inr, List, [], ◌∷◌, ◌++◌, map, length, take, drop, true, false, ◌==◌, refl, ap, sym, subst, ◌∙◌, arith, append_assoc, append-nil}
 use Rattle.std.proofs.lemmas.Bool.{eqb-true, false≢true}
 use Rattle.std.proofs.lemmas.List.{take-append-drop, map-append}
 use Rattle.ftp_repr.specs.Signs.{Sign, octet, end_record, end_file}
 use Rattle.ftp_repr.specs.declared.form.Structure.{Structure}
-use Rattle.ftp_repr.specs.declared.form.Structure.TheVariants.{File, Record}
+use Rattle.ftp_repr.specs.declared.form.Structure.TheVariants.{Record}
 use Rattle.ftp_repr.proofs.AsciiLemmas.{decided}
 use Rattle.ftp_repr.proofs.SignLemmas.{IsWhole}
 use Rattle.ftp_mode.specs.declared.mode.Mode.{Mode}
 use Rattle.ftp_mode.specs.declared.mode.Mode.TheVariants.{Stream, Block as Blocks}
-use Rattle.ftp_mode.specs.Said.{Said, says, marker, octets_said, file_signs}
+use Rattle.ftp_mode.specs.Said.{Said, says, octets_said, file_signs}
 use Rattle.ftp_mode.specs.Stream.{escaped_octet, plain_text, record_text}
-use Rattle.ftp_mode.specs.Marker.{is_marker_octet, IsMarker, to_place, places}
-use Rattle.ftp_mode.specs.Block.{Block, block_octets, block_said, IsBlock, has, count_of, ends_of, block_text, marker_text, blocks_text, data_text, rows_text, marks_text, marked_text}
+use Rattle.ftp_mode.specs.Block.{Block, block_said, IsBlock, has, count_of, ends_of, block_text, blocks_text, data_text, rows_text}
 use Rattle.ftp_mode.specs.Units.{WireUnit, one, escape, whole, unit_octets, unit_said, unit_ends, IsUnit, GoesOn, units_octets, units_said, IsText}
 
 -- one more unit in front of a text

@@ -1,25 +1,17 @@
 -- The reader over the units of a wire.
-use Rattle.std.proofs.Common.{◌≡◌, ℕ, ◌+◌, ◌-◌, ◌<◌, ◌≤◌, ◌^◌, ◌⊎◌, inl, inr, min, List, [], ◌∷◌, ◌++◌, map, length, Bool, true, false, ◌==◌, if◌then◌else◌, refl, ap, sym, subst, ◌∙◌, arith, append_assoc, append-nil, length-append}
-use Rattle.std.specs.List.{flat_map, AllByRecursion}
-use Rattle.std.proofs.lemmas.Bool.{ne_eqb}
+use Rattle.std.proofs.Common.{◌≡◌, ℕ, ◌-◌, ◌≤◌, ◌^◌, List, [], ◌∷◌, ◌++◌, length, true, if◌then◌else◌, refl, ap, sym, subst, ◌∙◌, arith, append-nil, length-append}
+use Rattle.std.specs.List.{AllByRecursion}
 use Rattle.ftp_repr.specs.Machine.{after, gives}
 use Rattle.ftp_repr.specs.declared.form.Structure.{Structure}
 use Rattle.ftp_repr.specs.declared.form.Structure.TheVariants.{File, Record}
 use Rattle.ftp_mode.specs.declared.mode.Mode.{Mode}
 use Rattle.ftp_mode.specs.declared.mode.Mode.TheVariants.{Stream, Block as Blocks}
-use Rattle.ftp_mode.specs.declared.fault.FrameFault.{FrameFault}
-use Rattle.ftp_mode.specs.declared.fault.FrameFault.TheVariants.{BadEscape, Suspect, BadMarker, EndedEarly}
-use Rattle.ftp_mode.specs.Said.{Said, says, marker, octets_said}
+use Rattle.ftp_mode.specs.Said.{Said}
 use Rattle.ftp_mode.specs.Stream.{is_code, code_said, code_ends}
-use Rattle.ftp_mode.specs.Marker.{is_marker_octet, IsMarker}
-use Rattle.ftp_mode.specs.Block.{Block, block_octets, block_said, IsBlock, has, count_of, ends_of}
 use Rattle.ftp_mode.specs.Units.{WireUnit, one, escape, whole, unit_octets, unit_said, unit_ends, IsUnit, GoesOn, units_octets, units_said, IsText}
-use Rattle.ftp_mode.specs.Fault.{is_no_length, Begins, IsBadEscape, IsSuspect, IsBadLength, IsBadOctet, IsFault}
-use Rattle.ftp_mode.specs.Front.{IsCutHeader, IsCutData, IsCutMarker, IsCut, IsOpen}
-use Rattle.ftp_mode.specs.Reading.{Reading, going, failed, Place, outside, escaped, at_head, at_high, at_low, inside, marking, ended, count_on, next, after_block, place_step, is_complete_at, first_place, start, reader}
+use Rattle.ftp_mode.specs.Reading.{going, Place, outside, ended, count_on, next, first_place, start, reader}
 use Rattle.ftp_mode.specs.Deframing.{Moves}
-use Rattle.ftp_mode.proofs.ReaderRuns.{short_after, short_gives, failed_after, failed_gives, ended_gives}
-use Rattle.ftp_mode.proofs.MoveLemmas.{moves_append, count_count, counted, third, block_moves, into_data, into_marker, cut_mark, bad_mark, Opens}
+use Rattle.ftp_mode.proofs.MoveLemmas.{moves_append, counted, block_moves}
 
 -- where the reader is behind a unit
 abbrev pub unit_next : Mode → Structure → WireUnit → Place

@@ -1,17 +1,15 @@
 -- The writer gives the one text.
-use Rattle.std.proofs.Common.{◌≡◌, ◌≢◌, ℕ, zero, suc, ◌+◌, ◌-◌, ◌*◌, ◌/◌, ◌%◌, ◌<◌, ◌≤◌, ◌^◌, ◌⊎◌, inl, inr, List, [], ◌∷◌, ◌++◌, map, length, take, drop, Bool, true, false, ◌==◌, ◌&&◌, if◌then◌else◌, ltb, lt-ltb, le-ltb, refl, ap, sym, subst, ◌∙◌, arith, append_assoc, append-nil, length-append, length-drop}
-use Rattle.std.proofs.lemmas.Bool.{eqb-true, eqb-false, ne_eqb, eq-eqb, cases_lt}
+use Rattle.std.proofs.Common.{◌≡◌, ℕ, suc, ◌-◌, ◌/◌, ◌≤◌, inl, inr, List, [], ◌∷◌, ◌++◌, length, take, drop, false, ◌==◌, refl, ap, sym, ◌∙◌, arith, append_assoc, append-nil, length-append}
+use Rattle.std.proofs.lemmas.Bool.{eqb-true, eqb-false}
 use Rattle.std.proofs.lemmas.List.{take_at}
-use Rattle.std.proofs.Math.Seq.{take-append-add, drop-append-add, take-append_seam, drop-append_seam}
+use Rattle.std.proofs.Math.Seq.{drop-append_seam}
 use Rattle.ftp_repr.specs.Machine.{gives}
 use Rattle.ftp_repr.specs.Signs.{Sign, octet, end_record, end_file}
 use Rattle.ftp_repr.proofs.AsciiLemmas.{decided}
 use Rattle.ftp_repr.proofs.SignLemmas.{IsWhole}
 use Rattle.ftp_mode.specs.Stream.{escaped_octet, plain_text, record_text}
-use Rattle.ftp_mode.specs.Marker.{to_place, places}
-use Rattle.ftp_mode.specs.Block.{block_text, marker_text, blocks_text, data_text, rows_text, marks_text, marked_text}
-use Rattle.ftp_mode.specs.Reading.{next}
-use Rattle.ftp_mode.specs.Writing.{Writing, copying, free, held, filling, at_record, closed, Counting, never, unmarked, counted, is_due, counted_on, writer}
+use Rattle.ftp_mode.specs.Block.{block_text, blocks_text, data_text, rows_text}
+use Rattle.ftp_mode.specs.Writing.{copying, free, filling, closed, Counting, is_due, counted_on, writer}
 
 pub gives-closed : (ss : List Sign) → gives writer closed ss ≡ []
 gives-closed [] = refl

@@ -1,6 +1,6 @@
 -- Block mode: a header of three octets, a descriptor and a count, and then that many octets (RFC 959, section
 -- 3.4.2).
-use Rattle.std.specs.Prelude.{◌≡◌, ℕ, zero, suc, ◌+◌, ◌-◌, ◌*◌, ◌/◌, ◌%◌, List, [], ◌∷◌, ◌++◌, length, take, drop, Bool, true, false, if◌then◌else◌, not, ◌==◌, bit_and, decimal, map}
+use Rattle.std.specs.Prelude.{◌≡◌, ℕ, zero, suc, ◌+◌, ◌-◌, ◌*◌, ◌/◌, ◌%◌, List, [], ◌∷◌, ◌++◌, length, take, drop, Bool, true, false, if◌then◌else◌, not, ◌==◌, bit_and, decimal}
 use Rattle.ftp_repr.specs.Signs.{Sign, octet, end_record, end_file}
 use Rattle.ftp_mode.specs.Said.{Said, says, marker, octets_said}
 use Rattle.ftp_mode.specs.Marker.{IsMarker, to_place, places}

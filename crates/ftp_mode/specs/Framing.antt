@@ -1,5 +1,5 @@
 -- What a framer has still to write.
-use Rattle.std.specs.Prelude.{◌≡◌, ℕ, ◌<◌, ◌+◌, List, [], ◌∷◌, ◌++◌, drop, length, Bool, true, false}
+use Rattle.std.specs.Prelude.{◌≡◌, ℕ, ◌<◌, List, [], ◌++◌, drop, length, Bool, true, false}
 use Rattle.ftp_repr.specs.Machine.{gives}
 use Rattle.ftp_repr.specs.Signs.{Sign}
 use Rattle.ftp_mode.specs.declared.framer.Stage.{Stage}

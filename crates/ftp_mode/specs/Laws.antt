@@ -12,7 +12,6 @@ use Rattle.ftp_mode.specs.Said.{Said, says, file_signs}
 use Rattle.ftp_mode.specs.Stream.{plain_text, record_text}
 use Rattle.ftp_mode.specs.Block.{rows_text}
 use Rattle.ftp_mode.specs.Reading.{start, is_complete, reader}
-use Rattle.ftp_mode.specs.Writing.{blank, writer}
 
 -- the end of file that only the end of the connection says
 abbrev pub unsaid_end : Mode → Structure → List Said

@@ -1,5 +1,5 @@
 -- Restart markers (RFC 959, section 3.5).
-use Rattle.std.specs.Prelude.{ℕ, ◌+◌, ◌-◌, ◌/◌, ◌%◌, ◌<◌, ◌≤◌, List, length, Bool, true, ◌≡◌, ◌&&◌, nat_le, decimal}
+use Rattle.std.specs.Prelude.{ℕ, ◌+◌, ◌-◌, ◌/◌, ◌%◌, ◌<◌, ◌≤◌, List, length, Bool, true, ◌≡◌, ◌&&◌, nat_le}
 use Rattle.std.specs.List.{AllByRecursion}
 
 -- a printable octet other than space

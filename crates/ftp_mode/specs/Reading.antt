@@ -1,7 +1,7 @@
 -- The reader of a wire, octet by octet. The laws tie it to what whole wires read as.
 use Rattle.std.specs.Prelude.{ℕ, ◌+◌, ◌-◌, ◌^◌, min, List, [], ◌∷◌, ◌++◌, Bool, true, false, if◌then◌else◌, ◌&&◌, ◌==◌, nat_lt, length, IsTrue}
 use Rattle.ftp_repr.specs.Machine.{Machine}
-use Rattle.ftp_repr.specs.Signs.{Sign, octet}
+use Rattle.ftp_repr.specs.Signs.{octet}
 use Rattle.ftp_repr.specs.declared.form.Structure.{Structure}
 use Rattle.ftp_repr.specs.declared.form.Structure.TheVariants.{File, Record}
 use Rattle.ftp_mode.specs.declared.mode.Mode.{Mode}

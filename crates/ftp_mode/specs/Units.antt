@@ -1,7 +1,7 @@
 -- The units of a wire, in each mode and structure, and what a whole wire reads as (RFC 959, section 3.4).
 use Rattle.std.specs.Prelude.{◌≡◌, ℕ, List, [], ◌∷◌, ◌++◌, Bool, true, false, ◌==◌}
 use Rattle.std.specs.List.{flat_map, AllByRecursion}
-use Rattle.ftp_repr.specs.Signs.{Sign, octet, end_record, end_file}
+use Rattle.ftp_repr.specs.Signs.{octet, end_file}
 use Rattle.ftp_repr.specs.declared.form.Structure.{Structure}
 use Rattle.ftp_repr.specs.declared.form.Structure.TheVariants.{File, Record}
 use Rattle.ftp_mode.specs.declared.mode.Mode.{Mode}

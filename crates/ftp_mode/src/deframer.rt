@@ -138,6 +138,7 @@ impl Deframer {
             part: Part::Need,
         })
     }
+
     /// The marker that `feed` gave last, until the next call of it.
     pub fn marker(&self) -> &[u8]
         ensures { result.now ≡ last_marker self.now }

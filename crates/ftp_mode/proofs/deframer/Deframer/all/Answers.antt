@@ -1,4 +1,4 @@
-use Rattle.std.proofs.Common.{◌≡◌, ◌++◌, ◌<◌, ◌≤◌, List, ℕ, [], length, take, sym, ap, subst, ◌∙◌, inl, inr, append-nil, arith}
+use Rattle.std.proofs.Common.{◌≡◌, ◌++◌, ◌<◌, List, [], length, take, sym, ap, subst, ◌∙◌, inl, inr, append-nil, arith}
 use Rattle.std.proofs.lemmas.List.{length-take-le}
 use Rattle.ftp_mode.specs.declared.deframer.Gave.{Gave}
 use Rattle.ftp_mode.specs.declared.deframer.Gave.TheVariants.{Nothing, Octets}
@@ -23,9 +23,9 @@ returns c =
     let Q : List Said → Type 0 = λ l. Moves (reading old) (reading new) front l in
     record {
       fine = elim c.requires.place [
-          inl h ↦ going_by old.state new.state new.place (last_marker new) (inr (inl h.0)) c.moved.ensures.state
+        | inl h ↦ going_by old.state new.state new.place (last_marker new) (inr (inl h.0)) c.moved.ensures.state
         | inr h ↦ going_by old.state new.state new.place (last_marker new) (inr (inr h.0)) c.moved.ensures.state
-        ];
+      ];
       some = c.requires.some;
       within = omega arith;
       moves = elim c.requires.place [

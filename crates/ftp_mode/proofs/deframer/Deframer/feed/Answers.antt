@@ -1,9 +1,6 @@
-use Rattle.std.proofs.Common.{◌≡◌, ◌++◌, ◌+◌, ◌<◌, ◌≤◌, List, ℕ, [], length, take, drop, map, get_or, sym, ap, subst, ◌∙◌, arith, inl, append-nil}
+use Rattle.std.proofs.Common.{◌≡◌, ◌++◌, ◌+◌, ◌<◌, List, ℕ, [], length, take, get_or, sym, ap, subst, ◌∙◌, arith, inl, append-nil}
 use Rattle.std.proofs.lemmas.List.{length-take-le}
-use Rattle.ftp_mode.specs.declared.deframer.Gave.{Gave}
-use Rattle.ftp_mode.specs.declared.deframer.Deframer.{Deframer}
 use Rattle.ftp_mode.specs.declared.step.Part.TheVariants.{Data, Marker}
-use Rattle.ftp_mode.specs.declared.deframer.Gave.TheVariants.{Nothing, Octets, Marker as MarkerGiven}
 use Rattle.ftp_mode.specs.Said.{Said, octets_said}
 use Rattle.ftp_mode.specs.Deframing.{reading, owed, last_marker, part_said, gave_said, Moves, Refuses}
 use Rattle.ftp_mode.proofs.BiteLemmas.{next_bite, next_within, heard, said_some, same_going, owes_some, refused_at}
@@ -39,7 +36,7 @@ returns-in-Octets c =
           (next_bite old c.loop-at.self new c.args.piece.now rest c.loop-at.at bite c.split_at.ensures.back c.loop-at.invariant.quiet bites)
           (ap (λ l. octets_said l ++ owed new) front ∙ ap (λ l. l ++ owed new) (sym gave))
           some
-        bites.fine;
+          bites.fine;
       err = tt;
     }
 
@@ -58,7 +55,7 @@ returns-in-Marker c =
           (next_bite old c.loop-at.self new c.args.piece.now rest c.loop-at.at bite c.split_at.ensures.back c.loop-at.invariant.quiet bites)
           (ap (λ l. l ++ owed new) (sym gave))
           (omega arith)
-        bites.fine;
+          bites.fine;
       err = tt;
     }
 
@@ -81,7 +78,7 @@ returns-in-Some-owed_part c =
           (record { state = c.owed_part-in-loop-at.ensures.state ∙ moves.state; says = moves.says })
           (c.in-Some-owed_part.ensures.some (last_marker new))
           (c.in-Some-owed_part.ensures.full (last_marker new))
-        (same_going (reading mid) (reading new) c.owed_part-in-loop-at.ensures.state bites.fine);
+          (same_going (reading mid) (reading new) c.owed_part-in-loop-at.ensures.state bites.fine);
       err = tt;
     }
 

@@ -1,4 +1,4 @@
-use Rattle.std.proofs.Common.{◌≡◌, ◌+◌, ◌<◌, ◌≤◌, ◌++◌, length, take, drop, get_or, ◌∙◌, arith, rules}
+use Rattle.std.proofs.Common.{◌<◌, length, ◌∙◌, arith, rules}
 use Rattle.ftp_mode.specs.Block.{block_text}
 use Rattle.ftp_mode.proofs.FramingLemmas.{copy_step}
 use Rattle.ftp_mode.proofs.framer.Framer.copy.Goals as goal

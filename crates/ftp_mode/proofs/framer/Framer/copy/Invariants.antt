@@ -1,4 +1,4 @@
-use Rattle.std.proofs.Common.{◌≡◌, ◌≤◌, ◌+◌, ◌-◌, ◌++◌, length, take, drop}
+use Rattle.std.proofs.Common.{◌≡◌, ◌≤◌, ◌-◌, ◌++◌, length, take, drop}
 use Rattle.ftp_mode.specs.Block.{block_text}
 use Rattle.ftp_mode.proofs.framer.Framer.copy.Given as goal
 

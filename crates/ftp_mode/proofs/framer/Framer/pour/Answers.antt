@@ -1,5 +1,5 @@
-use Rattle.std.proofs.Common.{◌≡◌, ◌+◌, ◌<◌, ◌≤◌, ◌++◌, length, take, [], ap, sym, ◌∙◌, arith, length-append, inl, inr}
-use Rattle.ftp_mode.specs.Framing.{owed_block, owed_octets, is_open}
+use Rattle.std.proofs.Common.{◌≡◌, ◌≤◌, length, [], ap, sym, ◌∙◌, arith, length-append, inl, inr}
+use Rattle.ftp_mode.specs.Framing.{owed_block}
 use Rattle.ftp_mode.proofs.FramingLemmas.{open_block, moved_len}
 use Rattle.ftp_mode.proofs.framer.Framer.pour.Goals as goal
 

@@ -1,4 +1,4 @@
-use Rattle.std.proofs.Common.{◌≡◌, ℕ, List, [], ◌∷◌, ◌++◌, Bool, true, false, take, drop, ap, sym, subst, ◌∙◌, inl, inr}
+use Rattle.std.proofs.Common.{◌≡◌, ℕ, List, ◌∷◌, ◌++◌, take, drop, ap, sym, subst, ◌∙◌, inl, inr}
 use Rattle.ftp_repr.specs.Signs.{Sign, end_record}
 use Rattle.ftp_repr.specs.Items.{signs}
 use Rattle.ftp_repr.specs.declared.item.Item.{Item}

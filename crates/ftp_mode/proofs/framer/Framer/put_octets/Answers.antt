@@ -1,6 +1,5 @@
 use Rattle.std.proofs.Common.{◌≡◌, ◌+◌, ◌<◌, ◌++◌, length, take, drop, map, ap, sym, ◌∙◌}
-use Rattle.ftp_repr.specs.Signs.{Sign, octet}
-use Rattle.ftp_mode.specs.Framing.{still_to_write}
+use Rattle.ftp_repr.specs.Signs.{octet}
 use Rattle.ftp_mode.proofs.FramingLemmas.{next_octet, rest_octets, takes_text, waits_text, poured_text}
 use Rattle.ftp_mode.proofs.framer.Framer.put_octets.Goals as goal
 

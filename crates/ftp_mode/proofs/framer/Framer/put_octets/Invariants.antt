@@ -1,4 +1,4 @@
-use Rattle.std.proofs.Common.{length, take, drop, map, List, ◌++◌, ◌+◌, ◌-◌, ◌≡◌, ◌≤◌, ◌<◌, ◌⊎◌}
+use Rattle.std.proofs.Common.{length, take, drop, map, List, ◌++◌, ◌-◌, ◌≡◌, ◌≤◌}
 use Rattle.ftp_repr.specs.Signs.{Sign, octet}
 use Rattle.ftp_mode.specs.Framing.{still_to_write, IsClear}
 use Rattle.ftp_mode.proofs.framer.Framer.put_octets.Given as goal
