@@ -7,3 +7,5 @@ pub mod HostLemmas
 pub mod ExtendedLemmas
 pub mod CommandLemmas
 pub mod LineLemmas
+pub mod LawLemmas
+pub mod RoundTripLemmas

@@ -1,7 +1,7 @@
 -- The line that is written for a command, and the commands that have one.
 use Rattle.std.specs.Prelude.{◌≡◌, ◌+◌, ◌*◌, ◌/◌, ◌%◌, ◌^◌, ◌<◌, ◌≤◌, ◌==◌, ℕ, Bool, true, false, not, List, [], ◌∷◌, ◌++◌, length, map, count_by, decimal, IsTrue, if◌then◌else◌, nat_lt, Option, Some, None, codes}
 use Rattle.std.specs.Char.{digit_char}
-use Rattle.std.specs.List.{join_with_byte, list_all}
+use Rattle.std.specs.List.{AllByRecursion, join_with_byte, list_all}
 use Rattle.ftp_command.specs.Argument.{IsName, IsPassword, IsPath, begins_with, trimmed}
 use Rattle.ftp_command.specs.Command.{verb_of}
 use Rattle.ftp_command.specs.Verb.{letters}
@@ -198,3 +198,16 @@ IsStated (command.Help value) = IfGiven IsWords value
 IsStated command.Noop = Unit {0}
 IsStated command.Feat = Unit {0}
 IsStated (command.Opts value) = IsWords value
+
+-- what the types of a command's numbers keep: octets below 256, four or sixteen of them, a port below 65,536
+abbrev pub IsTypedHost : Host → Type 0
+IsTypedHost (V4 octets) = (length octets ≡ 4) × AllByRecursion (λ c. c < 256) octets
+IsTypedHost (V6 octets) = (length octets ≡ 16) × AllByRecursion (λ c. c < 256) octets
+
+abbrev pub IsTypedEndpoint : Endpoint → Type 0
+IsTypedEndpoint endpoint = IsTypedHost endpoint.host × (endpoint.port < 65536)
+
+abbrev pub IsTyped : Command (List ℕ) → Type 0
+IsTyped (command.Port value) = IsTypedEndpoint value
+IsTyped (command.Eprt value) = IsTypedEndpoint value
+IsTyped command = Unit {0}

@@ -1,0 +1,416 @@
+-- No line says two commands, none is both said and refused, none is refused in two ways.
+use Rattle.std.proofs.Common.{◌≡◌, ◌≢◌, ◌⊎◌, inl, inr, ℕ, zero, suc, ◌+◌, ◌<◌, ◌≤◌, ◌++◌, Bool, true, false, List, [], ◌∷◌, length, map, replicate, refl, sym, ap, subst, ◌∙◌, Option, Some, None, arith, codes, length-append}
+use Rattle.std.specs.Char.{digit_value, to_ascii_lowercase}
+use Rattle.std.specs.Str.Parse.{AllDigits, IsNumeral, digits_value}
+use Rattle.std.proofs.lemmas.Bool.Decides.{nat_tests}
+use Rattle.std.proofs.lemmas.List.{length-replicate, append_cancel_right, append_cancel_left}
+use Rattle.std.proofs.lemmas.Str.Parse.{digit_from_value}
+use Rattle.std.specs.Int.{IsInRange}
+use Rattle.ftp_command.specs.Argument.{IsBlank, IsOtherFamily, IsOtherKind, IsOtherMode, IsOtherStructure, IsPath, SaysEbcdic, SaysKind, SaysLocal, SaysLongest, SaysMode, SaysPassive, SaysPathOrNone, SaysSizes, SaysStructure, SaysTextOrNone, argument, trimmed, without_options, word}
+use Rattle.ftp_command.specs.Command.{Argues, Declined, IsNotDone, IsOtherNetwork, IsOtherParameter, Refuses, Says, verb_of}
+use Rattle.ftp_command.specs.Endpoint.{BeginsWith, HasShape}
+use Rattle.ftp_command.specs.Host.{IsFilled, IsOtherProtocol, IsShortened, SaysExtended, SaysHost, SaysV4, SaysV6, Stops, Written, octets_of}
+use Rattle.ftp_command.specs.Number.{SaysNumber, behind_digits}
+use Rattle.ftp_command.specs.Verb.{Names, SameLetters}
+use Rattle.ftp_command.specs.declared.command.Command.{Command}
+use Rattle.ftp_command.specs.declared.command.Command.TheVariants as command
+use Rattle.ftp_command.specs.declared.command.Kind.{Kind}
+use Rattle.ftp_command.specs.declared.command.Kind.TheVariants.{Ascii, Image}
+use Rattle.ftp_command.specs.declared.command.Mode.{Mode}
+use Rattle.ftp_command.specs.declared.command.Mode.TheVariants.{Stream, Block}
+use Rattle.ftp_command.specs.declared.command.Passive.{Passive}
+use Rattle.ftp_command.specs.declared.command.Passive.TheVariants.{Any, Ipv4, Ipv6, Only}
+use Rattle.ftp_command.specs.declared.command.Structure.{Structure}
+use Rattle.ftp_command.specs.declared.command.Structure.TheVariants.{File, Record}
+use Rattle.ftp_command.specs.declared.endpoint.Endpoint.{Endpoint}
+use Rattle.ftp_command.specs.declared.fault.CommandFault.{CommandFault}
+use Rattle.ftp_command.specs.declared.fault.CommandFault.TheVariants as fault
+use Rattle.ftp_command.specs.declared.host.Host.{Host}
+use Rattle.ftp_command.specs.declared.host.Host.TheVariants.{V4, V6}
+use Rattle.ftp_command.specs.declared.verb.Verb.{Verb}
+use Rattle.ftp_command.specs.declared.verb.Verb.TheVariants as verb
+use Rattle.ftp_command.proofs.EndpointLemmas.{begins_same, six_same}
+use Rattle.ftp_command.proofs.ExtendedLemmas.{same_shape}
+use Rattle.ftp_command.proofs.HostLemmas.{same_groups}
+use Rattle.ftp_command.proofs.VerbLemmas.{one_verb}
+
+-- values of one text are one value
+same_number : (text : List ℕ) (m n : ℕ) → SaysNumber text m → SaysNumber text n → m ≡ n
+same_number text m n h k = h.1 ∙ sym k.1
+
+same_path : (text : List ℕ) (v w : Option (List ℕ)) → SaysPathOrNone text v → SaysPathOrNone text w → v ≡ w
+same_path text None None h k = refl
+same_path text None (Some p) h k = let e : p ≡ [] = sym k.0 ∙ h in absurd (omega (arith, ap length e, k.1.0))
+same_path text (Some p) None h k = let e : p ≡ [] = sym h.0 ∙ k in absurd (omega (arith, ap length e, h.1.0))
+same_path text (Some p) (Some q) h k = ap Some (sym h.0 ∙ k.0)
+
+same_words : (text : List ℕ) (v w : Option (List ℕ)) → SaysTextOrNone text v → SaysTextOrNone text w → v ≡ w
+same_words text None None h k = refl
+same_words text None (Some p) h k = let e : p ≡ [] = sym k.0 ∙ h in absurd (omega (arith, ap length e, k.1))
+same_words text (Some p) None h k = let e : p ≡ [] = sym h.0 ∙ k in absurd (omega (arith, ap length e, h.1))
+same_words text (Some p) (Some q) h k = ap Some (sym h.0 ∙ k.0)
+
+-- a number has no letters, and is not empty
+lower_digit : (c : ℕ) → IsInRange 48 57 c → to_ascii_lowercase c ≡ 97 → ⊥
+lower_digit c range e = grind (arith, nat_tests)
+
+no_number_all : (text : List ℕ) (n : ℕ) → SaysNumber text n → SameLetters text (codes "ALL") → ⊥
+no_number_all [] n h e = omega arith
+no_number_all (c ∷ cs) n h e =
+    let first : to_ascii_lowercase c ≡ 97 = cc in
+    lower_digit c (digit_from_value c h.0.0.1.0) first
+
+no_number_empty : (text : List ℕ) (n : ℕ) → SaysNumber text n → text ≡ [] → ⊥
+no_number_empty text n h e = omega (arith, ap length e)
+
+no_all_empty : (text : List ℕ) → SameLetters text (codes "ALL") → text ≡ [] → ⊥
+no_all_empty [] h e = absurd (cc)
+no_all_empty (c ∷ cs) h e = absurd (cc)
+
+same_passive : (text : List ℕ) (v w : Passive) → SaysPassive text v → SaysPassive text w → v ≡ w
+same_passive text Any Any h k = refl
+same_passive text Any Ipv4 h k = absurd (no_number_empty text 1 k h)
+same_passive text Any Ipv6 h k = absurd (no_number_empty text 2 k h)
+same_passive text Any Only h k = absurd (no_all_empty text k h)
+same_passive text Ipv4 Any h k = absurd (no_number_empty text 1 h k)
+same_passive text Ipv4 Ipv4 h k = refl
+same_passive text Ipv4 Ipv6 h k = absurd (omega (arith, same_number text 1 2 h k))
+same_passive text Ipv4 Only h k = absurd (no_number_all text 1 h k)
+same_passive text Ipv6 Any h k = absurd (no_number_empty text 2 h k)
+same_passive text Ipv6 Ipv4 h k = absurd (omega (arith, same_number text 2 1 h k))
+same_passive text Ipv6 Ipv6 h k = refl
+same_passive text Ipv6 Only h k = absurd (no_number_all text 2 h k)
+same_passive text Only Any h k = absurd (no_all_empty text h k)
+same_passive text Only Ipv4 h k = absurd (no_number_all text 1 k h)
+same_passive text Only Ipv6 h k = absurd (no_number_all text 2 k h)
+same_passive text Only Only h k = refl
+
+-- a first letter that is no other
+first_lower : (text : List ℕ) (bits : ℕ) → (h : SaysLocal text bits) → map to_ascii_lowercase text ≡ 108 ∷ 32 ∷ map to_ascii_lowercase h.digits
+first_lower text bits h = ap (map to_ascii_lowercase) h.text_is ∙ ap (λ c. c ∷ 32 ∷ map to_ascii_lowercase h.digits) h.is_letter
+
+no_ascii_image : (text : List ℕ) → SaysKind text Ascii → SaysKind text Image → ⊥
+no_ascii_image text (inl h) (inl k) = absurd (cc)
+no_ascii_image text (inr (inl h)) (inl k) = absurd (cc)
+no_ascii_image text (inr (inr h)) (inl k) = absurd (cc)
+no_ascii_image text (inl h) (inr k) = let e = first_lower text 8 k in absurd (cc)
+no_ascii_image text (inr (inl h)) (inr k) = let e = first_lower text 8 k in absurd (cc)
+no_ascii_image text (inr (inr h)) (inr k) = let e = first_lower text 8 k in absurd (cc)
+
+same_local : (text : List ℕ) (m n : ℕ) → SaysLocal text m → SaysLocal text n → m ≡ n
+same_local text m n h k =
+    let first = h.text_is in
+    let second = k.text_is in
+    let digits : h.digits ≡ k.digits = cc in
+    h.number.1 ∙ (ap (λ x. digits_value 10 x) digits ∙ sym k.number.1)
+
+same_kind : (text : List ℕ) (v w : Kind) → SaysKind text v → SaysKind text w → v ≡ w
+same_kind text Ascii Ascii h k = refl
+same_kind text Ascii Image h k = absurd (no_ascii_image text h k)
+same_kind text Image Ascii h k = absurd (no_ascii_image text k h)
+same_kind text Image Image h k = refl
+
+same_structure : (text : List ℕ) (v w : Structure) → SaysStructure text v → SaysStructure text w → v ≡ w
+same_structure text File File h k = refl
+same_structure text File Record h k = absurd (cc)
+same_structure text Record File h k = absurd (cc)
+same_structure text Record Record h k = refl
+
+same_mode : (text : List ℕ) (v w : Mode) → SaysMode text v → SaysMode text w → v ≡ w
+same_mode text Stream Stream h k = refl
+same_mode text Stream Block h k = absurd (cc)
+same_mode text Block Stream h k = absurd (cc)
+same_mode text Block Block h k = refl
+
+same_longest : (text : List ℕ) (m n : ℕ) → SaysLongest text m → SaysLongest text n → m ≡ n
+same_longest text m n h k =
+    let first = h.text_is in
+    let second = k.text_is in
+    let digits : h.digits ≡ k.digits = cc in
+    h.number.1 ∙ (ap (λ x. digits_value 10 x) digits ∙ sym k.number.1)
+
+same_rest : (text : List ℕ) (v w : Option ℕ) (m n : ℕ) → SaysSizes text m v → SaysSizes text n w → v ≡ w
+same_rest text None None m n h k = refl
+same_rest text None (Some b) m n h k = let second = k.1.text_is in absurd (cc)
+same_rest text (Some a) None m n h k = let first = h.1.text_is in absurd (cc)
+same_rest text (Some a) (Some b) m n h k = ap Some (same_longest (behind_digits text) a b h.1 k.1)
+
+same_octets : (text : List ℕ) (v w : Option ℕ) (m n : ℕ) → SaysSizes text m v → SaysSizes text n w → m ≡ n
+same_octets text None None m n h k = h.0.1 ∙ sym k.0.1
+same_octets text None (Some b) m n h k = h.0.1 ∙ sym k.0.1
+same_octets text (Some a) None m n h k = h.0.1 ∙ sym k.0.1
+same_octets text (Some a) (Some b) m n h k = h.0.1 ∙ sym k.0.1
+
+-- the zero groups of a "::" are as many as are missing
+same_filled : (front behind gs hs : List ℕ) → length gs ≡ 8 → length hs ≡ 8 → IsFilled front behind gs → IsFilled front behind hs → gs ≡ hs
+same_filled front behind gs hs e f h k =
+    let backs : h.back ≡ k.back = (same_groups behind h.back k.back [] [] h.after (inl refl) k.after (inl refl)).0 in
+    let first : length gs ≡ length front + (suc h.zeros + length h.back) = ap length h.groups_are ∙ (length-append front (replicate (suc h.zeros) 0 ++ h.back) ∙ ap (λ n. length front + n) (length-append (replicate (suc h.zeros) 0) h.back ∙ ap (λ n. n + length h.back) (length-replicate {A = ℕ} (suc h.zeros) 0))) in
+    let second : length hs ≡ length front + (suc k.zeros + length k.back) = ap length k.groups_are ∙ (length-append front (replicate (suc k.zeros) 0 ++ k.back) ∙ ap (λ n. length front + n) (length-append (replicate (suc k.zeros) 0) k.back ∙ ap (λ n. n + length k.back) (length-replicate {A = ℕ} (suc k.zeros) 0))) in
+    let count : h.zeros ≡ k.zeros = omega (arith, first, second, ap length backs) in
+    h.groups_are ∙ (ap (λ z. front ++ (replicate (suc z) 0 ++ h.back)) count ∙ (ap (λ x. front ++ (replicate (suc k.zeros) 0 ++ x)) backs ∙ sym k.groups_are))
+
+no_end : (text gs : List ℕ) (k : IsShortened text gs) (ns : List ℕ) → [] ≡ 58 ∷ 58 ∷ k.behind → ⊥
+no_end text gs k ns e = absurd (cc)
+
+same_written : (text gs hs : List ℕ) → length gs ≡ 8 → length hs ≡ 8 → Written text gs → Written text hs → gs ≡ hs
+same_written text gs hs e f (inl h) (inl k) = (same_groups text gs hs [] [] h (inl refl) k (inl refl)).0
+same_written text gs hs e f (inl h) (inr k) =
+    absurd (no_end text hs k gs (same_groups text gs k.front [] (58 ∷ 58 ∷ k.behind) h (inl refl) k.before (inr (k.behind, refl))).1)
+same_written text gs hs e f (inr h) (inl k) =
+    absurd (no_end text gs h hs (same_groups text hs h.front [] (58 ∷ 58 ∷ h.behind) k (inl refl) h.before (inr (h.behind, refl))).1)
+same_written text gs hs e f (inr h) (inr k) =
+    let same = same_groups text h.front k.front (58 ∷ 58 ∷ h.behind) (58 ∷ 58 ∷ k.behind) h.before (inr (h.behind, refl)) k.before (inr (k.behind, refl)) in
+    let both = same.1 in
+    let behind : k.behind ≡ h.behind = cc in
+    let P : List ℕ → Type 0 = λ x. IsFilled x k.behind hs in
+    let Q : List ℕ → Type 0 = λ x. IsFilled h.front x hs in
+    same_filled h.front h.behind gs hs e f h.filled (subst Q behind (subst P (sym same.0) k.filled))
+
+same_v4 : (text v w : List ℕ) → SaysV4 text v → SaysV4 text w → v ≡ w
+same_v4 text v w h k =
+    let hs : List ℕ = h.a ∷ h.b ∷ h.c ∷ h.d ∷ [] in
+    let ks : List ℕ = k.a ∷ k.b ∷ k.c ∷ k.d ∷ [] in
+    h.value ∙ ((begins_same 46 text hs ks [] [] refl h.numbers k.numbers).0 ∙ sym k.value)
+
+same_v6 : (text v w : List ℕ) → SaysV6 text v → SaysV6 text w → v ≡ w
+same_v6 text v w h k =
+    h.value ∙ (ap octets_of (same_written text h.groups k.groups h.eight k.eight h.written k.written) ∙ sym k.value)
+
+same_host : (proto : ℕ) (text : List ℕ) (v w : Host) → SaysHost proto text v → SaysHost proto text w → v ≡ w
+same_host proto text (V4 v) (V4 w) h k = ap V4 (same_v4 text v w h.1 k.1)
+same_host proto text (V4 v) (V6 w) h k = absurd (omega (arith, h.0, k.0))
+same_host proto text (V6 v) (V4 w) h k = absurd (omega (arith, h.0, k.0))
+same_host proto text (V6 v) (V6 w) h k = ap V6 (same_v6 text v w h.1 k.1)
+
+abbrev endpoint_of : Host → ℕ → Endpoint
+endpoint_of host port = record { host = host; port = port }
+
+same_extended : (text : List ℕ) (e f : Endpoint) → SaysExtended text e → SaysExtended text f → e ≡ f
+same_extended text e f h k =
+    let same = same_shape text h.proto k.proto h.address k.address e.port f.port h.shape k.shape in
+    let P : ℕ → Type 0 = λ x. SaysHost x k.address f.host in
+    let Q : List ℕ → Type 0 = λ x. SaysHost h.proto x f.host in
+    let hosts = same_host h.proto h.address e.host f.host h.host (subst Q (sym same.1) (subst P (sym same.0) k.host)) in
+    ap (λ x. endpoint_of x e.port) hosts ∙ ap (λ x. endpoint_of f.host x) same.2
+
+-- an argument says one value of a verb at most
+pub one_value : (a : List ℕ) (v w : Command (List ℕ)) → verb_of v ≡ verb_of w → Argues a v → Argues a w → v ≡ w
+one_value a (command.User x) (command.User y) e h k = ap command.User (sym h.0 ∙ k.0)
+one_value a (command.Pass x) (command.Pass y) e h k = ap command.Pass (sym h.0 ∙ k.0)
+one_value a (command.Acct x) (command.Acct y) e h k = ap command.Acct (sym h.0 ∙ k.0)
+one_value a (command.Cwd x) (command.Cwd y) e h k = ap command.Cwd (sym h.0 ∙ k.0)
+one_value a command.Cdup command.Cdup e h k = refl
+one_value a command.Rein command.Rein e h k = refl
+one_value a command.Quit command.Quit e h k = refl
+one_value a (command.Port x) (command.Port y) e h k = ap command.Port ((six_same (trimmed a) x y [] [] h k).0)
+one_value a command.Pasv command.Pasv e h k = refl
+one_value a (command.Eprt x) (command.Eprt y) e h k = ap command.Eprt (same_extended (trimmed a) x y h k)
+one_value a (command.Epsv x) (command.Epsv y) e h k = ap command.Epsv (same_passive (trimmed a) x y h k)
+one_value a (command.Repr x) (command.Repr y) e h k = ap command.Repr (same_kind (trimmed a) x y h k)
+one_value a (command.Stru x) (command.Stru y) e h k = ap command.Stru (same_structure (trimmed a) x y h k)
+one_value a (command.Mode x) (command.Mode y) e h k = ap command.Mode (same_mode (trimmed a) x y h k)
+one_value a (command.Retr x) (command.Retr y) e h k = ap command.Retr (sym h.0 ∙ k.0)
+one_value a (command.Stor x) (command.Stor y) e h k = ap command.Stor (sym h.0 ∙ k.0)
+one_value a (command.Appe x) (command.Appe y) e h k = ap command.Appe (sym h.0 ∙ k.0)
+one_value a (command.Allo m v) (command.Allo n w) e h k = ap (λ x. command.Allo x v) (same_octets (trimmed a) v w m n h k) ∙ ap (λ x. command.Allo n x) (same_rest (trimmed a) v w m n h k)
+one_value a (command.Rest x) (command.Rest y) e h k = ap command.Rest (same_number (trimmed a) x y h k)
+one_value a (command.Rnfr x) (command.Rnfr y) e h k = ap command.Rnfr (sym h.0 ∙ k.0)
+one_value a (command.Rnto x) (command.Rnto y) e h k = ap command.Rnto (sym h.0 ∙ k.0)
+one_value a command.Abor command.Abor e h k = refl
+one_value a (command.Dele x) (command.Dele y) e h k = ap command.Dele (sym h.0 ∙ k.0)
+one_value a (command.Rmd x) (command.Rmd y) e h k = ap command.Rmd (sym h.0 ∙ k.0)
+one_value a (command.Mkd x) (command.Mkd y) e h k = ap command.Mkd (sym h.0 ∙ k.0)
+one_value a command.Pwd command.Pwd e h k = refl
+one_value a (command.List x) (command.List y) e h k = ap command.List (same_path (without_options a) x y h k)
+one_value a (command.Nlst x) (command.Nlst y) e h k = ap command.Nlst (same_path (without_options a) x y h k)
+one_value a (command.Mlst x) (command.Mlst y) e h k = ap command.Mlst (same_path a x y h k)
+one_value a (command.Mlsd x) (command.Mlsd y) e h k = ap command.Mlsd (same_path a x y h k)
+one_value a (command.Size x) (command.Size y) e h k = ap command.Size (sym h.0 ∙ k.0)
+one_value a (command.Mdtm x) (command.Mdtm y) e h k = ap command.Mdtm (sym h.0 ∙ k.0)
+one_value a command.Syst command.Syst e h k = refl
+one_value a command.Stat command.Stat e h k = refl
+one_value a (command.Help x) (command.Help y) e h k = ap command.Help (same_words (trimmed a) x y h k)
+one_value a command.Noop command.Noop e h k = refl
+one_value a command.Feat command.Feat e h k = refl
+one_value a (command.Opts x) (command.Opts y) e h k = ap command.Opts (sym h.0 ∙ k.0)
+one_value a v w e h k = absurd (cc)
+
+-- no line says two commands
+pub one_command : (line : List ℕ) (v w : Command (List ℕ)) → Says line v → Says line w → v ≡ w
+one_command line v w h k =
+    one_value (argument line) v w (one_verb (word line) (verb_of v) (verb_of w) h.0 k.0) h.1 k.1
+
+-- what is said is not refused
+said_done : (a : List ℕ) (v : Command (List ℕ)) → Argues a v → IsNotDone a (verb_of v) → ⊥
+said_done a command.Stat h k = k h
+said_done a v h k = absurd k
+
+no_other_kind : (text : List ℕ) (v : Kind) → SaysKind text v → IsOtherKind text → ⊥
+no_other_kind text Ascii (inl h) (inl (inl k)) = absurd (cc)
+no_other_kind text Ascii (inl h) (inl (inr (inl k))) = absurd (cc)
+no_other_kind text Ascii (inl h) (inl (inr (inr k))) = let e = ap (map to_ascii_lowercase) k.text_is in let f = k.is_letter in absurd (cc)
+no_other_kind text Ascii (inl h) (inr k) = let e = first_lower text k.0 k.1 in absurd (cc)
+no_other_kind text Ascii (inr (inl h)) (inl (inl k)) = absurd (cc)
+no_other_kind text Ascii (inr (inl h)) (inl (inr (inl k))) = absurd (cc)
+no_other_kind text Ascii (inr (inl h)) (inl (inr (inr k))) = let e = ap (map to_ascii_lowercase) k.text_is in let f = k.is_letter in absurd (cc)
+no_other_kind text Ascii (inr (inl h)) (inr k) = let e = first_lower text k.0 k.1 in absurd (cc)
+no_other_kind text Ascii (inr (inr h)) (inl (inl k)) = absurd (cc)
+no_other_kind text Ascii (inr (inr h)) (inl (inr (inl k))) = absurd (cc)
+no_other_kind text Ascii (inr (inr h)) (inl (inr (inr k))) = let e = ap (map to_ascii_lowercase) k.text_is in let f = k.is_letter in absurd (cc)
+no_other_kind text Ascii (inr (inr h)) (inr k) = let e = first_lower text k.0 k.1 in absurd (cc)
+no_other_kind text Image (inl h) (inl (inl k)) = absurd (cc)
+no_other_kind text Image (inl h) (inl (inr (inl k))) = absurd (cc)
+no_other_kind text Image (inl h) (inl (inr (inr k))) = let e = ap (map to_ascii_lowercase) k.text_is in let f = k.is_letter in absurd (cc)
+no_other_kind text Image (inl h) (inr k) = let e = first_lower text k.0 k.1 in absurd (cc)
+no_other_kind text Image (inr h) (inl (inl k)) = let e = first_lower text 8 h in absurd (cc)
+no_other_kind text Image (inr h) (inl (inr (inl k))) = let e = first_lower text 8 h in absurd (cc)
+no_other_kind text Image (inr h) (inl (inr (inr k))) = let d = first_lower text 8 h in let e = ap (map to_ascii_lowercase) k.text_is in let f = k.is_letter in absurd (cc)
+no_other_kind text Image (inr h) (inr k) = k.2 (same_local text k.0 8 k.1 h)
+
+no_other_structure : (text : List ℕ) (v : Structure) → SaysStructure text v → IsOtherStructure text → ⊥
+no_other_structure text File h k = absurd (cc)
+no_other_structure text Record h k = absurd (cc)
+
+no_other_mode : (text : List ℕ) (v : Mode) → SaysMode text v → IsOtherMode text → ⊥
+no_other_mode text Stream h k = absurd (cc)
+no_other_mode text Block h k = absurd (cc)
+
+said_parameter : (a : List ℕ) (v : Command (List ℕ)) → Argues a v → IsOtherParameter a (verb_of v) → ⊥
+said_parameter a (command.Repr x) h k = no_other_kind (trimmed a) x h k
+said_parameter a (command.Stru x) h k = no_other_structure (trimmed a) x h k
+said_parameter a (command.Mode x) h k = no_other_mode (trimmed a) x h k
+said_parameter a v h k = absurd k
+
+no_other_family : (text : List ℕ) (v : Passive) → SaysPassive text v → IsOtherFamily text → ⊥
+no_other_family text Any h k = no_number_empty text k.0 k.1 h
+no_other_family text Ipv4 h k = k.2 (same_number text k.0 1 k.1 h)
+no_other_family text Ipv6 h k = k.3 (same_number text k.0 2 k.1 h)
+no_other_family text Only h k = no_number_all text k.0 k.1 h
+
+known_host : (proto : ℕ) (address : List ℕ) (host : Host) → SaysHost proto address host → (proto ≢ 1) → (proto ≢ 2) → ⊥
+known_host proto address (V4 x) h n m = n h.0
+known_host proto address (V6 x) h n m = m h.0
+
+no_other_protocol : (text : List ℕ) (e : Endpoint) → SaysExtended text e → IsOtherProtocol text → ⊥
+no_other_protocol text e h k =
+    let same = same_shape text h.proto k.proto h.address k.address e.port k.port h.shape k.shape in
+    known_host h.proto h.address e.host h.host (λ x. k.not_v4 (sym same.0 ∙ x)) (λ x. k.not_v6 (sym same.0 ∙ x))
+
+said_network : (a : List ℕ) (v : Command (List ℕ)) → Argues a v → IsOtherNetwork a (verb_of v) → ⊥
+said_network a (command.Eprt x) h k = no_other_protocol (trimmed a) x h k
+said_network a (command.Epsv x) h k = no_other_family (trimmed a) x h k
+said_network a v h k = absurd k
+
+not_declined : (a : List ℕ) (v : Command (List ℕ)) (f : CommandFault) → Argues a v → Declined a (verb_of v) f → ⊥
+not_declined a v fault.Unknown h k = k
+not_declined a v fault.Memory h k = k
+not_declined a v fault.NotDone h k = said_done a v h k
+not_declined a v fault.BadParameter h k = said_parameter a v h k
+not_declined a v fault.Protocol h k = said_network a v h k
+not_declined a v fault.BadArgument h k = k.3 v refl h
+
+same_declined : (a : List ℕ) (v w : Verb) (f : CommandFault) → v ≡ w → Declined a v f → Declined a w f
+same_declined a v w f e h =
+    let P : Verb → Type 0 = λ x. Declined a x f in subst P e h
+
+pub not_refused : (line : List ℕ) (v : Command (List ℕ)) (f : CommandFault) → Says line v → Refuses line f → ⊥
+not_refused line v fault.Unknown h k = k (verb_of v) h.0
+not_refused line v fault.BadArgument h k = not_declined (argument line) v fault.BadArgument h.1 (same_declined (argument line) k.0 (verb_of v) fault.BadArgument (one_verb (word line) k.0 (verb_of v) k.1 h.0) k.2)
+not_refused line v fault.NotDone h k = not_declined (argument line) v fault.NotDone h.1 (same_declined (argument line) k.0 (verb_of v) fault.NotDone (one_verb (word line) k.0 (verb_of v) k.1 h.0) k.2)
+not_refused line v fault.BadParameter h k = not_declined (argument line) v fault.BadParameter h.1 (same_declined (argument line) k.0 (verb_of v) fault.BadParameter (one_verb (word line) k.0 (verb_of v) k.1 h.0) k.2)
+not_refused line v fault.Protocol h k = not_declined (argument line) v fault.Protocol h.1 (same_declined (argument line) k.0 (verb_of v) fault.Protocol (one_verb (word line) k.0 (verb_of v) k.1 h.0) k.2)
+not_refused line v fault.Memory h k = k.2
+
+-- a line is refused in one way
+done_parameter : (a : List ℕ) (v : Verb) → IsNotDone a v → IsOtherParameter a v → ⊥
+done_parameter a verb.Repr h k = absurd h
+done_parameter a verb.Stru h k = absurd h
+done_parameter a verb.Mode h k = absurd h
+done_parameter a v h k = absurd k
+
+done_network : (a : List ℕ) (v : Verb) → IsNotDone a v → IsOtherNetwork a v → ⊥
+done_network a verb.Eprt h k = absurd h
+done_network a verb.Epsv h k = absurd h
+done_network a v h k = absurd k
+
+parameter_network : (a : List ℕ) (v : Verb) → IsOtherParameter a v → IsOtherNetwork a v → ⊥
+parameter_network a verb.Eprt h k = absurd h
+parameter_network a verb.Epsv h k = absurd h
+parameter_network a v h k = absurd k
+
+one_decline : (a : List ℕ) (v : Verb) (f g : CommandFault) → Declined a v f → Declined a v g → f ≡ g
+one_decline a v fault.Unknown fault.Unknown h k = refl
+one_decline a v fault.Unknown fault.BadArgument h k = absurd h
+one_decline a v fault.Unknown fault.NotDone h k = absurd h
+one_decline a v fault.Unknown fault.BadParameter h k = absurd h
+one_decline a v fault.Unknown fault.Protocol h k = absurd h
+one_decline a v fault.Unknown fault.Memory h k = absurd h
+one_decline a v fault.BadArgument fault.Unknown h k = absurd k
+one_decline a v fault.BadArgument fault.BadArgument h k = refl
+one_decline a v fault.BadArgument fault.NotDone h k = absurd (h.0 k)
+one_decline a v fault.BadArgument fault.BadParameter h k = absurd (h.1 k)
+one_decline a v fault.BadArgument fault.Protocol h k = absurd (h.2 k)
+one_decline a v fault.BadArgument fault.Memory h k = absurd k
+one_decline a v fault.NotDone fault.Unknown h k = absurd k
+one_decline a v fault.NotDone fault.BadArgument h k = absurd (k.0 h)
+one_decline a v fault.NotDone fault.NotDone h k = refl
+one_decline a v fault.NotDone fault.BadParameter h k = absurd (done_parameter a v h k)
+one_decline a v fault.NotDone fault.Protocol h k = absurd (done_network a v h k)
+one_decline a v fault.NotDone fault.Memory h k = absurd k
+one_decline a v fault.BadParameter fault.Unknown h k = absurd k
+one_decline a v fault.BadParameter fault.BadArgument h k = absurd (k.1 h)
+one_decline a v fault.BadParameter fault.NotDone h k = absurd (done_parameter a v k h)
+one_decline a v fault.BadParameter fault.BadParameter h k = refl
+one_decline a v fault.BadParameter fault.Protocol h k = absurd (parameter_network a v h k)
+one_decline a v fault.BadParameter fault.Memory h k = absurd k
+one_decline a v fault.Protocol fault.Unknown h k = absurd k
+one_decline a v fault.Protocol fault.BadArgument h k = absurd (k.2 h)
+one_decline a v fault.Protocol fault.NotDone h k = absurd (done_network a v k h)
+one_decline a v fault.Protocol fault.BadParameter h k = absurd (parameter_network a v k h)
+one_decline a v fault.Protocol fault.Protocol h k = refl
+one_decline a v fault.Protocol fault.Memory h k = absurd k
+one_decline a v fault.Memory fault.Unknown h k = absurd h
+one_decline a v fault.Memory fault.BadArgument h k = absurd h
+one_decline a v fault.Memory fault.NotDone h k = absurd h
+one_decline a v fault.Memory fault.BadParameter h k = absurd h
+one_decline a v fault.Memory fault.Protocol h k = absurd h
+one_decline a v fault.Memory fault.Memory h k = refl
+
+pub one_fault : (line : List ℕ) (f g : CommandFault) → Refuses line f → Refuses line g → f ≡ g
+one_fault line fault.Unknown fault.Unknown h k = refl
+one_fault line fault.Unknown fault.BadArgument h k = absurd (h k.0 k.1)
+one_fault line fault.Unknown fault.NotDone h k = absurd (h k.0 k.1)
+one_fault line fault.Unknown fault.BadParameter h k = absurd (h k.0 k.1)
+one_fault line fault.Unknown fault.Protocol h k = absurd (h k.0 k.1)
+one_fault line fault.Unknown fault.Memory h k = absurd (h k.0 k.1)
+one_fault line fault.BadArgument fault.Unknown h k = absurd (k h.0 h.1)
+one_fault line fault.BadArgument fault.BadArgument h k = one_decline (argument line) k.0 fault.BadArgument fault.BadArgument (same_declined (argument line) h.0 k.0 fault.BadArgument (one_verb (word line) h.0 k.0 h.1 k.1) h.2) k.2
+one_fault line fault.BadArgument fault.NotDone h k = one_decline (argument line) k.0 fault.BadArgument fault.NotDone (same_declined (argument line) h.0 k.0 fault.BadArgument (one_verb (word line) h.0 k.0 h.1 k.1) h.2) k.2
+one_fault line fault.BadArgument fault.BadParameter h k = one_decline (argument line) k.0 fault.BadArgument fault.BadParameter (same_declined (argument line) h.0 k.0 fault.BadArgument (one_verb (word line) h.0 k.0 h.1 k.1) h.2) k.2
+one_fault line fault.BadArgument fault.Protocol h k = one_decline (argument line) k.0 fault.BadArgument fault.Protocol (same_declined (argument line) h.0 k.0 fault.BadArgument (one_verb (word line) h.0 k.0 h.1 k.1) h.2) k.2
+one_fault line fault.BadArgument fault.Memory h k = one_decline (argument line) k.0 fault.BadArgument fault.Memory (same_declined (argument line) h.0 k.0 fault.BadArgument (one_verb (word line) h.0 k.0 h.1 k.1) h.2) k.2
+one_fault line fault.NotDone fault.Unknown h k = absurd (k h.0 h.1)
+one_fault line fault.NotDone fault.BadArgument h k = one_decline (argument line) k.0 fault.NotDone fault.BadArgument (same_declined (argument line) h.0 k.0 fault.NotDone (one_verb (word line) h.0 k.0 h.1 k.1) h.2) k.2
+one_fault line fault.NotDone fault.NotDone h k = one_decline (argument line) k.0 fault.NotDone fault.NotDone (same_declined (argument line) h.0 k.0 fault.NotDone (one_verb (word line) h.0 k.0 h.1 k.1) h.2) k.2
+one_fault line fault.NotDone fault.BadParameter h k = one_decline (argument line) k.0 fault.NotDone fault.BadParameter (same_declined (argument line) h.0 k.0 fault.NotDone (one_verb (word line) h.0 k.0 h.1 k.1) h.2) k.2
+one_fault line fault.NotDone fault.Protocol h k = one_decline (argument line) k.0 fault.NotDone fault.Protocol (same_declined (argument line) h.0 k.0 fault.NotDone (one_verb (word line) h.0 k.0 h.1 k.1) h.2) k.2
+one_fault line fault.NotDone fault.Memory h k = one_decline (argument line) k.0 fault.NotDone fault.Memory (same_declined (argument line) h.0 k.0 fault.NotDone (one_verb (word line) h.0 k.0 h.1 k.1) h.2) k.2
+one_fault line fault.BadParameter fault.Unknown h k = absurd (k h.0 h.1)
+one_fault line fault.BadParameter fault.BadArgument h k = one_decline (argument line) k.0 fault.BadParameter fault.BadArgument (same_declined (argument line) h.0 k.0 fault.BadParameter (one_verb (word line) h.0 k.0 h.1 k.1) h.2) k.2
+one_fault line fault.BadParameter fault.NotDone h k = one_decline (argument line) k.0 fault.BadParameter fault.NotDone (same_declined (argument line) h.0 k.0 fault.BadParameter (one_verb (word line) h.0 k.0 h.1 k.1) h.2) k.2
+one_fault line fault.BadParameter fault.BadParameter h k = one_decline (argument line) k.0 fault.BadParameter fault.BadParameter (same_declined (argument line) h.0 k.0 fault.BadParameter (one_verb (word line) h.0 k.0 h.1 k.1) h.2) k.2
+one_fault line fault.BadParameter fault.Protocol h k = one_decline (argument line) k.0 fault.BadParameter fault.Protocol (same_declined (argument line) h.0 k.0 fault.BadParameter (one_verb (word line) h.0 k.0 h.1 k.1) h.2) k.2
+one_fault line fault.BadParameter fault.Memory h k = one_decline (argument line) k.0 fault.BadParameter fault.Memory (same_declined (argument line) h.0 k.0 fault.BadParameter (one_verb (word line) h.0 k.0 h.1 k.1) h.2) k.2
+one_fault line fault.Protocol fault.Unknown h k = absurd (k h.0 h.1)
+one_fault line fault.Protocol fault.BadArgument h k = one_decline (argument line) k.0 fault.Protocol fault.BadArgument (same_declined (argument line) h.0 k.0 fault.Protocol (one_verb (word line) h.0 k.0 h.1 k.1) h.2) k.2
+one_fault line fault.Protocol fault.NotDone h k = one_decline (argument line) k.0 fault.Protocol fault.NotDone (same_declined (argument line) h.0 k.0 fault.Protocol (one_verb (word line) h.0 k.0 h.1 k.1) h.2) k.2
+one_fault line fault.Protocol fault.BadParameter h k = one_decline (argument line) k.0 fault.Protocol fault.BadParameter (same_declined (argument line) h.0 k.0 fault.Protocol (one_verb (word line) h.0 k.0 h.1 k.1) h.2) k.2
+one_fault line fault.Protocol fault.Protocol h k = one_decline (argument line) k.0 fault.Protocol fault.Protocol (same_declined (argument line) h.0 k.0 fault.Protocol (one_verb (word line) h.0 k.0 h.1 k.1) h.2) k.2
+one_fault line fault.Protocol fault.Memory h k = one_decline (argument line) k.0 fault.Protocol fault.Memory (same_declined (argument line) h.0 k.0 fault.Protocol (one_verb (word line) h.0 k.0 h.1 k.1) h.2) k.2
+one_fault line fault.Memory fault.Unknown h k = absurd (k h.0 h.1)
+one_fault line fault.Memory fault.BadArgument h k = one_decline (argument line) k.0 fault.Memory fault.BadArgument (same_declined (argument line) h.0 k.0 fault.Memory (one_verb (word line) h.0 k.0 h.1 k.1) h.2) k.2
+one_fault line fault.Memory fault.NotDone h k = one_decline (argument line) k.0 fault.Memory fault.NotDone (same_declined (argument line) h.0 k.0 fault.Memory (one_verb (word line) h.0 k.0 h.1 k.1) h.2) k.2
+one_fault line fault.Memory fault.BadParameter h k = one_decline (argument line) k.0 fault.Memory fault.BadParameter (same_declined (argument line) h.0 k.0 fault.Memory (one_verb (word line) h.0 k.0 h.1 k.1) h.2) k.2
+one_fault line fault.Memory fault.Protocol h k = one_decline (argument line) k.0 fault.Memory fault.Protocol (same_declined (argument line) h.0 k.0 fault.Memory (one_verb (word line) h.0 k.0 h.1 k.1) h.2) k.2
+one_fault line fault.Memory fault.Memory h k = one_decline (argument line) k.0 fault.Memory fault.Memory (same_declined (argument line) h.0 k.0 fault.Memory (one_verb (word line) h.0 k.0 h.1 k.1) h.2) k.2

@@ -1,0 +1,21 @@
+//! What holds of all lines and all commands: functions that do nothing, whose contracts are laws.
+ghost use Rattle.std.specs.Prelude.{◌≡◌, List, ℕ};
+ghost use Rattle.ftp_command.specs.Command.{Refuses, Says};
+ghost use Rattle.ftp_command.specs.Line.{IsStated, IsTyped, line_of};
+ghost use Rattle.ftp_command.specs.declared.command.Command.{Command};
+ghost use Rattle.ftp_command.specs.declared.fault.CommandFault.{CommandFault};
+
+/// No line says two commands, none is said and refused, and none is refused in two ways.
+pub fn one_meaning()
+    ensures command { (line : List ℕ) (v w : Command (List ℕ)) → Says line v → Says line w → v ≡ w }
+    ensures apart { (line : List ℕ) (v : Command (List ℕ)) (fault : CommandFault) → Says line v → ¬ Refuses line fault }
+    ensures fault { (line : List ℕ) (f g : CommandFault) → Refuses line f → Refuses line g → f ≡ g }
+{
+}
+
+/// The line that is written for a command says it, and says no other.
+pub fn round_trip()
+    ensures says { (v : Command (List ℕ)) → IsTyped v → IsStated v → Says (line_of v) v }
+    ensures alone { (v w : Command (List ℕ)) → IsTyped v → IsStated v → Says (line_of v) w → w ≡ v }
+{
+}
