@@ -4,6 +4,9 @@ use Rattle.std.specs.Char.{digit_value, to_ascii_lowercase}
 use Rattle.std.specs.Str.Parse.{AllDigits, IsNumeral, digits_value}
 use Rattle.std.proofs.lemmas.Bool.Decides.{nat_tests}
 use Rattle.std.proofs.lemmas.List.{length-replicate, append_cancel_right, append_cancel_left}
+use Rattle.std.proofs.lemmas.Bool.{false≢true}
+use Rattle.std.proofs.lemmas.Slice.Eq.{bytes_eq-Decides}
+use Rattle.std.specs.Str.{bytes_eq}
 use Rattle.std.proofs.lemmas.Str.Parse.{digit_from_value}
 use Rattle.std.specs.Int.{IsInRange}
 use Rattle.ftp_command.specs.Argument.{IsBlank, IsOtherFamily, IsOtherKind, IsOtherMode, IsOtherStructure, IsPath, SaysEbcdic, SaysKind, SaysLocal, SaysLongest, SaysMode, SaysPassive, SaysPathOrNone, SaysSizes, SaysStructure, SaysTextOrNone, argument, trimmed, without_options, word}
@@ -33,6 +36,10 @@ use Rattle.ftp_command.proofs.EndpointLemmas.{begins_same, six_same}
 use Rattle.ftp_command.proofs.ExtendedLemmas.{same_shape}
 use Rattle.ftp_command.proofs.HostLemmas.{same_groups}
 use Rattle.ftp_command.proofs.VerbLemmas.{one_verb}
+
+-- two texts that differ
+differ : (xs ys : List ℕ) → xs ≡ ys → bytes_eq xs ys ≡ false → ⊥
+differ xs ys e h = false≢true (sym h ∙ (bytes_eq-Decides xs ys).1 e)
 
 -- values of one text are one value
 same_number : (text : List ℕ) (m n : ℕ) → SaysNumber text m → SaysNumber text n → m ≡ n
@@ -89,13 +96,16 @@ same_passive text Only Only h k = refl
 first_lower : (text : List ℕ) (bits : ℕ) → (h : SaysLocal text bits) → map to_ascii_lowercase text ≡ 108 ∷ 32 ∷ map to_ascii_lowercase h.digits
 first_lower text bits h = ap (map to_ascii_lowercase) h.text_is ∙ ap (λ c. c ∷ 32 ∷ map to_ascii_lowercase h.digits) h.is_letter
 
+ebcdic_lower : (text : List ℕ) → (h : SaysEbcdic text) → map to_ascii_lowercase text ≡ 101 ∷ 32 ∷ to_ascii_lowercase h.format ∷ []
+ebcdic_lower text h = ap (map to_ascii_lowercase) h.text_is ∙ ap (λ c. c ∷ 32 ∷ to_ascii_lowercase h.format ∷ []) h.is_letter
+
 no_ascii_image : (text : List ℕ) → SaysKind text Ascii → SaysKind text Image → ⊥
-no_ascii_image text (inl h) (inl k) = absurd (cc)
-no_ascii_image text (inr (inl h)) (inl k) = absurd (cc)
-no_ascii_image text (inr (inr h)) (inl k) = absurd (cc)
-no_ascii_image text (inl h) (inr k) = let e = first_lower text 8 k in absurd (cc)
-no_ascii_image text (inr (inl h)) (inr k) = let e = first_lower text 8 k in absurd (cc)
-no_ascii_image text (inr (inr h)) (inr k) = let e = first_lower text 8 k in absurd (cc)
+no_ascii_image text (inl h) (inl k) = differ _ _ (sym h ∙ k) refl
+no_ascii_image text (inr (inl h)) (inl k) = differ _ _ (sym h ∙ k) refl
+no_ascii_image text (inr (inr h)) (inl k) = differ _ _ (sym h ∙ k) refl
+no_ascii_image text (inl h) (inr k) = differ _ _ (sym h ∙ first_lower text 8 k) refl
+no_ascii_image text (inr (inl h)) (inr k) = differ _ _ (sym h ∙ first_lower text 8 k) refl
+no_ascii_image text (inr (inr h)) (inr k) = differ _ _ (sym h ∙ first_lower text 8 k) refl
 
 same_local : (text : List ℕ) (m n : ℕ) → SaysLocal text m → SaysLocal text n → m ≡ n
 same_local text m n h k =
@@ -112,14 +122,14 @@ same_kind text Image Image h k = refl
 
 same_structure : (text : List ℕ) (v w : Structure) → SaysStructure text v → SaysStructure text w → v ≡ w
 same_structure text File File h k = refl
-same_structure text File Record h k = absurd (cc)
-same_structure text Record File h k = absurd (cc)
+same_structure text File Record h k = absurd (differ _ _ (sym h ∙ k) refl)
+same_structure text Record File h k = absurd (differ _ _ (sym h ∙ k) refl)
 same_structure text Record Record h k = refl
 
 same_mode : (text : List ℕ) (v w : Mode) → SaysMode text v → SaysMode text w → v ≡ w
 same_mode text Stream Stream h k = refl
-same_mode text Stream Block h k = absurd (cc)
-same_mode text Block Stream h k = absurd (cc)
+same_mode text Stream Block h k = absurd (differ _ _ (sym h ∙ k) refl)
+same_mode text Block Stream h k = absurd (differ _ _ (sym h ∙ k) refl)
 same_mode text Block Block h k = refl
 
 same_longest : (text : List ℕ) (m n : ℕ) → SaysLongest text m → SaysLongest text n → m ≡ n
@@ -247,34 +257,34 @@ said_done a command.Stat h k = k h
 said_done a v h k = absurd k
 
 no_other_kind : (text : List ℕ) (v : Kind) → SaysKind text v → IsOtherKind text → ⊥
-no_other_kind text Ascii (inl h) (inl (inl k)) = absurd (cc)
-no_other_kind text Ascii (inl h) (inl (inr (inl k))) = absurd (cc)
-no_other_kind text Ascii (inl h) (inl (inr (inr k))) = let e = ap (map to_ascii_lowercase) k.text_is in let f = k.is_letter in absurd (cc)
-no_other_kind text Ascii (inl h) (inr k) = let e = first_lower text k.0 k.1 in absurd (cc)
-no_other_kind text Ascii (inr (inl h)) (inl (inl k)) = absurd (cc)
-no_other_kind text Ascii (inr (inl h)) (inl (inr (inl k))) = absurd (cc)
-no_other_kind text Ascii (inr (inl h)) (inl (inr (inr k))) = let e = ap (map to_ascii_lowercase) k.text_is in let f = k.is_letter in absurd (cc)
-no_other_kind text Ascii (inr (inl h)) (inr k) = let e = first_lower text k.0 k.1 in absurd (cc)
-no_other_kind text Ascii (inr (inr h)) (inl (inl k)) = absurd (cc)
-no_other_kind text Ascii (inr (inr h)) (inl (inr (inl k))) = absurd (cc)
-no_other_kind text Ascii (inr (inr h)) (inl (inr (inr k))) = let e = ap (map to_ascii_lowercase) k.text_is in let f = k.is_letter in absurd (cc)
-no_other_kind text Ascii (inr (inr h)) (inr k) = let e = first_lower text k.0 k.1 in absurd (cc)
-no_other_kind text Image (inl h) (inl (inl k)) = absurd (cc)
-no_other_kind text Image (inl h) (inl (inr (inl k))) = absurd (cc)
-no_other_kind text Image (inl h) (inl (inr (inr k))) = let e = ap (map to_ascii_lowercase) k.text_is in let f = k.is_letter in absurd (cc)
-no_other_kind text Image (inl h) (inr k) = let e = first_lower text k.0 k.1 in absurd (cc)
-no_other_kind text Image (inr h) (inl (inl k)) = let e = first_lower text 8 h in absurd (cc)
-no_other_kind text Image (inr h) (inl (inr (inl k))) = let e = first_lower text 8 h in absurd (cc)
-no_other_kind text Image (inr h) (inl (inr (inr k))) = let d = first_lower text 8 h in let e = ap (map to_ascii_lowercase) k.text_is in let f = k.is_letter in absurd (cc)
+no_other_kind text Ascii (inl h) (inl (inl k)) = differ _ _ (sym h ∙ k) refl
+no_other_kind text Ascii (inl h) (inl (inr (inl k))) = differ _ _ (sym h ∙ k) refl
+no_other_kind text Ascii (inl h) (inl (inr (inr k))) = differ _ _ (sym h ∙ ebcdic_lower text k) refl
+no_other_kind text Ascii (inl h) (inr k) = differ _ _ (sym h ∙ first_lower text k.0 k.1) refl
+no_other_kind text Ascii (inr (inl h)) (inl (inl k)) = differ _ _ (sym h ∙ k) refl
+no_other_kind text Ascii (inr (inl h)) (inl (inr (inl k))) = differ _ _ (sym h ∙ k) refl
+no_other_kind text Ascii (inr (inl h)) (inl (inr (inr k))) = differ _ _ (sym h ∙ ebcdic_lower text k) refl
+no_other_kind text Ascii (inr (inl h)) (inr k) = differ _ _ (sym h ∙ first_lower text k.0 k.1) refl
+no_other_kind text Ascii (inr (inr h)) (inl (inl k)) = differ _ _ (sym h ∙ k) refl
+no_other_kind text Ascii (inr (inr h)) (inl (inr (inl k))) = differ _ _ (sym h ∙ k) refl
+no_other_kind text Ascii (inr (inr h)) (inl (inr (inr k))) = differ _ _ (sym h ∙ ebcdic_lower text k) refl
+no_other_kind text Ascii (inr (inr h)) (inr k) = differ _ _ (sym h ∙ first_lower text k.0 k.1) refl
+no_other_kind text Image (inl h) (inl (inl k)) = differ _ _ (sym h ∙ k) refl
+no_other_kind text Image (inl h) (inl (inr (inl k))) = differ _ _ (sym h ∙ k) refl
+no_other_kind text Image (inl h) (inl (inr (inr k))) = differ _ _ (sym h ∙ ebcdic_lower text k) refl
+no_other_kind text Image (inl h) (inr k) = differ _ _ (sym h ∙ first_lower text k.0 k.1) refl
+no_other_kind text Image (inr h) (inl (inl k)) = differ _ _ (sym (first_lower text 8 h) ∙ k) refl
+no_other_kind text Image (inr h) (inl (inr (inl k))) = differ _ _ (sym (first_lower text 8 h) ∙ k) refl
+no_other_kind text Image (inr h) (inl (inr (inr k))) = differ _ _ (sym (first_lower text 8 h) ∙ ebcdic_lower text k) refl
 no_other_kind text Image (inr h) (inr k) = k.2 (same_local text k.0 8 k.1 h)
 
 no_other_structure : (text : List ℕ) (v : Structure) → SaysStructure text v → IsOtherStructure text → ⊥
-no_other_structure text File h k = absurd (cc)
-no_other_structure text Record h k = absurd (cc)
+no_other_structure text File h k = differ _ _ (sym h ∙ k) refl
+no_other_structure text Record h k = differ _ _ (sym h ∙ k) refl
 
 no_other_mode : (text : List ℕ) (v : Mode) → SaysMode text v → IsOtherMode text → ⊥
-no_other_mode text Stream h k = absurd (cc)
-no_other_mode text Block h k = absurd (cc)
+no_other_mode text Stream h k = differ _ _ (sym h ∙ k) refl
+no_other_mode text Block h k = differ _ _ (sym h ∙ k) refl
 
 said_parameter : (a : List ℕ) (v : Command (List ℕ)) → Argues a v → IsOtherParameter a (verb_of v) → ⊥
 said_parameter a (command.Repr x) h k = no_other_kind (trimmed a) x h k

@@ -282,7 +282,7 @@ says_v4 (a ∷ b ∷ c ∷ d ∷ []) h = record {
   b = b;
   c = c;
   d = d;
-  numbers = begins_more 46 a _ b _ [] refl h.1.0 (begins_more 46 b _ c _ [] refl h.1.1.0 (begins_more 46 c _ d _ [] refl h.1.1.1.0 (begins_last 46 d h.1.1.1.1.0)));
+  numbers = begins_more 46 a (decimal b ++ 46 ∷ (decimal c ++ 46 ∷ decimal d)) b (c ∷ d ∷ []) [] refl h.1.0 (begins_more 46 b (decimal c ++ 46 ∷ decimal d) c (d ∷ []) [] refl h.1.1.0 (begins_more 46 c (decimal d) d [] [] refl h.1.1.1.0 (begins_last 46 d h.1.1.1.1.0)));
   value = refl;
 }
 
@@ -298,7 +298,20 @@ says_six (a ∷ b ∷ c ∷ d ∷ e ∷ xs) port h small = absurd (omega (arith,
 says_six (a ∷ b ∷ c ∷ d ∷ []) port h small =
     let tail : List ℕ = 44 ∷ (decimal (port / 256) ++ (44 ∷ decimal (port % 256))) in
     let P : List ℕ → Type 0 = λ x. BeginsWith 44 x (a ∷ b ∷ c ∷ d ∷ (port / 256) ∷ (port % 256) ∷ []) [] in
-    let nested = begins_more 44 a _ b _ [] refl h.1.0 (begins_more 44 b _ c _ [] refl h.1.1.0 (begins_more 44 c _ d _ [] refl h.1.1.1.0 (begins_more 44 d _ (port / 256) _ [] refl h.1.1.1.1.0 (begins_more 44 (port / 256) _ (port % 256) _ [] refl (omega (arith, small)) (begins_last 44 (port % 256) (omega arith)))))) in
+    let p : ℕ = port / 256 in
+    let q : ℕ = port % 256 in
+    let high : p < 256 = omega (arith, small) in
+    let low : q < 256 = omega arith in
+    let t5 : List ℕ = decimal q in
+    let t4 : List ℕ = decimal p ++ 44 ∷ t5 in
+    let t3 : List ℕ = decimal d ++ 44 ∷ t4 in
+    let t2 : List ℕ = decimal c ++ 44 ∷ t3 in
+    let t1 : List ℕ = decimal b ++ 44 ∷ t2 in
+    let n5 : BeginsWith 44 t4 (p ∷ q ∷ []) [] = begins_more 44 p t5 q [] [] refl high (begins_last 44 q low) in
+    let n4 : BeginsWith 44 t3 (d ∷ p ∷ q ∷ []) [] = begins_more 44 d t4 p (q ∷ []) [] refl h.1.1.1.1.0 n5 in
+    let n3 : BeginsWith 44 t2 (c ∷ d ∷ p ∷ q ∷ []) [] = begins_more 44 c t3 d (p ∷ q ∷ []) [] refl h.1.1.1.0 n4 in
+    let n2 : BeginsWith 44 t1 (b ∷ c ∷ d ∷ p ∷ q ∷ []) [] = begins_more 44 b t2 c (d ∷ p ∷ q ∷ []) [] refl h.1.1.0 n3 in
+    let nested = begins_more 44 a t1 b (c ∷ d ∷ p ∷ q ∷ []) [] refl h.1.0 n2 in
     record {
       h1 = a;
       h2 = b;
@@ -337,14 +350,14 @@ is_hex_two : (n : ℕ) → n < 256 → IsHex (digit_char (n / 16) ∷ digit_char
 is_hex_two n small =
     let a : n / 16 < 16 = omega (arith, small) in
     let b : n % 16 < 16 = omega arith in
-    record { some = omega arith; few = omega arith; all = (below (n / 16) a, below (n % 16) b, tt); value = omega (arith, hex_value (n / 16) a, hex_value (n % 16) b) }
+    record { some = omega arith; few = omega arith; all = (below (n / 16) a, (below (n % 16) b, tt)); value = omega (arith, hex_value (n / 16) a, hex_value (n % 16) b) }
 
 is_hex_three : (n : ℕ) → n < 4096 → IsHex (digit_char (n / 256) ∷ digit_char (n / 16 % 16) ∷ digit_char (n % 16) ∷ []) n
 is_hex_three n small =
     let a : n / 256 < 16 = omega (arith, small) in
     let b : n / 16 % 16 < 16 = omega arith in
     let c : n % 16 < 16 = omega arith in
-    record { some = omega arith; few = omega arith; all = (below (n / 256) a, below (n / 16 % 16) b, below (n % 16) c, tt); value = omega (arith, hex_value (n / 256) a, hex_value (n / 16 % 16) b, hex_value (n % 16) c) }
+    record { some = omega arith; few = omega arith; all = (below (n / 256) a, (below (n / 16 % 16) b, (below (n % 16) c, tt))); value = omega (arith, hex_value (n / 256) a, hex_value (n / 16 % 16) b, hex_value (n % 16) c) }
 
 is_hex_four : (n : ℕ) → n < 65536 → IsHex (digit_char (n / 4096) ∷ digit_char (n / 256 % 16) ∷ digit_char (n / 16 % 16) ∷ digit_char (n % 16) ∷ []) n
 is_hex_four n small =
@@ -352,7 +365,7 @@ is_hex_four n small =
     let b : n / 256 % 16 < 16 = omega arith in
     let c : n / 16 % 16 < 16 = omega arith in
     let d : n % 16 < 16 = omega arith in
-    record { some = omega arith; few = omega arith; all = (below (n / 4096) a, below (n / 256 % 16) b, below (n / 16 % 16) c, below (n % 16) d, tt); value = omega (arith, hex_value (n / 4096) a, hex_value (n / 256 % 16) b, hex_value (n / 16 % 16) c, hex_value (n % 16) d) }
+    record { some = omega arith; few = omega arith; all = (below (n / 4096) a, (below (n / 256 % 16) b, (below (n / 16 % 16) c, (below (n % 16) d, tt)))); value = omega (arith, hex_value (n / 4096) a, hex_value (n / 256 % 16) b, hex_value (n / 16 % 16) c, hex_value (n % 16) d) }
 
 lt_of : (m n : ℕ) → nat_lt m n ≡ true → m < n
 lt_of m n h = grind (arith, nat_tests)
