@@ -2,7 +2,7 @@
 use Rattle.std.proofs.Common.{◌≡◌, ℕ, ◌+◌, ◌≤◌, ◌∙◌, Option, Some, None, List, ◌++◌, length, take, subst, sym, ap, arith, length-append, append-nil, []}
 use Rattle.std.proofs.Math.Seq.{take-append_seam, take-append-add}
 use Rattle.std.proofs.lemmas.List.{take-append-le}
-use Rattle.std.proofs.KnownBytes.{Appends-trans}
+use Rattle.std.proofs.KnownBytes.{Appends-nil, Appends-trans}
 use Rattle.std.specs.Io.KnownBytes.{Appends, Consumes, Keeps}
 use Rattle.ftp_tool.specs.Beginning.{AppendsFront}
 
@@ -34,3 +34,7 @@ Keeps-then-Consumes (Some l) (Some m) (Some n) xs kept read = sym kept ∙ read
 -- all of some octets are a beginning of them
 pub Appends-whole : (a b : Option (List ℕ)) (xs : List ℕ) → Appends a b xs → AppendsFront a b xs
 Appends-whole a b xs all = subst (λ l. AppendsFront a b l) (append-nil xs) (Appends-front a b xs [] all)
+
+-- nothing is a beginning of anything
+pub AppendsFront-none : (a : Option (List ℕ)) (xs : List ℕ) → AppendsFront a a xs
+AppendsFront-none a xs = (0, omega arith, Appends-nil a)

@@ -1,5 +1,5 @@
-pub mod Replying
-pub mod Fronts
-pub mod Texts
-pub mod Stepping
 pub mod Conversing
+pub mod Fronts
+pub mod Replying
+pub mod Stepping
+pub mod Texts

@@ -1,8 +1,8 @@
 pub mod Beginning
 pub mod Converses
 pub mod Dialogue
+pub mod Hearing
 pub mod Login
 pub mod Replies
-pub mod Request
 pub mod Session
-pub mod Hearing
+pub mod Turns

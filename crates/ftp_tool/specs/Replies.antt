@@ -4,7 +4,7 @@ use Rattle.ftp_tree.specs.Path.{text_of}
 use Rattle.ftp_tool.specs.declared.reply.Reply.{Reply}
 use Rattle.ftp_tool.specs.declared.reply.Reply.TheVariants.{Fixed, Created, Owed}
 use Rattle.ftp_tool.specs.declared.text.Text.{Text}
-use Rattle.ftp_tool.specs.declared.text.Text.TheVariants.{Ready, Done, Goodbye, LoggedIn, Here, PasswordNeeded, Unknown, TooLong, BadArgument, BadSequence, NotLoggedIn, LoginRefused, Refused}
+use Rattle.ftp_tool.specs.declared.text.Text.TheVariants.{Ready, Done, Goodbye, LoggedIn, Here, PasswordNeeded, Unknown, TooLong, BadArgument, NotImplemented, BadSequence, BadParameter, BadProtocol, NotLoggedIn, LoginRefused, Refused}
 
 -- the replies whose text is always the same
 unfoldable pub text_line : Text → List ℕ
@@ -17,7 +17,10 @@ text_line PasswordNeeded = codes "331 Password needed\r\n"
 text_line Unknown = codes "500 Unknown command\r\n"
 text_line TooLong = codes "500 Line too long\r\n"
 text_line BadArgument = codes "501 Bad argument\r\n"
+text_line NotImplemented = codes "502 Not implemented\r\n"
 text_line BadSequence = codes "503 Bad sequence\r\n"
+text_line BadParameter = codes "504 Parameter not implemented\r\n"
+text_line BadProtocol = codes "522 Network protocol not supported, use (1,2)\r\n"
 text_line NotLoggedIn = codes "530 Not logged in\r\n"
 text_line LoginRefused = codes "530 Login refused\r\n"
 text_line Refused = codes "550 Refused\r\n"

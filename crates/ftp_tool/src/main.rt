@@ -6,7 +6,6 @@ mod dialogues;
 mod login;
 mod pieces;
 mod reply;
-mod request;
 mod session;
 #[cfg(test)]
 mod tests;

@@ -62,7 +62,7 @@ fn refused_lines(rt: HostRuntime) {
     answers(
         &rt,
         alloc,
-        b"\r\n NOOP\r\nRETR f\r\n",
+        b"\r\n NOOP\r\nXYZ f\r\n",
         1,
         b"220 Ready\r\n500 Unknown command\r\n500 Unknown command\r\n500 Unknown command\r\n",
     );
@@ -79,6 +79,13 @@ fn refused_lines(rt: HostRuntime) {
         b"PWD\r\nMKD d\r\nPASS\r\n",
         1,
         b"220 Ready\r\n530 Not logged in\r\n530 Not logged in\r\n503 Bad sequence\r\n",
+    );
+    answers(
+        &rt,
+        alloc,
+        b"TYPE I\r\nUSER anonymous\r\nTYPE I\r\nTYPE L 16\r\nEPRT |3|x|1930|\r\nSTOU\r\nFEAT\r\n",
+        1,
+        b"220 Ready\r\n530 Not logged in\r\n230 Logged in\r\n502 Not implemented\r\n504 Parameter not implemented\r\n522 Network protocol not supported, use (1,2)\r\n502 Not implemented\r\n502 Not implemented\r\n",
     );
     answers(
         &rt,

@@ -1,6 +1,7 @@
-use Rattle.std.proofs.Common.{◌≡◌, ◌++◌, Ok, Err, Result, ap, sym, subst, take, arith, refl, ◌∙◌}
+use Rattle.std.proofs.Common.{◌≡◌, ◌++◌, Ok, Err, Result, ap, sym, subst, take, arith, refl, ◌∙◌, rules}
 use Rattle.std.specs.Io.KnownBytes.{Appends, Consumes}
 use Rattle.std.proofs.KnownBytes.{Keeps-refl}
+use Rattle.ftp_tool.proofs.Fronts.{AppendsFront-none}
 use Rattle.ftp_tool.proofs.Conversing.{begins, breaks_at_start, ends_failed, ends_at_end, ends_over, follows_on, breaks_off, breaks_between}
 use Rattle.ftp_tool.specs.Beginning.{AppendsFront}
 use Rattle.ftp_tool.specs.Dialogue.{transcript}
@@ -58,3 +59,14 @@ loop-preserved g c =
     let stands = subst (λ life. StandsAfter (follows.octets ++ octets) old (contents c.hear.new.writer) (Ok life) c.hear.new.self) c.in-GoesOn.is
     (c.in_ok-hear.ensures follows.octets old follows.stands) in
     follows_on _ _ _ old _ _ octets c.loop.connection c.hear.new.self follows read stands
+
+pub returns-in_err-connection : goal.returns-in_err-connection
+returns-in_err-connection g c =
+    ends_failed _ _ _ _ c.from_residual.result c.from_residual.ensures.0 (breaks_at_start _ _ _ (AppendsFront-none _ _))
+
+pub returns-then-count-eq0 : goal.returns-then-count-eq0
+returns-then-count-eq0 g c =
+    let count = c.in_ok-count.count in
+    let none : count ≡ 0 = c.if-count-eq0.true in
+    ends_at_end _ _ _ _ _ (take count c.get.new.room) c.loop.connection c.loop.invariant c.in_ok-count.ensures.ok
+    (ap (λ n. take n c.get.new.room) none) (c.in_ok-count.ensures.end none (search rules))

@@ -1,6 +1,8 @@
 use Rattle.std.proofs.Common.{◌≡◌, ◌∙◌, ◌+◌, ◌++◌, Ok, ap, sym, subst, take, drop, append_assoc, rules}
 use Rattle.std.proofs.Math.Seq.{take-add}
-use Rattle.ftp_tool.specs.Hearing.{GoesOnAfter, StepsAfter, TakesSome}
+use Rattle.std.proofs.lemmas.List.{take-append-drop}
+use Rattle.ftp_tool.proofs.Stepping.{stands_failed}
+use Rattle.ftp_tool.specs.Hearing.{GoesOnAfter, IsBrokenAfter, IsOverAfter, StepsAfter, TakesSome}
 use Rattle.ftp_tool.proofs.dialogues.Connection.hear.Goals as goal
 
 pub loop-at-preserved : goal.loop-at-preserved
@@ -21,3 +23,25 @@ loop-at-preserved g c =
           ∙ ap (λ l. octets ++ l) (sym (take-add at count piece)) in
           subst (λ l. GoesOnAfter l before (contents c.step.new.writer) c.step.new.self) same stepped;
     }
+
+pub returns-in_err-count : goal.returns-in_err-count
+returns-in_err-count g c octets before stands =
+    let contents = g.W.Write.contents in
+    let piece = c.args.piece.now in
+    let rest = c.split_at.result.1.now in
+    let at = c.loop-at.at in
+    let broken = c.in_err-count.ensures.stands (octets ++ take at piece) before (c.loop-at.invariant.stands octets before stands) in
+    let whole = append_assoc octets (take at piece) rest ∙ ap (λ l. octets ++ (take at piece ++ l)) c.split_at.ensures.back ∙ ap (λ l. octets ++ l) (take-append-drop at piece) in
+    stands_failed (octets ++ piece) before _ c.from_residual.result c.step.new.self c.from_residual.ensures.0
+    (subst (λ l. IsBrokenAfter l before (contents c.step.new.writer)) whole broken)
+
+pub returns-in-Ended : goal.returns-in-Ended
+returns-in-Ended g c octets before stands =
+    let contents = g.W.Write.contents in
+    let piece = c.args.piece.now in
+    let rest = c.split_at.result.1.now in
+    let at = c.loop-at.at in
+    let over = subst (λ step. StepsAfter (octets ++ take at piece) rest before (contents c.step.new.writer) (Ok step) c.step.new.self) c.in-Ended.is
+    (c.in_ok-count.ensures.stands (octets ++ take at piece) before (c.loop-at.invariant.stands octets before stands)) in
+    let whole = append_assoc octets (take at piece) rest ∙ ap (λ l. octets ++ (take at piece ++ l)) c.split_at.ensures.back ∙ ap (λ l. octets ++ l) (take-append-drop at piece) in
+    subst (λ l. IsOverAfter l before (contents c.step.new.writer) c.step.new.self) whole over
