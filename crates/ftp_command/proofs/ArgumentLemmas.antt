@@ -23,7 +23,7 @@ pub all_spaces : (text : List ℕ) (n : ℕ) → length text ≤ n → ((k : ℕ
 all_spaces text n past before = spaces_are text (length text) (omega arith) (λ k lt. before k (omega arith)) (λ lt. absurd (omega arith))
 
 -- a space at the end is dropped, another octet is the end
-trimmed-cons : (x : ℕ) (xs : List ℕ) (b : Bool) → list_all is_space (x ∷ xs) ≡ b → trimmed (x ∷ xs) ≡ cond b [] (x ∷ trimmed xs)
+pub trimmed-cons : (x : ℕ) (xs : List ℕ) (b : Bool) → list_all is_space (x ∷ xs) ≡ b → trimmed (x ∷ xs) ≡ cond b [] (x ∷ trimmed xs)
 trimmed-cons x xs b e = rw e refl
 
 all-push : (xs : List ℕ) (c : ℕ) → is_space c ≡ true → list_all is_space (xs ++ c ∷ []) ≡ list_all is_space xs
@@ -69,13 +69,13 @@ shorter-45 xs =
     let inner : length rest ≡ length (45 ∷ xs) - (1 + p) = length-drop (1 + p) (45 ∷ xs) in
     omega (arith, outer, inner)
 
-shorter : (x : ℕ) (xs : List ℕ) → eqb x 45 ≡ true → length (behind_word (x ∷ xs)) ≤ length xs
+pub shorter : (x : ℕ) (xs : List ℕ) → eqb x 45 ≡ true → length (behind_word (x ∷ xs)) ≤ length xs
 shorter x xs e =
     let P : ℕ → Type 0 = λ c. length (behind_word (c ∷ xs)) ≤ length xs in
     subst P (sym (eqb-true x 45 e)) (shorter-45 xs)
 
 -- more turns than octets change nothing
-without-step : (n : ℕ) (text : List ℕ) (b : Bool) → begins_with 45 text ≡ b → without (suc n) text ≡ cond b (without n (behind_word text)) text
+pub without-step : (n : ℕ) (text : List ℕ) (b : Bool) → begins_with 45 text ≡ b → without (suc n) text ≡ cond b (without n (behind_word text)) text
 without-step n text b e = ap (λ t. cond t (without n (behind_word text)) text) e
 
 enough-by : (n m : ℕ) (x : ℕ) (xs : List ℕ) (b : Bool) → eqb x 45 ≡ b → (b ≡ true → without n (behind_word (x ∷ xs)) ≡ without m (behind_word (x ∷ xs))) → without (suc n) (x ∷ xs) ≡ without (suc m) (x ∷ xs)

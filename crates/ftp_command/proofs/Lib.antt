@@ -9,3 +9,4 @@ pub mod CommandLemmas
 pub mod LineLemmas
 pub mod LawLemmas
 pub mod RoundTripLemmas
+pub mod StatedLemmas

@@ -138,6 +138,11 @@ IsWords words =
     (1 ≤ length words) × (trimmed words ≡ words) × IsTrue (list_all is_no_feed words)
     × (length words + count_by (λ c. c == 13) words + 7 ≤ 1024)
 
+-- a line without its end that a control connection can carry: no LF, and with CR NUL for CR, and CR LF, at most
+-- 1,024 octets
+abbrev pub IsLine : List ℕ → Type 0
+IsLine line = IsTrue (list_all is_no_feed line) × (length line + count_by (λ c. c == 13) line + 2 ≤ 1024)
+
 -- a path that LIST would not take for an option
 abbrev pub IsListed : List ℕ → Type 0
 IsListed path = IsPath path × (begins_with 45 path ≡ false)

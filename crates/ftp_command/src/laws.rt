@@ -1,7 +1,7 @@
 //! What holds of all lines and all commands: functions that do nothing, whose contracts are laws.
 ghost use Rattle.std.specs.Prelude.{◌≡◌, List, ℕ};
 ghost use Rattle.ftp_command.specs.Command.{Refuses, Says};
-ghost use Rattle.ftp_command.specs.Line.{IsStated, IsTyped, line_of};
+ghost use Rattle.ftp_command.specs.Line.{IsLine, IsStated, IsTyped, line_of};
 ghost use Rattle.ftp_command.specs.declared.command.Command.{Command};
 ghost use Rattle.ftp_command.specs.declared.fault.CommandFault.{CommandFault};
 
@@ -17,5 +17,11 @@ pub fn one_meaning()
 pub fn round_trip()
     ensures says { (v : Command (List ℕ)) → IsTyped v → IsStated v → Says (line_of v) v }
     ensures alone { (v w : Command (List ℕ)) → IsTyped v → IsStated v → Says (line_of v) w → w ≡ v }
+{
+}
+
+/// Where `write` says BadArgument, no line says the command.
+pub fn only_stated()
+    ensures { (line : List ℕ) (v : Command (List ℕ)) → IsLine line → Says line v → IsStated v }
 {
 }

@@ -24,7 +24,7 @@ pub use decimal::{number, octet, octet_in_front, port, split_digits};
 pub use endpoint::{Endpoint, after, is_delimiter, port_in_front, six_in_front, six_numbers};
 pub use fault::CommandFault;
 pub use host::Host;
-pub use laws::{one_meaning, round_trip};
+pub use laws::{one_meaning, only_stated, round_trip};
 pub use reading::read;
 pub use text::Text;
 pub use verb::{Verb, verb_of};
