@@ -1,5 +1,5 @@
 -- No line says two commands, none is both said and refused, none is refused in two ways.
-use Rattle.std.proofs.Common.{◌≡◌, ◌≢◌, ◌⊎◌, inl, inr, ℕ, zero, suc, ◌+◌, ◌<◌, ◌≤◌, ◌++◌, Bool, true, false, List, [], ◌∷◌, length, map, replicate, refl, sym, ap, subst, ◌∙◌, Option, Some, None, arith, codes, length-append}
+use Rattle.std.proofs.Common.{◌≡◌, ◌≢◌, ◌⊎◌, inl, inr, ℕ, zero, suc, ◌+◌, ◌<◌, ◌≤◌, ◌++◌, Bool, true, false, List, [], ◌∷◌, length, map, replicate, refl, sym, ap, subst, ◌∙◌, Option, Some, None, arith, codes, length-append, Result, Ok, Err, IfOk, IfErr}
 use Rattle.std.specs.Char.{digit_value, to_ascii_lowercase}
 use Rattle.std.specs.Str.Parse.{AllDigits, IsNumeral, digits_value}
 use Rattle.std.proofs.lemmas.Bool.Decides.{nat_tests}
@@ -424,3 +424,14 @@ one_fault line fault.Memory fault.NotDone h k = one_decline (argument line) k.0 
 one_fault line fault.Memory fault.BadParameter h k = one_decline (argument line) k.0 fault.Memory fault.BadParameter (same_declined (argument line) h.0 k.0 fault.Memory (one_verb (word line) h.0 k.0 h.1 k.1) h.2) k.2
 one_fault line fault.Memory fault.Protocol h k = one_decline (argument line) k.0 fault.Memory fault.Protocol (same_declined (argument line) h.0 k.0 fault.Memory (one_verb (word line) h.0 k.0 h.1 k.1) h.2) k.2
 one_fault line fault.Memory fault.Memory h k = one_decline (argument line) k.0 fault.Memory fault.Memory (same_declined (argument line) h.0 k.0 fault.Memory (one_verb (word line) h.0 k.0 h.1 k.1) h.2) k.2
+
+-- an outcome that is said or refused is the one that the line has
+pub exactly_said : (line : List ℕ) (r : Result (Command (List ℕ)) CommandFault) → IfOk r (λ v. Says line v) → IfErr r (λ f. (f ≡ fault.Memory) ⊎ Refuses line f) → (v : Command (List ℕ)) → Says line v → (r ≡ Ok v) ⊎ (r ≡ Err fault.Memory)
+exactly_said line (Ok w) h k v says = inl (ap Ok (one_command line w v h says))
+exactly_said line (Err f) h (inl k) v says = inr (ap Err k)
+exactly_said line (Err f) h (inr k) v says = absurd (not_refused line v f says k)
+
+pub exactly_refused : (line : List ℕ) (r : Result (Command (List ℕ)) CommandFault) → IfOk r (λ v. Says line v) → IfErr r (λ f. (f ≡ fault.Memory) ⊎ Refuses line f) → (g : CommandFault) → Refuses line g → (r ≡ Err g) ⊎ (r ≡ Err fault.Memory)
+exactly_refused line (Ok w) h k g refuses = absurd (not_refused line w g h refuses)
+exactly_refused line (Err f) h (inl k) g refuses = inr (ap Err k)
+exactly_refused line (Err f) h (inr k) g refuses = inl (ap Err (one_fault line f g k refuses))

@@ -1,10 +1,12 @@
 // Reading a command line.
-ghost use Rattle.std.specs.Prelude.{◌≡◌, ◌⊎◌, ◌≤◌, ℕ, List, [], IfErr, IfOk, IfSome, IfNone, IsTrue, OnOk, Option, length};
+ghost use Rattle.std.specs.Prelude.{Ok, Err, ◌≡◌, ◌⊎◌, ◌≤◌, ℕ, List, [], IfErr, IfOk, IfSome, IfNone, IsTrue, OnOk, Option, length};
 ghost use Rattle.ftp_command.specs.Argument.{IsBlank, IsName, IsPassword, IsPath, SaysPathOrNone, SaysSizes, SaysTextOrNone, argument, trimmed, without_options, word};
 ghost use Rattle.ftp_command.specs.Command.{Argues, Declined, Refuses, Says, verb_of};
 ghost use Rattle.ftp_command.specs.Endpoint.{SaysSix};
 ghost use Rattle.ftp_command.specs.Number.{SaysNumber};
 ghost use Rattle.ftp_command.specs.Verb.{Names};
+ghost use Rattle.ftp_command.specs.declared.command.Command.{Command};
+ghost use Rattle.ftp_command.specs.declared.fault.CommandFault.{CommandFault};
 
 use crate::argument::{drop_options, is_blank, is_name, is_password, is_path, split_line, trim};
 use crate::command::Command;
@@ -22,6 +24,15 @@ use std::alloc::Allocator;
 /// The word before the first SP names the verb, in capitals or small letters; all octets behind that SP are the
 /// argument. Each fault stands for one reply: see `CommandFault`. Memory is asked for last.
 pub fn read<A: Allocator>(alloc: A, line: &[u8]) -> Result<Command<Text<A>>, CommandFault>
+    ensures says { IfOk result (λ command. Says line.now command) }
+    ensures refuses { IfErr result (λ fault. (fault ≡ CommandFault.Memory) ⊎ Refuses line.now fault) }
+    ensures said { (command : Command (List ℕ)) → Says line.now command → (result ≡ Ok command) ⊎ (result ≡ Err CommandFault.Memory) }
+    ensures refused { (fault : CommandFault) → Refuses line.now fault → (result ≡ Err fault) ⊎ (result ≡ Err CommandFault.Memory) }
+{
+    read_line(alloc, line)
+}
+
+fn read_line<A: Allocator>(alloc: A, line: &[u8]) -> Result<Command<Text<A>>, CommandFault>
     ensures says { IfOk result (λ command. Says line.now command) }
     ensures refuses { IfErr result (λ fault. (fault ≡ CommandFault.Memory) ⊎ Refuses line.now fault) }
 {
