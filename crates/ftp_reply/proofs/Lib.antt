@@ -6,3 +6,4 @@ pub mod QuotedLemmas
 pub mod FirstLemmas
 pub mod MarkLemmas
 pub mod LawLemmas
+pub mod ValueLemmas

@@ -9,7 +9,7 @@ use Rattle.ftp_reply.specs.Values.{doubled_octet, doubled, Closes, Quotes}
 abbrev pub IsClosed : Text → Type 0
 IsClosed text = (path : Text) × (behind : Text) × Closes text path behind
 
-doubled_as : (x : ℕ) (b : Bool) → (x == 34) ≡ b → ((x ≡ 34) × (doubled_octet x ≡ 34 ∷ 34 ∷ [])) ⊎ ((x ≢ 34) × (doubled_octet x ≡ x ∷ []))
+pub doubled_as : (x : ℕ) (b : Bool) → (x == 34) ≡ b → ((x ≡ 34) × (doubled_octet x ≡ 34 ∷ 34 ∷ [])) ⊎ ((x ≢ 34) × (doubled_octet x ≡ x ∷ []))
 doubled_as x true e = inl (eqb-true x 34 e, ap (λ (b : Bool). if b then 34 ∷ 34 ∷ [] else x ∷ []) e)
 doubled_as x false e = inr ((λ is. let t : (x == 34) ≡ true = eq-eqb x 34 is in cc), ap (λ (b : Bool). if b then 34 ∷ 34 ∷ [] else x ∷ []) e)
 
@@ -20,7 +20,7 @@ octet_once x y xs ys e (inr p) (inl q) = let f : x ∷ xs ≡ 34 ∷ 34 ∷ ys =
 octet_once x y xs ys e (inr p) (inr q) = let f : x ∷ xs ≡ y ∷ ys = ap (λ (d : Text). d ++ xs) (sym p.1) ∙ e ∙ ap (λ (d : Text). d ++ ys) q.1 in (cc, cc)
 
 -- an octet of a path isn't its end
-octet_no_end : (x : ℕ) (xs ys : Text) → doubled_octet x ++ xs ≡ 34 ∷ ys → ((more : Text) → ys ≢ 34 ∷ more) → ((x ≡ 34) × (doubled_octet x ≡ 34 ∷ 34 ∷ [])) ⊎ ((x ≢ 34) × (doubled_octet x ≡ x ∷ [])) → ⊥
+pub octet_no_end : (x : ℕ) (xs ys : Text) → doubled_octet x ++ xs ≡ 34 ∷ ys → ((more : Text) → ys ≢ 34 ∷ more) → ((x ≡ 34) × (doubled_octet x ≡ 34 ∷ 34 ∷ [])) ⊎ ((x ≢ 34) × (doubled_octet x ≡ x ∷ [])) → ⊥
 octet_no_end x xs ys e single (inl p) = let f : 34 ∷ 34 ∷ xs ≡ 34 ∷ ys = ap (λ (d : Text). d ++ xs) (sym p.1) ∙ e in single xs cc
 octet_no_end x xs ys e single (inr p) = let f : x ∷ xs ≡ 34 ∷ ys = ap (λ (d : Text). d ++ xs) (sym p.1) ∙ e in p.0 cc
 

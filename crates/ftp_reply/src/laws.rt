@@ -2,6 +2,8 @@
 ghost use Rattle.std.specs.Prelude.{◌≡◌, ◌<◌, ◌++◌, ◌∷◌, [], ℕ, List, length};
 ghost use Rattle.ftp_reply.specs.Lines.{AreWithin};
 ghost use Rattle.ftp_reply.specs.Reply.{IsCode, HasPlainLines, Says, written};
+ghost use Rattle.ftp_reply.specs.Values.{NamesEndpoint, NamesPort, Quotes, SaysMark};
+ghost use Rattle.ftp_command.specs.declared.endpoint.Endpoint.{Endpoint};
 ghost use Rattle.ftp_reply.specs.Reader.{Standing, Reading, GoesOn, Ends, StandsAfter};
 
 /// What is written is read again as the same reply, where no inner line begins with three digits.
@@ -27,4 +29,13 @@ pub fn so_far()
         (all : List (List ℕ)) (replies : List (ℕ × List (List ℕ)))
         → Ends old line code lines new → StandsAfter old all replies
         → StandsAfter new (all ++ line ∷ []) (replies ++ (code, lines) ∷ []) }
+{}
+
+/// A text says one value of a kind at most.
+pub fn one_value()
+    ensures endpoint { (text : List ℕ) (one other : Endpoint)
+        → NamesEndpoint text one → NamesEndpoint text other → one ≡ other }
+    ensures port { (text : List ℕ) (one other : ℕ) → NamesPort text one → NamesPort text other → one ≡ other }
+    ensures path { (text one other : List ℕ) → Quotes text one → Quotes text other → one ≡ other }
+    ensures mark { (text : List ℕ) (one other : ℕ) → SaysMark text one → SaysMark text other → one ≡ other }
 {}
