@@ -3,3 +3,5 @@ pub mod Fronts
 pub mod Replying
 pub mod Stepping
 pub mod Texts
+pub mod FactAnswering
+pub mod FactTelling

@@ -6,3 +6,5 @@ pub mod Login
 pub mod Replies
 pub mod Session
 pub mod Turns
+pub mod FactHearing
+pub mod FactLines

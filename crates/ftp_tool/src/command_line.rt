@@ -11,6 +11,8 @@ use std::alloc::{AllocError, Global};
 pub enum Task {
     /// Answers the octets of a control connection, at most `piece` at a time.
     Dialogue { piece: u32 },
+    /// Writes the entry of each line, or its fault.
+    Facts,
 }
 
 /// The words that the program knows.
@@ -24,10 +26,13 @@ pub fn command<'a>(alloc: Global) -> Result<Command<'a>, AllocError> {
     let dialogue = Command::new(alloc, "dialogue")
         .about("answers the octets of a control connection from standard input")
         .arg(piece)?;
+    let facts = Command::new(alloc, "facts")
+        .about("writes the entry of each line of standard input, or its fault");
     Command::new(alloc, "ftp_tool")
         .about("FTP without a socket, over standard input and output")
         .subcommand_required(true)
-        .subcommand(dialogue)
+        .subcommand(dialogue)?
+        .subcommand(facts)
 }
 
 /// The task of words that the program knows; none where a number is not one.
@@ -37,6 +42,7 @@ pub fn task_of(matches: &ArgMatches<'_>) -> Option<Task> {
             let piece = number_of(inner.get_str("piece").unwrap_or("0"))?;
             Some(Task::Dialogue { piece })
         }
+        Some(("facts", _)) => Some(Task::Facts),
         _ => None,
     }
 }

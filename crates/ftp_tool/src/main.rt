@@ -3,6 +3,9 @@
 
 mod command_line;
 mod dialogues;
+mod fact_lines;
+#[cfg(test)]
+mod fact_tests;
 mod login;
 mod pieces;
 mod reply;
@@ -43,6 +46,11 @@ fn run<R: Input + Print + Eprint + Env + AllocGlobal>(rt: &R) -> Result<u8> {
             &mut rt.reader(),
             &mut std::io::writer(rt),
             piece,
+        )),
+        Some(Task::Facts) => Ok(fact_lines::facts(
+            rt.alloc(),
+            &mut rt.reader(),
+            &mut std::io::writer(rt),
         )),
         None => {
             eprintln!(rt; "error: a number is decimal digits, at most 4294967295")?;
