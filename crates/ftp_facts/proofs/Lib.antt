@@ -1,5 +1,5 @@
 mod CalendarLemmas
-mod ComesBackLemmas
+pub mod ComesBackLemmas
 pub mod DigitsLemmas
 pub mod EntryLemmas
 mod FactLemmas
