@@ -17,7 +17,7 @@ mod writing;
 pub use endpoint::{extended_of, passive_of};
 pub use fault::ReplyFault;
 pub use lines::Lines;
-pub use number::{mark_of, size_of};
+pub use number::{mark_of, moment_of, size_of};
 pub use quoted::quoted_of;
 pub use reader::Reader;
 pub use reply::Reply;

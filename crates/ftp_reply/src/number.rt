@@ -1,6 +1,7 @@
-//! The numbers that replies carry.
+//! The numbers and moments that replies carry.
 ghost use Rattle.std.specs.Prelude.{◌≡◌, ◌++◌, ◌∷◌, List, ℕ, IfOk, IfErr, IfSome, IfNone, IsTrue, ◌↔◌, ◌≢◌, codes};
 ghost use Rattle.ftp_command.specs.Number.{SaysNumber};
+ghost use Rattle.ftp_facts.specs.Moment.{SaysMoment};
 ghost use Rattle.ftp_reply.specs.Lines.{joined};
 ghost use Rattle.ftp_reply.specs.Values.{IsMarker, SaysMark};
 
@@ -8,6 +9,7 @@ use crate::fault::ReplyFault;
 use crate::first::cut_at;
 use crate::reply::Reply;
 use ftp_command::number;
+use ftp_facts::{Moment, moment_of_text};
 use std::alloc::Allocator;
 
 /// The number that the text of a 213 reply is, 1 to 18 digits: octets of the transfer (RFC 3659, section 4).
@@ -35,6 +37,20 @@ pub fn mark_of<A: Allocator>(reply: &Reply<A>) -> Result<u64, ReplyFault>
     match mark_in(reply.text()) {
         Some(mark) => Ok(mark),
         None => Err(ReplyFault::NoNumber),
+    }
+}
+
+/// The moment that the text of a 213 reply is (RFC 3659, section 3).
+///
+/// `NoNumber` where the text is none. Takes no memory.
+pub fn moment_of<A: Allocator>(reply: &Reply<A>) -> Result<Moment, ReplyFault>
+    ensures ok { IfOk result (λ moment. SaysMoment (joined reply.now.lines) moment.seconds) }
+    ensures fault { IfErr result (λ fault. fault ≡ ReplyFault.NoNumber) }
+    ensures none { IfErr result (λ _. (seconds : ℕ) → ¬ SaysMoment (joined reply.now.lines) seconds) }
+{
+    match moment_of_text(reply.text()) {
+        Ok(moment) => Ok(moment),
+        Err(_) => Err(ReplyFault::NoNumber),
     }
 }
 

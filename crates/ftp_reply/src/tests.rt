@@ -202,6 +202,15 @@ const SIZES: [(&[u8], Option<u64>); 9] = [
     (b"213 5 octets", None),
 ];
 
+const MOMENTS: [(&[u8], Option<u64>); 6] = [
+    (b"213 19700101000000", Some(0)),
+    (b"213 20000229235959", Some(951868799)),
+    (b"213 19991231235960.123", Some(946684799)),
+    (b"213 20000230000000", None),
+    (b"213 2000022923595", None),
+    (b"213 20000229235959 x", None),
+];
+
 const MARKS: [(&[u8], Option<u64>); 11] = [
     (b"110 MARK 65536 = 65536", Some(65536)),
     (b"110 MARK a=b = 7", Some(7)),
@@ -439,6 +448,15 @@ fn sizes_of_213(rt: HostRuntime) -> Result<(), Fail> {
             expected,
             "in {line:?}"
         );
+    }
+    Ok(())
+}
+
+#[test]
+fn moments_of_213(rt: HostRuntime) -> Result<(), Fail> {
+    for (line, seconds) in MOMENTS {
+        let read = moment_of(&reply_of(rt.alloc(), line)?).map(|moment| moment.seconds);
+        assert_eq!(rt; read, seconds.ok_or(ReplyFault::NoNumber), "in {line:?}");
     }
     Ok(())
 }
