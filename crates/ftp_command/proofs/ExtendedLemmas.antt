@@ -1,9 +1,8 @@
 -- Where the parts of an extended address end.
-use Rattle.std.proofs.Common.{◌≡◌, ◌≢◌, ◌⊎◌, inl, inr, ℕ, zero, suc, ◌+◌, ◌-◌, ◌<◌, ◌≤◌, Bool, true, false, not, IsTrue, List, [], ◌∷◌, ◌++◌, length, take, drop, get_or, refl, sym, ap, subst, ◌∙◌, arith, append_assoc, length-append}
+use Rattle.std.proofs.Common.{◌≡◌, ◌≢◌, ◌⊎◌, inl, inr, ℕ, zero, suc, ◌+◌, ◌-◌, ◌<◌, ◌≤◌, false, List, [], ◌∷◌, ◌++◌, length, take, drop, get_or, refl, sym, ap, subst, ◌∙◌, arith, append_assoc, length-append}
 use Rattle.std.specs.Char.{is_ascii_digit}
 use Rattle.std.specs.Str.Parse.{AllDigits, digits_value}
 use Rattle.std.proofs.lemmas.Bool.{false≢true}
-use Rattle.std.proofs.lemmas.Str.Parse.{digit_at}
 use Rattle.std.proofs.Math.Seq.{take-append_seam, drop-append_seam}
 use Rattle.ftp_command.specs.Endpoint.{EndsWithPort, HasShape, IsDelimiter}
 use Rattle.ftp_command.specs.Host.{IsOtherProtocol, SaysExtended, SaysHost, SaysV4, SaysV6}
@@ -12,7 +11,7 @@ use Rattle.ftp_command.specs.declared.endpoint.Endpoint.{Endpoint}
 use Rattle.ftp_command.specs.declared.host.Host.{Host}
 use Rattle.ftp_command.specs.declared.host.Host.TheVariants.{V4, V6}
 use Rattle.ftp_command.proofs.EndpointLemmas.{not_digit}
-use Rattle.ftp_command.proofs.NumberLemmas.{is_digit, no_digit, not_all}
+use Rattle.ftp_command.proofs.NumberLemmas.{is_digit, not_all}
 
 -- a row with an octet that is no digit
 not_digits : (address : List ℕ) (d : ℕ) (digits : List ℕ) → is_ascii_digit d ≡ false → AllDigits 10 (address ++ d ∷ digits) → ⊥

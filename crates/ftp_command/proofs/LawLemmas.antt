@@ -1,20 +1,19 @@
 -- No line says two commands, none is both said and refused, none is refused in two ways.
-use Rattle.std.proofs.Common.{◌≡◌, ◌≢◌, ◌⊎◌, inl, inr, ℕ, zero, suc, ◌+◌, ◌<◌, ◌≤◌, ◌++◌, Bool, true, false, List, [], ◌∷◌, length, map, replicate, refl, sym, ap, subst, ◌∙◌, Option, Some, None, arith, codes, length-append, Result, Ok, Err, IfOk, IfErr}
-use Rattle.std.specs.Char.{digit_value, to_ascii_lowercase}
-use Rattle.std.specs.Str.Parse.{AllDigits, IsNumeral, digits_value}
+use Rattle.std.proofs.Common.{◌≡◌, ◌≢◌, ◌⊎◌, inl, inr, ℕ, suc, ◌+◌, ◌++◌, false, List, [], ◌∷◌, length, map, replicate, refl, sym, ap, subst, ◌∙◌, Option, Some, None, arith, codes, length-append, Result, Ok, Err, IfOk, IfErr}
+use Rattle.std.specs.Char.{to_ascii_lowercase}
+use Rattle.std.specs.Str.Parse.{digits_value}
 use Rattle.std.proofs.lemmas.Bool.Decides.{nat_tests}
-use Rattle.std.proofs.lemmas.List.{length-replicate, append_cancel_right, append_cancel_left}
+use Rattle.std.proofs.lemmas.List.{length-replicate}
 use Rattle.std.proofs.lemmas.Bool.{false≢true}
 use Rattle.std.proofs.lemmas.Slice.Eq.{bytes_eq-Decides}
 use Rattle.std.specs.Str.{bytes_eq}
 use Rattle.std.proofs.lemmas.Str.Parse.{digit_from_value}
 use Rattle.std.specs.Int.{IsInRange}
-use Rattle.ftp_command.specs.Argument.{IsBlank, IsOtherFamily, IsOtherKind, IsOtherMode, IsOtherStructure, IsPath, SaysEbcdic, SaysKind, SaysLocal, SaysLongest, SaysMode, SaysPassive, SaysPathOrNone, SaysSizes, SaysStructure, SaysTextOrNone, argument, trimmed, without_options, word}
+use Rattle.ftp_command.specs.Argument.{IsOtherFamily, IsOtherKind, IsOtherMode, IsOtherStructure, SaysEbcdic, SaysKind, SaysLocal, SaysLongest, SaysMode, SaysPassive, SaysPathOrNone, SaysSizes, SaysStructure, SaysTextOrNone, argument, trimmed, without_options, word}
 use Rattle.ftp_command.specs.Command.{Argues, Declined, IsNotDone, IsOtherNetwork, IsOtherParameter, Refuses, Says, verb_of}
-use Rattle.ftp_command.specs.Endpoint.{BeginsWith, HasShape}
-use Rattle.ftp_command.specs.Host.{IsFilled, IsOtherProtocol, IsShortened, SaysExtended, SaysHost, SaysV4, SaysV6, Stops, Written, octets_of}
+use Rattle.ftp_command.specs.Host.{IsFilled, IsOtherProtocol, IsShortened, SaysExtended, SaysHost, SaysV4, SaysV6, Written, octets_of}
 use Rattle.ftp_command.specs.Number.{SaysNumber, behind_digits}
-use Rattle.ftp_command.specs.Verb.{Names, SameLetters}
+use Rattle.ftp_command.specs.Verb.{SameLetters}
 use Rattle.ftp_command.specs.declared.command.Command.{Command}
 use Rattle.ftp_command.specs.declared.command.Command.TheVariants as command
 use Rattle.ftp_command.specs.declared.command.Kind.{Kind}

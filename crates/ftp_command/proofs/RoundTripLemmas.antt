@@ -1,9 +1,9 @@
 -- The line that is written for a command says it.
-use Rattle.std.proofs.Common.{◌≡◌, ◌≢◌, ◌⊎◌, inl, inr, ℕ, zero, suc, ◌+◌, ◌-◌, ◌*◌, ◌/◌, ◌%◌, ◌^◌, ◌<◌, ◌≤◌, ◌++◌, ◌&&◌, Bool, true, false, not, cond, IsTrue, nat_lt, List, [], ◌∷◌, length, map, take, drop, get_or, refl, sym, ap, subst, ◌∙◌, Option, Some, None, arith, rules, tests, codes, length-append, append_assoc, decimal, lit<, lit≤}
+use Rattle.std.proofs.Common.{◌≡◌, inl, ℕ, zero, suc, ◌+◌, ◌*◌, ◌/◌, ◌%◌, ◌^◌, ◌<◌, ◌≤◌, ◌++◌, ◌&&◌, Bool, true, false, not, cond, nat_lt, List, [], ◌∷◌, length, map, take, drop, refl, sym, ap, subst, ◌∙◌, Some, None, arith, codes, append_assoc, decimal, lit<, lit≤}
 use Rattle.std.specs.Char.{digit_char, digit_value, is_ascii_digit}
 use Rattle.std.specs.Int.{IsInRange}
-use Rattle.std.specs.List.{AllByRecursion, before_first, after_first, join_with_byte, list_all, position_or_len, prefix_len}
-use Rattle.std.specs.Str.Parse.{AllDigits, IsNumeral, digits_value}
+use Rattle.std.specs.List.{AllByRecursion, join_with_byte, list_all, prefix_len}
+use Rattle.std.specs.Str.Parse.{AllDigits, digits_value}
 use Rattle.std.proofs.lemmas.Bool.{false≢true}
 use Rattle.std.proofs.lemmas.Bool.Decides.{nat_tests}
 use Rattle.std.proofs.lemmas.Fmt.{decimal_is_IsNumeral, length-decimal-le}
@@ -12,12 +12,12 @@ use Rattle.std.proofs.Math.Bool.{and-false}
 use Rattle.std.proofs.Math.Seq.{take-append_seam, drop-append_seam, drop-append-add, drop-length, take-length}
 use Rattle.std.proofs.lemmas.Str.{digit_value-digit_char}
 use Rattle.std.proofs.lemmas.Str.Parse.{digit_from_value}
-use Rattle.ftp_command.specs.Argument.{IsPath, SaysKind, SaysLongest, SaysPassive, SaysPathOrNone, SaysSizes, argument, begins_with, is_space, trimmed, without_options, word}
+use Rattle.ftp_command.specs.Argument.{SaysLongest, SaysSizes, argument, is_space, trimmed, word}
 use Rattle.ftp_command.specs.Command.{Argues, Says, verb_of}
-use Rattle.ftp_command.specs.Endpoint.{BeginsWith, EndsWithPort, HasShape, IsDelimiter, SaysSix}
-use Rattle.ftp_command.specs.Host.{BeginsWithGroups, IsGroup, SaysExtended, SaysHost, SaysV4, SaysV6, behind_hex, front_hex, is_hex, octets_of}
-use Rattle.ftp_command.specs.Line.{IsStated, IsTyped, IsTypedHost, address_text, extended_text, groups_of, hex, line_of, numbers_text, six_text, spaced, spaced_if, tail_of}
-use Rattle.ftp_command.specs.Number.{IsNumber, IsOctet, IsPort, SaysNumber, SaysOctet, SaysPort, behind_digits, front_digits}
+use Rattle.ftp_command.specs.Endpoint.{BeginsWith, HasShape, IsDelimiter, SaysSix}
+use Rattle.ftp_command.specs.Host.{BeginsWithGroups, IsGroup, SaysExtended, SaysV4, SaysV6, behind_hex, front_hex, is_hex, octets_of}
+use Rattle.ftp_command.specs.Line.{IsStated, IsTyped, IsTypedHost, address_text, extended_text, groups_of, hex, line_of, numbers_text, six_text, spaced, tail_of}
+use Rattle.ftp_command.specs.Number.{SaysNumber, SaysOctet, SaysPort, behind_digits, front_digits}
 use Rattle.ftp_command.specs.Verb.{Names, letters}
 use Rattle.ftp_command.specs.declared.command.Command.{Command}
 use Rattle.ftp_command.specs.declared.command.Command.TheVariants as command
@@ -30,7 +30,7 @@ use Rattle.ftp_command.specs.declared.host.Host.{Host}
 use Rattle.ftp_command.specs.declared.host.Host.TheVariants.{V4, V6}
 use Rattle.ftp_command.specs.declared.verb.Verb.{Verb}
 use Rattle.ftp_command.specs.declared.verb.Verb.TheVariants as verb
-use Rattle.ftp_command.proofs.ArgumentLemmas.{trimmed-push, without-done}
+use Rattle.ftp_command.proofs.ArgumentLemmas.{without-done}
 use Rattle.ftp_command.proofs.NumberLemmas.{is_digit, run_before}
 
 -- a word before a space
@@ -49,7 +49,6 @@ word_len-by c l a true e h rest =
 word_len : (l a : List ℕ) → list_all is_letter l ≡ true → prefix_len is_letter (l ++ 32 ∷ a) ≡ length l
 word_len [] a h = refl
 word_len (c ∷ l) a h = word_len-by c l a (is_letter c) refl h (word_len l a)
-
 
 alone_len-by : (c : ℕ) (l : List ℕ) (b : Bool) → is_letter c ≡ b → list_all is_letter (c ∷ l) ≡ true → (list_all is_letter l ≡ true → prefix_len is_letter l ≡ length l) → prefix_len is_letter (c ∷ l) ≡ length (c ∷ l)
 alone_len-by c l false e h rest = absurd (false≢true (sym (ap (λ x. x && list_all is_letter l) e) ∙ h))

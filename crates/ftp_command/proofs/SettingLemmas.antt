@@ -1,7 +1,7 @@
 -- Where no case of a parameter fits.
-use Rattle.std.proofs.Common.{◌≡◌, ◌≢◌, ◌==◌, ◌⊎◌, ◌∷◌, ◌∙◌, inl, inr, ℕ, Bool, false, IsTrue, List, [], length, Option, None, Some, codes, sym, subst, rules}
+use Rattle.std.proofs.Common.{◌≡◌, ◌==◌, ◌∷◌, ◌∙◌, inl, inr, ℕ, Bool, false, IsTrue, List, [], length, Option, None, Some, codes, sym, subst, rules}
 use Rattle.std.proofs.lemmas.Bool.{false≢true}
-use Rattle.ftp_command.specs.Argument.{IsOtherKind, IsOtherName, SaysEbcdic, SaysKind, SaysLocal, SaysLongest, SaysSizes}
+use Rattle.ftp_command.specs.Argument.{IsOtherKind, IsOtherName, SaysKind, SaysLocal, SaysLongest, SaysSizes}
 use Rattle.ftp_command.specs.Number.{behind_digits}
 use Rattle.ftp_command.specs.Verb.{SameLetters}
 use Rattle.ftp_command.specs.declared.command.Kind.{Kind}

@@ -1,15 +1,15 @@
 -- A command that a line says is one that has a line to be written.
-use Rattle.std.proofs.Common.{◌≡◌, ◌==◌, ◌⊎◌, inl, inr, ℕ, zero, suc, ◌+◌, ◌*◌, ◌^◌, ◌<◌, ◌≤◌, ◌++◌, ◌&&◌, Bool, true, false, not, cond, IsTrue, List, [], ◌∷◌, length, map, take, drop, refl, sym, ap, subst, ◌∙◌, Option, Some, None, arith, rules, count_by, codes, length-append, eqb}
+use Rattle.std.proofs.Common.{◌≡◌, ◌==◌, ◌⊎◌, inl, inr, ℕ, zero, suc, ◌+◌, ◌^◌, ◌<◌, ◌≤◌, ◌&&◌, Bool, true, false, not, cond, List, [], ◌∷◌, length, take, drop, refl, sym, ap, subst, ◌∙◌, Option, Some, None, arith, count_by, eqb}
 use Rattle.std.specs.Char.{to_ascii_lowercase}
-use Rattle.std.specs.List.{after_first, before_first, list_all, position_or_len, prefix_len}
+use Rattle.std.specs.List.{list_all, position_or_len}
 use Rattle.std.proofs.lemmas.Bool.{false≢true}
 use Rattle.std.proofs.lemmas.List.Sums.{sum_by-cons}
 use Rattle.std.proofs.lemmas.List.{length-map}
-use Rattle.ftp_command.specs.Argument.{IsPath, SaysPathOrNone, SaysSizes, SaysTextOrNone, argument, begins_with, behind_word, is_space, trimmed, without, without_options, word}
-use Rattle.ftp_command.specs.Command.{Argues, Says, verb_of}
-use Rattle.ftp_command.specs.Line.{IfGiven, IfShort, IsLine, IsListed, IsShort, IsStated, IsV4, IsWords, is_no_feed}
+use Rattle.ftp_command.specs.Argument.{IsPath, SaysSizes, argument, begins_with, behind_word, is_space, trimmed, without, without_options, word}
+use Rattle.ftp_command.specs.Command.{Says, verb_of}
+use Rattle.ftp_command.specs.Line.{IfShort, IsLine, IsListed, IsShort, IsStated, IsV4, IsWords, is_no_feed}
 use Rattle.ftp_command.specs.Number.{SaysNumber}
-use Rattle.ftp_command.specs.Verb.{Names, SameLetters, letters}
+use Rattle.ftp_command.specs.Verb.{SameLetters, letters}
 use Rattle.ftp_command.specs.declared.command.Command.{Command}
 use Rattle.ftp_command.specs.declared.command.Command.TheVariants as command
 use Rattle.ftp_command.specs.declared.endpoint.Endpoint.{Endpoint}
@@ -133,8 +133,7 @@ words_fit line value long is at some =
     let cut = is_cut a in
     let count = counted line (omega (arith, ap length at, cut.length_le, some)) in
     let P : List ℕ → Type 0 = λ x. trimmed x ≡ x in
-    let Q : List ℕ → Type 0 = λ x. list_all is_no_feed x ≡ true in
-    (
+    let Q : List ℕ → Type 0 = λ x. list_all is_no_feed x ≡ true in (
       some,
       subst P at cut.again,
       subst Q at (cut.feeds (feed-free line is.0)),

@@ -1,10 +1,9 @@
 -- A word names one verb at most.
-use Rattle.std.proofs.Common.{◌≡◌, ◌==◌, ℕ, ◌<◌, Bool, true, false, cond, List, [], ◌∷◌, length, get_or, refl, sym, ap, subst, ◌||◌, ◌∙◌, lit<, arith, Option, Some, None, ◌⊎◌, inl, inr, map}
+use Rattle.std.proofs.Common.{◌≡◌, ℕ, ◌<◌, List, get_or, refl, ap, subst, ◌||◌, ◌∙◌, lit<, Option, Some, inl, inr, map}
 use Rattle.std.specs.Char.{to_ascii_lowercase}
 use Rattle.std.specs.List.{find}
-use Rattle.std.specs.Option.{option_map}
 use Rattle.std.specs.Str.{bytes_eq}
-use Rattle.ftp_command.specs.Verb.{Names, letters, old_letters, SameLetters}
+use Rattle.ftp_command.specs.Verb.{Names, letters, old_letters}
 use Rattle.ftp_command.specs.declared.verb.TheConstants.{VERBS}
 use Rattle.ftp_command.specs.declared.verb.Verb.{Verb}
 use Rattle.ftp_command.specs.declared.verb.Verb.TheVariants as verb

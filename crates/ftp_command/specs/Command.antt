@@ -1,5 +1,5 @@
 -- Which line says which command, and how a line is refused (RFC 959, sections 4.1, 4.2 and 5.3).
-use Rattle.std.specs.Prelude.{◌≡◌, ◌⊎◌, ◌≤◌, ℕ, List, [], length, Option, Some, None, codes}
+use Rattle.std.specs.Prelude.{◌≡◌, ◌≤◌, ℕ, List, length}
 use Rattle.ftp_command.specs.Argument.{IsBlank, IsName, IsOtherFamily, IsOtherKind, IsOtherMode, IsOtherStructure, IsPassword, IsPath, SaysKind, SaysMode, SaysPassive, SaysPathOrNone, SaysSizes, SaysStructure, SaysTextOrNone, argument, trimmed, without_options, word}
 use Rattle.ftp_command.specs.Endpoint.{SaysSix}
 use Rattle.ftp_command.specs.Host.{IsOtherProtocol, SaysExtended}
@@ -7,13 +7,8 @@ use Rattle.ftp_command.specs.Number.{SaysNumber}
 use Rattle.ftp_command.specs.Verb.{Names}
 use Rattle.ftp_command.specs.declared.command.Command.{Command}
 use Rattle.ftp_command.specs.declared.command.Command.TheVariants as command
-use Rattle.ftp_command.specs.declared.command.Kind.{Kind}
-use Rattle.ftp_command.specs.declared.command.Mode.{Mode}
-use Rattle.ftp_command.specs.declared.command.Passive.{Passive}
-use Rattle.ftp_command.specs.declared.command.Structure.{Structure}
-use Rattle.ftp_command.specs.declared.endpoint.Endpoint.{Endpoint}
 use Rattle.ftp_command.specs.declared.fault.CommandFault.{CommandFault}
-use Rattle.ftp_command.specs.declared.fault.CommandFault.TheVariants.{Unknown, BadArgument, NotDone, BadParameter, Protocol, Memory}
+use Rattle.ftp_command.specs.declared.fault.CommandFault.TheVariants.{Unknown, BadArgument, NotDone, BadParameter, Protocol}
 use Rattle.ftp_command.specs.declared.verb.Verb.{Verb}
 use Rattle.ftp_command.specs.declared.verb.Verb.TheVariants as verb
 

@@ -2,8 +2,7 @@
 use Rattle.std.specs.Prelude.{◌≡◌, ◌+◌, ◌*◌, ◌≤◌, ℕ, List, [], ◌∷◌, ◌++◌, IsTrue, not}
 use Rattle.std.specs.Char.{is_ascii_digit}
 use Rattle.ftp_command.specs.declared.endpoint.Endpoint.{Endpoint}
-use Rattle.ftp_command.specs.declared.host.Host.{Host}
-use Rattle.ftp_command.specs.declared.host.Host.TheVariants.{V4, V6}
+use Rattle.ftp_command.specs.declared.host.Host.TheVariants.{V4}
 use Rattle.ftp_command.specs.Number.{SaysNumber, SaysOctet, SaysPort, front_digits, behind_digits}
 
 -- the text begins with these numbers, each a whole run of digits, joined by the separator; the rest is behind them

@@ -10,18 +10,15 @@ pub fn one_meaning()
     ensures command { (line : List ℕ) (v w : Command (List ℕ)) → Says line v → Says line w → v ≡ w }
     ensures apart { (line : List ℕ) (v : Command (List ℕ)) (fault : CommandFault) → Says line v → ¬ Refuses line fault }
     ensures fault { (line : List ℕ) (f g : CommandFault) → Refuses line f → Refuses line g → f ≡ g }
-{
-}
+{}
 
 /// The line that is written for a command says it, and says no other.
 pub fn round_trip()
     ensures says { (v : Command (List ℕ)) → IsTyped v → IsStated v → Says (line_of v) v }
     ensures alone { (v w : Command (List ℕ)) → IsTyped v → IsStated v → Says (line_of v) w → w ≡ v }
-{
-}
+{}
 
 /// Where `write` says BadArgument, no line says the command.
 pub fn only_stated()
     ensures { (line : List ℕ) (v : Command (List ℕ)) → IsLine line → Says line v → IsStated v }
-{
-}
+{}

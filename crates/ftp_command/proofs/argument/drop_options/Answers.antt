@@ -1,5 +1,5 @@
 use Rattle.std.proofs.Common.{◌≡◌, ◌∙◌, ap, sym, true}
-use Rattle.ftp_command.specs.Argument.{begins_with, behind_word, without_options}
+use Rattle.ftp_command.specs.Argument.{begins_with, without_options}
 use Rattle.ftp_command.proofs.ArgumentLemmas.{without-option}
 use Rattle.ftp_command.proofs.argument.drop_options.Goals as goal
 

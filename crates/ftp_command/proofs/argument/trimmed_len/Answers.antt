@@ -1,5 +1,5 @@
-use Rattle.std.proofs.Common.{◌≡◌, ◌-◌, ◌∙◌, true, false, get_or, take, sym, arith, rules, tests}
-use Rattle.ftp_command.specs.Argument.{is_space, trimmed}
+use Rattle.std.proofs.Common.{◌≡◌, ◌-◌, ◌∙◌, true, false, get_or, sym, arith, rules, tests}
+use Rattle.ftp_command.specs.Argument.{is_space}
 use Rattle.ftp_command.proofs.ArgumentLemmas.{trimmed-less, trimmed-stays}
 use Rattle.ftp_command.proofs.argument.trimmed_len.Goals as goal
 

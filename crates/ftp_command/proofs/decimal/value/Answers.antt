@@ -1,6 +1,5 @@
-use Rattle.std.proofs.Common.{◌≡◌, ◌≤◌, ◌<◌, length, true, false, get_or, take, arith, rules, length-take}
+use Rattle.std.proofs.Common.{◌≡◌, true, false, get_or, take, arith, rules, length-take}
 use Rattle.std.specs.Char.{is_ascii_digit}
-use Rattle.std.specs.Int.{IsInRange}
 use Rattle.ftp_command.proofs.NumberLemmas.{digit_bounds, not_all, one_more, value_lt}
 use Rattle.ftp_command.proofs.decimal.value.Goals as goal
 

@@ -1,4 +1,4 @@
-use Rattle.std.proofs.Common.{◌≡◌, ℕ, List, ◌∷◌, get_or, sym, subst}
+use Rattle.std.proofs.Common.{◌≡◌, ℕ, List, ◌∷◌, get_or, subst}
 use Rattle.ftp_command.specs.Endpoint.{BeginsWithPort, ClosesWithPort}
 use Rattle.ftp_command.proofs.EndpointLemmas.{none_weaker}
 use Rattle.ftp_command.proofs.endpoint.port_in_front.Goals as goal

@@ -1,7 +1,7 @@
-use Rattle.std.proofs.Common.{◌≡◌, [], List, ℕ}
+use Rattle.std.proofs.Common.{[]}
 use Rattle.ftp_command.specs.Endpoint.{SaysSix}
 use Rattle.ftp_command.specs.declared.endpoint.Endpoint.{Endpoint}
-use Rattle.ftp_command.proofs.EndpointLemmas.{if_none, six_same}
+use Rattle.ftp_command.proofs.EndpointLemmas.{if_none}
 use Rattle.ftp_command.proofs.endpoint.six_numbers.Goals as goal
 
 pub returns-in_err-endpoint-clause-none : goal.returns-in_err-endpoint-clause-none

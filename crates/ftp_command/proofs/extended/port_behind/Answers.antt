@@ -1,4 +1,4 @@
-use Rattle.std.proofs.Common.{◌≡◌, ℕ, List, [], ◌∷◌, ◌++◌, ◌∙◌, sym, subst}
+use Rattle.std.proofs.Common.{ℕ, List, ◌∷◌, ◌++◌, ◌∙◌, sym, subst}
 use Rattle.ftp_command.specs.Endpoint.{EndsWithPort}
 use Rattle.ftp_command.specs.Number.{IsPort}
 use Rattle.ftp_command.proofs.EndpointLemmas.{if_none}

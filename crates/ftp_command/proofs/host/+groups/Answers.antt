@@ -1,4 +1,4 @@
-use Rattle.std.proofs.Common.{◌≡◌, ℕ, ◌+◌, ◌<◌, ◌≤◌, List, [], ◌∷◌, ◌++◌, ◌∙◌, append_assoc, ap, length, sym, subst, arith, Bor}
+use Rattle.std.proofs.Common.{◌≡◌, ℕ, List, [], ◌∷◌, ◌++◌, ◌∙◌, append_assoc, ap, length, sym, subst, arith, Bor}
 use Rattle.ftp_command.specs.Host.{BeginsWithGroups, NoGroups, ReadsGroups, Stops, behind_hex}
 use Rattle.ftp_command.proofs.EndpointLemmas.{if_none, none_weaker, some_weaker}
 use Rattle.ftp_command.proofs.HostLemmas.{first_group, goes_on, more_groups}

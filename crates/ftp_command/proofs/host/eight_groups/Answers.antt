@@ -1,4 +1,4 @@
-use Rattle.std.proofs.Common.{◌≡◌, List, ℕ, [], ◌∷◌, ◌∙◌, length, ap, sym, arith}
+use Rattle.std.proofs.Common.{◌≡◌, [], ◌∷◌, ◌∙◌, ap}
 use Rattle.ftp_command.specs.Host.{NoneFilled, NoneWritten, ReadsSome}
 use Rattle.ftp_command.proofs.EndpointLemmas.{none_weaker}
 use Rattle.ftp_command.proofs.HostLemmas.{empty_is, from_new, none_short, none_whole}

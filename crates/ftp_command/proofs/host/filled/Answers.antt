@@ -1,4 +1,4 @@
-use Rattle.std.proofs.Common.{◌≡◌, List, ℕ, [], ◌++◌, ◌-◌, ◌∙◌, length, replicate, ap, sym, arith}
+use Rattle.std.proofs.Common.{[], ◌++◌, ◌-◌, ◌∙◌, length, replicate, ap, arith}
 use Rattle.ftp_command.specs.Host.{ReadsSome}
 use Rattle.ftp_command.proofs.HostLemmas.{empty_is, from_new, is_filled, none_filled_by}
 use Rattle.ftp_command.proofs.SettingLemmas.{not_empty}

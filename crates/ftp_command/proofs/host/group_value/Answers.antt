@@ -1,6 +1,4 @@
-use Rattle.std.proofs.Common.{◌≡◌, ◌<◌, get_or, length, take, arith, length-take}
-use Rattle.std.specs.Char.{digit_value}
-use Rattle.std.specs.Str.Parse.{AllDigits}
+use Rattle.std.proofs.Common.{take, arith, length-take}
 use Rattle.ftp_command.proofs.HostLemmas.{all_at, group_lt, one_more}
 use Rattle.ftp_command.proofs.host.group_value.Goals as goal
 

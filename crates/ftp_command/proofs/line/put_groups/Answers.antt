@@ -1,4 +1,4 @@
-use Rattle.std.proofs.Common.{◌≡◌, ◌++◌, ◌∙◌, List, ℕ, [], cond, nat_lt, ap, append_assoc, sym, codes, get_or, map, take, arith}
+use Rattle.std.proofs.Common.{◌++◌, ◌∙◌, List, ℕ, [], cond, nat_lt, ap, append_assoc, sym, codes, get_or, map, take, arith}
 use Rattle.std.specs.List.{join_with_byte}
 use Rattle.ftp_command.specs.Line.{hex}
 use Rattle.ftp_command.proofs.LineLemmas.{groups_more}

@@ -1,4 +1,4 @@
-use Rattle.std.proofs.Common.{◌≡◌, ℕ, List, [], Option, sym, subst, ◌∙◌, length, ap, arith}
+use Rattle.std.proofs.Common.{◌≡◌, ℕ, List, [], Option, subst, ◌∙◌}
 use Rattle.ftp_command.specs.Argument.{SaysLongest, SaysSizes}
 use Rattle.ftp_command.specs.Number.{behind_digits}
 use Rattle.ftp_command.proofs.EndpointLemmas.{if_none}

@@ -1,6 +1,5 @@
-use Rattle.std.proofs.Common.{◌≡◌, ℕ, ◌<◌, arith}
+use Rattle.std.proofs.Common.{arith}
 use Rattle.ftp_command.specs.Verb.{Names}
-use Rattle.ftp_command.specs.declared.verb.TheConstants.{VERBS}
 use Rattle.ftp_command.specs.declared.verb.Verb.{Verb}
 use Rattle.ftp_command.proofs.VerbLemmas.{every}
 use Rattle.ftp_command.proofs.verb.verb_of.Goals as goal

@@ -1,6 +1,5 @@
-use Rattle.std.proofs.Common.{◌≡◌, ◌∙◌, List, ℕ, length, ap, sym, eq-eqb}
+use Rattle.std.proofs.Common.{◌∙◌, length, ap, sym, eq-eqb}
 use Rattle.std.proofs.lemmas.Bool.{eqb-true}
-use Rattle.ftp_command.specs.Argument.{trimmed}
 use Rattle.ftp_command.proofs.ArgumentLemmas.{trimmed-keeps}
 use Rattle.ftp_command.proofs.writing.is_trimmed.Goals as goal
 
