@@ -5,3 +5,4 @@ pub mod Stepping
 pub mod Texts
 pub mod FactAnswering
 pub mod FactTelling
+pub mod Framing

@@ -8,3 +8,5 @@ pub mod Session
 pub mod Turns
 pub mod FactHearing
 pub mod FactLines
+pub mod Frame
+pub mod Sending

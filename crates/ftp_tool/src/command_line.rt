@@ -3,7 +3,10 @@ ghost use Rattle.std.specs.Prelude.{◌<◌, ◌^◌};
 ghost use Rattle.std.specs.Option.{SomeIff};
 ghost use Rattle.std.specs.Str.Parse.{IsNumeral, digits_value};
 
+use crate::frames::Representation;
 use clap::{Arg, ArgAction, ArgMatches, Command};
+use ftp_mode::Mode;
+use ftp_repr::{Kind, Structure};
 use std::alloc::{AllocError, Global};
 
 /// What the command line asks for.
@@ -13,6 +16,8 @@ pub enum Task {
     Dialogue { piece: u32 },
     /// Writes the entry of each line, or its fault.
     Facts,
+    /// Writes a file as the octets of a data connection, with own restart markers where they are asked for.
+    Frame { form: Representation, marks: bool },
 }
 
 /// The words that the program knows.
@@ -26,16 +31,37 @@ pub fn command<'a>(alloc: Global) -> Result<Command<'a>, AllocError> {
     let dialogue = Command::new(alloc, "dialogue")
         .about("answers the octets of a control connection from standard input")
         .arg(piece)?;
-    let facts = Command::new(alloc, "facts")
-        .about("writes the entry of each line of standard input, or its fault");
+    let facts = Command::new(alloc, "facts").about(
+        "writes the entry of each line of standard input, or its fault",
+    );
+    let marks = Arg::new(alloc, "marks")
+        .long("marks")
+        .help("writes restart markers, in type I with file structure and block mode")
+        .action(ArgAction::SetTrue);
+    let frame = Command::new(alloc, "frame")
+        .about("writes standard input as the octets of a data connection")
+        .arg(needed(alloc, "type", "A|I"))?
+        .arg(needed(alloc, "stru", "F|R"))?
+        .arg(needed(alloc, "mode", "S|B"))?
+        .arg(marks)?;
     Command::new(alloc, "ftp_tool")
         .about("FTP without a socket, over standard input and output")
         .subcommand_required(true)
         .subcommand(dialogue)?
-        .subcommand(facts)
+        .subcommand(facts)?
+        .subcommand(frame)
 }
 
-/// The task of words that the program knows; none where a number is not one.
+/// An option that has to be there.
+fn needed<'a>(alloc: Global, name: &'a str, values: &'a str) -> Arg<'a> {
+    Arg::new(alloc, name)
+        .long(name)
+        .value_name(values)
+        .required(true)
+        .action(ArgAction::Set)
+}
+
+/// The task of words that the program knows; none where a value is none of its option.
 pub fn task_of(matches: &ArgMatches<'_>) -> Option<Task> {
     match matches.subcommand() {
         Some(("dialogue", inner)) => {
@@ -43,8 +69,36 @@ pub fn task_of(matches: &ArgMatches<'_>) -> Option<Task> {
             Some(Task::Dialogue { piece })
         }
         Some(("facts", _)) => Some(Task::Facts),
+        Some(("frame", inner)) => Some(Task::Frame {
+            form: form_of(inner)?,
+            marks: inner.get_flag("marks"),
+        }),
         _ => None,
     }
+}
+
+/// Type, structure and mode, each by its letter (RFC 959, section 5.3.2).
+fn form_of(matches: &ArgMatches<'_>) -> Option<Representation> {
+    let kind = match matches.get_str("type") {
+        Some("A") => Kind::Ascii,
+        Some("I") => Kind::Image,
+        _ => return None,
+    };
+    let structure = match matches.get_str("stru") {
+        Some("F") => Structure::File,
+        Some("R") => Structure::Record,
+        _ => return None,
+    };
+    let mode = match matches.get_str("mode") {
+        Some("S") => Mode::Stream,
+        Some("B") => Mode::Block,
+        _ => return None,
+    };
+    Some(Representation {
+        kind,
+        structure,
+        mode,
+    })
 }
 
 /// A decimal number below 2^32, as it is written: digits alone, leading zeros read, no sign.

@@ -6,6 +6,9 @@ mod dialogues;
 mod fact_lines;
 #[cfg(test)]
 mod fact_tests;
+#[cfg(test)]
+mod frame_tests;
+mod frames;
 mod login;
 mod pieces;
 mod reply;
@@ -52,8 +55,16 @@ fn run<R: Input + Print + Eprint + Env + AllocGlobal>(rt: &R) -> Result<u8> {
             &mut rt.reader(),
             &mut std::io::writer(rt),
         )),
+        Some(Task::Frame { form, marks }) => Ok(frames::frame(
+            form,
+            marks,
+            &mut rt.reader(),
+            &mut std::io::writer(rt),
+        )),
         None => {
-            eprintln!(rt; "error: a number is decimal digits, at most 4294967295")?;
+            eprintln!(rt;
+                "error: a number is decimal digits, at most 4294967295; types are A and I, structures F and R, modes S and B"
+            )?;
             Ok(BAD_COMMAND_LINE)
         }
     }
