@@ -55,13 +55,13 @@ owed_said File = says end_file ∷ []
 abbrev pub owed : Deframer → List Said
 owed f = owed_said f.owed
 
--- the octets that were taken give the part, and what is owed behind it; nothing, only where the piece was taken whole;
--- and but for ends that are owed, only where no fault was met
+-- the octets that were taken give the part, and what is owed behind it; nothing, only where the piece was taken whole and
+-- nothing is owed; and but for ends that are owed, only where no fault was met
 pub record Hears (old : Deframer) (piece : List ℕ) (step : Step) (new : Deframer) : Type 0 where
   pub within : step.taken ≤ length piece
   pub state : reading new ≡ after reader (reading old) (take step.taken piece)
   pub says : part_said step.part (last_marker new) ++ owed new ≡ owed old ++ gives reader (reading old) (take step.taken piece)
-  pub some : (0 < length (part_said step.part (last_marker new))) ⊎ ((step.part ≡ Need) × (step.taken ≡ length piece))
+  pub some : (0 < length (part_said step.part (last_marker new))) ⊎ ((step.part ≡ Need) × (step.taken ≡ length piece) × (owed new ≡ []))
   pub fine : owed old ≡ [] → IsGoing (reading new)
 
 -- the first octets give nothing, and the last of them stands in no text; of none, it was so before
