@@ -3,9 +3,9 @@ ghost use Rattle.std.specs.Prelude.{◌<◌, ◌^◌};
 ghost use Rattle.std.specs.Option.{SomeIff};
 ghost use Rattle.std.specs.Str.Parse.{IsNumeral, digits_value};
 
-use crate::frames::Representation;
 use clap::{Arg, ArgAction, ArgMatches, Command};
 use ftp_mode::Mode;
+use ftp_programs::Representation;
 use ftp_repr::{Kind, Structure};
 use std::alloc::{AllocError, Global};
 

@@ -2,23 +2,12 @@
 #![tactic(auto)]
 
 mod command_line;
-mod dialogues;
-mod fact_lines;
 #[cfg(test)]
-mod fact_tests;
-#[cfg(test)]
-mod frame_tests;
-mod frames;
-mod login;
-mod pieces;
-mod reply;
-mod session;
-#[cfg(test)]
-mod tests;
-mod text;
+mod word_tests;
 
 use anyhow::Result;
 use command_line::Task;
+use ftp_programs::{dialogue, facts, frame};
 use std::env;
 use std::env::Env;
 use std::io::{Eprint, Read, Write};
@@ -44,18 +33,14 @@ fn run<R: Input + Print + Eprint + Env + AllocGlobal>(rt: &R) -> Result<u8> {
         }
     };
     match command_line::task_of(&matches) {
-        Some(Task::Dialogue { piece }) => Ok(dialogues::dialogue(
+        Some(Task::Dialogue { piece }) => Ok(dialogue(
             rt.alloc(),
             &mut rt.reader(),
             &mut std::io::writer(rt),
             piece,
         )),
-        Some(Task::Facts) => Ok(fact_lines::facts(
-            rt.alloc(),
-            &mut rt.reader(),
-            &mut std::io::writer(rt),
-        )),
-        Some(Task::Frame { form, marks }) => Ok(frames::frame(
+        Some(Task::Facts) => Ok(facts(rt.alloc(), &mut rt.reader(), &mut std::io::writer(rt))),
+        Some(Task::Frame { form, marks }) => Ok(frame(
             form,
             marks,
             &mut rt.reader(),

@@ -1,0 +1,186 @@
+// A file to the octets of a data connection, between a reader and a writer.
+ghost use Rattle.std.specs.Prelude.{◌≡◌, ◌≢◌, ◌≤◌, ◌<◌, ◌^◌, ◌⊎◌, ◌++◌, ℕ, List, [], Some, None, false, length, drop, OnOk, OnErr};
+ghost use Rattle.std.specs.Io.KnownBytes.{Appends};
+ghost use Rattle.ftp_repr.specs.Items.{signs, given_signs};
+ghost use Rattle.ftp_repr.specs.Sending.{has_sent_end};
+ghost use Rattle.ftp_repr.specs.declared.item.Item.TheVariants.{EndFile};
+ghost use Rattle.ftp_repr.specs.Machine.{gives};
+ghost use Rattle.ftp_repr.specs.Signs.{signs_of};
+ghost use Rattle.ftp_mode.specs.Framing.{owed_octets, writing};
+ghost use Rattle.ftp_mode.specs.Writing.{writer};
+ghost use Rattle.ftp_programs.specs.Beginning.{AppendsFront};
+ghost use Rattle.ftp_programs.specs.Frame.{Frames, FramesFront, form_of, frame_text};
+ghost use Rattle.ftp_programs.specs.Sending.{still_to_give, Puts, PutsFront, Gives, GivesFront};
+
+use crate::pieces;
+use crate::pieces::{Failed, TURNS};
+use ftp_mode::{Framer, Mode};
+use ftp_repr::{Item, Kind, Sender, Structure};
+use std::io::{Read, Write};
+
+/// The most octets that are read or written at a time.
+pub const PIECE_LIMIT: usize = 4096;
+
+/// How a file goes over a data connection: type, structure and mode (RFC 959, sections 3.1 and 3.4).
+#[derive(Clone, Copy, Debug, PartialEq, Eq)]
+pub struct Representation {
+    pub kind: Kind,
+    pub structure: Structure,
+    pub mode: Mode,
+}
+
+/// A file that is being written.
+#[derive(Drop)]
+pub struct Sending {
+    sender: Sender,
+    framer: Framer,
+}
+
+impl Sending {
+    /// Nothing of the file was given, and own markers count its octets where they are asked for.
+    fn new(form: Representation, marks: bool) -> Sending
+        ensures text { (file : List ℕ) → length file < 2 ^ 64 → still_to_give result file ≡ frame_text form marks file }
+        ensures goes_on { has_sent_end result.sender ≡ false }
+    {
+        Sending {
+            sender: Sender::new(form.kind, form.structure),
+            framer: framer_of(form, marks),
+        }
+    }
+
+    /// Writes what the next octets of the file decide.
+    fn piece<W: Write>(&mut self, piece: &[u8], writer: &mut W) -> Result<(), Failed>
+        requires { has_sent_end self.old.sender ≡ false }
+        ensures ok { OnOk result (Gives self.old piece.now self.new [] (W.contents writer.old) (W.contents writer.new)) }
+        ensures err { OnErr result (GivesFront self.old piece.now (W.contents writer.old) (W.contents writer.new)) }
+    {
+        let mut at = 0;
+        while at < piece.len() {
+            let (_, rest) = piece.split_at(at);
+            let (taken, item) = self.sender.next(rest, false);
+            at += taken;
+            if let Some(item) = item {
+                self.put(item, writer)?;
+            }
+        }
+        Ok(())
+    }
+
+    /// Writes an item.
+    fn put<W: Write>(&mut self, item: Item<'_>, writer: &mut W) -> Result<(), Failed>
+        ensures ok { OnOk result (Puts self.old (signs item.entry) self.new [] (W.contents writer.old) (W.contents writer.new)) }
+        ensures err { OnErr result (PutsFront self.old (signs item.entry) (W.contents writer.old) (W.contents writer.new)) }
+        ensures out { OnOk result (item.entry ≡ EndFile → owed_octets self.new.framer ≡ []) }
+        ensures sender { self.new.sender ≡ self.old.sender }
+    {
+        let mut room = [0u8; PIECE_LIMIT];
+        let mut rest = item;
+        for _ in 0..TURNS {
+            let moved = self.framer.put(rest, &mut room);
+            let (made, _) = room.split_at(moved.made);
+            pieces::put(writer, made)?;
+            match rest_of(rest, moved.taken) {
+                Some(left) => rest = left,
+                None => return Ok(()),
+            }
+        }
+        Err(Failed)
+    }
+
+    /// Writes the end of the file.
+    fn end<W: Write>(&mut self, writer: &mut W) -> Result<(), Failed>
+        requires { has_sent_end self.old.sender ≡ false }
+        ensures ok { OnOk result (Appends (W.contents writer.old) (W.contents writer.new) (still_to_give self.old [])) }
+        ensures err { OnErr result (AppendsFront (W.contents writer.old) (W.contents writer.new) (still_to_give self.old [])) }
+    {
+        self.put(Item::EndFile, writer)?;
+        Ok(())
+    }
+}
+
+/// A writer of wires, with own markers where they are asked for and have an effect.
+fn framer_of(form: Representation, marks: bool) -> Framer
+    ensures text { (file : List ℕ) → length file < 2 ^ 64 → gives writer (writing result) (signs_of (form_of form) file) ≡ frame_text form marks file }
+    ensures owes { owed_octets result ≡ [] }
+{
+    let mut framer = Framer::new(form.mode, form.structure);
+    if marks {
+        match form.kind {
+            Kind::Ascii => return framer,
+            Kind::Image => {
+                framer.mark(0);
+                return framer;
+            }
+        }
+    }
+    framer
+}
+
+/// What is left of an item, so many of whose signs were taken.
+fn rest_of<'a>(item: Item<'a>, taken: usize) -> Option<Item<'a>>
+    requires { taken ≤ length (signs item) }
+    ensures rest { given_signs result ≡ drop taken (signs item.entry) }
+    ensures end { item.entry ≡ EndFile → (result ≡ Some EndFile) ⊎ ((result ≡ None) × (taken ≡ 1)) }
+{
+    match item {
+        Item::Octets(octets) => {
+            let (_, rest) = octets.split_at(taken);
+            if rest.is_empty() {
+                return None;
+            }
+            Some(Item::Octets(rest))
+        }
+        Item::EndRecord | Item::EndFile => {
+            if taken == 0 {
+                return Some(item);
+            }
+            None
+        }
+    }
+}
+
+/// Writes a file as the octets of a data connection, and gives the exit status (RFC 959, sections 3.1, 3.4 and 3.5).
+///
+/// The file is all that the reader gives. With `marks` own restart markers count its octets, in type I with file
+/// structure and block mode; else they have no effect. 0: done. 3: a read or a write failed, or a loop over reads or
+/// writes has made 1,099,511,627,776 turns; then a beginning was written.
+pub fn frame<R, W>(form: Representation, marks: bool, reader: &mut R, writer: &mut W) -> u8
+where
+    R: Read,
+    W: Write,
+    ensures done { result ≢ 3 → Frames form marks (R.remaining reader.old) (R.remaining reader.new) (W.contents writer.old) (W.contents writer.new) result }
+    ensures failed { result ≡ 3 → FramesFront form marks (R.remaining reader.old) (R.remaining reader.new) (W.contents writer.old) (W.contents writer.new) }
+{
+    match write_all(form, marks, reader, writer) {
+        Ok(()) => 0,
+        Err(Failed) => 3,
+    }
+}
+
+/// Writes the whole file.
+fn write_all<R, W>(
+    form: Representation,
+    marks: bool,
+    reader: &mut R,
+    writer: &mut W,
+) -> Result<(), Failed>
+where
+    R: Read,
+    W: Write,
+    ensures ok { OnOk result (Frames form marks (R.remaining reader.old) (R.remaining reader.new) (W.contents writer.old) (W.contents writer.new) 0) }
+    ensures err { OnErr result (FramesFront form marks (R.remaining reader.old) (R.remaining reader.new) (W.contents writer.old) (W.contents writer.new)) }
+{
+    let mut sending = Sending::new(form, marks);
+    let mut buffer = [0u8; PIECE_LIMIT];
+    for _turn in 0..TURNS {
+        let (room, _) = buffer.split_at_mut(PIECE_LIMIT);
+        let count = pieces::get(reader, room)?;
+        if count == 0 {
+            sending.end(writer)?;
+            return Ok(());
+        }
+        let (octets, _) = room.split_at(count);
+        sending.piece(octets, writer)?;
+    }
+    Err(Failed)
+}
