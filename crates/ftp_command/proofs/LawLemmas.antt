@@ -11,8 +11,8 @@ use Rattle.std.proofs.lemmas.Str.Parse.{digit_from_value}
 use Rattle.std.specs.Int.{IsInRange}
 use Rattle.ftp_command.specs.Argument.{IsOtherFamily, IsOtherKind, IsOtherMode, IsOtherStructure, SaysEbcdic, SaysKind, SaysLocal, SaysLongest, SaysMode, SaysPassive, SaysPathOrNone, SaysSizes, SaysStructure, SaysTextOrNone, argument, trimmed, without_options, word}
 use Rattle.ftp_command.specs.Command.{Argues, Declined, IsNotDone, IsOtherNetwork, IsOtherParameter, Refuses, Says, verb_of}
-use Rattle.ftp_command.specs.Host.{IsFilled, IsOtherProtocol, IsShortened, SaysExtended, SaysHost, SaysV4, SaysV6, Written, octets_of}
-use Rattle.ftp_command.specs.Number.{SaysNumber, behind_digits}
+use Rattle.ftp_endpoint.specs.Host.{IsFilled, IsOtherProtocol, IsShortened, SaysExtended, SaysHost, SaysV4, SaysV6, Written, octets_of}
+use Rattle.ftp_endpoint.specs.Number.{SaysNumber, behind_digits}
 use Rattle.ftp_command.specs.Verb.{SameLetters}
 use Rattle.ftp_command.specs.declared.command.Command.{Command}
 use Rattle.ftp_command.specs.declared.command.Command.TheVariants as command
@@ -24,16 +24,16 @@ use Rattle.ftp_command.specs.declared.command.Passive.{Passive}
 use Rattle.ftp_command.specs.declared.command.Passive.TheVariants.{Any, Ipv4, Ipv6, Only}
 use Rattle.ftp_command.specs.declared.command.Structure.{Structure}
 use Rattle.ftp_command.specs.declared.command.Structure.TheVariants.{File, Record}
-use Rattle.ftp_command.specs.declared.endpoint.Endpoint.{Endpoint}
+use Rattle.ftp_endpoint.specs.declared.endpoint.Endpoint.{Endpoint}
 use Rattle.ftp_command.specs.declared.fault.CommandFault.{CommandFault}
 use Rattle.ftp_command.specs.declared.fault.CommandFault.TheVariants as fault
-use Rattle.ftp_command.specs.declared.host.Host.{Host}
-use Rattle.ftp_command.specs.declared.host.Host.TheVariants.{V4, V6}
+use Rattle.ftp_endpoint.specs.declared.host.Host.{Host}
+use Rattle.ftp_endpoint.specs.declared.host.Host.TheVariants.{V4, V6}
 use Rattle.ftp_command.specs.declared.verb.Verb.{Verb}
 use Rattle.ftp_command.specs.declared.verb.Verb.TheVariants as verb
-use Rattle.ftp_command.proofs.EndpointLemmas.{begins_same, six_same}
-use Rattle.ftp_command.proofs.ExtendedLemmas.{same_shape}
-use Rattle.ftp_command.proofs.HostLemmas.{same_groups}
+use Rattle.ftp_endpoint.proofs.EndpointLemmas.{begins_same, six_same}
+use Rattle.ftp_endpoint.proofs.ExtendedLemmas.{same_shape}
+use Rattle.ftp_endpoint.proofs.HostLemmas.{same_groups}
 use Rattle.ftp_command.proofs.VerbLemmas.{one_verb}
 
 -- two texts that differ

@@ -1,12 +1,7 @@
-pub mod NumberLemmas
-pub mod EndpointLemmas
 pub mod VerbLemmas
 pub mod ArgumentLemmas
 pub mod SettingLemmas
-pub mod HostLemmas
-pub mod ExtendedLemmas
 pub mod CommandLemmas
-pub mod LineLemmas
 pub mod LawLemmas
 pub mod RoundTripLemmas
 pub mod StatedLemmas

@@ -2,7 +2,7 @@
 use Rattle.std.proofs.Common.{◌≡◌, ◌==◌, ◌∷◌, ◌∙◌, inl, inr, ℕ, Bool, false, IsTrue, List, [], length, Option, None, Some, codes, sym, subst, rules}
 use Rattle.std.proofs.lemmas.Bool.{false≢true}
 use Rattle.ftp_command.specs.Argument.{IsOtherKind, IsOtherName, SaysKind, SaysLocal, SaysLongest, SaysSizes}
-use Rattle.ftp_command.specs.Number.{behind_digits}
+use Rattle.ftp_endpoint.specs.Number.{behind_digits}
 use Rattle.ftp_command.specs.Verb.{SameLetters}
 use Rattle.ftp_command.specs.declared.command.Kind.{Kind}
 use Rattle.ftp_command.specs.declared.command.Kind.TheVariants.{Ascii, Image}
@@ -20,14 +20,3 @@ no_other text n l (inr k) = l k.0 k.1
 pub no_sizes : (text : List ℕ) → (behind_digits text ≡ [] → ⊥) → ((n : ℕ) → SaysLongest (behind_digits text) n → ⊥) → (octets : ℕ) (longest : Option ℕ) → SaysSizes text octets longest → ⊥
 no_sizes text some none octets None h = some h.1
 no_sizes text some none octets (Some n) h = none n h.1
-
--- a test that answers no
-pub not_from : (b : Bool) (P : Type 0) → (IsTrue b → P) × (P → IsTrue b) → b ≡ false → P → ⊥
-not_from b P h e p =
-    let Q : Bool → Type 0 = λ x. IsTrue x in
-    let wrong : IsTrue false = subst Q e (h.1 p) in
-    search rules
-
-pub not_empty : (xs : List ℕ) (b : Bool) → b ≡ (length xs == 0) → b ≡ false → xs ≡ [] → ⊥
-not_empty [] b is no_b e = false≢true (sym no_b ∙ is)
-not_empty (x ∷ xs) b is no_b e = absurd (cc)

@@ -7,14 +7,15 @@ use Rattle.std.proofs.lemmas.List.Sums.{sum_by-cons}
 use Rattle.std.proofs.lemmas.List.{length-map}
 use Rattle.ftp_command.specs.Argument.{IsPath, SaysSizes, argument, begins_with, behind_word, is_space, trimmed, without, without_options, word}
 use Rattle.ftp_command.specs.Command.{Says, verb_of}
-use Rattle.ftp_command.specs.Line.{IfShort, IsLine, IsListed, IsShort, IsStated, IsV4, IsWords, is_no_feed}
-use Rattle.ftp_command.specs.Number.{SaysNumber}
+use Rattle.ftp_command.specs.Line.{IfShort, IsLine, IsListed, IsShort, IsStated, IsWords, is_no_feed}
+use Rattle.ftp_endpoint.specs.Number.{SaysNumber}
 use Rattle.ftp_command.specs.Verb.{SameLetters, letters}
 use Rattle.ftp_command.specs.declared.command.Command.{Command}
 use Rattle.ftp_command.specs.declared.command.Command.TheVariants as command
-use Rattle.ftp_command.specs.declared.endpoint.Endpoint.{Endpoint}
+use Rattle.ftp_endpoint.specs.Written.{IsV4}
+use Rattle.ftp_endpoint.specs.declared.endpoint.Endpoint.{Endpoint}
 use Rattle.ftp_command.proofs.ArgumentLemmas.{shorter, without-step, trimmed-cons}
-use Rattle.ftp_command.proofs.NumberLemmas.{value_lt}
+use Rattle.ftp_endpoint.proofs.NumberLemmas.{value_lt}
 
 abbrev is_return : ℕ → Bool
 is_return c = c == 13

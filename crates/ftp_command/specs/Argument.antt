@@ -10,7 +10,7 @@ use Rattle.ftp_command.specs.declared.command.Passive.{Passive}
 use Rattle.ftp_command.specs.declared.command.Passive.TheVariants.{Any, Ipv4, Ipv6, Only}
 use Rattle.ftp_command.specs.declared.command.Structure.{Structure}
 use Rattle.ftp_command.specs.declared.command.Structure.TheVariants.{File, Record}
-use Rattle.ftp_command.specs.Number.{SaysNumber, front_digits, behind_digits}
+use Rattle.ftp_endpoint.specs.Number.{SaysNumber, front_digits, behind_digits}
 use Rattle.ftp_command.specs.Verb.{SameLetters}
 
 abbrev pub is_space : ℕ → Bool

@@ -1,9 +1,9 @@
 -- Which line says which command, and how a line is refused (RFC 959, sections 4.1, 4.2 and 5.3).
 use Rattle.std.specs.Prelude.{◌≡◌, ◌≤◌, ℕ, List, length}
 use Rattle.ftp_command.specs.Argument.{IsBlank, IsName, IsOtherFamily, IsOtherKind, IsOtherMode, IsOtherStructure, IsPassword, IsPath, SaysKind, SaysMode, SaysPassive, SaysPathOrNone, SaysSizes, SaysStructure, SaysTextOrNone, argument, trimmed, without_options, word}
-use Rattle.ftp_command.specs.Endpoint.{SaysSix}
-use Rattle.ftp_command.specs.Host.{IsOtherProtocol, SaysExtended}
-use Rattle.ftp_command.specs.Number.{SaysNumber}
+use Rattle.ftp_endpoint.specs.Endpoint.{SaysSix}
+use Rattle.ftp_endpoint.specs.Host.{IsOtherProtocol, SaysExtended}
+use Rattle.ftp_endpoint.specs.Number.{SaysNumber}
 use Rattle.ftp_command.specs.Verb.{Names}
 use Rattle.ftp_command.specs.declared.command.Command.{Command}
 use Rattle.ftp_command.specs.declared.command.Command.TheVariants as command

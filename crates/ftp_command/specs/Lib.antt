@@ -1,8 +1,9 @@
+pub use Rattle.ftp_endpoint.specs.Number
+pub use Rattle.ftp_endpoint.specs.Endpoint
+pub use Rattle.ftp_endpoint.specs.Host
+pub use Rattle.ftp_endpoint.specs.Written
 pub mod Argument
 pub mod Command
 pub mod Decline
-pub mod Endpoint
-pub mod Host
 pub mod Line
-pub mod Number
 pub mod Verb

@@ -1,7 +1,6 @@
 -- The line that is written for a command, and the commands that have one.
 use Rattle.std.specs.Prelude.{◌≡◌, ◌+◌, ◌*◌, ◌/◌, ◌%◌, ◌^◌, ◌<◌, ◌≤◌, ◌==◌, ℕ, Bool, false, not, List, [], ◌∷◌, ◌++◌, length, map, count_by, decimal, IsTrue, if◌then◌else◌, nat_lt, Option, Some, None, codes}
-use Rattle.std.specs.Char.{digit_char}
-use Rattle.std.specs.List.{AllByRecursion, join_with_byte, list_all}
+use Rattle.std.specs.List.{list_all}
 use Rattle.ftp_command.specs.Argument.{IsName, IsPassword, IsPath, begins_with, trimmed}
 use Rattle.ftp_command.specs.Command.{verb_of}
 use Rattle.ftp_command.specs.Verb.{letters}
@@ -15,9 +14,7 @@ use Rattle.ftp_command.specs.declared.command.Passive.{Passive}
 use Rattle.ftp_command.specs.declared.command.Passive.TheVariants.{Any, Ipv4, Ipv6, Only}
 use Rattle.ftp_command.specs.declared.command.Structure.{Structure}
 use Rattle.ftp_command.specs.declared.command.Structure.TheVariants.{File, Record}
-use Rattle.ftp_command.specs.declared.endpoint.Endpoint.{Endpoint}
-use Rattle.ftp_command.specs.declared.host.Host.{Host}
-use Rattle.ftp_command.specs.declared.host.Host.TheVariants.{V4, V6}
+use Rattle.ftp_endpoint.specs.Written.{IsTypedEndpoint, IsV4, extended_text, six_text}
 
 -- SP and an argument, or nothing where it is empty
 abbrev pub spaced : List ℕ → List ℕ
@@ -27,39 +24,6 @@ spaced (c ∷ cs) = 32 ∷ c ∷ cs
 abbrev pub spaced_if : Option (List ℕ) → List ℕ
 spaced_if None = []
 spaced_if (Some text) = spaced text
-
--- octets as decimal numbers joined by a separator
-abbrev pub numbers_text : ℕ → List ℕ → List ℕ
-numbers_text separator octets = join_with_byte separator (map decimal octets)
-
--- h1,h2,h3,h4,p1,p2; of a host of IPv6 there is no such text
-abbrev pub six_of : Host → ℕ → List ℕ
-six_of (V4 octets) port = numbers_text 44 octets ++ (44 ∷ (decimal (port / 256) ++ (44 ∷ decimal (port % 256))))
-six_of (V6 octets) port = []
-
-abbrev pub six_text : Endpoint → List ℕ
-six_text endpoint = six_of endpoint.host endpoint.port
-
--- a group in lower case, without leading zeros
-abbrev pub hex : ℕ → List ℕ
-hex n = if nat_lt n 16 then digit_char n ∷ []
-    else (if nat_lt n 256 then digit_char (n / 16) ∷ digit_char (n % 16) ∷ []
-    else (if nat_lt n 4096 then digit_char (n / 256) ∷ digit_char (n / 16 % 16) ∷ digit_char (n % 16) ∷ []
-    else digit_char (n / 4096) ∷ digit_char (n / 256 % 16) ∷ digit_char (n / 16 % 16) ∷ digit_char (n % 16) ∷ []))
-
--- the groups of octets, the higher octet of each first
-abbrev pub groups_of : List ℕ → List ℕ
-groups_of [] = []
-groups_of (a ∷ []) = []
-groups_of (a ∷ b ∷ octets) = (a * 256 + b) ∷ groups_of octets
-
--- |1|dotted decimal|port| or |2|eight groups|port|, written without "::" (own choice)
-abbrev pub address_text : Host → List ℕ
-address_text (V4 octets) = codes "|1|" ++ numbers_text 46 octets
-address_text (V6 octets) = codes "|2|" ++ join_with_byte 58 (map hex (groups_of octets))
-
-abbrev pub extended_text : Endpoint → List ℕ
-extended_text endpoint = address_text endpoint.host ++ (codes "|" ++ (decimal endpoint.port ++ codes "|"))
 
 abbrev pub passive_text : Passive → List ℕ
 passive_text Any = []
@@ -151,10 +115,6 @@ abbrev pub IfGiven : (List ℕ → Type 0) → Option (List ℕ) → Type 0
 IfGiven P None = Unit {0}
 IfGiven P (Some text) = P text
 
-abbrev pub IsV4 : Host → Type 0
-IsV4 (V4 octets) = Unit {0}
-IsV4 (V6 octets) = ⊥
-
 -- a number of 18 digits at most
 abbrev pub IsShort : ℕ → Type 0
 IsShort n = n < 10 ^ 18
@@ -204,14 +164,7 @@ IsStated command.Noop = Unit {0}
 IsStated command.Feat = Unit {0}
 IsStated (command.Opts value) = IsWords value
 
--- what the types of a command's numbers keep: octets below 256, four or sixteen of them, a port below 65,536
-abbrev pub IsTypedHost : Host → Type 0
-IsTypedHost (V4 octets) = (length octets ≡ 4) × AllByRecursion (λ c. c < 256) octets
-IsTypedHost (V6 octets) = (length octets ≡ 16) × AllByRecursion (λ c. c < 256) octets
-
-abbrev pub IsTypedEndpoint : Endpoint → Type 0
-IsTypedEndpoint endpoint = IsTypedHost endpoint.host × (endpoint.port < 65536)
-
+-- what the types of a command's numbers keep
 abbrev pub IsTyped : Command (List ℕ) → Type 0
 IsTyped (command.Port value) = IsTypedEndpoint value
 IsTyped (command.Eprt value) = IsTypedEndpoint value

@@ -1,6 +1,6 @@
 // A command as a value, generic in how it holds a text.
 
-use crate::endpoint::Endpoint;
+use ftp_endpoint::Endpoint;
 
 /// How the octets of a file are represented: TYPE A or TYPE I (RFC 959, section 3.1.1).
 #[derive(Clone, Copy, Debug, PartialEq, Eq)]

@@ -1,16 +1,14 @@
 // The line of a command, made on the stack: a line that is written has at most 1,024 octets.
-ghost use Rattle.std.specs.Prelude.{◌≡◌, ◌+◌, ◌*◌, ◌/◌, ◌%◌, ◌^◌, ◌<◌, ◌≤◌, ◌++◌, ℕ, List, [], ◌∷◌, codes, decimal, if◌then◌else◌, length, map};
-ghost use Rattle.std.specs.Char.{digit_char};
-ghost use Rattle.std.specs.List.{join_with_byte};
+ghost use Rattle.std.specs.Prelude.{◌≡◌, ◌+◌, ◌*◌, ◌/◌, ◌%◌, ◌^◌, ◌<◌, ◌≤◌, ◌++◌, ℕ, List, [], ◌∷◌, codes, decimal, length};
 ghost use Rattle.ftp_command.specs.Command.{verb_of};
-ghost use Rattle.ftp_command.specs.Line.{IsStated, IsV4, address_text, extended_text, groups_of, hex, line_of as line_text, longest_text, numbers_text, passive_text as passive_words, six_text, spaced, tail_of};
+ghost use Rattle.ftp_command.specs.Line.{IsStated, line_of as line_text, longest_text, passive_text as passive_words, spaced, tail_of};
+ghost use Rattle.ftp_endpoint.specs.Written.{IsV4, extended_text, six_text};
 
 use crate::command::{Command, Kind, Mode, Passive, Structure};
-use crate::endpoint::Endpoint;
-use crate::host::Host;
 use crate::text::Text;
 use crate::verb::Verb;
 use arrayvec::ArrayVec;
+use ftp_endpoint::{Endpoint, write_extended, write_six};
 use itoa::Buffer;
 use std::alloc::Allocator;
 
@@ -188,34 +186,10 @@ fn put_six(endpoint: Endpoint, line: &mut Line)
     requires room { length line.old.items ≤ 4 }
     ensures { line.new.items ≡ line.old.items ++ (codes " " ++ six_text endpoint) }
 {
-    let Endpoint { host, port } = endpoint;
     put(b" ", line);
-    match host {
-        Host::V4(octets) => {
-            put_numbers(b',', octets, line);
-            put(b",", line);
-            put_decimal(u64::from(port / 256), line);
-            put(b",", line);
-            put_decimal(u64::from(port % 256), line);
-        }
-        Host::V6(_) => {}
+    if let Some(text) = write_six(endpoint) {
+        put(text.as_slice(), line);
     }
-}
-
-// Four numbers joined by a separator.
-fn put_numbers(separator: u8, octets: [u8; 4], line: &mut Line)
-    requires { length line.old.items ≤ 10 }
-    ensures text { line.new.items ≡ line.old.items ++ numbers_text separator octets }
-    ensures bound { length line.new.items ≤ length line.old.items + 83 }
-{
-    let [a, b, c, d] = octets;
-    put_decimal(u64::from(a), line);
-    put(&[separator], line);
-    put_decimal(u64::from(b), line);
-    put(&[separator], line);
-    put_decimal(u64::from(c), line);
-    put(&[separator], line);
-    put_decimal(u64::from(d), line);
 }
 
 // SP, a protocol, an address and a port.
@@ -223,92 +197,6 @@ fn put_extended(endpoint: Endpoint, line: &mut Line)
     requires { length line.old.items ≤ 4 }
     ensures { line.new.items ≡ line.old.items ++ (codes " " ++ extended_text endpoint) }
 {
-    let Endpoint { host, port } = endpoint;
     put(b" ", line);
-    put_address(host, line);
-    put(b"|", line);
-    put_decimal(u64::from(port), line);
-    put(b"|", line);
-}
-
-fn put_address(host: Host, line: &mut Line)
-    requires { length line.old.items ≤ 5 }
-    ensures text { line.new.items ≡ line.old.items ++ address_text host }
-    ensures bound { length line.new.items ≤ 500 }
-{
-    match host {
-        Host::V4(octets) => {
-            put(b"|1|", line);
-            put_numbers(b'.', octets, line);
-        }
-        Host::V6(octets) => {
-            put(b"|2|", line);
-            put_groups(&groups(octets), line);
-        }
-    }
-}
-
-// The groups of a host of IPv6.
-fn groups(octets: [u8; 16]) -> [u16; 8]
-    ensures { result ≡ groups_of octets }
-{
-    let [a, b, c, d, e, f, g, h, i, j, k, l, m, n, o, p] = octets;
-    let [r, s] = two(a, b, c, d);
-    let [t, u] = two(e, f, g, h);
-    let [v, w] = two(i, j, k, l);
-    let [x, y] = two(m, n, o, p);
-    [r, s, t, u, v, w, x, y]
-}
-
-fn two(a: u8, b: u8, c: u8, d: u8) -> [u16; 2]
-    ensures { result ≡ (a * 256 + b) ∷ (c * 256 + d) ∷ [] }
-{
-    [
-        u16::from(a) * 256 + u16::from(b),
-        u16::from(c) * 256 + u16::from(d),
-    ]
-}
-
-// Groups in lower case, joined by colons.
-fn put_groups(groups: &[u16], line: &mut Line)
-    requires few { length groups.now ≤ 8 }
-    requires room { length line.old.items ≤ 8 }
-    ensures text { line.new.items ≡ line.old.items ++ join_with_byte 58 (map hex groups.now) }
-    ensures bound { length line.new.items ≤ length line.old.items + 40 }
-{
-    for (i, group) in groups.iter().enumerate() {
-        put_group(i > 0, *group, line);
-    }
-}
-
-// A group without leading zeros, behind a colon unless it is the first.
-fn put_group(behind: bool, group: u16, line: &mut Line)
-    requires { length line.old.items + 5 ≤ 1024 }
-    ensures text { line.new.items ≡ line.old.items ++ ((if behind then codes ":" else []) ++ hex group) }
-    ensures bound { length line.new.items ≤ length line.old.items + 5 }
-{
-    if behind {
-        line.push(b':');
-    }
-    if group >= 4096 {
-        line.push(hex_digit(group / 4096));
-    }
-    if group >= 256 {
-        line.push(hex_digit(group / 256 % 16));
-    }
-    if group >= 16 {
-        line.push(hex_digit(group / 16 % 16));
-    }
-    line.push(hex_digit(group % 16));
-}
-
-fn hex_digit(digit: u16) -> u8
-    requires { digit < 16 }
-    ensures { result ≡ digit_char digit }
-{
-    if digit < 10 {
-        b'0' + digit as u8
-    } else {
-        b'a' + (digit - 10) as u8
-    }
+    put(write_extended(endpoint).as_slice(), line);
 }

@@ -2,21 +2,19 @@
 ghost use Rattle.std.specs.Prelude.{Ok, Err, ◌≡◌, ◌⊎◌, ◌≤◌, ℕ, List, [], IfErr, IfOk, IfSome, IfNone, IsTrue, OnOk, Option, length};
 ghost use Rattle.ftp_command.specs.Argument.{IsBlank, IsName, IsPassword, IsPath, SaysPathOrNone, SaysSizes, SaysTextOrNone, argument, trimmed, without_options, word};
 ghost use Rattle.ftp_command.specs.Command.{Argues, Declined, Refuses, Says, verb_of};
-ghost use Rattle.ftp_command.specs.Endpoint.{SaysSix};
-ghost use Rattle.ftp_command.specs.Number.{SaysNumber};
+ghost use Rattle.ftp_endpoint.specs.Endpoint.{SaysSix};
+ghost use Rattle.ftp_endpoint.specs.Number.{SaysNumber};
 ghost use Rattle.ftp_command.specs.Verb.{Names};
 ghost use Rattle.ftp_command.specs.declared.command.Command.{Command};
 ghost use Rattle.ftp_command.specs.declared.fault.CommandFault.{CommandFault};
 
 use crate::argument::{drop_options, is_blank, is_name, is_password, is_path, split_line, trim};
 use crate::command::Command;
-use crate::decimal::number;
-use crate::endpoint::{Endpoint, six_numbers};
-use crate::extended::extended;
 use crate::fault::CommandFault;
-use crate::setting::{kind, mode, passive, sizes, structure};
+use crate::setting::{extended, kind, mode, passive, sizes, structure};
 use crate::text::Text;
 use crate::verb::{Verb, verb_of};
+use ftp_endpoint::{Endpoint, number, six_numbers};
 use std::alloc::Allocator;
 
 /// Reads a line without its end as a command (RFC 959, sections 4.1 and 5.3).

@@ -1,13 +1,13 @@
-// The parameters of TYPE, STRU, MODE, EPSV and ALLO.
+// The parameters of TYPE, STRU, MODE, EPRT, EPSV and ALLO.
 ghost use Rattle.std.specs.Prelude.{◌≡◌, ◌≢◌, ◌↔◌, ℕ, List, IfErr, IfNone, IfOk, IfSome, IsTrue, Option};
 ghost use Rattle.ftp_command.specs.Argument.{IsOtherFamily, IsOtherKind, IsOtherMode, IsOtherName, IsOtherStructure, SaysEbcdic, SaysKind, SaysLocal, SaysLongest, SaysMode, SaysPassive, SaysSizes, SaysStructure};
 ghost use Rattle.ftp_command.specs.Decline.{Declines, DeclinesFamily};
+ghost use Rattle.ftp_endpoint.specs.Host.{IsOtherProtocol, SaysExtended};
 ghost use Rattle.ftp_command.specs.declared.command.Passive.{Passive};
 
 use crate::command::{Kind, Mode, Passive, Structure};
-use crate::decimal::{number, split_digits};
-use crate::endpoint::after;
 use crate::fault::CommandFault;
+use ftp_endpoint::{Endpoint, EndpointFault, after, extended_endpoint, number, split_digits};
 
 /// Reads the parameter of TYPE (RFC 959, section 4.1.2).
 pub(crate) fn kind(text: &[u8]) -> Result<Kind, CommandFault>
@@ -99,6 +99,18 @@ pub(crate) fn mode(text: &[u8]) -> Result<Mode, CommandFault>
         Err(CommandFault::BadParameter)
     } else {
         Err(CommandFault::BadArgument)
+    }
+}
+
+/// Reads an extended address, the argument of EPRT (RFC 2428, section 2).
+pub(crate) fn extended(text: &[u8]) -> Result<Endpoint, CommandFault>
+    ensures ok { IfOk result (λ endpoint. SaysExtended text.now endpoint) }
+    ensures err { IfErr result (λ fault. DeclinesFamily (SaysExtended text.now) (IsOtherProtocol text.now) fault) }
+{
+    match extended_endpoint(text) {
+        Ok(endpoint) => Ok(endpoint),
+        Err(EndpointFault::BadText) => Err(CommandFault::BadArgument),
+        Err(EndpointFault::Protocol) => Err(CommandFault::Protocol),
     }
 }
 

@@ -121,7 +121,7 @@ fn parameters_by_their_verbs(rt: HostRuntime) {
     }
 }
 
-const EXTENDED: [Row; 24] = [
+const EXTENDED: [Row; 10] = [
     (
         b"EPRT |1|132.235.1.2|6275|",
         Ok(b"EPRT |1|132.235.1.2|6275|"),
@@ -143,27 +143,7 @@ const EXTENDED: [Row; 24] = [
         Ok(b"EPRT |1|10.0.0.1|1930|"),
     ),
     (b"EPRT |3|x|1930|", Err(CommandFault::Protocol)),
-    (b"EPRT |3||1930|", Err(CommandFault::Protocol)),
-    (b"EPRT |3|x|0|", Err(CommandFault::BadArgument)),
     (b"EPRT |x|x|1930|", Err(CommandFault::BadArgument)),
-    (b"EPRT |1|1930|", Err(CommandFault::BadArgument)),
-    (b"EPRT 1111111", Err(CommandFault::BadArgument)),
-    (b"EPRT |1|300.0.0.1|1930|", Err(CommandFault::BadArgument)),
-    (b"EPRT |1|1.2.3.4|65536|", Err(CommandFault::BadArgument)),
-    (b"EPRT |1|1.2.3.4|0|", Err(CommandFault::BadArgument)),
-    (b"EPRT |1|1.2.3.4.5|1|", Err(CommandFault::BadArgument)),
-    (b"EPRT |2|1::2::3|1930|", Err(CommandFault::BadArgument)),
-    (b"EPRT |2|1:2:3:4:5:6:7|1|", Err(CommandFault::BadArgument)),
-    (
-        b"EPRT |2|1:2:3:4:5:6:7:8:9|1|",
-        Err(CommandFault::BadArgument),
-    ),
-    (
-        b"EPRT |2|1:2:3:4:5:6:7:8::|1|",
-        Err(CommandFault::BadArgument),
-    ),
-    (b"EPRT |2|00001::|1|", Err(CommandFault::BadArgument)),
-    (b"EPRT |2|::1.2.3.4|1|", Err(CommandFault::BadArgument)),
 ];
 
 #[test]
@@ -234,24 +214,6 @@ fn the_longest_words(rt: HostRuntime) -> Result<(), Fail> {
     let longer = Command::Opts(Text::new(rt.alloc(), &words)?);
     assert_eq!(rt; write(&longer, &mut out), Err(CommandFault::BadArgument));
     Ok(())
-}
-
-const READ_IN_REPLIES: [(&[u8], Option<u16>); 8] = [
-    (b"(|||6446|)", Some(6446)),
-    (b"(!!!1!) more", Some(1)),
-    (b"(|||65536|)", None),
-    (b"(|||0|)", None),
-    (b"(||1|)", None),
-    (b"(||||1|)", None),
-    (b"(1111|)", None),
-    (b"|||1|)", None),
-];
-
-#[test]
-fn ports_of_extended_replies(rt: HostRuntime) {
-    for (text, expected) in READ_IN_REPLIES {
-        assert_eq!(rt; port_in_front(text), expected, "{text:?}");
-    }
 }
 
 #[test]

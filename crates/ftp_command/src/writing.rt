@@ -3,14 +3,15 @@ ghost use Rattle.std.specs.Prelude.{◌≡◌, ◌⊎◌, ◌↔◌, ◌+◌, �
 ghost use Rattle.std.specs.List.{list_all};
 ghost use Rattle.ftp_command.specs.Argument.{IsPath, begins_with, trimmed};
 ghost use Rattle.ftp_command.specs.Command.{verb_of};
-ghost use Rattle.ftp_command.specs.Line.{IfGiven, IfShort, IsListed, IsStated, IsV4, IsWords, is_no_feed, line_of as line_text};
+ghost use Rattle.ftp_command.specs.Line.{IfGiven, IfShort, IsListed, IsStated, IsWords, is_no_feed, line_of as line_text};
+ghost use Rattle.ftp_endpoint.specs.Written.{IsV4};
 
 use crate::argument::{begins_option, is_name, is_password, is_path, trim};
 use crate::command::Command;
 use crate::fault::CommandFault;
-use crate::host::Host;
 use crate::line::line_of;
 use crate::text::Text;
+use ftp_endpoint::Host;
 use std::alloc::Allocator;
 
 /// Writes a command as a line without its end: the verb in capitals, and SP and the argument where there is one.

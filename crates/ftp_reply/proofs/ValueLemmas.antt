@@ -1,9 +1,9 @@
 -- A text says one value of a kind at most.
 use Rattle.std.proofs.Common.{◌≡◌, ◌==◌, ℕ, ◌<◌, List, [], ◌∷◌, ◌++◌, codes, refl, ap, sym, ◌∙◌, subst, append_assoc, arith}
 use Rattle.std.specs.Str.Parse.{digits_value}
-use Rattle.ftp_command.specs.declared.endpoint.Endpoint.{Endpoint}
-use Rattle.ftp_command.specs.Endpoint.{BeginsWithSix, BeginsWithPort, ClosesWithPort}
-use Rattle.ftp_command.proofs.EndpointLemmas.{closed, begins_same}
+use Rattle.ftp_endpoint.specs.declared.endpoint.Endpoint.{Endpoint}
+use Rattle.ftp_endpoint.specs.Endpoint.{BeginsWithSix, BeginsWithPort, ClosesWithPort}
+use Rattle.ftp_endpoint.proofs.EndpointLemmas.{closed, begins_same}
 use Rattle.ftp_reply.specs.Lines.{Text}
 use Rattle.ftp_reply.specs.Values.{HasSixAt, NamesEndpoint, HasPortAt, NamesPort, doubled_octet, doubled, Closes, Quotes, SaysMark}
 use Rattle.ftp_reply.proofs.FirstLemmas.{first_once}

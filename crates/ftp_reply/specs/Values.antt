@@ -2,9 +2,9 @@
 use Rattle.std.specs.Prelude.{◌≡◌, ◌≢◌, ◌-◌, ◌<◌, ◌≤◌, ◌==◌, ℕ, [], ◌∷◌, ◌++◌, length, drop, slice_index, All, IsTrue, not, codes, if◌then◌else◌}
 use Rattle.std.specs.Char.{is_ascii_digit}
 use Rattle.std.specs.List.{flat_map}
-use Rattle.ftp_command.specs.declared.endpoint.Endpoint.{Endpoint}
-use Rattle.ftp_command.specs.Endpoint.{BeginsWithSix, BeginsWithPort}
-use Rattle.ftp_command.specs.Number.{SaysNumber}
+use Rattle.ftp_endpoint.specs.declared.endpoint.Endpoint.{Endpoint}
+use Rattle.ftp_endpoint.specs.Endpoint.{BeginsWithSix, BeginsWithPort}
+use Rattle.ftp_endpoint.specs.Number.{SaysNumber}
 use Rattle.ftp_reply.specs.Lines.{Text}
 use Rattle.ftp_reply.specs.declared.quoted.Front.{Front}
 use Rattle.ftp_reply.specs.declared.quoted.Front.TheVariants.{Octet, End, Nothing}

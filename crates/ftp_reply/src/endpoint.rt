@@ -1,12 +1,12 @@
 //! The endpoints that replies name.
 ghost use Rattle.std.specs.Prelude.{◌≡◌, ◌≤◌, ℕ, IfOk, IfErr, IfSome, IfNone, length};
-ghost use Rattle.ftp_command.specs.declared.endpoint.Endpoint.{Endpoint};
+ghost use Rattle.ftp_endpoint.specs.declared.endpoint.Endpoint.{Endpoint};
 ghost use Rattle.ftp_reply.specs.Lines.{joined};
 ghost use Rattle.ftp_reply.specs.Values.{HasPortAt, HasSixAt, NamesEndpoint, NamesPort};
 
 use crate::fault::ReplyFault;
 use crate::reply::Reply;
-use ftp_command::{Endpoint, port_in_front, six_in_front};
+use ftp_endpoint::{Endpoint, port_in_front, six_in_front};
 use std::alloc::Allocator;
 
 /// The endpoint that a 227 reply names: the first six numbers of 0 to 255 that stand joined by commas, each a whole

@@ -3,7 +3,7 @@ ghost use Rattle.std.specs.Prelude.{◌≡◌, ◌<◌, ◌++◌, ◌∷◌, [],
 ghost use Rattle.ftp_reply.specs.Lines.{AreWithin};
 ghost use Rattle.ftp_reply.specs.Reply.{IsCode, HasPlainLines, Says, written};
 ghost use Rattle.ftp_reply.specs.Values.{NamesEndpoint, NamesPort, Quotes, SaysMark};
-ghost use Rattle.ftp_command.specs.declared.endpoint.Endpoint.{Endpoint};
+ghost use Rattle.ftp_endpoint.specs.declared.endpoint.Endpoint.{Endpoint};
 ghost use Rattle.ftp_reply.specs.Reader.{Standing, Reading, GoesOn, Ends, StandsAfter};
 
 /// What is written is read again as the same reply, where no inner line begins with three digits.

@@ -1,6 +1,6 @@
 //! The numbers and moments that replies carry.
 ghost use Rattle.std.specs.Prelude.{◌≡◌, ◌++◌, ◌∷◌, List, ℕ, IfOk, IfErr, IfSome, IfNone, IsTrue, ◌↔◌, ◌≢◌, codes};
-ghost use Rattle.ftp_command.specs.Number.{SaysNumber};
+ghost use Rattle.ftp_endpoint.specs.Number.{SaysNumber};
 ghost use Rattle.ftp_facts.specs.Moment.{SaysMoment};
 ghost use Rattle.ftp_reply.specs.Lines.{joined};
 ghost use Rattle.ftp_reply.specs.Values.{IsMarker, SaysMark};
@@ -8,7 +8,7 @@ ghost use Rattle.ftp_reply.specs.Values.{IsMarker, SaysMark};
 use crate::fault::ReplyFault;
 use crate::first::cut_at;
 use crate::reply::Reply;
-use ftp_command::number;
+use ftp_endpoint::number;
 use ftp_facts::{Moment, moment_of_text};
 use std::alloc::Allocator;
 

@@ -1,6 +1,6 @@
 //! Rows of RFC 959, RFC 2428 and RFC 3659, and refused growths.
 use crate::*;
-use ftp_command::{Endpoint, Host};
+use ftp_endpoint::{Endpoint, Host};
 use ftp_refusing::Refusing;
 use std::alloc::{Allocator, Global};
 use std::process::Abort;

@@ -1,4 +1,5 @@
-use Rattle.ftp_command.proofs.SettingLemmas.{no_kind, no_other, not_from}
+use Rattle.ftp_command.proofs.SettingLemmas.{no_kind, no_other}
+use Rattle.ftp_endpoint.proofs.OutcomeLemmas.{not_from}
 use Rattle.ftp_command.proofs.setting.kind.Goals as goal
 
 pub returns-in-None-2-clause-err : goal.returns-in-None-2-clause-err

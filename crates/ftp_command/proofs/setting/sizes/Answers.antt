@@ -1,8 +1,8 @@
 use Rattle.std.proofs.Common.{◌≡◌, ℕ, List, [], Option, subst, ◌∙◌}
 use Rattle.ftp_command.specs.Argument.{SaysLongest, SaysSizes}
-use Rattle.ftp_command.specs.Number.{behind_digits}
-use Rattle.ftp_command.proofs.EndpointLemmas.{if_none}
-use Rattle.ftp_command.proofs.SettingLemmas.{no_sizes, not_empty}
+use Rattle.ftp_endpoint.specs.Number.{behind_digits}
+use Rattle.ftp_command.proofs.SettingLemmas.{no_sizes}
+use Rattle.ftp_endpoint.proofs.OutcomeLemmas.{if_none, not_empty}
 use Rattle.ftp_command.proofs.setting.sizes.Goals as goal
 
 pub returns-in_err-longest-clause-none : goal.returns-in_err-longest-clause-none

@@ -1,6 +1,6 @@
 use Rattle.std.proofs.Common.{ℕ, List, length, ap, subst, arith}
 use borrow.Author.Count.{below_more}
-use Rattle.ftp_command.specs.declared.endpoint.Endpoint.{Endpoint}
+use Rattle.ftp_endpoint.specs.declared.endpoint.Endpoint.{Endpoint}
 use Rattle.ftp_reply.specs.Lines.{joined}
 use Rattle.ftp_reply.specs.Values.{HasSixAt}
 use Rattle.ftp_reply.proofs.endpoint.passive_of.Goals as goal

@@ -1,5 +1,5 @@
 use Rattle.std.proofs.Common.{ℕ, ◌<◌}
-use Rattle.ftp_command.specs.declared.endpoint.Endpoint.{Endpoint}
+use Rattle.ftp_endpoint.specs.declared.endpoint.Endpoint.{Endpoint}
 use Rattle.ftp_reply.specs.Lines.{joined}
 use Rattle.ftp_reply.specs.Values.{HasSixAt}
 use Rattle.ftp_reply.proofs.endpoint.passive_of.Given as goal

@@ -1,5 +1,5 @@
 use Rattle.std.proofs.Common.{sym, subst, List, ℕ}
-use Rattle.ftp_command.specs.Endpoint.{BeginsWithSix}
+use Rattle.ftp_endpoint.specs.Endpoint.{BeginsWithSix}
 use Rattle.ftp_reply.proofs.endpoint.six_at.Goals as goal
 
 pub returns-in-None-clause-none : goal.returns-in-None-clause-none

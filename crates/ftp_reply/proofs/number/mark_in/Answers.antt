@@ -1,5 +1,5 @@
 use Rattle.std.proofs.Common.{◌≡◌, ◌++◌, ℕ, List, IsTrue, codes, sym, ◌∙◌, subst}
-use Rattle.ftp_command.specs.Number.{IsNumber}
+use Rattle.ftp_endpoint.specs.Number.{IsNumber}
 use Rattle.ftp_reply.specs.Values.{IsMarker}
 use Rattle.ftp_reply.proofs.MarkLemmas.{mark_rest, theirs_once, behind_once}
 use Rattle.ftp_reply.proofs.number.mark_in.Goals as goal

@@ -1,7 +1,0 @@
-use Rattle.std.proofs.Common.{◌≡◌, take}
-use Rattle.std.specs.Str.Parse.{AllDigits, digits_value}
-use Rattle.ftp_command.proofs.host.group_value.Given as goal
-
-abbrev pub invariant-loop-c : goal.invariant-loop-c
-invariant-loop-c l =
-    AllDigits 16 (take l.c-index l.text) × (l.value ≡ digits_value 16 (take l.c-index l.text))

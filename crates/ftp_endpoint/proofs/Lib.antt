@@ -1,0 +1,7 @@
+pub mod OutcomeLemmas
+pub mod NumberLemmas
+pub mod EndpointLemmas
+pub mod HostLemmas
+pub mod ExtendedLemmas
+pub mod JoinLemmas
+pub mod WrittenLemmas

@@ -1,0 +1,4 @@
+pub mod Number
+pub mod Endpoint
+pub mod Host
+pub mod Written
