@@ -25,6 +25,16 @@ fn agrees(alloc: Global, row: Row) -> bool {
     }
 }
 
+/// The number of the first row that is not so.
+fn wrong_row(alloc: Global, rows: &[Row]) -> Option<usize> {
+    for (i, row) in rows.iter().enumerate() {
+        if !agrees(alloc, *row) {
+            return Some(i);
+        }
+    }
+    None
+}
+
 const VERBS: [Row; 32] = [
     (b"USER guest", Ok(b"USER guest")),
     (b"user Guest ", Ok(b"USER Guest ")),
@@ -62,9 +72,7 @@ const VERBS: [Row; 32] = [
 
 #[test]
 fn verbs_and_their_texts(rt: HostRuntime) {
-    for row in VERBS {
-        assert!(rt; agrees(rt.alloc(), row), "{:?}", row.0);
-    }
+    assert!(rt; wrong_row(rt.alloc(), &VERBS).is_none());
 }
 
 const PARAMETERS: [Row; 44] = [
@@ -116,9 +124,7 @@ const PARAMETERS: [Row; 44] = [
 
 #[test]
 fn parameters_by_their_verbs(rt: HostRuntime) {
-    for row in PARAMETERS {
-        assert!(rt; agrees(rt.alloc(), row), "{:?}", row.0);
-    }
+    assert!(rt; wrong_row(rt.alloc(), &PARAMETERS).is_none());
 }
 
 const EXTENDED: [Row; 10] = [
@@ -148,13 +154,20 @@ const EXTENDED: [Row; 10] = [
 
 #[test]
 fn extended_addresses_of_rfc_2428(rt: HostRuntime) {
-    for row in EXTENDED {
-        assert!(rt; agrees(rt.alloc(), row), "{:?}", row.0);
+    assert!(rt; wrong_row(rt.alloc(), &EXTENDED).is_none());
+}
+
+/// Whether a line says PORT or EPRT of this endpoint.
+fn names(alloc: Global, line: &[u8], expected: Endpoint) -> bool {
+    match read(alloc, line) {
+        Ok(Command::Port(endpoint)) => endpoint == expected,
+        Ok(Command::Eprt(endpoint)) => endpoint == expected,
+        _ => false,
     }
 }
 
 #[test]
-fn endpoints_of_both_families(rt: HostRuntime) -> Result<(), Fail> {
+fn endpoints_of_both_families(rt: HostRuntime) {
     let local = Endpoint {
         host: Host::V4([127, 0, 0, 1]),
         port: 1930,
@@ -163,15 +176,39 @@ fn endpoints_of_both_families(rt: HostRuntime) -> Result<(), Fail> {
         host: Host::V6([0, 0, 0, 0, 0, 0, 0, 0, 0, 0, 0, 0, 0, 0, 0, 1]),
         port: 1930,
     };
-    let port = read(rt.alloc(), b"PORT 127,0,0,1,007,138")?;
-    assert!(rt; matches!(port, Command::Port(endpoint) if endpoint == local));
-    let extended = read(rt.alloc(), b"EPRT |2|::1|1930|")?;
-    assert!(rt; matches!(extended, Command::Eprt(endpoint) if endpoint == last));
-    Ok(())
+    assert!(rt; names(rt.alloc(), b"PORT 127,0,0,1,007,138", local));
+    assert!(rt; names(rt.alloc(), b"EPRT |2|::1|1930|", last));
+}
+
+/// Whether `write` says that no line stands for the command, and leaves the vector as it was.
+fn has_no_line(alloc: Global, command: Command<Text<Global>>) -> bool {
+    let Ok(mut out) = Vec::from_slice(alloc, b"x") else {
+        return false;
+    };
+    write(&command, &mut out) == Err(CommandFault::BadArgument) && out.as_slice() == b"x".as_slice()
+}
+
+/// The text of these octets; that of none where there is no memory, which the tests have.
+fn text(alloc: Global, octets: &[u8]) -> Text<Global> {
+    match Text::new(alloc, octets) {
+        Ok(text) => text,
+        Err(_) => Text::from_vec(Vec::new(alloc)),
+    }
 }
 
 #[test]
-fn values_that_no_line_stands_for(rt: HostRuntime) -> Result<(), Fail> {
+fn texts_that_no_line_stands_for(rt: HostRuntime) {
+    let alloc = rt.alloc();
+    assert!(rt; has_no_line(alloc, Command::User(text(alloc, b""))));
+    assert!(rt; has_no_line(alloc, Command::Cwd(text(alloc, b""))));
+    assert!(rt; has_no_line(alloc, Command::Acct(text(alloc, b"a "))));
+    assert!(rt; has_no_line(alloc, Command::Opts(text(alloc, b"a\nb"))));
+    assert!(rt; has_no_line(alloc, Command::Help(Some(text(alloc, b"")))));
+    assert!(rt; has_no_line(alloc, Command::List(Some(text(alloc, b"-a")))));
+}
+
+#[test]
+fn values_that_no_line_stands_for(rt: HostRuntime) {
     let v6 = Endpoint {
         host: Host::V6([0; 16]),
         port: 1,
@@ -180,24 +217,11 @@ fn values_that_no_line_stands_for(rt: HostRuntime) -> Result<(), Fail> {
         host: Host::V4([1, 2, 3, 4]),
         port: 0,
     };
-    let values = [
-        Command::User(Text::new(rt.alloc(), b"")?),
-        Command::Cwd(Text::new(rt.alloc(), b"")?),
-        Command::Acct(Text::new(rt.alloc(), b"a ")?),
-        Command::Opts(Text::new(rt.alloc(), b"a\nb")?),
-        Command::Help(Some(Text::new(rt.alloc(), b"")?)),
-        Command::List(Some(Text::new(rt.alloc(), b"-a")?)),
-        Command::Port(v6),
-        Command::Eprt(none),
-        Command::Rest(1_000_000_000_000_000_000),
-        Command::Allo(1, Some(1_000_000_000_000_000_000)),
-    ];
-    for value in values {
-        let mut out = Vec::from_slice(rt.alloc(), b"x")?;
-        assert_eq!(rt; write(&value, &mut out), Err(CommandFault::BadArgument));
-        assert_eq!(rt; out.as_slice(), b"x".as_slice());
-    }
-    Ok(())
+    let most = 1_000_000_000_000_000_000;
+    assert!(rt; has_no_line(rt.alloc(), Command::Port(v6)));
+    assert!(rt; has_no_line(rt.alloc(), Command::Eprt(none)));
+    assert!(rt; has_no_line(rt.alloc(), Command::Rest(most)));
+    assert!(rt; has_no_line(rt.alloc(), Command::Allo(1, Some(most))));
 }
 
 #[test]
@@ -208,35 +232,34 @@ fn the_longest_words(rt: HostRuntime) -> Result<(), Fail> {
     }
     let fits = Command::Opts(Text::new(rt.alloc(), &words)?);
     let mut out = Vec::new(rt.alloc());
-    assert_eq!(rt; write(&fits, &mut out), Ok(()));
-    assert_eq!(rt; out.len(), 1_022);
+    assert!(rt; write(&fits, &mut out) == Ok(()));
+    assert!(rt; out.len() == 1_022);
     words.push(b'x')?;
     let longer = Command::Opts(Text::new(rt.alloc(), &words)?);
-    assert_eq!(rt; write(&longer, &mut out), Err(CommandFault::BadArgument));
+    assert!(rt; write(&longer, &mut out) == Err(CommandFault::BadArgument));
     Ok(())
 }
 
-#[test]
-fn a_refused_growth_is_memory(rt: HostRuntime) -> Result<(), Fail> {
-    for line in [
-        b"USER guest".as_slice(),
-        b"LIST d",
-        b"EPRT |2|::1|1930|",
-        b"REST 5",
-    ] {
-        let heap = Refusing::new(rt.alloc(), 0);
-        assert!(rt; rewritten(&&heap, line).is_ok());
-        let growths = 0u64.wrapping_sub(heap.left());
-        for refused in 1..=growths {
-            let heap = Refusing::new(rt.alloc(), refused);
-            let fault = match rewritten(&&heap, line) {
-                Ok(_) => None,
-                Err(fault) => Some(fault),
-            };
-            assert_eq!(rt; fault, Some(CommandFault::Memory), "{refused} of {line:?}");
+/// Whether reading and writing the line asks for memory, and is Memory where any one growth is refused.
+fn is_memory(alloc: Global, line: &[u8]) -> bool {
+    let heap = Refusing::new(alloc, 0);
+    let fits = rewritten(&&heap, line).is_ok();
+    let growths = 0u64.wrapping_sub(heap.left());
+    for refused in 1..=growths {
+        let heap = Refusing::new(alloc, refused);
+        if !matches!(rewritten(&&heap, line), Err(CommandFault::Memory)) {
+            return false;
         }
     }
-    Ok(())
+    fits && growths > 0
+}
+
+#[test]
+fn a_refused_growth_is_memory(rt: HostRuntime) {
+    assert!(rt; is_memory(rt.alloc(), b"USER guest"));
+    assert!(rt; is_memory(rt.alloc(), b"LIST d"));
+    assert!(rt; is_memory(rt.alloc(), b"EPRT |2|::1|1930|"));
+    assert!(rt; is_memory(rt.alloc(), b"REST 5"));
 }
 
 #[test]
@@ -244,9 +267,9 @@ fn a_refused_growth_leaves_the_vector(rt: HostRuntime) -> Result<(), Fail> {
     let heap = Refusing::new(rt.alloc(), 2);
     let mut out = Vec::from_slice(&heap, b"x")?;
     let command: Command<Text<Global>> = Command::Pwd;
-    assert_eq!(rt; write(&command, &mut out), Err(CommandFault::Memory));
-    assert_eq!(rt; out.as_slice(), b"x".as_slice());
-    assert_eq!(rt; write(&command, &mut out), Ok(()));
-    assert_eq!(rt; out.as_slice(), b"xPWD".as_slice());
+    assert!(rt; write(&command, &mut out) == Err(CommandFault::Memory));
+    assert!(rt; out.as_slice() == b"x".as_slice());
+    assert!(rt; write(&command, &mut out) == Ok(()));
+    assert!(rt; out.as_slice() == b"xPWD".as_slice());
     Ok(())
 }
