@@ -1,15 +1,15 @@
 -- A dialogue from its start to its end.
-use Rattle.std.proofs.Common.{◌≡◌, ℕ, ◌∙◌, ◌⊎◌, inl, inr, Option, List, [], ◌++◌, false, refl, sym, ap, subst, Result, Ok, Err, append-nil}
+use Rattle.std.proofs.Common.{◌≡◌, ℕ, ◌∙◌, inl, inr, Option, List, [], ◌++◌, false, sym, ap, subst, Result, Ok, Err, append-nil}
 use Rattle.std.specs.Prelude.{Bool, IsErr, if◌then◌else◌, true, flat_map}
 use Rattle.std.specs.List.{list_any}
 use Rattle.std.proofs.KnownBytes.{Consumes-nil, Consumes-trans, Consumes-kept}
 use Rattle.std.specs.Io.KnownBytes.{Appends, Consumes, IsAtEnd, Keeps}
 use Rattle.ftp_nvt.proofs.LineLemmas.{events-nil}
 use Rattle.ftp_programs.proofs.Fronts.{Appends-whole}
-use Rattle.ftp_programs.proofs.Replying.{AsksFirst-all, AsksFirst-more, replies-nil}
+use Rattle.ftp_programs.proofs.Replying.{AsksFirst-all, replies-nil}
 use Rattle.ftp_programs.specs.Beginning.{AppendsFront}
 use Rattle.ftp_programs.specs.Converses.{Converses, BreaksOff, Ends}
-use Rattle.ftp_programs.specs.Dialogue.{Asked, AskAll, AsksAll, start, is_last, replies, line_limit, transcript, is_refused, status_of}
+use Rattle.ftp_programs.specs.Dialogue.{Asked, AskAll, AsksAll, start, is_last, line_limit, transcript, is_refused, status_of}
 use Rattle.ftp_programs.specs.Hearing.{IsFresh, GoesOnAfter, IsOverAfter, IsBrokenAfter}
 use Rattle.ftp_programs.specs.Replies.{text_line, reply_line, is_refusal}
 use Rattle.ftp_programs.specs.declared.dialogues.Connection.{Connection}

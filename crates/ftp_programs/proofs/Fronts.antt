@@ -1,5 +1,5 @@
 -- What is left of a writing that breaks off.
-use Rattle.std.proofs.Common.{◌≡◌, ℕ, ◌+◌, ◌≤◌, ◌∙◌, Option, Some, None, List, ◌++◌, length, take, subst, sym, ap, arith, length-append, append-nil, []}
+use Rattle.std.proofs.Common.{ℕ, ◌+◌, ◌∙◌, Option, Some, None, List, ◌++◌, length, take, subst, sym, arith, length-append, append-nil, []}
 use Rattle.std.proofs.Math.Seq.{take-append_seam, take-append-add}
 use Rattle.std.proofs.lemmas.List.{take-append-le}
 use Rattle.std.proofs.KnownBytes.{Appends-nil, Appends-trans}

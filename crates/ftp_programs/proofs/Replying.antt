@@ -1,15 +1,15 @@
 -- What more that is asked for adds to the replies.
 use Rattle.std.proofs.Common.{◌≡◌, ℕ, ◌⊎◌, inl, inr, List, [], ◌∷◌, ◌++◌, Bool, true, false, ◌||◌, refl, ap, sym, ◌∙◌, append-nil, append_assoc}
-use Rattle.std.specs.Prelude.{if◌then◌else◌, flat_map}
+use Rattle.std.specs.Prelude.{flat_map}
 use Rattle.std.specs.List.{list_any}
 use Rattle.std.proofs.lemmas.Grind.{flat_map-append}
 use Rattle.std.proofs.lemmas.List.Folds.{list_any-append}
 use Rattle.std.proofs.Math.Bool.{or-false}
-use Rattle.ftp_nvt.specs.Lines.{NvtEvent, events}
+use Rattle.ftp_nvt.specs.Lines.{NvtEvent}
 use Rattle.ftp_programs.specs.Replies.{text_line, reply_line, is_refusal}
 use Rattle.ftp_programs.specs.declared.reply.Reply.{Reply}
 use Rattle.ftp_programs.specs.declared.text.Text.TheVariants.{Ready}
-use Rattle.ftp_programs.specs.Dialogue.{State, Asked, Asks, AskAll, AsksAll, AsksFirst, start, replies, turn, is_last, after, line_limit, transcript, is_over, is_refused}
+use Rattle.ftp_programs.specs.Dialogue.{State, Asked, Asks, AskAll, AsksAll, AsksFirst, start, replies, turn, is_last, after, transcript, is_over, is_refused}
 
 pub decided : (b : Bool) → (b ≡ true) ⊎ (b ≡ false)
 decided true = inl refl

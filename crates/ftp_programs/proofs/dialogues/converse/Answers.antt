@@ -1,10 +1,9 @@
-use Rattle.std.proofs.Common.{◌≡◌, ◌++◌, Ok, Err, Result, ap, sym, subst, take, arith, refl, ◌∙◌, rules}
+use Rattle.std.proofs.Common.{◌≡◌, ◌++◌, Ok, ap, sym, subst, take, rules}
 use Rattle.std.specs.Io.KnownBytes.{Appends, Consumes}
 use Rattle.std.proofs.KnownBytes.{Keeps-refl}
 use Rattle.ftp_programs.proofs.Fronts.{AppendsFront-none}
 use Rattle.ftp_programs.proofs.Conversing.{begins, breaks_at_start, ends_failed, ends_at_end, ends_over, follows_on, breaks_off, breaks_between}
 use Rattle.ftp_programs.specs.Beginning.{AppendsFront}
-use Rattle.ftp_programs.specs.Dialogue.{transcript}
 use Rattle.ftp_programs.specs.Hearing.{StandsAfter}
 use Rattle.ftp_programs.proofs.dialogues.converse.Goals as goal
 

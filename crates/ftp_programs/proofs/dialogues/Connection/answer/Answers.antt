@@ -1,7 +1,7 @@
-use Rattle.std.proofs.Common.{◌≡◌, refl, subst}
+use Rattle.std.proofs.Common.{refl, subst}
 use Rattle.ftp_nvt.specs.Ear.{line_of}
 use Rattle.ftp_nvt.specs.Lines.{line, owed}
-use Rattle.ftp_programs.specs.Dialogue.{overlong, owes}
+use Rattle.ftp_programs.specs.Dialogue.{owes}
 use Rattle.ftp_programs.specs.Session.{state_of}
 use Rattle.ftp_programs.specs.Turns.{TurnsLine}
 use Rattle.ftp_programs.proofs.dialogues.Connection.answer.Goals as goal

@@ -1,4 +1,4 @@
-use Rattle.std.proofs.Common.{◌≡◌, ◌∙◌, ◌+◌, ◌++◌, Ok, ap, sym, subst, take, drop, append_assoc, rules}
+use Rattle.std.proofs.Common.{◌∙◌, ◌++◌, Ok, ap, sym, subst, take, append_assoc, rules}
 use Rattle.std.proofs.Math.Seq.{take-add}
 use Rattle.std.proofs.lemmas.List.{take-append-drop}
 use Rattle.ftp_programs.proofs.Stepping.{stands_failed}

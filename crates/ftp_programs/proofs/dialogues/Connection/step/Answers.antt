@@ -1,4 +1,4 @@
-use Rattle.std.proofs.Common.{◌≡◌, ◌++◌, ◌∙◌, ◌||◌, ap, refl, sym, subst, take, drop, append_assoc}
+use Rattle.std.proofs.Common.{◌++◌, ◌∙◌, ◌||◌, ap, refl, sym, subst, take, drop, append_assoc}
 use Rattle.std.proofs.lemmas.List.{take-append-drop}
 use Rattle.ftp_programs.proofs.Stepping.{hears_one, goes_on, ends, broke_before, broke_off, steps_failed}
 use Rattle.ftp_programs.specs.Hearing.{Answers, AnswersAny, IsBrokenAfter, IsOverAfter}

@@ -1,9 +1,8 @@
-use Rattle.std.proofs.Common.{◌≡◌, ◌∙◌, inl, inr, ap, refl, subst, sym}
+use Rattle.std.proofs.Common.{inl, inr, ap}
 use Rattle.std.proofs.lemmas.Result.{IfOk-weaker}
-use Rattle.ftp_programs.specs.Dialogue.{decided, does, fault_text, refuses}
+use Rattle.ftp_programs.specs.Dialogue.{does, refuses}
 use Rattle.ftp_programs.specs.Session.{state_of}
 use Rattle.ftp_programs.specs.declared.reply.Reply.TheVariants.{Fixed}
-use Rattle.ftp_programs.specs.Turns.{TurnsLine}
 use Rattle.ftp_programs.proofs.session.Session.answer.Goals as goal
 
 pub returns-in-Ok-clause-turn : goal.returns-in-Ok-clause-turn
