@@ -6,3 +6,6 @@ pub mod Texts
 pub mod FactAnswering
 pub mod FactTelling
 pub mod Framing
+mod Hearing
+mod WireEnding
+mod WireFollowing

@@ -10,3 +10,6 @@ pub mod FactHearing
 pub mod FactLines
 pub mod Frame
 pub mod Sending
+pub mod Direction
+pub mod Receiving
+pub mod WireReading

@@ -1,53 +1,18 @@
-// Files and wires, whole and octet by octet, and readers and writers that fail.
-use crate::frames::{Representation, frame};
-use ftp_mode::Mode;
-use ftp_repr::{Kind, Structure};
+// Files to wires, whole and octet by octet, and readers and writers that fail.
+use crate::frames::{Direction, Representation, frame};
+use crate::test_streams::{
+    ASCII_FILE_BLOCK, ASCII_FILE_STREAM, IMAGE_FILE_BLOCK, IMAGE_FILE_STREAM, IMAGE_RECORD_BLOCK,
+    IMAGE_RECORD_STREAM, failing_at, in_pieces,
+};
 use std::alloc::Global;
-use std::io;
-use std::io::{Error, ErrorKind, Read, Write};
+use std::io::{Read, Write};
 use std::process::Abort;
 use std::test::Fail;
 
-const IMAGE_FILE_STREAM: Representation = Representation {
-    kind: Kind::Image,
-    structure: Structure::File,
-    mode: Mode::Stream,
-};
-
-const IMAGE_RECORD_STREAM: Representation = Representation {
-    kind: Kind::Image,
-    structure: Structure::Record,
-    mode: Mode::Stream,
-};
-
-const IMAGE_FILE_BLOCK: Representation = Representation {
-    kind: Kind::Image,
-    structure: Structure::File,
-    mode: Mode::Block,
-};
-
-const IMAGE_RECORD_BLOCK: Representation = Representation {
-    kind: Kind::Image,
-    structure: Structure::Record,
-    mode: Mode::Block,
-};
-
-const ASCII_FILE_STREAM: Representation = Representation {
-    kind: Kind::Ascii,
-    structure: Structure::File,
-    mode: Mode::Stream,
-};
-
-const ASCII_FILE_BLOCK: Representation = Representation {
-    kind: Kind::Ascii,
-    structure: Structure::File,
-    mode: Mode::Block,
-};
-
 /// A file and its wire, by hand from RFC 959, sections 3.1.1, 3.4.1 and 3.4.2.
-type Row<'a> = (Representation, &'a [u8], &'a [u8]);
+pub type Row<'a> = (Representation, &'a [u8], &'a [u8]);
 
-const ROWS: [Row<'static>; 12] = [
+pub const ROWS: [Row<'static>; 12] = [
     (IMAGE_FILE_STREAM, &[], &[]),
     (IMAGE_RECORD_STREAM, &[], &[0xFF, 0x02]),
     (IMAGE_FILE_BLOCK, &[], &[0x40, 0x00, 0x00]),
@@ -74,35 +39,22 @@ const ROWS: [Row<'static>; 12] = [
     (ASCII_FILE_BLOCK, &[0x0A], &[0x40, 0x00, 0x02, 0x0D, 0x0A]),
 ];
 
-/// Gives so many octets a read, and fails at the read of this number, counted from 0.
-#[derive(Drop)]
-struct Pieces<'a> {
-    rest: &'a [u8],
-    most: usize,
-    calls: u32,
-    fails_at: u32,
-}
-
-impl<'a> Read for Pieces<'a> {
-    fn read(&mut self, room: &mut [u8]) -> io::Result<usize> {
-        if self.calls == self.fails_at {
-            return Err(Error::from(ErrorKind::ConnectionReset));
-        }
-        self.calls = self.calls.wrapping_add(1);
-        let count = self.rest.len().min(room.len()).min(self.most);
-        room[..count].copy_from_slice(&self.rest[..count]);
-        self.rest = &self.rest[count..];
-        Ok(count)
-    }
-}
-
-fn in_pieces<'a>(file: &'a [u8], most: usize, fails_at: u32) -> Pieces<'a> {
-    Pieces {
-        rest: file,
-        most,
-        calls: 0,
-        fails_at,
-    }
+/// Writes a file as its wire, with a second writer that refuses all.
+fn to_wire<R: Read, W: Write>(
+    alloc: Global,
+    form: Representation,
+    marks: bool,
+    reader: &mut R,
+    writer: &mut W,
+) -> u8 {
+    frame(
+        alloc,
+        form,
+        Direction::ToWire { marks },
+        reader,
+        writer,
+        &mut failing_at(alloc, 0),
+    )
 }
 
 /// A file goes as this wire, whatever the pieces are.
@@ -118,7 +70,7 @@ fn goes_as<R: Abort + Print>(
         let mut reader = in_pieces(file, most, u32::MAX);
         let mut writer = Vec::new(alloc);
         assert_eq!(rt;
-            frame(form, marks, &mut reader, &mut writer),
+            to_wire(alloc, form, marks, &mut reader, &mut writer),
             0,
             "{form:?} {most}"
         );
@@ -175,7 +127,13 @@ fn each_read_failed(rt: HostRuntime) {
     for fails_at in 0..20u32 {
         let mut reader = in_pieces(FILE, 3, fails_at);
         let mut writer = Vec::new(rt.alloc());
-        let status = frame(IMAGE_RECORD_STREAM, false, &mut reader, &mut writer);
+        let status = to_wire(
+            rt.alloc(),
+            IMAGE_RECORD_STREAM,
+            false,
+            &mut reader,
+            &mut writer,
+        );
         assert!(&rt; WIRE.starts_with(writer.as_slice()), "read {fails_at}");
         done = status == 0;
         assert!(&rt; done || status == 3, "read {fails_at}");
@@ -184,46 +142,19 @@ fn each_read_failed(rt: HostRuntime) {
     assert!(&rt; done);
 }
 
-/// Takes two octets a write, is interrupted at each second one, and fails at the write of this number.
-#[derive(Drop)]
-struct FailingWriter {
-    taken: Vec<u8>,
-    calls: u32,
-    fails_at: u32,
-}
-
-impl Write for FailingWriter {
-    fn write(&mut self, octets: &[u8]) -> io::Result<usize> {
-        if self.calls == self.fails_at {
-            return Err(Error::from(ErrorKind::BrokenPipe));
-        }
-        self.calls = self.calls.wrapping_add(1);
-        if self.calls % 2 == 0 {
-            return Err(Error::from(ErrorKind::Interrupted));
-        }
-        let count = octets.len().min(2);
-        match self.taken.extend_from_slice(&octets[..count]) {
-            Ok(()) => Ok(count),
-            Err(_) => Err(Error::from(ErrorKind::OutOfMemory)),
-        }
-    }
-
-    fn flush(&mut self) -> io::Result<()> {
-        Ok(())
-    }
-}
-
 #[test]
 fn each_write_failed(rt: HostRuntime) {
     let mut done = false;
     for fails_at in 0..60u32 {
         let mut reader = FILE;
-        let mut writer = FailingWriter {
-            taken: Vec::new(rt.alloc()),
-            calls: 0,
-            fails_at,
-        };
-        let status = frame(IMAGE_RECORD_STREAM, false, &mut reader, &mut writer);
+        let mut writer = failing_at(rt.alloc(), fails_at);
+        let status = to_wire(
+            rt.alloc(),
+            IMAGE_RECORD_STREAM,
+            false,
+            &mut reader,
+            &mut writer,
+        );
         assert!(&rt;
             WIRE.starts_with(writer.taken.as_slice()),
             "write {fails_at}"

@@ -1,4 +1,4 @@
-// A file to the octets of a data connection, between a reader and a writer.
+// A file to the octets of a data connection and back, between a reader and two writers.
 ghost use Rattle.std.specs.Prelude.{◌≡◌, ◌≢◌, ◌≤◌, ◌<◌, ◌^◌, ◌⊎◌, ◌++◌, ℕ, List, [], Some, None, false, length, drop, OnOk, OnErr};
 ghost use Rattle.std.specs.Io.KnownBytes.{Appends};
 ghost use Rattle.ftp_repr.specs.Items.{signs, given_signs};
@@ -9,13 +9,16 @@ ghost use Rattle.ftp_repr.specs.Signs.{signs_of};
 ghost use Rattle.ftp_mode.specs.Framing.{owed_octets, writing};
 ghost use Rattle.ftp_mode.specs.Writing.{writer};
 ghost use Rattle.ftp_programs.specs.Beginning.{AppendsFront};
+ghost use Rattle.ftp_programs.specs.Direction.{Goes, GoesFront};
 ghost use Rattle.ftp_programs.specs.Frame.{Frames, FramesFront, form_of, frame_text};
 ghost use Rattle.ftp_programs.specs.Sending.{still_to_give, Puts, PutsFront, Gives, GivesFront};
 
 use crate::pieces;
 use crate::pieces::{Failed, TURNS};
+use crate::receiving::to_file;
 use ftp_mode::{Framer, Mode};
 use ftp_repr::{Item, Kind, Sender, Structure};
+use std::alloc::Allocator;
 use std::io::{Read, Write};
 
 /// The most octets that are read or written at a time.
@@ -27,6 +30,16 @@ pub struct Representation {
     pub kind: Kind,
     pub structure: Structure,
     pub mode: Mode,
+}
+
+/// Which way a file goes.
+#[derive(Clone, Copy, Debug, PartialEq, Eq)]
+pub enum Direction {
+    /// A file to its wire. With `marks` own restart markers count its octets, in type I with file structure and block
+    /// mode; else they have no effect.
+    ToWire { marks: bool },
+    /// A wire to its file. Restart markers are checked and dropped.
+    ToFile,
 }
 
 /// A file that is being written.
@@ -139,12 +152,40 @@ fn rest_of<'a>(item: Item<'a>, taken: usize) -> Option<Item<'a>>
     }
 }
 
-/// Writes a file as the octets of a data connection, and gives the exit status (RFC 959, sections 3.1, 3.4 and 3.5).
+/// Writes a file as the octets of a data connection, or reads it from them, and gives the exit status (RFC 959, sections
+/// 3.1, 3.4 and 3.5).
 ///
-/// The file is all that the reader gives. With `marks` own restart markers count its octets, in type I with file
-/// structure and block mode; else they have no effect. 0: done. 3: a read or a write failed, or a loop over reads or
-/// writes has made 1,099,511,627,776 turns; then a beginning was written.
-pub fn frame<R, W>(form: Representation, marks: bool, reader: &mut R, writer: &mut W) -> u8
+/// One function for both directions: the reader gives the file and the writer takes its wire, or the other way round. Of
+/// a wire with a fault that is written which it settles before, and an unpaired CR there is dropped; then `faults` takes
+/// the fault's number, name and place and an LF, as `M1 BadEscape(2)`. 0: done. 1: a wire had a fault or ended early. 3: a
+/// read or a write failed, memory was refused, or a loop over reads or writes has made 1,099,511,627,776 turns; then a
+/// beginning was written.
+pub fn frame<A, R, W, F>(
+    alloc: A,
+    form: Representation,
+    direction: Direction,
+    reader: &mut R,
+    writer: &mut W,
+    faults: &mut F,
+) -> u8
+where
+    A: Allocator + Copy,
+    R: Read,
+    W: Write,
+    F: Write,
+    ensures done { result ≢ 3 → Goes form direction (R.remaining reader.old) (R.remaining reader.new) (W.contents writer.old) (W.contents writer.new)
+        (F.contents faults.old) (F.contents faults.new) result }
+    ensures failed { result ≡ 3 → GoesFront form direction (R.remaining reader.old) (R.remaining reader.new) (W.contents writer.old) (W.contents writer.new)
+        (F.contents faults.old) (F.contents faults.new) }
+{
+    match direction {
+        Direction::ToWire { marks } => to_wire(form, marks, reader, writer),
+        Direction::ToFile => to_file(alloc, form, reader, writer, faults),
+    }
+}
+
+/// Writes a file as the octets of a data connection, and gives the exit status.
+fn to_wire<R, W>(form: Representation, marks: bool, reader: &mut R, writer: &mut W) -> u8
 where
     R: Read,
     W: Write,

@@ -1,5 +1,5 @@
 //! The programs as functions over readers and writers: the dialogue of a control connection, the entries of a machine
-//! listing, and a file as the octets of a data connection.
+//! listing, and a file as the octets of a data connection and back.
 #![tactic(auto)]
 
 mod dialogues;
@@ -11,12 +11,17 @@ mod frame_tests;
 mod frames;
 mod login;
 mod pieces;
+mod receiving;
 mod reply;
 mod session;
 #[cfg(test)]
+mod test_streams;
+#[cfg(test)]
 mod tests;
 mod text;
+#[cfg(test)]
+mod wire_tests;
 
 pub use dialogues::dialogue;
 pub use fact_lines::facts;
-pub use frames::{Representation, frame};
+pub use frames::{Direction, Representation, frame};
