@@ -5,7 +5,7 @@ ghost use Rattle.std.specs.Str.Parse.{IsNumeral, digits_value};
 
 use clap::{Arg, ArgAction, ArgMatches, Command};
 use ftp_mode::Mode;
-use ftp_programs::Representation;
+use ftp_programs::{Direction, Representation};
 use ftp_repr::{Kind, Structure};
 use std::alloc::{AllocError, Global};
 
@@ -13,11 +13,16 @@ use std::alloc::{AllocError, Global};
 #[derive(Clone, Copy, Debug, PartialEq, Eq)]
 pub enum Task {
     /// Answers the octets of a control connection, at most `piece` at a time.
-    Dialogue { piece: u32 },
+    Dialogue {
+        piece: u32,
+    },
     /// Writes the entry of each line, or its fault.
     Facts,
-    /// Writes a file as the octets of a data connection, with own restart markers where they are asked for.
-    Frame { form: Representation, marks: bool },
+    /// Writes a file as the octets of a data connection, or reads it from them.
+    Frame {
+        form: Representation,
+        direction: Direction,
+    },
 }
 
 /// The words that the program knows.
@@ -38,12 +43,17 @@ pub fn command<'a>(alloc: Global) -> Result<Command<'a>, AllocError> {
         .long("marks")
         .help("writes restart markers, in type I with file structure and block mode")
         .action(ArgAction::SetTrue);
+    let read = Arg::new(alloc, "read")
+        .long("read")
+        .help("reads the octets of a data connection from standard input and writes the file")
+        .action(ArgAction::SetTrue);
     let frame = Command::new(alloc, "frame")
-        .about("writes standard input as the octets of a data connection")
+        .about("writes standard input as the octets of a data connection, or the other way round")
         .arg(needed(alloc, "type", "A|I"))?
         .arg(needed(alloc, "stru", "F|R"))?
         .arg(needed(alloc, "mode", "S|B"))?
-        .arg(marks)?;
+        .arg(marks)?
+        .arg(read)?;
     Command::new(alloc, "ftp_tool")
         .about("FTP without a socket, over standard input and output")
         .subcommand_required(true)
@@ -71,9 +81,19 @@ pub fn task_of(matches: &ArgMatches<'_>) -> Option<Task> {
         Some(("facts", _)) => Some(Task::Facts),
         Some(("frame", inner)) => Some(Task::Frame {
             form: form_of(inner)?,
-            marks: inner.get_flag("marks"),
+            direction: direction_of(inner),
         }),
         _ => None,
+    }
+}
+
+/// Which way the file goes.
+fn direction_of(matches: &ArgMatches<'_>) -> Direction {
+    if matches.get_flag("read") {
+        return Direction::ToFile;
+    }
+    Direction::ToWire {
+        marks: matches.get_flag("marks"),
     }
 }
 

@@ -20,10 +20,15 @@ const BAD_COMMAND_LINE: u8 = 2;
 const FAILED: u8 = 3;
 
 fn main(rt: HostRuntime) -> ExitCode {
-    ExitCode::from(run(&rt).unwrap_or(FAILED))
+    ExitCode::from(run(&rt, &mut rt.stderr()).unwrap_or(FAILED))
 }
 
-fn run<R: Input + Print + Eprint + Env + AllocGlobal>(rt: &R) -> Result<u8> {
+/// Does what the command line asks for, and tells the faults of a wire to `faults`.
+fn run<R, F>(rt: &R, faults: &mut F) -> Result<u8>
+where
+    R: Input + Print + Eprint + Env + AllocGlobal,
+    F: Write,
+{
     let words: Vec<String> = env::args(rt)?.collect(rt.alloc())?;
     let matches = match command_line::command(rt.alloc())?.try_get_matches_from(words.as_slice()) {
         Ok(matches) => matches,
@@ -40,11 +45,13 @@ fn run<R: Input + Print + Eprint + Env + AllocGlobal>(rt: &R) -> Result<u8> {
             piece,
         )),
         Some(Task::Facts) => Ok(facts(rt.alloc(), &mut rt.reader(), &mut std::io::writer(rt))),
-        Some(Task::Frame { form, marks }) => Ok(frame(
+        Some(Task::Frame { form, direction }) => Ok(frame(
+            rt.alloc(),
             form,
-            marks,
+            direction,
             &mut rt.reader(),
             &mut std::io::writer(rt),
+            faults,
         )),
         None => {
             eprintln!(rt;

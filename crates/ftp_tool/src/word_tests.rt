@@ -1,7 +1,7 @@
 // What words on the command line ask for.
 use crate::command_line::{Task, command, task_of};
 use ftp_mode::Mode;
-use ftp_programs::Representation;
+use ftp_programs::{Direction, Representation};
 use ftp_repr::{Kind, Structure};
 use std::alloc::Global;
 
@@ -30,10 +30,21 @@ fn good_command_lines(rt: HostRuntime) {
         structure: Structure::Record,
         mode: Mode::Block,
     };
-    let words = [
+    let image = [
+        "ftp_tool", "frame", "--type", "I", "--stru", "R", "--mode", "B",
+    ];
+    let direction = Direction::ToWire { marks: false };
+    assert!(&rt; asked(alloc, &image) == Some(Task::Frame { form, direction }));
+    let marked = [
         "ftp_tool", "frame", "--type", "I", "--stru", "R", "--mode", "B", "--marks",
     ];
-    assert!(&rt; asked(alloc, &words) == Some(Task::Frame { form, marks: true }));
+    let direction = Direction::ToWire { marks: true };
+    assert!(&rt; asked(alloc, &marked) == Some(Task::Frame { form, direction }));
+    let back = [
+        "ftp_tool", "frame", "--type", "I", "--stru", "R", "--mode", "B", "--marks", "--read",
+    ];
+    let direction = Direction::ToFile;
+    assert!(&rt; asked(alloc, &back) == Some(Task::Frame { form, direction }));
 }
 
 #[test]
