@@ -3,7 +3,6 @@ use crate::*;
 use ftp_endpoint::{Endpoint, Host};
 use ftp_refusing::Refusing;
 use std::alloc::{Allocator, Global};
-use std::process::Abort;
 use std::test::Fail;
 
 /// Lines, and the code and texts of the reply that they are.
@@ -82,76 +81,47 @@ const WRITTEN: [(u16, &[&[u8]], &[u8]); 6] = [
     (211, &[b"a", b"b"], b"211-a\n211 b"),
 ];
 
-const PASSIVE: [(&[u8], Result<Endpoint, ReplyFault>); 15] = [
-    (
-        b"227 Entering (127,0,0,1,7,138)",
-        Ok(Endpoint {
-            host: Host::V4([127, 0, 0, 1]),
-            port: 1930,
-        }),
-    ),
-    (
-        b"227 Entering 127,0,0,1,7,138",
-        Ok(Endpoint {
-            host: Host::V4([127, 0, 0, 1]),
-            port: 1930,
-        }),
-    ),
-    (
-        b"227 Take 2 127,0,0,1,7,138",
-        Ok(Endpoint {
-            host: Host::V4([127, 0, 0, 1]),
-            port: 1930,
-        }),
-    ),
-    (
-        b"227 =132,235,1,2,24,131",
-        Ok(Endpoint {
-            host: Host::V4([132, 235, 1, 2]),
-            port: 6275,
-        }),
-    ),
-    (
-        b"227 127,000,00,001,007,138.",
-        Ok(Endpoint {
-            host: Host::V4([127, 0, 0, 1]),
-            port: 1930,
-        }),
-    ),
-    (
-        b"227 1,2,3,4,5,6,7,8",
-        Ok(Endpoint {
-            host: Host::V4([1, 2, 3, 4]),
-            port: 1286,
-        }),
-    ),
-    (
-        b"227 300,1,2,3,4,5,6",
-        Ok(Endpoint {
-            host: Host::V4([1, 2, 3, 4]),
-            port: 1286,
-        }),
-    ),
-    (
-        b"227 1,2,3,4,5 255,255,255,255,255,255",
-        Ok(Endpoint {
-            host: Host::V4([255, 255, 255, 255]),
-            port: 65535,
-        }),
-    ),
-    (
-        b"227 0,0,0,0,0,0",
-        Ok(Endpoint {
-            host: Host::V4([0, 0, 0, 0]),
-            port: 0,
-        }),
-    ),
-    (b"227 Entering (127,0,0,1,7)", Err(ReplyFault::NoEndpoint)),
-    (b"227 127, 0,0,1,7,138", Err(ReplyFault::NoEndpoint)),
-    (b"227 256,0,0,1,7,138", Err(ReplyFault::NoEndpoint)),
-    (b"227 0127,0,0,1,7,138", Err(ReplyFault::NoEndpoint)),
-    (b"227 127,0,0,1,7,1389", Err(ReplyFault::NoEndpoint)),
-    (b"227", Err(ReplyFault::NoEndpoint)),
+const LOCAL: Endpoint = Endpoint {
+    host: Host::V4([127, 0, 0, 1]),
+    port: 1930,
+};
+
+const OTHER: Endpoint = Endpoint {
+    host: Host::V4([132, 235, 1, 2]),
+    port: 6275,
+};
+
+const FIRST_SIX: Endpoint = Endpoint {
+    host: Host::V4([1, 2, 3, 4]),
+    port: 1286,
+};
+
+const HIGHEST: Endpoint = Endpoint {
+    host: Host::V4([255, 255, 255, 255]),
+    port: 65535,
+};
+
+const LOWEST: Endpoint = Endpoint {
+    host: Host::V4([0, 0, 0, 0]),
+    port: 0,
+};
+
+const PASSIVE: [(&[u8], Option<Endpoint>); 15] = [
+    (b"227 Entering (127,0,0,1,7,138)", Some(LOCAL)),
+    (b"227 Entering 127,0,0,1,7,138", Some(LOCAL)),
+    (b"227 Take 2 127,0,0,1,7,138", Some(LOCAL)),
+    (b"227 =132,235,1,2,24,131", Some(OTHER)),
+    (b"227 127,000,00,001,007,138.", Some(LOCAL)),
+    (b"227 1,2,3,4,5,6,7,8", Some(FIRST_SIX)),
+    (b"227 300,1,2,3,4,5,6", Some(FIRST_SIX)),
+    (b"227 1,2,3,4,5 255,255,255,255,255,255", Some(HIGHEST)),
+    (b"227 0,0,0,0,0,0", Some(LOWEST)),
+    (b"227 Entering (127,0,0,1,7)", None),
+    (b"227 127, 0,0,1,7,138", None),
+    (b"227 256,0,0,1,7,138", None),
+    (b"227 0127,0,0,1,7,138", None),
+    (b"227 127,0,0,1,7,1389", None),
+    (b"227", None),
 ];
 
 const EXTENDED: [(&[u8], Option<u16>); 16] = [
@@ -235,38 +205,41 @@ const FAULTS: [(ReplyFault, &str); 7] = [
     (ReplyFault::Failed, "Q7 Failed"),
 ];
 
-/// Hands the lines to a reader. Gives the last answer; all before it have to be that the reply goes on.
-fn heard<A: Allocator + Clone>(
-    rt: &impl Abort,
-    reader: &mut Reader<A>,
-    lines: &[&[u8]],
-) -> Result<Reply<A>, Fail> {
+/// The reply that the lines are to the reader, where the last of them ends it and none before.
+fn heard<A: Allocator + Clone>(reader: &mut Reader<A>, lines: &[&[u8]]) -> Option<Reply<A>> {
     let mut last = None;
     for line in lines {
-        assert!(rt; last.is_none());
-        last = reader.line(line)?;
+        if last.is_some() {
+            return None;
+        }
+        match reader.line(line) {
+            Ok(reply) => last = reply,
+            Err(_) => return None,
+        }
     }
-    Ok(last.ok_or("the reply goes on")?)
+    last
 }
 
 /// A reply from its line.
-fn reply_of(alloc: Global, line: &[u8]) -> Result<Reply<Global>, Fail> {
-    Ok(Reader::new(alloc).line(line)?.ok_or("the reply goes on")?)
+fn reply_of(alloc: Global, line: &[u8]) -> Option<Reply<Global>> {
+    match Reader::new(alloc).line(line) {
+        Ok(reply) => reply,
+        Err(_) => None,
+    }
 }
 
 /// A reply of these lines.
-fn reply_with<A: Allocator>(alloc: A, code: u16, texts: &[&[u8]]) -> Result<Reply<A>, Fail> {
+fn reply_with(alloc: Global, code: u16, texts: &[&[u8]]) -> Option<Reply<Global>> {
     let mut lines = Lines::new(alloc);
     for text in texts {
-        if !lines.has_room(text) {
-            return Err("too many".into());
+        if !lines.has_room(text) || lines.push(text).is_err() {
+            return None;
         }
-        lines.push(text)?;
     }
     if lines.len() == 0 || code < 100 || code > 599 {
-        return Err("no reply".into());
+        return None;
     }
-    Ok(Reply { code, lines })
+    Some(Reply { code, lines })
 }
 
 fn texts_are<A: Allocator>(reply: &Reply<A>, texts: &[&[u8]]) -> bool {
@@ -284,249 +257,293 @@ fn texts_are<A: Allocator>(reply: &Reply<A>, texts: &[&[u8]]) -> bool {
     true
 }
 
+/// Whether the lines are to the reader the reply of that code and these texts.
+fn is_heard(reader: &mut Reader<Global>, lines: &[&[u8]], code: u16, texts: &[&[u8]]) -> bool {
+    match heard(reader, lines) {
+        Some(reply) => reply.code == code && texts_are(&reply, texts),
+        None => false,
+    }
+}
+
 #[test]
-fn replies_of_rfc_959_section_4_2(rt: HostRuntime) -> Result<(), Fail> {
+fn replies_of_rfc_959_section_4_2(rt: HostRuntime) {
     let mut reader = Reader::new(rt.alloc());
     for (lines, code, texts) in REPLIES {
-        let reply = heard(&rt, &mut reader, lines)?;
-        assert_eq!(rt; reply.code, code, "in {lines:?}");
-        assert!(rt; texts_are(&reply, texts), "in {lines:?}");
+        assert!(rt; is_heard(&mut reader, lines, code, texts));
     }
-    Ok(())
 }
 
-/// What a reader with one reply behind it answers to the line.
-fn answer(alloc: Global, line: &[u8]) -> Result<[Option<ReplyFault>; 3], Fail> {
+/// Whether a reader with one reply behind it is stopped by the line, and stays so.
+fn stops(alloc: Global, line: &[u8]) -> bool {
     let mut reader = Reader::new(alloc);
-    reader.line(b"220 Ready")?;
-    let first = reader.line(line).err();
-    let second = reader.line(b"200 Ok").err();
-    Ok([first, second, reader.line(line).err()])
+    reader.line(b"220 Ready").is_ok()
+        && reader.line(line).err() == Some(ReplyFault::BadCode)
+        && reader.line(b"200 Ok").err() == Some(ReplyFault::Failed)
+        && reader.line(line).err() == Some(ReplyFault::Failed)
 }
 
 #[test]
-fn lines_that_begin_no_reply(rt: HostRuntime) -> Result<(), Fail> {
-    let stopped = [
-        Some(ReplyFault::BadCode),
-        Some(ReplyFault::Failed),
-        Some(ReplyFault::Failed),
-    ];
+fn lines_that_begin_no_reply(rt: HostRuntime) {
     for line in NO_REPLIES {
-        assert_eq!(rt; answer(rt.alloc(), line)?, stopped, "at {line:?}");
+        assert!(rt; stops(rt.alloc(), line));
     }
-    Ok(())
 }
 
 /// A line of the mark and so many octets.
-fn long_line(alloc: Global, mark: &[u8], octets: usize) -> Result<Vec<u8>, Fail> {
-    let mut line = Vec::from_slice(alloc, mark)?;
-    for _ in 0..octets {
-        line.push(b'x')?;
+fn long_line(alloc: Global, mark: &[u8], octets: usize) -> Option<Vec<u8>> {
+    let mut line = Vec::new(alloc);
+    if line.extend_from_slice(mark).is_err() {
+        return None;
     }
-    Ok(line)
-}
-
-/// The faults of a reply of so many lines: at its last line, or before, and at the line after it.
-fn faults_of(
-    alloc: Global,
-    lines: usize,
-    first: usize,
-    last: usize,
-) -> Result<[Option<ReplyFault>; 2], Fail> {
-    let mut reader = Reader::new(alloc);
-    let mut fault = reader.line(&long_line(alloc, b"211-", first)?).err();
-    for _ in 2..lines {
-        if fault.is_none() {
-            fault = reader.line(b"").err();
+    for _ in 0..octets {
+        if line.push(b'x').is_err() {
+            return None;
         }
     }
-    if fault.is_none() {
-        fault = reader.line(&long_line(alloc, b"211 ", last)?).err();
+    Some(line)
+}
+
+/// The fault that the reader has at one of the empty lines between the first and the last of so many.
+fn fault_of_empty_lines(reader: &mut Reader<Global>, lines: usize) -> Option<ReplyFault> {
+    for _ in 2..lines {
+        let fault = reader.line(b"").err();
+        if fault.is_some() {
+            return fault;
+        }
     }
-    Ok([fault, reader.line(b"200 Ok").err()])
+    None
+}
+
+/// Whether a reply of so many lines keeps the limits, or is TooMany at its last line or before.
+fn keeps_limits(alloc: Global, lines: usize, first: usize, last: usize) -> Option<bool> {
+    let mut reader = Reader::new(alloc);
+    let first = long_line(alloc, b"211-", first)?;
+    let last = long_line(alloc, b"211 ", last)?;
+    let fault = reader
+        .line(&first)
+        .err()
+        .or(fault_of_empty_lines(&mut reader, lines))
+        .or(reader.line(&last).err());
+    match (fault, reader.line(b"200 Ok").err()) {
+        (None, None) => Some(true),
+        (Some(ReplyFault::TooMany), Some(ReplyFault::Failed)) => Some(false),
+        _ => None,
+    }
 }
 
 #[test]
-fn limits_of_lines_and_octets(rt: HostRuntime) -> Result<(), Fail> {
+fn limits_of_lines_and_octets(rt: HostRuntime) {
     for (lines, first, last, fits) in LIMITS {
-        let faults = faults_of(rt.alloc(), lines, first, last)?;
-        let expected = if fits {
-            [None, None]
-        } else {
-            [Some(ReplyFault::TooMany), Some(ReplyFault::Failed)]
-        };
-        assert_eq!(rt;
-            faults,
-            expected,
-            "{lines} lines, {first} and {last} octets"
-        );
+        assert!(rt; keeps_limits(rt.alloc(), lines, first, last) == Some(fits));
     }
-    Ok(())
+}
+
+/// The fault of a reply of one line with so many octets.
+fn fault_of_one_line(alloc: Global, octets: usize) -> Option<ReplyFault> {
+    let line = long_line(alloc, b"200 ", octets)?;
+    Reader::new(alloc).line(&line).err()
 }
 
 #[test]
-fn a_reply_of_one_line_has_8192_octets_at_most(rt: HostRuntime) -> Result<(), Fail> {
-    for (octets, fault) in [(8192, None), (8193, Some(ReplyFault::TooMany))] {
-        let line = long_line(rt.alloc(), b"200 ", octets)?;
-        assert_eq!(rt;
-            Reader::new(rt.alloc()).line(&line).err(),
-            fault,
-            "{octets} octets"
-        );
+fn a_reply_of_one_line_has_8192_octets_at_most(rt: HostRuntime) {
+    assert!(rt; fault_of_one_line(rt.alloc(), 8192).is_none());
+    assert!(rt; fault_of_one_line(rt.alloc(), 8193) == Some(ReplyFault::TooMany));
+}
+
+/// Whether the reply is written as these octets.
+fn is_written(alloc: Global, code: u16, texts: &[&[u8]], octets: &[u8]) -> bool {
+    let mut out = Vec::new(alloc);
+    match reply_with(alloc, code, texts) {
+        Some(reply) => write(&reply, &mut out).is_ok() && out.as_slice() == octets,
+        None => false,
     }
-    Ok(())
 }
 
 #[test]
-fn written_as_rfc_959_section_4_2(rt: HostRuntime) -> Result<(), Fail> {
+fn written_as_rfc_959_section_4_2(rt: HostRuntime) {
     for (code, texts, octets) in WRITTEN {
-        let reply = reply_with(rt.alloc(), code, texts)?;
-        let mut out = Vec::new(rt.alloc());
-        write(&reply, &mut out)?;
-        assert_eq!(rt; out.as_slice(), octets, "code {code}");
+        assert!(rt; is_written(rt.alloc(), code, texts, octets));
     }
-    Ok(())
+}
+
+/// Whether the reply names this endpoint, or none.
+fn names(reply: &Reply<Global>, expected: Option<Endpoint>) -> bool {
+    passive_of(reply) == expected.ok_or(ReplyFault::NoEndpoint)
+}
+
+fn line_names(alloc: Global, line: &[u8], expected: Option<Endpoint>) -> bool {
+    match reply_of(alloc, line) {
+        Some(reply) => names(&reply, expected),
+        None => false,
+    }
 }
 
 #[test]
-fn endpoints_of_227(rt: HostRuntime) -> Result<(), Fail> {
+fn endpoints_of_227(rt: HostRuntime) {
     for (line, expected) in PASSIVE {
-        assert_eq!(rt;
-            passive_of(&reply_of(rt.alloc(), line)?),
-            expected,
-            "in {line:?}"
-        );
+        assert!(rt; line_names(rt.alloc(), line, expected));
     }
-    Ok(())
+}
+
+fn lines_name(alloc: Global, texts: &[&[u8]], expected: Option<Endpoint>) -> bool {
+    match reply_with(alloc, 227, texts) {
+        Some(reply) => names(&reply, expected),
+        None => false,
+    }
 }
 
 #[test]
-fn endpoints_of_227_in_several_lines(rt: HostRuntime) -> Result<(), Fail> {
-    let reply = reply_with(rt.alloc(), 227, &[b"Here", b"1,2,3,4,5,6", b"end"])?;
-    assert_eq!(rt; passive_of(&reply)?.port, 1286);
-    let reply = reply_with(rt.alloc(), 227, &[b"1,2,3", b",4,5,6"])?;
-    assert_eq!(rt; passive_of(&reply), Err(ReplyFault::NoEndpoint));
-    Ok(())
+fn endpoints_of_227_in_several_lines(rt: HostRuntime) {
+    assert!(rt;
+        lines_name(
+            rt.alloc(),
+            &[b"Here", b"1,2,3,4,5,6", b"end"],
+            Some(FIRST_SIX)
+        )
+    );
+    assert!(rt; lines_name(rt.alloc(), &[b"1,2,3", b",4,5,6"], None));
+}
+
+/// Whether the line names this port, or none.
+fn names_port(alloc: Global, line: &[u8], port: Option<u16>) -> bool {
+    match reply_of(alloc, line) {
+        Some(reply) => extended_of(&reply) == port.ok_or(ReplyFault::NoEndpoint),
+        None => false,
+    }
 }
 
 #[test]
-fn ports_of_229(rt: HostRuntime) -> Result<(), Fail> {
+fn ports_of_229(rt: HostRuntime) {
     for (line, port) in EXTENDED {
-        let expected = port.ok_or(ReplyFault::NoEndpoint);
-        assert_eq!(rt;
-            extended_of(&reply_of(rt.alloc(), line)?),
-            expected,
-            "in {line:?}"
-        );
+        assert!(rt; names_port(rt.alloc(), line, port));
     }
-    Ok(())
 }
 
 /// Whether the line quotes this path, or no path.
-fn quotes(alloc: Global, line: &[u8], path: Option<&[u8]>) -> Result<bool, Fail> {
-    match (quoted_of(alloc, &reply_of(alloc, line)?), path) {
-        (Ok(read), Some(path)) => Ok(read.as_slice() == path),
-        (Err(ReplyFault::NoPath), None) => Ok(true),
-        _ => Ok(false),
+fn quotes(alloc: Global, line: &[u8], path: Option<&[u8]>) -> bool {
+    let Some(reply) = reply_of(alloc, line) else {
+        return false;
+    };
+    match (quoted_of(alloc, &reply), path) {
+        (Ok(read), Some(path)) => read.as_slice() == path,
+        (Err(ReplyFault::NoPath), None) => true,
+        _ => false,
     }
 }
 
 #[test]
-fn paths_of_257(rt: HostRuntime) -> Result<(), Fail> {
+fn paths_of_257(rt: HostRuntime) {
     for (line, path) in QUOTED {
-        assert!(rt; quotes(rt.alloc(), line, path)?, "in {line:?}");
+        assert!(rt; quotes(rt.alloc(), line, path));
     }
-    Ok(())
+}
+
+/// Whether the line says this size, or none.
+fn says_size(alloc: Global, line: &[u8], size: Option<u64>) -> bool {
+    match reply_of(alloc, line) {
+        Some(reply) => size_of(&reply) == size.ok_or(ReplyFault::NoNumber),
+        None => false,
+    }
 }
 
 #[test]
-fn sizes_of_213(rt: HostRuntime) -> Result<(), Fail> {
+fn sizes_of_213(rt: HostRuntime) {
     for (line, size) in SIZES {
-        let expected = size.ok_or(ReplyFault::NoNumber);
-        assert_eq!(rt;
-            size_of(&reply_of(rt.alloc(), line)?),
-            expected,
-            "in {line:?}"
-        );
+        assert!(rt; says_size(rt.alloc(), line, size));
     }
-    Ok(())
+}
+
+/// Whether the line says the moment of these seconds, or none.
+fn says_moment(alloc: Global, line: &[u8], seconds: Option<u64>) -> bool {
+    let Some(reply) = reply_of(alloc, line) else {
+        return false;
+    };
+    match (moment_of(&reply), seconds) {
+        (Ok(moment), Some(seconds)) => moment.seconds == seconds,
+        (Err(ReplyFault::NoNumber), None) => true,
+        _ => false,
+    }
 }
 
 #[test]
-fn moments_of_213(rt: HostRuntime) -> Result<(), Fail> {
+fn moments_of_213(rt: HostRuntime) {
     for (line, seconds) in MOMENTS {
-        let read = moment_of(&reply_of(rt.alloc(), line)?).map(|moment| moment.seconds);
-        assert_eq!(rt; read, seconds.ok_or(ReplyFault::NoNumber), "in {line:?}");
+        assert!(rt; says_moment(rt.alloc(), line, seconds));
     }
-    Ok(())
+}
+
+/// Whether the line says this mark, or none.
+fn says_mark(alloc: Global, line: &[u8], mark: Option<u64>) -> bool {
+    match reply_of(alloc, line) {
+        Some(reply) => mark_of(&reply) == mark.ok_or(ReplyFault::NoNumber),
+        None => false,
+    }
 }
 
 #[test]
-fn marks_of_110(rt: HostRuntime) -> Result<(), Fail> {
+fn marks_of_110(rt: HostRuntime) {
     for (line, mark) in MARKS {
-        let expected = mark.ok_or(ReplyFault::NoNumber);
-        assert_eq!(rt;
-            mark_of(&reply_of(rt.alloc(), line)?),
-            expected,
-            "in {line:?}"
-        );
+        assert!(rt; says_mark(rt.alloc(), line, mark));
     }
-    Ok(())
+}
+
+/// Whether a mark of so many octets is 1, or none.
+fn says_long_mark(alloc: Global, octets: usize, mark: Option<u64>) -> bool {
+    let Some(mut line) = long_line(alloc, b"110 MARK ", octets) else {
+        return false;
+    };
+    line.extend_from_slice(b" = 1").is_ok() && says_mark(alloc, &line, mark)
 }
 
 #[test]
-fn a_mark_of_110_has_255_octets_at_most(rt: HostRuntime) -> Result<(), Fail> {
-    for (octets, expected) in [(255, Ok(1)), (256, Err(ReplyFault::NoNumber))] {
-        let mut line = long_line(rt.alloc(), b"110 MARK ", octets)?;
-        line.extend_from_slice(b" = 1")?;
-        assert_eq!(rt;
-            mark_of(&reply_of(rt.alloc(), &line)?),
-            expected,
-            "{octets} octets"
-        );
-    }
-    Ok(())
+fn a_mark_of_110_has_255_octets_at_most(rt: HostRuntime) {
+    assert!(rt; says_long_mark(rt.alloc(), 255, Some(1)));
+    assert!(rt; says_long_mark(rt.alloc(), 256, None));
 }
 
-/// Hears each line, once more where memory was wanted. Gives how often it was, and the last answer.
-fn heard_again<A: Allocator + Clone>(
-    alloc: A,
-    lines: &[&[u8]],
-) -> Result<(u64, Option<Reply<A>>), ReplyFault> {
+const LONG: [u8; 400] = [b'x'; 400];
+
+const GROWING: [&[u8]; 3] = [b"211-x", &LONG, b"211 end"];
+
+/// Hears the growing lines, each once more where memory was wanted. Gives how often it was; nothing where the reply
+/// is not theirs.
+fn wanted<A: Allocator + Clone>(alloc: A) -> Option<u64> {
     let mut reader = Reader::new(alloc);
     let mut wanted = 0u64;
     let mut reply = None;
-    for line in lines {
-        reply = match reader.line(line) {
-            Err(ReplyFault::Memory) => {
-                wanted = wanted.wrapping_add(1);
-                reader.line(line)?
-            }
-            other => other?,
-        };
+    for line in GROWING {
+        let mut answer = reader.line(line);
+        if matches!(answer, Err(ReplyFault::Memory)) {
+            wanted = wanted.wrapping_add(1);
+            answer = reader.line(line);
+        }
+        reply = answer.ok()?;
     }
-    Ok((wanted, reply))
+    if texts_are(&reply?, &[b"x", &LONG, b"end"]) {
+        Some(wanted)
+    } else {
+        None
+    }
 }
 
 #[test]
-fn each_growth_of_a_reader_refused_in_turn(rt: HostRuntime) -> Result<(), Fail> {
-    let long = [b'x'; 400];
-    let lines = [b"211-x".as_slice(), &long, b"211 end"];
+fn each_growth_of_a_reader_refused_in_turn(rt: HostRuntime) {
     let heap = Refusing::new(rt.alloc(), 0);
-    heard_again(&heap, &lines)?;
+    assert!(rt; wanted(&heap) == Some(0));
     let growths = 0u64.wrapping_sub(heap.left());
-    assert!(rt; 1 <= growths && growths < 20, "{growths} growths");
+    assert!(rt; 1 <= growths && growths < 20);
     for refused in 1..20u64 {
         let heap = Refusing::new(rt.alloc(), refused);
-        let (wanted, reply) = heard_again(&heap, &lines)?;
-        assert_eq!(rt; wanted, u64::from(refused <= growths), "growth {refused}");
-        let reply = reply.ok_or("the reply goes on")?;
-        assert!(rt;
-            texts_are(&reply, &[b"x", &long, b"end"]),
-            "growth {refused}"
-        );
+        assert!(rt; wanted(&heap) == Some(u64::from(refused <= growths)));
     }
-    Ok(())
+}
+
+/// The length of the path that a reply quotes, or why there is none.
+fn path_len<A: Allocator>(alloc: A, reply: &Reply<Global>) -> Result<usize, ReplyFault> {
+    match quoted_of(alloc, reply) {
+        Ok(path) => Ok(path.len()),
+        Err(fault) => Err(fault),
+    }
 }
 
 #[test]
@@ -534,32 +551,29 @@ fn each_growth_of_a_path_refused_in_turn(rt: HostRuntime) -> Result<(), Fail> {
     let reply = reply_of(
         rt.alloc(),
         b"257 \"/a-path-of-more-than-eight-octets\" created",
-    )?;
+    )
+    .ok_or("no reply")?;
     let heap = Refusing::new(rt.alloc(), 0);
-    assert_eq!(rt; quoted_of(&heap, &reply)?.len(), 33);
+    assert!(rt; path_len(&heap, &reply) == Ok(33));
     let growths = 0u64.wrapping_sub(heap.left());
-    assert!(rt; 1 <= growths && growths < 20, "{growths} growths");
+    assert!(rt; 1 <= growths && growths < 20);
     for refused in 1..20u64 {
         let heap = Refusing::new(rt.alloc(), refused);
         let expected = if refused <= growths {
-            Some(ReplyFault::Memory)
+            Err(ReplyFault::Memory)
         } else {
-            None
+            Ok(33)
         };
-        assert_eq!(rt;
-            quoted_of(&heap, &reply).err(),
-            expected,
-            "growth {refused}"
-        );
+        assert!(rt; path_len(&heap, &reply) == expected);
     }
     Ok(())
 }
 
 #[test]
 fn want_of_memory_comes_after_no_path(rt: HostRuntime) -> Result<(), Fail> {
-    let none = reply_of(rt.alloc(), b"257 \"/a-path-of-more-than-eight-octets")?;
+    let none = reply_of(rt.alloc(), b"257 \"/a-path-of-more-than-eight-octets").ok_or("no reply")?;
     let heap = Refusing::new(rt.alloc(), 1);
-    assert_eq!(rt; quoted_of(&heap, &none).err(), Some(ReplyFault::NoPath));
+    assert!(rt; path_len(&heap, &none) == Err(ReplyFault::NoPath));
     Ok(())
 }
 
@@ -570,22 +584,20 @@ fn put<A: Allocator>(alloc: A, reply: &Reply<Global>) -> (bool, usize) {
     (wrote, out.len())
 }
 
+const OF_FOUR: [&[u8]; 4] = [
+    b"x",
+    b"200 a line that is longer than a growth",
+    b"y",
+    b"end",
+];
+
 #[test]
 fn each_growth_of_a_written_reply_refused_in_turn(rt: HostRuntime) -> Result<(), Fail> {
-    let reply = reply_with(
-        rt.alloc(),
-        211,
-        &[
-            b"x",
-            b"200 a line that is longer than a growth",
-            b"y",
-            b"end",
-        ],
-    )?;
+    let reply = reply_with(rt.alloc(), 211, &OF_FOUR).ok_or("no reply")?;
     let heap = Refusing::new(rt.alloc(), 0);
-    assert_eq!(rt; put(&heap, &reply), (true, 56));
+    assert!(rt; put(&heap, &reply) == (true, 56));
     let growths = 0u64.wrapping_sub(heap.left());
-    assert!(rt; 1 <= growths && growths < 20, "{growths} growths");
+    assert!(rt; 1 <= growths && growths < 20);
     for refused in 1..20u64 {
         let heap = Refusing::new(rt.alloc(), refused);
         let expected = if refused <= growths {
@@ -593,7 +605,7 @@ fn each_growth_of_a_written_reply_refused_in_turn(rt: HostRuntime) -> Result<(),
         } else {
             (true, 56)
         };
-        assert_eq!(rt; put(&heap, &reply), expected, "growth {refused}");
+        assert!(rt; put(&heap, &reply) == expected);
     }
     Ok(())
 }
@@ -603,8 +615,8 @@ fn a_reply_by_its_parts(rt: HostRuntime) -> Result<(), Fail> {
     let mut reply = Reply::new(rt.alloc(), 250, b"Listing")?;
     reply.push(b" Type=dir; /a")?;
     reply.push(b"End")?;
-    assert_eq!(rt; reply.text(), b"Listing\n Type=dir; /a\nEnd".as_slice());
-    assert_eq!(rt; reply.lines.octets(), 23);
+    assert!(rt; reply.text() == b"Listing\n Type=dir; /a\nEnd".as_slice());
+    assert!(rt; reply.lines.octets() == 23);
     assert!(rt; reply.lines.get(3).is_none());
     Ok(())
 }
@@ -612,7 +624,8 @@ fn a_reply_by_its_parts(rt: HostRuntime) -> Result<(), Fail> {
 #[test]
 fn faults_are_printed_with_their_numbers(rt: HostRuntime) -> Result<(), Fail> {
     for (fault, text) in FAULTS {
-        assert_eq!(rt; format!(in rt.alloc(); "{fault}")?.as_str(), text);
+        let printed = format!(in rt.alloc(); "{fault}")?;
+        assert!(rt; printed.as_str() == text);
     }
     Ok(())
 }
