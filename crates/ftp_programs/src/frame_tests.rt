@@ -4,6 +4,7 @@ use crate::test_streams::{
     ASCII_FILE_BLOCK, ASCII_FILE_STREAM, IMAGE_FILE_BLOCK, IMAGE_FILE_STREAM, IMAGE_RECORD_BLOCK,
     IMAGE_RECORD_STREAM, failing_at, in_pieces,
 };
+use ftp_refusing::Refusing;
 use std::alloc::Global;
 use std::io::{Read, Write};
 use std::process::Abort;
@@ -164,4 +165,39 @@ fn each_write_failed(rt: HostRuntime) {
         assert_eq!(&rt; done, writer.taken.len() == WIRE.len(), "write {fails_at}");
     }
     assert!(&rt; done);
+}
+
+#[test]
+fn each_growth_refused(rt: HostRuntime) {
+    let heap = Refusing::new(rt.alloc(), 0);
+    let direction = Direction::ToWire { marks: false };
+    let mut reader = in_pieces(FILE, 3, u32::MAX);
+    let mut writer = Vec::new(rt.alloc());
+    let mut faults = failing_at(rt.alloc(), 0);
+    let status = frame(
+        &heap,
+        IMAGE_RECORD_STREAM,
+        direction,
+        &mut reader,
+        &mut writer,
+        &mut faults,
+    );
+    assert_eq!(&rt; status, 0);
+    let growths = 0u64.wrapping_sub(heap.left());
+    assert!(&rt; growths > 0);
+    for refused in 1..=growths {
+        let heap = Refusing::new(rt.alloc(), refused);
+        let mut reader = in_pieces(FILE, 3, u32::MAX);
+        let mut writer = Vec::new(rt.alloc());
+        let status = frame(
+            &heap,
+            IMAGE_RECORD_STREAM,
+            direction,
+            &mut reader,
+            &mut writer,
+            &mut faults,
+        );
+        assert_eq!(&rt; status, 3, "growth {refused}");
+        assert!(&rt; WIRE.starts_with(writer.as_slice()), "growth {refused}");
+    }
 }

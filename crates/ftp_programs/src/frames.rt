@@ -11,7 +11,6 @@ ghost use Rattle.ftp_mode.specs.Writing.{writer};
 ghost use Rattle.ftp_programs.specs.Beginning.{AppendsFront};
 ghost use Rattle.ftp_programs.specs.Direction.{Goes, GoesFront};
 ghost use Rattle.ftp_programs.specs.Frame.{Frames, FramesFront, form_of, frame_text};
-ghost use Rattle.ftp_programs.specs.Sending.{still_to_give, Puts, PutsFront, Gives, GivesFront};
 
 use crate::pieces;
 use crate::pieces::{Failed, TURNS};
@@ -42,30 +41,36 @@ pub enum Direction {
     ToFile,
 }
 
-/// A file that is being written.
+/// A file that is being written, and what of its wire is made and not yet written.
 #[derive(Drop)]
-pub struct Sending {
+pub struct Sending<A: Allocator> {
     sender: Sender,
     framer: Framer,
+    room: [u8; PIECE_LIMIT],
+    made: Vec<u8, A>,
 }
 
-impl Sending {
+impl<A: Allocator> Sending<A> {
+    ghost use Rattle.ftp_programs.specs.Sending.{still_to_give, Puts, Gives};
+
     /// Nothing of the file was given, and own markers count its octets where they are asked for.
-    fn new(form: Representation, marks: bool) -> Sending
+    fn new(alloc: A, form: Representation, marks: bool) -> Sending<A>
         ensures text { (file : List ℕ) → length file < 2 ^ 64 → still_to_give result file ≡ frame_text form marks file }
         ensures goes_on { has_sent_end result.sender ≡ false }
+        ensures empty { result.made.items ≡ [] }
     {
         Sending {
             sender: Sender::new(form.kind, form.structure),
             framer: framer_of(form, marks),
+            room: [0u8; PIECE_LIMIT],
+            made: Vec::new(alloc),
         }
     }
 
-    /// Writes what the next octets of the file decide.
-    fn piece<W: Write>(&mut self, piece: &[u8], writer: &mut W) -> Result<(), Failed>
+    /// Makes what the next octets of the file decide.
+    fn piece(&mut self, piece: &[u8]) -> Result<(), Failed>
         requires { has_sent_end self.old.sender ≡ false }
-        ensures ok { OnOk result (Gives self.old piece.now self.new [] (W.contents writer.old) (W.contents writer.new)) }
-        ensures err { OnErr result (GivesFront self.old piece.now (W.contents writer.old) (W.contents writer.new)) }
+        ensures { OnOk result (Gives self.old piece.now self.new []) }
     {
         let mut at = 0;
         while at < piece.len() {
@@ -73,25 +78,25 @@ impl Sending {
             let (taken, item) = self.sender.next(rest, false);
             at += taken;
             if let Some(item) = item {
-                self.put(item, writer)?;
+                self.put(item)?;
             }
         }
         Ok(())
     }
 
-    /// Writes an item.
-    fn put<W: Write>(&mut self, item: Item<'_>, writer: &mut W) -> Result<(), Failed>
-        ensures ok { OnOk result (Puts self.old (signs item.entry) self.new [] (W.contents writer.old) (W.contents writer.new)) }
-        ensures err { OnErr result (PutsFront self.old (signs item.entry) (W.contents writer.old) (W.contents writer.new)) }
+    /// Makes what an item decides.
+    fn put(&mut self, item: Item<'_>) -> Result<(), Failed>
+        ensures ok { OnOk result (Puts self.old (signs item.entry) self.new []) }
         ensures out { OnOk result (item.entry ≡ EndFile → owed_octets self.new.framer ≡ []) }
         ensures sender { self.new.sender ≡ self.old.sender }
     {
-        let mut room = [0u8; PIECE_LIMIT];
         let mut rest = item;
         for _ in 0..TURNS {
-            let moved = self.framer.put(rest, &mut room);
-            let (made, _) = room.split_at(moved.made);
-            pieces::put(writer, made)?;
+            let moved = self.framer.put(rest, &mut self.room);
+            let (made, _) = self.room.split_at(moved.made);
+            if self.made.extend_from_slice(made).is_err() {
+                return Err(Failed);
+            }
             match rest_of(rest, moved.taken) {
                 Some(left) => rest = left,
                 None => return Ok(()),
@@ -100,13 +105,25 @@ impl Sending {
         Err(Failed)
     }
 
-    /// Writes the end of the file.
-    fn end<W: Write>(&mut self, writer: &mut W) -> Result<(), Failed>
+    /// Makes the end of the file.
+    fn end(&mut self) -> Result<(), Failed>
         requires { has_sent_end self.old.sender ≡ false }
-        ensures ok { OnOk result (Appends (W.contents writer.old) (W.contents writer.new) (still_to_give self.old [])) }
-        ensures err { OnErr result (AppendsFront (W.contents writer.old) (W.contents writer.new) (still_to_give self.old [])) }
+        ensures { OnOk result (self.new.made.items ≡ self.old.made.items ++ still_to_give self.old []) }
     {
-        self.put(Item::EndFile, writer)?;
+        self.put(Item::EndFile)?;
+        Ok(())
+    }
+
+    /// Writes what is made.
+    fn write<W: Write>(&mut self, writer: &mut W) -> Result<(), Failed>
+        ensures ok { OnOk result (Appends (W.contents writer.old) (W.contents writer.new) self.old.made.items) }
+        ensures front { AppendsFront (W.contents writer.old) (W.contents writer.new) self.old.made.items }
+        ensures empty { OnOk result (self.new.made.items ≡ []) }
+        ensures sender { self.new.sender ≡ self.old.sender }
+        ensures framer { self.new.framer ≡ self.old.framer }
+    {
+        pieces::put(writer, self.made.as_slice())?;
+        self.made.clear();
         Ok(())
     }
 }
@@ -179,49 +196,60 @@ where
         (F.contents faults.old) (F.contents faults.new) }
 {
     match direction {
-        Direction::ToWire { marks } => to_wire(form, marks, reader, writer),
+        Direction::ToWire { marks } => to_wire(alloc, form, marks, reader, writer),
         Direction::ToFile => to_file(alloc, form, reader, writer, faults),
     }
 }
 
 /// Writes a file as the octets of a data connection, and gives the exit status.
-fn to_wire<R, W>(form: Representation, marks: bool, reader: &mut R, writer: &mut W) -> u8
+fn to_wire<A, R, W>(
+    alloc: A,
+    form: Representation,
+    marks: bool,
+    reader: &mut R,
+    writer: &mut W,
+) -> u8
 where
+    A: Allocator,
     R: Read,
     W: Write,
     ensures done { result ≢ 3 → Frames form marks (R.remaining reader.old) (R.remaining reader.new) (W.contents writer.old) (W.contents writer.new) result }
     ensures failed { result ≡ 3 → FramesFront form marks (R.remaining reader.old) (R.remaining reader.new) (W.contents writer.old) (W.contents writer.new) }
 {
-    match write_all(form, marks, reader, writer) {
+    match write_all(alloc, form, marks, reader, writer) {
         Ok(()) => 0,
         Err(Failed) => 3,
     }
 }
 
 /// Writes the whole file.
-fn write_all<R, W>(
+fn write_all<A, R, W>(
+    alloc: A,
     form: Representation,
     marks: bool,
     reader: &mut R,
     writer: &mut W,
 ) -> Result<(), Failed>
 where
+    A: Allocator,
     R: Read,
     W: Write,
     ensures ok { OnOk result (Frames form marks (R.remaining reader.old) (R.remaining reader.new) (W.contents writer.old) (W.contents writer.new) 0) }
     ensures err { OnErr result (FramesFront form marks (R.remaining reader.old) (R.remaining reader.new) (W.contents writer.old) (W.contents writer.new)) }
 {
-    let mut sending = Sending::new(form, marks);
+    let mut sending = Sending::new(alloc, form, marks);
     let mut buffer = [0u8; PIECE_LIMIT];
     for _turn in 0..TURNS {
         let (room, _) = buffer.split_at_mut(PIECE_LIMIT);
         let count = pieces::get(reader, room)?;
         if count == 0 {
-            sending.end(writer)?;
+            sending.end()?;
+            sending.write(writer)?;
             return Ok(());
         }
         let (octets, _) = room.split_at(count);
-        sending.piece(octets, writer)?;
+        sending.piece(octets)?;
+        sending.write(writer)?;
     }
     Err(Failed)
 }

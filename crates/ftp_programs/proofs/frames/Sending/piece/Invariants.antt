@@ -3,12 +3,10 @@ use Rattle.ftp_programs.specs.Sending.{Gives}
 use Rattle.ftp_programs.proofs.frames.Sending.piece.Given as goal
 
 abbrev pub invariant-loop-at : goal.invariant-loop-at
-invariant-loop-at g l =
-    let contents = g.W.Write.contents in
-    record {
-      within : l.at ≤ length l.piece;
-      gives : Gives l.fn.self l.piece l.self (drop l.at l.piece) (contents l.fn.writer) (contents l.writer);
-    }
+invariant-loop-at g l = record {
+  within : l.at ≤ length l.piece;
+  gives : Gives l.fn.self l.piece l.self (drop l.at l.piece);
+}
 
 abbrev pub decreases-loop-at : goal.decreases-loop-at
 decreases-loop-at g l = length l.initial.piece - l.at
