@@ -1,5 +1,7 @@
 -- What leaves a framer, and what it takes.
 use Rattle.std.proofs.Common.{◌≡◌, ◌+◌, ◌<◌, ◌≤◌, ℕ, List, [], ◌∷◌, ◌++◌, length, take, drop, map, set, get_or, true, refl, ap, sym, ◌∙◌, append_assoc, length-append}
+use Rattle.std.specs.Prelude.{if◌then◌else◌, ◌==◌, false}
+use Rattle.std.specs.List.{AllByRecursion}
 use Rattle.std.proofs.lemmas.List.{take_more_set, drop_more, drop-map, length-take-le}
 use Rattle.ftp_repr.specs.Machine.{gives}
 use Rattle.ftp_repr.specs.Signs.{Sign, octet, end_file}
@@ -7,8 +9,8 @@ use Rattle.ftp_mode.specs.declared.framer.Stage.{Stage}
 use Rattle.ftp_mode.specs.declared.framer.Stage.TheVariants.{Copying, Free, Held, Filling, AtRecord, Leaving, Last, Closed}
 use Rattle.std.proofs.lemmas.Bool.{false≢true}
 use Rattle.ftp_mode.specs.declared.framer.Framer.{Framer}
-use Rattle.ftp_mode.specs.Writing.{closed, writer, write_step, write_out}
-use Rattle.ftp_mode.specs.Framing.{writing, owed_block, owed_octets, still_to_write, is_open, IsClear, Takes, Waits}
+use Rattle.ftp_mode.specs.Writing.{closed, copying, free, writer, write_step, write_out}
+use Rattle.ftp_mode.specs.Framing.{writing, owed_block, owed_octets, still_to_write, is_open, IsClear, Takes, Waits, AreRun}
 
 -- an octet goes into the room
 pub copy_step : (room text : List ℕ) (made next : ℕ) (v : ℕ) → made < length room → next < length text → v ≡ get_or text next 0
@@ -81,3 +83,15 @@ moved_len at made room after b a within fits moved = sym (take_len made after b 
 pub poured_text : (f g : Framer) (room after : List ℕ) (at made : ℕ) (ss : List Sign) → take made after ++ owed_octets g ≡ take at room ++ owed_octets f → writing g ≡ writing f
     → take at room ++ still_to_write f ss ≡ take made after ++ still_to_write g ss
 poured_text f g room after at made ss moved same = moved_text f g (take at room) (take made after) ss (sym moved) (sym same)
+
+-- RUNS
+
+pub copying_run : (xs : List ℕ) → AreRun copying xs
+copying_run [] more = refl
+copying_run (c ∷ xs) more = ap (λ l. c ∷ l) (copying_run xs more)
+
+-- octets without an escape octet
+pub free_run : (xs : List ℕ) → AllByRecursion (λ c. (c == 255) ≡ false) xs → AreRun free xs
+free_run [] all more = refl
+free_run (c ∷ xs) all more =
+    ap (λ b. (if b then 255 ∷ 255 ∷ [] else c ∷ []) ++ gives writer free (map octet xs ++ more)) all.0 ∙ ap (λ l. c ∷ l) (free_run xs all.1 more)

@@ -1,7 +1,7 @@
 -- What a framer has still to write.
-use Rattle.std.specs.Prelude.{◌≡◌, ℕ, ◌<◌, List, [], ◌++◌, drop, length, Bool, true, false}
+use Rattle.std.specs.Prelude.{◌≡◌, ℕ, ◌<◌, List, [], ◌++◌, drop, length, map, Bool, true, false}
 use Rattle.ftp_repr.specs.Machine.{gives}
-use Rattle.ftp_repr.specs.Signs.{Sign}
+use Rattle.ftp_repr.specs.Signs.{Sign, octet}
 use Rattle.ftp_mode.specs.declared.framer.Stage.{Stage}
 use Rattle.ftp_mode.specs.declared.framer.Stage.TheVariants.{Copying, Free, Held, Filling, AtRecord, Leaving, Last, Closed}
 use Rattle.ftp_mode.specs.declared.framer.Marks.{Marks}
@@ -74,3 +74,7 @@ pub record Waits (old : Framer) (x : Sign) (new : Framer) : Type 0 where
   pub state : write_step (writing new) x ≡ write_step (writing old) x
   pub gives : owed_octets new ++ write_out (writing new) x ≡ write_out (writing old) x
   pub some : 0 < length (owed_octets new)
+
+-- octets that go as they are, whatever follows
+abbrev pub AreRun : Writing → List ℕ → Type 0
+AreRun w xs = (more : List Sign) → gives writer w (map octet xs ++ more) ≡ xs ++ gives writer w more

@@ -3,11 +3,11 @@ ghost use Rattle.ftp_repr.specs.Signs.{Sign, octet as sign, end_record, end_file
 ghost use Rattle.ftp_repr.specs.Items.{signs};
 ghost use Rattle.ftp_mode.specs.Block.{block_text, marker_text};
 ghost use Rattle.ftp_mode.specs.Writing.{blank, with_marks, is_due, due_text, marked, counted_on, writer, write_step, closed};
-ghost use Rattle.ftp_mode.specs.Framing.{writing, counting, owed_block, owed_octets, still_to_write, is_open, IsClear, Takes, Waits};
+ghost use Rattle.ftp_mode.specs.Framing.{writing, counting, owed_block, owed_octets, still_to_write, is_open, IsClear, Takes, Waits, AreRun};
 
 use crate::mode::Mode;
 use arrayvec::ArrayVec;
-use ftp_repr::{Item, Structure};
+use ftp_repr::{Item, Structure, first_ff};
 use itoa::Buffer;
 
 /// How much of an item was taken, and how many octets of the room were made.
@@ -407,8 +407,65 @@ impl Framer {
         self.owed.push(code);
     }
 
-    /// Takes octets until something before them waits for room.
+    /// Takes octets that go as they are or, where none stands in front, octets until something before them waits for
+    /// room.
     fn put_octets(&mut self, piece: &[u8], room: &mut [u8], at: usize) -> Moved
+        requires clear { IsClear self.old }
+        requires within { at ≤ length room.old }
+        ensures within { (result.taken ≤ length piece.now) × (at ≤ result.made) × (result.made ≤ length room.old) }
+        ensures text { (more : List Sign) → take at room.old ++ still_to_write self.old (map sign piece.now ++ more)
+            ≡ take result.made room.new ++ still_to_write self.new (drop result.taken (map sign piece.now) ++ more) }
+        ensures some { at < length room.old → 0 < length piece.now → at < result.taken + result.made }
+    {
+        let run = self.copy_run(piece, room, at);
+        if run > 0 {
+            return Moved {
+                taken: run,
+                made: at + run,
+            };
+        }
+        let few = match self.stage {
+            Stage::Free | Stage::Held => piece.len().min(1),
+            _ => piece.len(),
+        };
+        let (front, _) = piece.split_at(few);
+        self.put_each(front, room, at)
+    }
+
+    /// Copies the octets in front that go as they are, as far as there is room, and says how many.
+    fn copy_run(&self, piece: &[u8], room: &mut [u8], at: usize) -> usize
+        requires clear { IsClear self.now }
+        requires within { at ≤ length room.old }
+        ensures within { (result ≤ length piece.now) × (at + result ≤ length room.old) }
+        ensures text { (more : List Sign) → take at room.old ++ still_to_write self.now (map sign piece.now ++ more)
+            ≡ take (at + result) room.new ++ still_to_write self.now (drop result (map sign piece.now) ++ more) }
+    {
+        let (front, _) = piece.split_at(piece.len().min(room.len() - at));
+        let run = self.run_len(front);
+        let (octets, _) = front.split_at(run);
+        copy_to(room, at, octets);
+        run
+    }
+
+    /// How many octets in front go as they are.
+    fn run_len(&self, piece: &[u8]) -> usize
+        ensures within { result ≤ length piece.now }
+        ensures run { AreRun (writing self.now) (take result piece.now) }
+    {
+        match self.stage {
+            Stage::Copying => piece.len(),
+            Stage::Free => first_ff(piece),
+            Stage::Held
+            | Stage::Filling
+            | Stage::AtRecord
+            | Stage::Leaving(_, _)
+            | Stage::Last(_, _)
+            | Stage::Closed => 0,
+        }
+    }
+
+    /// Takes octets until something before them waits for room.
+    fn put_each(&mut self, piece: &[u8], room: &mut [u8], at: usize) -> Moved
         requires clear { IsClear self.old }
         requires within { at ≤ length room.old }
         ensures within { (result.taken ≤ length piece.now) × (at ≤ result.made) × (result.made ≤ length room.old) }
@@ -431,4 +488,12 @@ impl Framer {
         }
         Moved { taken, made }
     }
+}
+
+/// Copies octets to the room from `at` on.
+fn copy_to(room: &mut [u8], at: usize, octets: &[u8])
+    requires { at + length octets.now ≤ length room.old }
+    ensures { take (at + length octets.now) room.new ≡ take at room.old ++ octets.now }
+{
+    room[at..at + octets.len()].copy_from_slice(octets);
 }

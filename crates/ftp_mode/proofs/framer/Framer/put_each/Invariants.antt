@@ -1,7 +1,7 @@
 use Rattle.std.proofs.Common.{length, take, drop, map, List, ◌++◌, ◌-◌, ◌≡◌, ◌≤◌}
 use Rattle.ftp_repr.specs.Signs.{Sign, octet}
 use Rattle.ftp_mode.specs.Framing.{still_to_write, IsClear}
-use Rattle.ftp_mode.proofs.framer.Framer.put_octets.Given as goal
+use Rattle.ftp_mode.proofs.framer.Framer.put_each.Given as goal
 
 abbrev pub invariant-loop-taken : goal.invariant-loop-taken
 invariant-loop-taken l = record {

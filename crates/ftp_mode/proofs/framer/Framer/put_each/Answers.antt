@@ -1,7 +1,7 @@
 use Rattle.std.proofs.Common.{◌≡◌, ◌+◌, ◌<◌, ◌++◌, length, take, drop, map, ap, sym, ◌∙◌}
 use Rattle.ftp_repr.specs.Signs.{octet}
 use Rattle.ftp_mode.proofs.FramingLemmas.{next_octet, rest_octets, takes_text, waits_text, poured_text}
-use Rattle.ftp_mode.proofs.framer.Framer.put_octets.Goals as goal
+use Rattle.ftp_mode.proofs.framer.Framer.put_each.Goals as goal
 
 pub returns-then-not-octet-clause-text : goal.returns-then-not-octet-clause-text
 returns-then-not-octet-clause-text c = λ more.
