@@ -1,6 +1,5 @@
 -- Where no case of a parameter fits.
-use Rattle.std.proofs.Common.{◌≡◌, ◌==◌, ◌∷◌, ◌∙◌, inl, inr, ℕ, Bool, false, IsTrue, List, [], length, Option, None, Some, codes, sym, subst, rules}
-use Rattle.std.proofs.lemmas.Bool.{false≢true}
+use Rattle.std.proofs.Common.{◌≡◌, inl, inr, ℕ, List, [], Option, None, Some, codes}
 use Rattle.ftp_command.specs.Argument.{IsOtherKind, IsOtherName, SaysKind, SaysLocal, SaysLongest, SaysSizes}
 use Rattle.ftp_endpoint.specs.Number.{behind_digits}
 use Rattle.ftp_command.specs.Verb.{SameLetters}

@@ -1,5 +1,5 @@
 -- The line that is written for a command, and the commands that have one.
-use Rattle.std.specs.Prelude.{◌≡◌, ◌+◌, ◌*◌, ◌/◌, ◌%◌, ◌^◌, ◌<◌, ◌≤◌, ◌==◌, ℕ, Bool, false, not, List, [], ◌∷◌, ◌++◌, length, map, count_by, decimal, IsTrue, if◌then◌else◌, nat_lt, Option, Some, None, codes}
+use Rattle.std.specs.Prelude.{◌≡◌, ◌+◌, ◌^◌, ◌<◌, ◌≤◌, ◌==◌, ℕ, Bool, false, not, List, [], ◌∷◌, ◌++◌, length, count_by, decimal, IsTrue, Option, Some, None, codes}
 use Rattle.std.specs.List.{list_all}
 use Rattle.ftp_command.specs.Argument.{IsName, IsPassword, IsPath, begins_with, trimmed}
 use Rattle.ftp_command.specs.Command.{verb_of}
