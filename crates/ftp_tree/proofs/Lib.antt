@@ -1,3 +1,5 @@
+pub mod ContentLemmas
+pub mod EntryLemmas
+pub mod KeyLemmas
 pub mod PathLemmas
-pub mod StoreLemmas
-pub mod TreeLemmas
+pub mod TableLemmas

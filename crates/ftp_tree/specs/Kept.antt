@@ -1,5 +1,5 @@
 -- How a path is kept: its names joined, each with a `/` before it.
-use Rattle.std.specs.Prelude.{◌≡◌, ℕ, Bool, not, List, drop, IsTrue}
+use Rattle.std.specs.Prelude.{◌≡◌, ℕ, Bool, true, false, not, ◌&&◌, ◌==◌, if◌then◌else◌, List, [], ◌∷◌, drop, IsTrue}
 use Rattle.std.specs.List.{list_all, slice_split}
 use Rattle.ftp_tree.specs.Path.{is_slash, is_component, joined, fits}
 
@@ -20,3 +20,14 @@ pub record IsJoined (text : List ℕ) : Type 0 where
 pub record IsKept (text : List ℕ) : Type 0 where
   pub joins : IsJoined text
   pub within : IsTrue (fits (names_of text))
+
+-- a `/` ranks before each octet of a name, so that texts by the ranks of their octets compare as the names that they join
+abbrev pub rank : ℕ → ℕ
+rank octet = if is_slash octet then 0 else octet
+
+-- the second text starts with the first, and ends there or goes on with a `/`
+abbrev pub goes_on : List ℕ → List ℕ → Bool
+goes_on [] [] = true
+goes_on [] (octet ∷ octets) = is_slash octet
+goes_on (x ∷ front) [] = false
+goes_on (x ∷ front) (octet ∷ octets) = (x == octet) && goes_on front octets

@@ -1,3 +1,4 @@
+pub mod Change
 pub mod Kept
 pub mod Path
 pub mod Store

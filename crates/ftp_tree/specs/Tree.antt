@@ -1,16 +1,22 @@
--- The tree of a server, as a finite map from paths (lists of names) to directories and files.
-use Rattle.std.specs.Prelude.{◌≡◌, ℕ, List, [], Option, Some, None, IsSome, is_some, nat_le, if◌then◌else◌}
-use Rattle.std.specs.Option.{option_map, option_or}
+-- The tree of a server, as a finite map from paths (lists of names) to directories and files; what may be changed, and what
+-- is refused. No command and no reply stands here (RFC 959, section 4.1.3; the limits are own choices).
+use Rattle.std.specs.Prelude.{◌≡◌, ℕ, ◌-◌, ◌||◌, not, min, List, [], ◌∷◌, ◌++◌, length, drop, map, Bool, Option, Some, None, IsSome, is_some, nat_le, nat_eq, if◌then◌else◌}
+use Rattle.std.specs.Option.{option_map, option_or, unwrap_or}
+use Rattle.std.specs.List.{starts_with, filter, filter_map, list_all, sum_by}
+use Rattle.std.specs.Cmp.Lexicographic.{slice_cmp, pointwise}
 use Rattle.std.specs.FinMap as fin
 use Rattle.std.specs.FinMap.{FinMap}
 use Rattle.std.specs.declared.cmp.Ordering.{Ordering}
-use Rattle.std.specs.Cmp.Lexicographic.{slice_cmp}
 use Rattle.std.specs.Ordering.{nat_cmp}
 use Rattle.ftp_tree.specs.Path.{parent, fits}
 use Rattle.ftp_tree.specs.declared.fault.TreeFault.{TreeFault}
-use Rattle.ftp_tree.specs.declared.fault.TreeFault.TheVariants.{Absent, Exists, WrongKind, TooBig, Full}
-use Rattle.ftp_tree.specs.declared.memory.NodeKind.{NodeKind}
-use Rattle.ftp_tree.specs.declared.memory.NodeKind.TheVariants as Kinds
+use Rattle.ftp_tree.specs.declared.fault.TreeFault.TheVariants.{Absent, Exists, NotEmpty, WrongKind, TooBig, Full, Busy, BadOffset}
+use Rattle.ftp_tree.specs.declared.tree.NodeKind.{NodeKind}
+use Rattle.ftp_tree.specs.declared.tree.NodeKind.TheVariants as Kinds
+
+-- a path: the names on the way from the root
+abbrev pub Names : Type 0
+Names = List (List ℕ)
 
 -- what stands at a path: a directory, or a file with its octets and the second in which it was installed
 pub data Node : Type 0 where
@@ -18,15 +24,17 @@ pub data Node : Type 0 where
   File : (octets : List ℕ) → (moment : ℕ) → Node
 
 -- paths in the order of their names, and names in the order of their octets
-abbrev pub path_cmp : List (List ℕ) → List (List ℕ) → Ordering
+abbrev pub path_cmp : Names → Names → Ordering
 path_cmp = slice_cmp (slice_cmp nat_cmp)
 
 -- the map of all paths at which something stands
 abbrev pub Table : Type 0
 Table = FinMap path_cmp Node
 
+-- ---- what stands where
+
 -- what stands at a path
-unfoldable pub node_at : Table → List (List ℕ) → Option Node
+unfoldable pub node_at : Table → Names → Option Node
 node_at table path = fin.get table path
 
 abbrev pub kind_of : Node → NodeKind
@@ -34,33 +42,203 @@ kind_of Dir = Kinds.Dir
 kind_of (File octets moment) = Kinds.File
 
 -- which kind of node stands at a path
-unfoldable pub kind_at : Table → List (List ℕ) → Option NodeKind
+unfoldable pub kind_at : Table → Names → Option NodeKind
 kind_at table path = option_map kind_of (node_at table path)
+
+-- the octets and the moment of a file
+abbrev pub octets_of : Node → Option (List ℕ)
+octets_of Dir = None
+octets_of (File octets moment) = Some octets
+
+abbrev pub moment_of : Node → Option ℕ
+moment_of Dir = None
+moment_of (File octets moment) = Some moment
+
+abbrev pub of_node : {X : Type 0} → (Node → Option X) → Option Node → Option X
+of_node f None = None
+of_node f (Some node) = f node
+
+-- the octets of the file at a path, where one stands there; how many they are; the second in which it was installed
+unfoldable pub octets_at : Table → Names → Option (List ℕ)
+octets_at table path = of_node octets_of (node_at table path)
+
+unfoldable pub size_at : Table → Names → Option ℕ
+size_at table path = option_map length (octets_at table path)
+
+unfoldable pub stamp_at : Table → Names → Option ℕ
+stamp_at table path = of_node moment_of (node_at table path)
+
+-- the octets of a file, and none where no file stands
+abbrev pub octets_or_none : Table → Names → List ℕ
+octets_or_none table path = unwrap_or (octets_at table path) []
+
+-- the second path is the first or below it
+unfoldable pub is_within : Names → Names → Bool
+is_within above path = starts_with (pointwise nat_eq) path above
+
+-- the name by which a directory calls a node that stands directly in it
+abbrev pub only_name : Names → Option (List ℕ)
+only_name [] = None
+only_name (name ∷ []) = Some name
+only_name (name ∷ next ∷ names) = None
+
+unfoldable pub name_in : Names → Names → Option (List ℕ)
+name_in above path = if is_within above path then only_name (drop (length above) path) else None
+
+-- the names in a directory, in the order of their octets
+unfoldable pub children : Table → Names → List (List ℕ)
+children table path = filter_map (name_in path) (fin.keys table)
+
+abbrev pub length_of : Node → ℕ
+length_of node = length (unwrap_or (octets_of node) [])
+
+-- the octets of all files together
+unfoldable pub octets_in : Table → ℕ
+octets_in table = sum_by (λ entry. length_of entry.1) (fin.entries table)
+
+-- the root is a directory, and so is the parent of each path at which something stands
+pub record IsTree (table : Table) : Type 0 where
+  pub root : node_at table [] ≡ Some Dir
+  pub parents : (path : Names) → IsSome (node_at table path) → node_at table (parent path) ≡ Some Dir
+
+-- ---- changes of the whole map
 
 -- the tree of the root alone
 unfoldable pub root_alone : Table
 root_alone = fin.insert fin.empty [] Dir
 
--- the root is a directory, and so is the parent of each path at which something stands
-pub record IsTree (table : Table) : Type 0 where
-  pub root : node_at table [] ≡ Some Dir
-  pub parents : (path : List (List ℕ)) → IsSome (node_at table path) → node_at table (parent path) ≡ Some Dir
-
--- nothing can be made where no directory is: what stands above is absent, or a file
-abbrev pub above_refusal : Option Node → Option TreeFault
-above_refusal None = Some Absent
-above_refusal (Some Dir) = None
-above_refusal (Some (File octets moment)) = Some WrongKind
-
--- a new path has to be within the limits of a path, and 4,096 nodes beside the root are all (own choice)
-abbrev pub room_refusal : Table → List (List ℕ) → Option TreeFault
-room_refusal table path = if fits path then (if nat_le (fin.len table) 4096 then None else Some Full) else Some TooBig
-
--- why no directory can be made at a path: something is there, or no directory is above, or there is no room; the first of these
-unfoldable pub make_refusal : Table → List (List ℕ) → Option TreeFault
-make_refusal table path =
-    if is_some (node_at table path) then Some Exists else option_or (above_refusal (node_at table (parent path))) (room_refusal table path)
-
--- the tree with a directory at a path, and all else as before
-unfoldable pub made : Table → List (List ℕ) → Table
+-- with a directory at a path, and all else as before
+unfoldable pub made : Table → Names → Table
 made table path = fin.insert table path Dir
+
+-- without what stood at a path
+unfoldable pub removed : Table → Names → Table
+removed table path = fin.remove table path
+
+-- with a file at a path
+unfoldable pub installed : Table → Names → List ℕ → ℕ → Table
+installed table path octets moment = fin.insert table path (File octets moment)
+
+-- where a path leads once what stands at `from` is called `to`: below it the rest of the path is kept
+unfoldable pub moved_path : Names → Names → Names → Names
+moved_path from to path = if is_within from path then to ++ drop (length from) path else path
+
+-- with all that stood at `from` or below it at `to` and below it
+unfoldable pub moved : Table → Names → Names → Table
+moved table from to = fin.from_entries (map (λ entry. (moved_path from to entry.0, entry.1)) (fin.entries table))
+
+-- the part of a map at or below a path, with that path taken off each path
+unfoldable pub under : Table → Names → Table
+under table path = fin.from_entries (map (λ entry. (drop (length path) entry.0, entry.1)) (filter (λ entry. is_within path entry.0) (fin.entries table)))
+
+-- ---- what is refused, and why: the first reason that applies
+
+-- the first of two reasons
+abbrev pub or_else : Option TreeFault → Option TreeFault → Option TreeFault
+or_else first second = option_or first second
+
+-- a reason where a condition holds
+abbrev pub whenever : Bool → TreeFault → Option TreeFault
+whenever holds fault = if holds then Some fault else None
+
+-- a directory is needed there
+abbrev pub directory_refusal : Option Node → Option TreeFault
+directory_refusal None = Some Absent
+directory_refusal (Some Dir) = None
+directory_refusal (Some (File octets moment)) = Some WrongKind
+
+-- a new path needs a directory above it, and is within the limits of a path
+abbrev pub place_refusal : Table → Names → Option TreeFault
+place_refusal table path = or_else (directory_refusal (node_at table (parent path))) (whenever (not (fits path)) TooBig)
+
+-- 4,096 nodes beside the root are all
+abbrev pub nodes_refusal : Table → Option TreeFault
+nodes_refusal table = whenever (not (nat_le (fin.len table) 4096)) Full
+
+-- a directory is made where nothing is, in a directory, within the limits
+unfoldable pub make_refusal : Table → Names → Option TreeFault
+make_refusal table path = or_else (whenever (is_some (node_at table path)) Exists) (or_else (place_refusal table path) (nodes_refusal table))
+
+-- a directory is removed where it is empty, and the root is not
+abbrev pub empty_refusal : List (List ℕ) → Names → Option TreeFault
+empty_refusal (name ∷ names) path = Some NotEmpty
+empty_refusal [] [] = Some Busy
+empty_refusal [] (name ∷ names) = None
+
+abbrev pub remove_answer : Option Node → List (List ℕ) → Names → Option TreeFault
+remove_answer None names path = Some Absent
+remove_answer (Some (File octets moment)) names path = Some WrongKind
+remove_answer (Some Dir) names path = empty_refusal names path
+
+unfoldable pub remove_refusal : Table → Names → Option TreeFault
+remove_refusal table path = remove_answer (node_at table path) (children table path) path
+
+-- a file is needed there
+abbrev pub file_refusal : Option Node → Option TreeFault
+file_refusal None = Some Absent
+file_refusal (Some Dir) = Some WrongKind
+file_refusal (Some (File octets moment)) = None
+
+-- a file is deleted, and a directory is not
+unfoldable pub delete_refusal : Table → Names → Option TreeFault
+delete_refusal table path = file_refusal (node_at table path)
+
+-- what is moved stands there, and is not the root
+abbrev pub source_answer : Option Node → Names → Option TreeFault
+source_answer None path = Some Absent
+source_answer (Some node) [] = Some Busy
+source_answer (Some node) (name ∷ names) = None
+
+unfoldable pub source_refusal : Table → Names → Option TreeFault
+source_refusal table path = source_answer (node_at table path) path
+
+-- each path at or below `from` is within the limits once it is moved
+unfoldable pub moves_fit : Table → Names → Names → Bool
+moves_fit table from to = list_all (λ path. not (is_within from path) || fits (moved_path from to path)) (fin.keys table)
+
+-- it is moved to where nothing is, not below itself, into a directory, and no path there grows too long
+unfoldable pub target_refusal : Table → Names → Names → Option TreeFault
+target_refusal table from to =
+    or_else (whenever (is_some (node_at table to)) Exists)
+    (or_else (whenever (is_within from to) WrongKind)
+    (or_else (directory_refusal (node_at table (parent to))) (whenever (not (moves_fit table from to)) TooBig)))
+
+unfoldable pub rename_refusal : Table → Names → Names → Option TreeFault
+rename_refusal table from to = or_else (source_refusal table from) (target_refusal table from to)
+
+-- a file is put where a file stands, or anew in a directory, within the limits of paths and nodes
+abbrev pub room_answer : Option Node → Table → Names → Option TreeFault
+room_answer (Some Dir) table path = Some WrongKind
+room_answer (Some (File octets moment)) table path = None
+room_answer None table path = or_else (place_refusal table path) (nodes_refusal table)
+
+unfoldable pub room_refusal : Table → Names → Option TreeFault
+room_refusal table path = room_answer (node_at table path) table path
+
+-- the most octets of a file, and of all files together (own choices)
+abbrev pub file_limit : ℕ
+file_limit = 16777216
+
+abbrev pub total_limit : ℕ
+total_limit = 67108864
+
+-- the most octets that a file may have at a path: those of the file that stands there count as freed
+unfoldable pub room_at : Table → Names → ℕ
+room_at table path = min file_limit (total_limit - (octets_in table - length (octets_or_none table path)))
+
+-- so many octets are too many for a file, or for all files together
+abbrev pub octets_refusal : Table → Names → ℕ → Option TreeFault
+octets_refusal table path count =
+    or_else (whenever (not (nat_le count file_limit)) TooBig) (whenever (not (nat_le count (room_at table path))) Full)
+
+unfoldable pub install_refusal : Table → Names → ℕ → Option TreeFault
+install_refusal table path count = or_else (room_refusal table path) (octets_refusal table path count)
+
+-- the first octets of a file are had where a file stands that has so many
+abbrev pub front_answer : Option Node → ℕ → Option TreeFault
+front_answer None count = Some Absent
+front_answer (Some Dir) count = Some WrongKind
+front_answer (Some (File octets moment)) count = whenever (not (nat_le count (length octets))) BadOffset
+
+unfoldable pub front_refusal : Table → Names → ℕ → Option TreeFault
+front_refusal table path count = front_answer (node_at table path) count

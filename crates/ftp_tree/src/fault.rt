@@ -10,15 +10,27 @@ pub enum TreeFault {
     /// Something stands there already.
     #[error("something stands there already")]
     Exists,
-    /// A file where a directory is needed.
+    /// A directory in which something stands.
+    #[error("the directory is not empty")]
+    NotEmpty,
+    /// A file where a directory is needed, or the other way round; a path that would come below itself.
     #[error("what stands there is of the wrong kind")]
     WrongKind,
-    /// A name of over 255 octets, or a canonical text of over 900.
-    #[error("the path is too long")]
+    /// A name of over 255 octets, a canonical text of over 900, or a file of over 16,777,216.
+    #[error("too long")]
     TooBig,
-    /// 4,096 nodes stand beside the root.
+    /// 4,096 nodes stand beside the root, or all files together would pass 67,108,864 octets.
     #[error("the tree is full")]
     Full,
+    /// The root, or a directory in use.
+    #[error("it is in use")]
+    Busy,
+    /// A place past the end of a file.
+    #[error("past the end of the file")]
+    BadOffset,
+    /// The device that keeps the tree failed.
+    #[error("the device failed")]
+    Device,
     /// The allocator refused a growth.
     #[error("out of memory")]
     Memory,

@@ -3,11 +3,12 @@ ghost use Rattle.std.specs.Prelude.{◌≡◌, ◌≤◌, [], IsTrue, IfOk, IfEr
 ghost use Rattle.std.specs.List.{list_all};
 ghost use Rattle.ftp_tree.specs.Kept.{IsJoined, IsKept, names_of};
 ghost use Rattle.ftp_tree.specs.Path.{IsPathText, fits, is_path_octet, is_rooted, joined, parent, resolved, text_of};
+ghost use Rattle.ftp_tree.specs.Tree.{is_within, moved_path};
 
 use crate::fault::TreeFault;
-use crate::name::is_rooted;
+use crate::name::{TEXT_LIMIT, is_rooted};
 use crate::walk::{Walk, parent_len};
-use std::alloc::Allocator;
+use std::alloc::{AllocError, Allocator};
 use std::marker::Model;
 
 /// A list of names from the root on, each a `Name`, whose canonical text has at most 900 octets. That something
@@ -104,7 +105,46 @@ impl<A: Allocator> Path<A> {
     pub(crate) fn parent_key(&self) -> &[u8]
         ensures joined { IsJoined result.now }
         ensures names { names_of result.now ≡ parent self.now }
+        ensures fits { IsTrue (fits self.now) }
     {
         &self.octets.as_slice()[..parent_len(self.octets.as_slice())]
+    }
+
+    /// The same path, in memory of its own.
+    pub(crate) fn copy<B: Allocator>(&self, alloc: B) -> Result<Path<B>, AllocError>
+        ensures { IfOk result (λ path. path ≡ self.now) }
+    {
+        let octets = Vec::from_slice(alloc, self.octets.as_slice())?;
+        Ok(Path { octets })
+    }
+
+    /// Whether this path is within the limits once what stands at `from` is called `to`.
+    pub(crate) fn fits_moved<B: Allocator, C: Allocator>(
+        &self,
+        from: &Path<B>,
+        to: &Path<C>,
+    ) -> bool
+        requires { IsTrue (is_within from.now self.now) }
+        ensures { result ≡ fits (moved_path from.now to.now self.now) }
+    {
+        let (path, from, to) = (self.key(), from.key(), to.key());
+        path.len() - from.len() + to.len() <= TEXT_LIMIT
+    }
+
+    /// Where this path leads then.
+    pub(crate) fn moved<B: Allocator, C: Allocator, D: Allocator>(
+        &self,
+        alloc: D,
+        from: &Path<B>,
+        to: &Path<C>,
+    ) -> Result<Path<D>, AllocError>
+        requires within { IsTrue (is_within from.now self.now) }
+        requires fits { IsTrue (fits (moved_path from.now to.now self.now)) }
+        ensures { IfOk result (λ path. path ≡ moved_path from.now to.now self.now) }
+    {
+        let (path, from, to) = (self.key(), from.key(), to.key());
+        let mut octets = Vec::from_slice(alloc, to)?;
+        octets.extend_from_slice(&path[from.len()..])?;
+        Ok(Path { octets })
     }
 }

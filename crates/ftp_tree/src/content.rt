@@ -1,0 +1,112 @@
+// The octets of a file that is not installed yet.
+ghost use Rattle.std.specs.Prelude.{◌≡◌, ◌≤◌, ◌++◌, [], None, IfErr, IfOk, OnErr, OnOk, length, take, unwrap_or};
+ghost use Rattle.ftp_tree.specs.Tree.{front_refusal, octets_or_none};
+
+use crate::fault::TreeFault;
+use crate::path::Path;
+use crate::tree::Tree;
+use std::alloc::{AllocError, Allocator};
+use std::marker::Model;
+use std::mem;
+
+/// The octets of a file, as they are gathered before it is installed.
+#[derive(Debug, Drop)]
+pub struct Content<A: Allocator> {
+    octets: Vec<u8, A>,
+}
+
+impl<A: Allocator> Model for Content<A> {
+    ghost use Rattle.std.specs.Prelude.{ℕ, List};
+
+    ghost Value = { List ℕ };
+
+    ghost view = { λ content. content.octets.items };
+}
+
+impl<A: Allocator> Content<A> {
+    /// No octets. Takes no memory.
+    pub fn new(alloc: A) -> Content<A>
+        ensures { result ≡ [] }
+    {
+        Content {
+            octets: Vec::new(alloc),
+        }
+    }
+
+    /// The first octets of the file at a path.
+    ///
+    /// Refused: `Absent`, `WrongKind` of a directory, `BadOffset` where the file has fewer, then `Memory`.
+    pub fn of<B: Allocator, C: Allocator, T: Tree<B>>(
+        alloc: A,
+        tree: &T,
+        path: &Path<C>,
+        count: u64,
+    ) -> Result<Content<A>, TreeFault>
+        ensures none { OnOk result (front_refusal (T.table tree.now) path.now count ≡ None) }
+        ensures front { IfOk result (λ content. content ≡ take count (octets_or_none (T.table tree.now) path.now)) }
+        ensures fault { IfErr result (λ fault. fault ≡ unwrap_or (front_refusal (T.table tree.now) path.now count) TreeFault.Memory) }
+    {
+        if let Some(fault) = front_refusal(tree, path, count) {
+            return Err(fault);
+        }
+        let mut content = Content::new(alloc);
+        while content.len() < count {
+            let left = count - content.len();
+            let piece = tree.piece(path, content.len(), left as usize);
+            let Ok(_) = content.push(piece) else {
+                return Err(TreeFault::Memory);
+            };
+        }
+        Ok(content)
+    }
+
+    /// Puts octets behind those that it has. Refused memory, it is as it was.
+    pub fn push(&mut self, octets: &[u8]) -> Result<(), AllocError>
+        ensures ok { OnOk result (self.new ≡ self.old ++ octets.now) }
+        ensures err { OnErr result (self.new ≡ self.old) }
+    {
+        self.octets.extend_from_slice(octets)
+    }
+
+    /// How many octets it has.
+    pub fn len(&self) -> u64
+        ensures { result ≡ length self.now }
+    {
+        self.octets.len() as u64
+    }
+
+    /// Takes its octets out.
+    pub(crate) fn take(&mut self, alloc: A) -> Content<A>
+        ensures taken { result ≡ self.old }
+        ensures left { self.new ≡ [] }
+    {
+        mem::replace(self, Content::new(alloc))
+    }
+
+    /// Lends its octets.
+    pub(crate) fn octets(&self) -> &[u8]
+        ensures { result.now ≡ self.now }
+    {
+        self.octets.as_slice()
+    }
+}
+
+/// The first reason, memory aside, why so many octets of a file cannot be had.
+fn front_refusal<B: Allocator, C: Allocator, T: Tree<B>>(
+    tree: &T,
+    path: &Path<C>,
+    count: u64,
+) -> Option<TreeFault>
+    ensures { result ≡ front_refusal (T.table tree.now) path.now count }
+{
+    let Some(size) = tree.size(path) else {
+        return match tree.kind(path) {
+            None => Some(TreeFault::Absent),
+            Some(_) => Some(TreeFault::WrongKind),
+        };
+    };
+    if count > size {
+        return Some(TreeFault::BadOffset);
+    }
+    None
+}
