@@ -10,7 +10,7 @@ use crate::login::{Login, User};
 use crate::reply::Reply;
 use crate::text::Text as Fixed;
 use ftp_command::{Command, CommandFault, Text};
-use ftp_tree::{MemTree, Path, TreeFault};
+use ftp_tree::{MemTree, Path, Tree, TreeFault};
 use std::alloc::{AllocError, Allocator};
 
 /// A session: how far its login has come, and its tree. No verb leaves the root.
