@@ -1,11 +1,12 @@
-//! Names, paths and a tree of directories in memory; no IO. A path is a list of names, a text is resolved to one
-//! without a look at the tree, and a tree is a finite map from paths to nodes (RFC 959, sections 4.1.3 and 5.3.2).
+//! Names, paths and trees of directories and files; no IO. A path is a list of names, a text is resolved to one without a
+//! look at any tree, and a tree is a finite map from paths to nodes (RFC 959, sections 4.1.3 and 5.3.2).
 #![tactic(auto)]
 
 mod content;
 mod entry;
 mod fault;
 mod key;
+pub mod laws;
 mod memory;
 mod name;
 mod path;

@@ -1,0 +1,252 @@
+-- Each change that is not refused keeps a tree one.
+use Rattle.std.proofs.Common.{ℕ, ◌-◌, ◌<◌, ◌≡◌, Bool, true, false, cond, Option, Some, None, IsSome, is_some, List, [], ◌∷◌, ◌++◌, length, drop, refl, sym, ap, ◌∙◌, subst, arith}
+use Rattle.std.specs.List.{Contains}
+use Rattle.std.specs.Ordering.{eq_by_cmp}
+use Rattle.std.specs.FinMap as fin
+use Rattle.std.proofs.lemmas.Bool.{cond-true, cond-false, true≢false}
+use Rattle.std.proofs.lemmas.List.{append-nil, append_assoc, length-append, length-take}
+use Rattle.ftp_tree.specs.Path.{parent}
+use Rattle.ftp_tree.specs.Tree.{Names, Node, Dir, File, Table, path_cmp, node_at, is_within, children, root_alone, made, removed, installed, moved, IsTree, whenever, directory_refusal, place_refusal, nodes_refusal, make_refusal, file_refusal, delete_refusal, empty_refusal, remove_answer, remove_refusal, rename_refusal, room_answer, room_refusal, octets_refusal, install_refusal}
+use Rattle.ftp_tree.specs.declared.fault.TreeFault.{TreeFault}
+use Rattle.ftp_tree.specs.declared.fault.TreeFault.TheVariants.{Exists, WrongKind}
+use Rattle.ftp_tree.specs.Laws.{ChangesKeepTrees}
+use Rattle.ftp_tree.proofs.PathLemmas.{parent-last}
+use Rattle.ftp_tree.proofs.EntryLemmas.{path_total}
+use Rattle.ftp_tree.proofs.KeyLemmas.{within-parts, within-append}
+use Rattle.ftp_tree.proofs.TableLemmas.{both-none, table_of-none, node_at-root}
+use Rattle.ftp_tree.proofs.LawLemmas.{same, false-where, parent-append, target-parts, rename-moves, children-stand}
+
+at-insert : (table : Table) (path : Names) (node : Node) (other : Names) → node_at (fin.insert table path node) other ≡ cond (eq_by_cmp path_cmp other path) (Some node) (node_at table other)
+unfolding node_at
+at-insert table path node other = fin.get-insert path_total table path node other
+
+at-remove : (table : Table) (path other : Names) → node_at (fin.remove table path) other ≡ cond (eq_by_cmp path_cmp other path) None (node_at table other)
+unfolding node_at
+at-remove table path other = fin.get-remove path_total table path other
+
+parent-none : parent [] ≡ []
+unfolding parent
+parent-none = refl
+
+parent-shorter : (name : List ℕ) (names : Names) → length (parent (name ∷ names)) < length (name ∷ names)
+unfolding parent
+parent-shorter name names = omega (arith, length-take (length (name ∷ names) - 1) (name ∷ names))
+
+is-dir : (node : Option Node) → directory_refusal node ≡ None → node ≡ Some Dir
+is-dir None none = cc
+is-dir (Some Dir) none = refl
+is-dir (Some (File octets moment)) none = cc
+
+-- a node that comes below a directory, and in the place of no directory unless it is one
+IsTree-insert : (table : Table) (path : Names) (node : Node) → IsTree table → node_at table (parent path) ≡ Some Dir → (node_at table path ≡ Some Dir → node ≡ Dir) → IsTree (fin.insert table path node)
+IsTree-insert table path node tree above keeps =
+    record {
+      root = at-insert table path node [] ∙ put [] tree.root;
+      parents = λ other some. at-insert table path node (parent other) ∙ put (parent other) (up other some);
+    }
+  where
+    put : (other : Names) → node_at table other ≡ Some Dir → cond (eq_by_cmp path_cmp other path) (Some node) (node_at table other) ≡ Some Dir
+    put other stands =
+        elim (eq_by_cmp path_cmp other path) as (λ b. eq_by_cmp path_cmp other path ≡ b → cond b (Some node) (node_at table other) ≡ Some Dir) [
+          | true ↦ λ equal. ap Some (keeps (ap (node_at table) (sym (same other path equal)) ∙ stands))
+          | false ↦ λ other_path. stands
+        ] refl
+
+    up : (other : Names) → IsSome (node_at (fin.insert table path node) other) → node_at table (parent other) ≡ Some Dir
+    up other some =
+        elim (eq_by_cmp path_cmp other path) as (λ b. eq_by_cmp path_cmp other path ≡ b → node_at table (parent other) ≡ Some Dir) [
+          | true ↦ λ equal. ap (λ p. node_at table (parent p)) (same other path equal) ∙ above
+          | false ↦ λ other_path. tree.parents other (subst (λ o. IsSome o) (at-insert table path node other ∙ cond-false (eq_by_cmp path_cmp other path) _ _ other_path) some)
+        ] refl
+
+-- a node that is not the root and has nothing below it goes
+IsTree-remove : (table : Table) (path : Names) → IsTree table → (path ≡ [] → ⊥) → ((other : Names) → IsSome (node_at table other) → (other ≡ [] → ⊥) → parent other ≡ path → ⊥) → IsTree (fin.remove table path)
+IsTree-remove table path tree not_root none_below =
+    record {
+      root = at-remove table path [] ∙ cond-false (eq_by_cmp path_cmp [] path) None (node_at table []) (false-where _ (λ equal. not_root (sym (same [] path equal)))) ∙ tree.root;
+      parents = λ other some. up other some;
+    }
+  where
+    stood : (other : Names) → IsSome (node_at (fin.remove table path) other) → IsSome (node_at table other)
+    stood other some =
+        elim (eq_by_cmp path_cmp other path) as (λ b. eq_by_cmp path_cmp other path ≡ b → IsSome (node_at table other)) [
+          | true ↦ λ equal. absurd (true≢false (sym (ap is_some (sym (at-remove table path other ∙ cond-true (eq_by_cmp path_cmp other path) None (node_at table other) equal)) ∙ some)))
+          | false ↦ λ other_path. subst (λ o. IsSome o) (at-remove table path other ∙ cond-false (eq_by_cmp path_cmp other path) None (node_at table other) other_path) some
+        ] refl
+
+    up : (other : Names) → IsSome (node_at (fin.remove table path) other) → node_at (fin.remove table path) (parent other) ≡ Some Dir
+    up [] some =
+        ap (node_at (fin.remove table path)) parent-none ∙ at-remove table path [] ∙ cond-false (eq_by_cmp path_cmp [] path) None (node_at table []) (false-where _ (λ equal. not_root (sym (same [] path equal)))) ∙ tree.root
+    up (name ∷ names) some =
+        let there = stood (name ∷ names) some in
+        at-remove table path (parent (name ∷ names))
+        ∙ cond-false (eq_by_cmp path_cmp (parent (name ∷ names)) path) None (node_at table (parent (name ∷ names)))
+        (false-where _ (λ equal. none_below (name ∷ names) there (λ e. cc) (same (parent (name ∷ names)) path equal)))
+        ∙ tree.parents (name ∷ names) there
+
+at-root_alone : (path : Names) → node_at root_alone path ≡ cond (eq_by_cmp path_cmp path []) (Some Dir) None
+unfolding node_at root_alone
+at-root_alone path = fin.get-insert path_total fin.empty [] Dir path ∙ ap (cond (eq_by_cmp path_cmp path []) (Some Dir)) (fin.get-empty path_cmp path)
+
+root-tree : IsTree root_alone
+root-tree =
+    record {
+      root = ap (λ table. node_at table []) (sym table_of-none) ∙ node_at-root [] refl;
+      parents = λ path some. up path (subst (λ o. IsSome o) (at-root_alone path) some);
+    }
+  where
+    up : (path : Names) → IsSome (cond (eq_by_cmp path_cmp path []) (Some Dir) None) → node_at root_alone (parent path) ≡ Some Dir
+    up [] some = ap (node_at root_alone) parent-none ∙ ap (λ table. node_at table []) (sym table_of-none) ∙ node_at-root [] refl
+    up (name ∷ names) some = absurd (true≢false (sym some))
+
+keeps-made : (table : Table) (path : Names) → IsTree table → make_refusal table path ≡ None → IsTree (made table path)
+unfolding make_refusal made
+keeps-made table path tree none =
+    let parts = both-none (whenever (is_some (node_at table path)) Exists) _ none in
+    let place = both-none (place_refusal table path) (nodes_refusal table) parts.1 in
+    let above = both-none (directory_refusal (node_at table (parent path))) _ place.0 in
+    IsTree-insert table path Dir tree (is-dir (node_at table (parent path)) above.0) (λ _. refl)
+
+room-parts : (table : Table) (path : Names) (node : Option Node) → IsTree table → node_at table path ≡ node → room_answer node table path ≡ None → (node_at table (parent path) ≡ Some Dir) × (node_at table path ≡ Some Dir → ⊥)
+room-parts table path None tree there none =
+    let place = both-none (place_refusal table path) (nodes_refusal table) none in
+    let above = both-none (directory_refusal (node_at table (parent path))) _ place.0 in
+    (is-dir (node_at table (parent path)) above.0, λ dir. true≢false (ap is_some (sym dir ∙ there)))
+room-parts table path (Some Dir) tree there none = cc
+room-parts table path (Some (File octets moment)) tree there none =
+    (tree.parents path (ap is_some there), λ dir. files (sym dir ∙ there))
+  where
+    files : ◌≡◌ {A = Option Node} (Some Dir) (Some (File octets moment)) → ⊥
+    files e = cc
+
+keeps-installed : (table : Table) (path : Names) (octets : List ℕ) (moment : ℕ) → IsTree table → install_refusal table path (length octets) ≡ None → IsTree (installed table path octets moment)
+unfolding install_refusal room_refusal installed
+keeps-installed table path octets moment tree none =
+    let parts = both-none (room_answer (node_at table path) table path) (octets_refusal table path (length octets)) none in
+    let room = room-parts table path (node_at table path) tree refl parts.0 in
+    IsTree-insert table path (File octets moment) tree room.0 (λ dir. absurd (room.1 dir))
+
+keeps-deleted : (table : Table) (path : Names) → IsTree table → delete_refusal table path ≡ None → IsTree (removed table path)
+unfolding delete_refusal removed
+keeps-deleted table path tree none =
+    IsTree-remove table path tree (λ root. no_dir (ap (node_at table) root ∙ tree.root)) (λ other some not_root up. no_dir (ap (node_at table) (sym up) ∙ tree.parents other some))
+  where
+    kinds : ◌≡◌ {A = Option TreeFault} (Some WrongKind) None → ⊥
+    kinds e = cc
+
+    no_dir : node_at table path ≡ Some Dir → ⊥
+    no_dir dir = kinds (ap file_refusal (sym dir) ∙ none)
+
+keeps-removed : (table : Table) (path : Names) → IsTree table → remove_refusal table path ≡ None → IsTree (removed table path)
+unfolding remove_refusal removed
+keeps-removed table path tree none =
+    IsTree-remove table path tree (λ root. busy (children table path) (ap (λ node. remove_answer node (children table path) path) (sym (ap (node_at table) root ∙ tree.root)) ∙ none) root)
+    (λ other some not_root up. below other some not_root up)
+  where
+    busy : (names : List (List ℕ)) → empty_refusal names path ≡ None → path ≡ [] → ⊥
+    busy names e root = by names (ap (empty_refusal names) (sym root) ∙ e)
+      where
+        by : (names : List (List ℕ)) → empty_refusal names [] ≡ None → ⊥
+        by [] e = cc
+        by (name ∷ names) e = cc
+
+    empty : (node : Option Node) (names : List (List ℕ)) → remove_answer node names path ≡ None → names ≡ []
+    empty None names e = cc
+    empty (Some (File octets moment)) names e = cc
+    empty (Some Dir) [] e = refl
+    empty (Some Dir) (name ∷ names) e = cc
+
+    below : (other : Names) → IsSome (node_at table other) → (other ≡ [] → ⊥) → parent other ≡ path → ⊥
+    below [] some not_root up = not_root refl
+    below (name ∷ names) some not_root up =
+        let last = parent-last name names in
+        let there : IsSome (node_at table (path ++ last.0 ∷ [])) = subst (λ p. IsSome (node_at table p)) (last.1 ∙ ap (λ p. p ++ last.0 ∷ []) up) some in
+        let found = (children-stand table path last.0).1 there in
+        let found_none : Contains [] last.0 = subst (λ l. Contains l last.0) (empty (node_at table path) (children table path) none) found in
+        absurd (omega (arith, found_none.1))
+
+within-up : (above path : Names) → is_within above (parent path) ≡ true → is_within above path ≡ true
+unfolding parent
+within-up above [] inside = inside
+within-up above (name ∷ names) inside =
+    let last = parent-last name names in
+    let rest = drop (length above) (parent (name ∷ names)) in
+    let whole : name ∷ names ≡ above ++ (rest ++ last.0 ∷ []) = last.1 ∙ ap (λ p. p ++ last.0 ∷ []) (within-parts above (parent (name ∷ names)) inside) ∙ append_assoc above rest (last.0 ∷ []) in
+    ap (is_within above) whole ∙ within-append above (rest ++ last.0 ∷ [])
+
+outside-up : (above path : Names) → is_within above path ≡ false → is_within above (parent path) ≡ false
+outside-up above path outside = false-where (is_within above (parent path)) (λ inside. true≢false (sym (within-up above path inside) ∙ outside))
+
+root-outside : (name : List ℕ) (names : Names) → is_within (name ∷ names) [] ≡ false
+unfolding is_within
+root-outside name names = refl
+
+root-inside : (path : Names) → is_within [] path ≡ true
+unfolding is_within
+root-inside path = refl
+
+module _ (table : Table) (from to : Names) (tree : IsTree table) (none : rename_refusal table from to ≡ None) where
+  apart_from : is_within from to ≡ false
+  apart_from = (target-parts table from to none).1
+
+  root-not_from : is_within from [] ≡ false
+  root-not_from = by from apart_from
+    where
+      by : (from : Names) → is_within from to ≡ false → is_within from [] ≡ false
+      by [] outside = absurd (true≢false (sym (root-inside to) ∙ outside))
+      by (name ∷ names) outside = root-outside name names
+
+  root-not_to : is_within to [] ≡ false
+  root-not_to = by to (target-parts table from to none).0
+    where
+      by : (to : Names) → is_some (node_at table to) ≡ false → is_within to [] ≡ false
+      by [] free = absurd (true≢false (ap is_some (sym tree.root) ∙ free))
+      by (name ∷ names) free = root-outside name names
+
+  -- the parent of the new path stays where it is
+  parent-stays : node_at (moved table from to) (parent to) ≡ Some Dir
+  parent-stays =
+      (rename-moves table from to tree none).stays (parent to) (outside-up from to apart_from) (by to root-not_to)
+      ∙ is-dir (node_at table (parent to)) (target-parts table from to none).2
+    where
+      by : (to : Names) → is_within to [] ≡ false → is_within to (parent to) ≡ false
+      by [] outside = ap (is_within []) parent-none ∙ outside
+      by (name ∷ names) outside =
+          false-where _ (λ inside.
+          let long = ap length (within-parts (name ∷ names) (parent (name ∷ names)) inside) ∙ length-append (name ∷ names) (drop (length (name ∷ names)) (parent (name ∷ names))) in
+          absurd (omega (arith, parent-shorter name names)))
+
+  below-new : (rest : Names) → IsSome (node_at table (from ++ rest)) → node_at (moved table from to) (parent (to ++ rest)) ≡ Some Dir
+  below-new [] some = ap (λ p. node_at (moved table from to) (parent p)) (append-nil to) ∙ parent-stays
+  below-new (name ∷ rest) some =
+      ap (node_at (moved table from to)) (parent-append to name rest) ∙ (rename-moves table from to tree none).comes (parent (name ∷ rest))
+      ∙ ap (node_at table) (sym (parent-append from name rest)) ∙ tree.parents (from ++ name ∷ rest) some
+
+  up : (path : Names) → IsSome (node_at (moved table from to) path) → (b : Bool) → is_within to path ≡ b → (c : Bool) → is_within from path ≡ c → node_at (moved table from to) (parent path) ≡ Some Dir
+  up path some true inside c below =
+      let rest = drop (length to) path in
+      let whole = within-parts to path inside in
+      ap (λ p. node_at (moved table from to) (parent p)) whole
+      ∙ below-new rest (subst (λ o. IsSome o) (ap (node_at (moved table from to)) whole ∙ (rename-moves table from to tree none).comes rest) some)
+  up path some false outside true below = absurd (true≢false (sym (ap is_some (sym ((rename-moves table from to tree none).goes path below outside)) ∙ some)))
+  up path some false outside false beside =
+      (rename-moves table from to tree none).stays (parent path) (outside-up from path beside) (outside-up to path outside)
+      ∙ tree.parents path (subst (λ o. IsSome o) ((rename-moves table from to tree none).stays path beside outside) some)
+
+  keeps-moved : IsTree (moved table from to)
+  keeps-moved =
+      record {
+        root = (rename-moves table from to tree none).stays [] root-not_from root-not_to ∙ tree.root;
+        parents = λ path some. up path some (is_within to path) refl (is_within from path) refl;
+      }
+
+pub changes-keep : ChangesKeepTrees
+changes-keep =
+    record {
+      alone = root-tree;
+      making = keeps-made;
+      removing = keeps-removed;
+      deleting = keeps-deleted;
+      moving = keeps-moved;
+      installing = keeps-installed;
+    }

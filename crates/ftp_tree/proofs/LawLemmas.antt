@@ -1,0 +1,276 @@
+-- Laws of the tree's definitions, path by path.
+use Rattle.std.proofs.Common.{ℕ, zero, suc, ◌+◌, ◌-◌, ◌<◌, ◌≤◌, ◌≡◌, Bool, true, false, cond, Option, Some, None, is_some, List, [], ◌∷◌, ◌++◌, length, take, drop, get_or, refl, sym, ap, ◌∙◌, subst, arith}
+use Rattle.std.specs.Prelude.{map}
+use Rattle.std.specs.List.{filter, filter_map, cons_option, AllByRecursion, Contains}
+use Rattle.std.specs.Ordering.{eq_by_cmp, is_eq, ordering_then}
+use Rattle.std.specs.declared.cmp.Ordering.{Ordering}
+use Rattle.std.specs.declared.cmp.Ordering.TheVariants.{Less, Equal, Greater}
+use Rattle.std.specs.Cmp.{tied_itself, nat_cmp_total}
+use Rattle.std.specs.Cmp.Lexicographic.{lists_total}
+use Rattle.std.specs.FinMap as fin
+use Rattle.std.specs.FinMap.Entries.{find}
+use Rattle.std.proofs.lemmas.Bool.{cond-true, cond-false, true≢false}
+use Rattle.std.proofs.lemmas.List.{append-nil, length-append, length-take, drop_at}
+use Rattle.ftp_tree.specs.Path.{parent}
+use Rattle.ftp_tree.specs.Store.{Rows}
+use Rattle.ftp_tree.specs.Tree.{Names, Node, Table, path_cmp, node_at, is_within, only_name, name_in, children, under, moved, moved_path, IsTree, whenever, directory_refusal, source_refusal, target_refusal, rename_refusal}
+use Rattle.ftp_tree.specs.declared.fault.TreeFault.TheVariants.{Exists, WrongKind}
+use Rattle.ftp_tree.specs.Laws.{UnderStandsBelow, RenameMovesAll, ChildrenStand}
+use Rattle.ftp_tree.proofs.EntryLemmas.{path_total, path_same}
+use Rattle.ftp_tree.proofs.KeyLemmas.{within-parts, within-append}
+use Rattle.ftp_tree.proofs.TableLemmas.{both-none, not-held}
+
+-- ---- paths with one front
+
+cmp-front : (front a b : Names) → path_cmp (front ++ a) (front ++ b) ≡ path_cmp a b
+cmp-front [] a b = refl
+cmp-front (name ∷ front) a b = ap (λ r. ordering_then r (path_cmp (front ++ a) (front ++ b))) (tied_itself (lists_total nat_cmp_total) name) ∙ cmp-front front a b
+
+equal-from : (r : Ordering) → is_eq r ≡ true → r ≡ Equal
+equal-from Less e = absurd (true≢false (sym e))
+equal-from Equal e = refl
+equal-from Greater e = absurd (true≢false (sym e))
+
+pub same : (a b : Names) → eq_by_cmp path_cmp a b ≡ true → a ≡ b
+same a b equal = path_same a b (equal-from (path_cmp a b) equal)
+
+pub false-where : (b : Bool) → (b ≡ true → ⊥) → b ≡ false
+false-where true never = absurd (never refl)
+false-where false never = refl
+
+-- paths of which one is within another path, and one is not, differ
+apart : (above a b : Names) → is_within above a ≡ false → is_within above b ≡ true → eq_by_cmp path_cmp a b ≡ false
+apart above a b out inside = false-where _ (λ equal. true≢false (sym inside ∙ ap (is_within above) (sym (same a b equal)) ∙ out))
+
+apart-back : (above a b : Names) → is_within above a ≡ true → is_within above b ≡ false → eq_by_cmp path_cmp a b ≡ false
+apart-back above a b inside out = false-where _ (λ equal. true≢false (sym inside ∙ ap (is_within above) (same a b equal) ∙ out))
+
+-- the same rest behind two fronts
+eq-fronts : (first second a b : Names) → eq_by_cmp path_cmp (first ++ a) (first ++ b) ≡ eq_by_cmp path_cmp (second ++ a) (second ++ b)
+eq-fronts first second a b = ap is_eq (cmp-front first a b ∙ sym (cmp-front second a b))
+
+-- ---- below a path
+
+below : (root path : Names) (es : Rows) → find path_cmp path (map (λ e. (drop (length root) e.0, e.1)) (filter (λ e. is_within root e.0) es)) ≡ find path_cmp (root ++ path) es
+below root path [] = refl
+below root path (e ∷ es) =
+    let rest = below root path es in
+    elim (is_within root e.0) as (λ b. is_within root e.0 ≡ b
+    → find path_cmp path (map (λ e. (drop (length root) e.0, e.1)) (cond b (e ∷ filter (λ e. is_within root e.0) es) (filter (λ e. is_within root e.0) es)))
+    ≡ cond (eq_by_cmp path_cmp (root ++ path) e.0) (Some e.1) (find path_cmp (root ++ path) es)) [
+      | true ↦ λ inside.
+          ap (cond (eq_by_cmp path_cmp path (drop (length root) e.0)) (Some e.1)) rest
+          ∙ ap (λ b. cond b (Some e.1) (find path_cmp (root ++ path) es)) (eq-fronts [] root path (drop (length root) e.0)
+          ∙ ap (eq_by_cmp path_cmp (root ++ path)) (sym (within-parts root e.0 inside)))
+      | false ↦ λ outside. rest ∙ sym (cond-false (eq_by_cmp path_cmp (root ++ path) e.0) (Some e.1) (find path_cmp (root ++ path) es) (apart-back root (root ++ path) e.0 (within-append root path) outside))
+    ] refl
+
+pub under-stands : UnderStandsBelow
+unfolding node_at under
+under-stands table root path =
+    fin.get-from_entries path_total (map (λ e. (drop (length root) e.0, e.1)) (filter (λ e. is_within root e.0) (fin.entries table))) path
+    ∙ below root path (fin.entries table) ∙ sym (fin.get-entries table (root ++ path))
+
+-- ---- all that stands
+
+-- what holds of each path that is found holds of each entry
+each-found : (P : Names → Type 0) (es : Rows) → ((p : Names) → is_some (find path_cmp p es) ≡ true → P p) → AllByRecursion (λ e. P e.0) es
+each-found P [] all = tt
+each-found P (e ∷ es) all = (
+  all e.0 (ap (λ r. is_some (cond (is_eq r) (Some e.1) (find path_cmp e.0 es))) (tied_itself path_total e.0)),
+  each-found P es (λ p found. all p (either (eq_by_cmp path_cmp p e.0) (find path_cmp p es) found)),
+)
+  where
+    either : (b : Bool) (o : Option Node) → is_some o ≡ true → is_some (cond b (Some e.1) o) ≡ true
+    either true o found = refl
+    either false o found = found
+
+pub parent-append : (above : Names) (name : List ℕ) (rest : Names) → parent (above ++ name ∷ rest) ≡ above ++ parent (name ∷ rest)
+unfolding parent
+parent-append [] name rest = refl
+parent-append (first ∷ above) name rest =
+    let long : length (above ++ name ∷ rest) ≡ length above + suc (length rest) = length-append above (name ∷ rest) in
+    let less : length ((first ∷ above) ++ name ∷ rest) - 1 ≡ suc (length (above ++ name ∷ rest) - 1) = omega arith in
+    ap (λ n. take n (first ∷ (above ++ name ∷ rest))) less ∙ ap (λ p. first ∷ p) (parent-append above name rest)
+
+parent-length : (path : Names) → length (parent path) ≤ length path - 1
+unfolding parent
+parent-length path = omega (arith, length-take (length path - 1) path)
+
+-- where a path stands in a tree, so does each above it
+stands-above : (table : Table) → IsTree table → (n : ℕ) (above rest : Names) → length rest ≤ n → is_some (node_at table (above ++ rest)) ≡ true → is_some (node_at table above) ≡ true
+stands-above table tree n above [] short some = ap (λ p. is_some (node_at table p)) (sym (append-nil above)) ∙ some
+stands-above table tree zero above (name ∷ rest) short some = absurd (omega arith)
+stands-above table tree (suc n) above (name ∷ rest) short some =
+    let shorter : length (parent (name ∷ rest)) ≤ n = omega (arith, parent-length (name ∷ rest)) in
+    stands-above table tree n above (parent (name ∷ rest)) shorter
+    (ap (λ p. is_some (node_at table p)) (sym (parent-append above name rest)) ∙ ap is_some (tree.parents (above ++ name ∷ rest) some))
+
+-- ---- moves
+
+module _ (from to : Names) (apart_from : is_within from to ≡ false) where
+  abbrev all : Rows → Rows
+  all = map (λ e. (moved_path from to e.0, e.1))
+
+  abbrev Free : Rows → Type 0
+  Free = AllByRecursion (λ e. is_within to e.0 ≡ false)
+
+  moved-in : (path : Names) → is_within from path ≡ true → moved_path from to path ≡ to ++ drop (length from) path
+  unfolding moved_path
+  moved-in path inside = cond-true (is_within from path) (to ++ drop (length from) path) path inside
+
+  moved-out : (path : Names) → is_within from path ≡ false → moved_path from to path ≡ path
+  unfolding moved_path
+  moved-out path outside = cond-false (is_within from path) (to ++ drop (length from) path) path outside
+
+  comes : (rest : Names) (es : Rows) → Free es → find path_cmp (to ++ rest) (all es) ≡ find path_cmp (from ++ rest) es
+  comes rest [] free = refl
+  comes rest (e ∷ es) free =
+      let next = comes rest es free.1 in
+      elim (is_within from e.0) as (λ b. is_within from e.0 ≡ b
+      → cond (eq_by_cmp path_cmp (to ++ rest) (moved_path from to e.0)) (Some e.1) (find path_cmp (to ++ rest) (all es)) ≡ cond (eq_by_cmp path_cmp (from ++ rest) e.0) (Some e.1) (find path_cmp (from ++ rest) es)) [
+        | true ↦ λ inside.
+            ap (cond (eq_by_cmp path_cmp (to ++ rest) (moved_path from to e.0)) (Some e.1)) next
+            ∙ ap (λ b. cond b (Some e.1) (find path_cmp (from ++ rest) es)) (ap (eq_by_cmp path_cmp (to ++ rest)) (moved-in e.0 inside)
+            ∙ eq-fronts to from rest (drop (length from) e.0) ∙ ap (eq_by_cmp path_cmp (from ++ rest)) (sym (within-parts from e.0 inside)))
+        | false ↦ λ outside.
+            cond-false (eq_by_cmp path_cmp (to ++ rest) (moved_path from to e.0)) _ _ (ap (eq_by_cmp path_cmp (to ++ rest)) (moved-out e.0 outside) ∙ apart-back to (to ++ rest) e.0 (within-append to rest) free.0)
+            ∙ next ∙ sym (cond-false (eq_by_cmp path_cmp (from ++ rest) e.0) _ _ (apart-back from (from ++ rest) e.0 (within-append from rest) outside))
+      ] refl
+
+  within-moved : (path : Names) → is_within from path ≡ true → is_within to (moved_path from to path) ≡ true
+  within-moved path inside = ap (is_within to) (moved-in path inside) ∙ within-append to (drop (length from) path)
+
+  goes : (path : Names) → is_within from path ≡ true → is_within to path ≡ false → (es : Rows) → find path_cmp path (all es) ≡ None
+  goes path inside outside [] = refl
+  goes path inside outside (e ∷ es) =
+      cond-false (eq_by_cmp path_cmp path (moved_path from to e.0)) _ _ (elim (is_within from e.0) as (λ b. is_within from e.0 ≡ b → eq_by_cmp path_cmp path (moved_path from to e.0) ≡ false) [
+        | true ↦ λ in_e. apart to path (moved_path from to e.0) outside (within-moved e.0 in_e)
+        | false ↦ λ out_e. ap (eq_by_cmp path_cmp path) (moved-out e.0 out_e) ∙ apart-back from path e.0 inside out_e
+      ] refl) ∙ goes path inside outside es
+
+  stays : (path : Names) → is_within from path ≡ false → is_within to path ≡ false → (es : Rows) → find path_cmp path (all es) ≡ find path_cmp path es
+  stays path out_from out_to [] = refl
+  stays path out_from out_to (e ∷ es) =
+      let next = stays path out_from out_to es in
+      elim (is_within from e.0) as (λ b. is_within from e.0 ≡ b
+      → cond (eq_by_cmp path_cmp path (moved_path from to e.0)) (Some e.1) (find path_cmp path (all es)) ≡ cond (eq_by_cmp path_cmp path e.0) (Some e.1) (find path_cmp path es)) [
+        | true ↦ λ in_e.
+            cond-false (eq_by_cmp path_cmp path (moved_path from to e.0)) _ _ (apart to path (moved_path from to e.0) out_to (within-moved e.0 in_e))
+            ∙ next ∙ sym (cond-false (eq_by_cmp path_cmp path e.0) _ _ (apart from path e.0 out_from in_e))
+        | false ↦ λ out_e. ap (λ p. cond (eq_by_cmp path_cmp path p) (Some e.1) (find path_cmp path (all es))) (moved-out e.0 out_e) ∙ ap (cond (eq_by_cmp path_cmp path e.0) (Some e.1)) next
+      ] refl
+
+get-moved : (table : Table) (from to path : Names) → node_at (moved table from to) path ≡ find path_cmp path (map (λ e. (moved_path from to e.0, e.1)) (fin.entries table))
+unfolding node_at moved
+get-moved table from to path = fin.get-from_entries path_total (map (λ e. (moved_path from to e.0, e.1)) (fin.entries table)) path
+
+get-node : (table : Table) (path : Names) → find path_cmp path (fin.entries table) ≡ node_at table path
+unfolding node_at
+get-node table path = sym (fin.get-entries table path)
+
+-- what a rename that is not refused asks of the new path
+pub target-parts : (table : Table) (from to : Names) → rename_refusal table from to ≡ None
+    → (is_some (node_at table to) ≡ false) × (is_within from to ≡ false) × (directory_refusal (node_at table (parent to)) ≡ None)
+unfolding rename_refusal target_refusal
+target-parts table from to none =
+    let first = both-none (source_refusal table from) _ none in
+    let second = both-none (whenever (is_some (node_at table to)) Exists) _ first.1 in
+    let third = both-none (whenever (is_within from to) WrongKind) _ second.1 in
+    let fourth = both-none (directory_refusal (node_at table (parent to))) _ third.1 in
+    (not-held (is_some (node_at table to)) Exists second.0, not-held (is_within from to) WrongKind third.0, fourth.0)
+
+-- nothing stands at or below the new path
+pub free-to : (table : Table) (to : Names) → IsTree table → is_some (node_at table to) ≡ false → (path : Names) → is_some (node_at table path) ≡ true → is_within to path ≡ false
+free-to table to tree none path some =
+    false-where (is_within to path) (λ inside.
+    true≢false (sym (stands-above table tree (length (drop (length to) path)) to (drop (length to) path) (omega arith)
+    (ap (λ p. is_some (node_at table p)) (sym (within-parts to path inside)) ∙ some)) ∙ none))
+
+pub rename-moves : RenameMovesAll
+rename-moves table from to tree none =
+    let parts = target-parts table from to none in
+    let es = fin.entries table in
+    let free = each-found (λ p. is_within to p ≡ false) es (λ p found. free-to table to tree parts.0 p (ap is_some (sym (get-node table p)) ∙ found)) in
+    record {
+      comes = λ rest. get-moved table from to (to ++ rest) ∙ comes from to parts.1 rest es free ∙ get-node table (from ++ rest);
+      goes = λ path inside outside. get-moved table from to path ∙ goes from to parts.1 path inside outside es;
+      stays = λ path out_from out_to. get-moved table from to path ∙ stays from to parts.1 path out_from out_to es ∙ get-node table path;
+    }
+
+-- ---- children
+
+name_in-of : (path : Names) (name : List ℕ) → name_in path (path ++ name ∷ []) ≡ Some name
+unfolding name_in
+name_in-of path name =
+    cond-true (is_within path (path ++ name ∷ [])) (only_name (drop (length path) (path ++ name ∷ []))) None (within-append path (name ∷ []))
+    ∙ ap only_name (drop_at path (name ∷ []) (length path) refl)
+
+only : (rest : Names) (name : List ℕ) → only_name rest ≡ Some name → rest ≡ name ∷ []
+only [] name is = cc
+only (first ∷ []) name is = cc
+only (first ∷ second ∷ rest) name is = cc
+
+of-name_in : (path other : Names) (name : List ℕ) → name_in path other ≡ Some name → other ≡ path ++ name ∷ []
+unfolding name_in
+of-name_in path other name is =
+    elim (is_within path other) as (λ b. is_within path other ≡ b → (cond b (only_name (drop (length path) other)) None) ≡ Some name → other ≡ path ++ name ∷ []) [
+      | true ↦ λ inside is. within-parts path other inside ∙ ap (λ rest. path ++ rest) (only (drop (length path) other) name is)
+      | false ↦ λ outside is. cc
+    ] refl is
+
+names : Names → Rows → List (List ℕ)
+names path [] = []
+names path (e ∷ es) = cons_option (name_in path e.0) (names path es)
+
+names-keys : (path : Names) (es : Rows) → filter_map (name_in path) (map (λ e. e.0) es) ≡ names path es
+unfolding names
+names-keys path [] = refl
+names-keys path (e ∷ es) = ap (cons_option (name_in path e.0)) (names-keys path es)
+
+contains-later : {X : Type 0} (x y : X) (xs : List X) → Contains xs x → Contains (y ∷ xs) x
+contains-later x y xs found = (suc found.0, omega (arith, found.1), found.2)
+
+contains-option : {X : Type 0} (x : X) (o : Option X) (xs : List X) → Contains xs x → Contains (cons_option o xs) x
+contains-option x None xs found = found
+contains-option x (Some y) xs found = contains-later x y xs found
+
+named-found : (path : Names) (name : List ℕ) (es : Rows) → is_some (find path_cmp (path ++ name ∷ []) es) ≡ true → Contains (names path es) name
+unfolding names
+named-found path name [] found = absurd (true≢false (sym found))
+named-found path name (e ∷ es) found =
+    elim (eq_by_cmp path_cmp (path ++ name ∷ []) e.0) as (λ b. eq_by_cmp path_cmp (path ++ name ∷ []) e.0 ≡ b → is_some (cond b (Some e.1) (find path_cmp (path ++ name ∷ []) es)) ≡ true → Contains (cons_option (name_in path e.0) (names path es)) name) [
+      | true ↦ λ equal _.
+          let here : name_in path e.0 ≡ Some name = ap (name_in path) (sym (same (path ++ name ∷ []) e.0 equal)) ∙ name_in-of path name in
+          subst (λ o. Contains (cons_option o (names path es)) name) (sym here) (0, omega arith, refl)
+      | false ↦ λ other found. contains-option name (name_in path e.0) (names path es) (named-found path name es found)
+    ] refl found
+
+found-named : (path : Names) (name : List ℕ) (es : Rows) → Contains (names path es) name → is_some (find path_cmp (path ++ name ∷ []) es) ≡ true
+unfolding names
+found-named path name [] found = absurd (omega (arith, found.1))
+found-named path name (e ∷ es) found =
+    elim (name_in path e.0) as (λ o. name_in path e.0 ≡ o → Contains (cons_option o (names path es)) name → is_some (cond (eq_by_cmp path_cmp (path ++ name ∷ []) e.0) (Some e.1) (find path_cmp (path ++ name ∷ []) es)) ≡ true) [
+      | None ↦ λ other found. either (eq_by_cmp path_cmp (path ++ name ∷ []) e.0) (found-named path name es found)
+      | Some first ↦ λ here found. by (λ later. found-named path name es later) first here found.0 found.1 found.2
+    ] refl found
+  where
+    either : (b : Bool) → is_some (find path_cmp (path ++ name ∷ []) es) ≡ true → is_some (cond b (Some e.1) (find path_cmp (path ++ name ∷ []) es)) ≡ true
+    either true found = refl
+    either false found = found
+
+    by : (Contains (names path es) name → is_some (find path_cmp (path ++ name ∷ []) es) ≡ true) → (first : List ℕ) → name_in path e.0 ≡ Some first → (k : ℕ) → k < length (first ∷ names path es) → get_or (first ∷ names path es) k name ≡ name
+        → is_some (cond (eq_by_cmp path_cmp (path ++ name ∷ []) e.0) (Some e.1) (find path_cmp (path ++ name ∷ []) es)) ≡ true
+    by more first here zero within is =
+        let there : e.0 ≡ path ++ name ∷ [] = of-name_in path e.0 first here ∙ ap (λ n. path ++ n ∷ []) is in
+        let equal : eq_by_cmp path_cmp (path ++ name ∷ []) e.0 ≡ true = ap (eq_by_cmp path_cmp (path ++ name ∷ [])) there ∙ ap is_eq (tied_itself path_total (path ++ name ∷ [])) in
+        ap (λ b. is_some (cond b (Some e.1) (find path_cmp (path ++ name ∷ []) es))) equal
+    by more first here (suc k) within is = either (eq_by_cmp path_cmp (path ++ name ∷ []) e.0) (more (k, omega arith, is))
+
+pub children-stand : ChildrenStand
+unfolding children
+children-stand table path name =
+    let here : children table path ≡ names path (fin.entries table) = names-keys path (fin.entries table) in (
+      λ found. ap is_some (sym (get-node table (path ++ name ∷ []))) ∙ found-named path name (fin.entries table) (subst (λ l. Contains l name) here found),
+      λ some. subst (λ l. Contains l name) (sym here) (named-found path name (fin.entries table) (ap is_some (get-node table (path ++ name ∷ [])) ∙ some)),
+    )
