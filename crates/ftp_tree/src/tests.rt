@@ -1,4 +1,5 @@
-// Worked rows of paths and of trees, and each growth refused in turn.
+// Worked rows of paths, trees and files, and each growth refused in turn.
+mod files;
 mod paths;
 mod trees;
 

@@ -1,35 +1,246 @@
 use super::from;
-use crate::{MemTree, NodeKind, Path, TreeFault};
-use ftp_refusing::Refusing;
-use std::alloc::Global;
+use crate::{Content, MemTree, NodeKind, Path, Tree, TreeFault};
+use ftp_facts::Moment;
+use std::alloc::Allocator;
 use std::test::Fail;
 
+/// What a step of a test does.
+#[derive(Clone, Copy, Debug)]
+enum Step {
+    Make,
+    Remove,
+    Delete,
+    /// With so many octets.
+    Install(usize),
+    Rename(&'static [u8]),
+}
+
+/// A path, what is done there, and what that answers.
+type Row = (&'static [u8], Step, Result<(), TreeFault>);
+
+/// Does a step.
+fn act<A: Allocator + Copy>(
+    alloc: A,
+    tree: &mut MemTree<A>,
+    text: &[u8],
+    step: Step,
+) -> Result<(), TreeFault> {
+    let root = Path::root(alloc);
+    let path = from(&root, alloc, text)?;
+    match step {
+        Step::Make => tree.make_dir(&path),
+        Step::Remove => tree.remove_dir(&path),
+        Step::Delete => tree.delete(&path),
+        Step::Install(count) => install(alloc, tree, &path, count),
+        Step::Rename(to) => {
+            let to = from(&root, alloc, to)?;
+            tree.rename(&path, &to)
+        }
+    }
+}
+
+/// Installs a file of so many octets, all `x`, in the second 7.
+fn install<A: Allocator + Copy>(
+    alloc: A,
+    tree: &mut MemTree<A>,
+    path: &Path<A>,
+    count: usize,
+) -> Result<(), TreeFault> {
+    let mut content = Content::new(alloc);
+    let Ok(octets) = Vec::from_elem(alloc, b'x', count) else {
+        return Err(TreeFault::Memory);
+    };
+    let Ok(_) = content.push(octets.as_slice()) else {
+        return Err(TreeFault::Memory);
+    };
+    let Some(moment) = Moment::new(7) else {
+        return Err(TreeFault::Memory);
+    };
+    let answer = tree.install(path, &mut content, moment);
+    let left = if answer.is_ok() { 0 } else { count as u64 };
+    if content.len() == left {
+        answer
+    } else {
+        Err(TreeFault::Device)
+    }
+}
+
+/// Whether each row answers as it says.
+fn all_answer<A: Allocator + Copy>(alloc: A, tree: &mut MemTree<A>, rows: &[Row]) -> bool {
+    for (text, step, expected) in rows {
+        if act(alloc, tree, text, *step) != *expected {
+            return false;
+        }
+    }
+    true
+}
+
+fn kind_at<A: Allocator + Copy>(alloc: A, tree: &MemTree<A>, text: &[u8]) -> Option<NodeKind> {
+    match from(&Path::root(alloc), alloc, text) {
+        Ok(path) => tree.kind(&path),
+        Err(_) => None,
+    }
+}
+
+fn size_at<A: Allocator + Copy>(alloc: A, tree: &MemTree<A>, text: &[u8]) -> Option<u64> {
+    match from(&Path::root(alloc), alloc, text) {
+        Ok(path) => tree.size(&path),
+        Err(_) => None,
+    }
+}
+
+const MAKES: [Row; 9] = [
+    (b"/", Step::Make, Err(TreeFault::Exists)),
+    (b"/d/e", Step::Make, Err(TreeFault::Absent)),
+    (b"/d", Step::Make, Ok(())),
+    (b"/d/../d/.", Step::Make, Err(TreeFault::Exists)),
+    (b"/d/e", Step::Make, Ok(())),
+    (b"/f", Step::Install(3), Ok(())),
+    (b"/f", Step::Make, Err(TreeFault::Exists)),
+    (b"/f/g", Step::Make, Err(TreeFault::WrongKind)),
+    (b"/d e", Step::Make, Ok(())),
+];
+
+const REMOVES: [Row; 8] = [
+    (b"/g", Step::Remove, Err(TreeFault::Absent)),
+    (b"/f", Step::Remove, Err(TreeFault::WrongKind)),
+    (b"/d", Step::Remove, Err(TreeFault::NotEmpty)),
+    (b"/", Step::Remove, Err(TreeFault::NotEmpty)),
+    (b"/d/e", Step::Remove, Ok(())),
+    (b"/d", Step::Remove, Ok(())),
+    (b"/d", Step::Remove, Err(TreeFault::Absent)),
+    (b"/d e", Step::Delete, Err(TreeFault::WrongKind)),
+];
+
+const DELETES: [Row; 5] = [
+    (b"/g", Step::Delete, Err(TreeFault::Absent)),
+    (b"/f", Step::Delete, Ok(())),
+    (b"/f", Step::Delete, Err(TreeFault::Absent)),
+    (b"/d e", Step::Remove, Ok(())),
+    (b"/", Step::Remove, Err(TreeFault::Busy)),
+];
+
 #[test]
-fn directories_are_made_below_directories(rt: HostRuntime) -> Result<(), Fail> {
-    let rows: [(&[u8], Result<(), TreeFault>); 9] = [
-        (b"/", Err(TreeFault::Exists)),
-        (b"/d/e", Err(TreeFault::Absent)),
-        (b"/d", Ok(())),
-        (b"/d", Err(TreeFault::Exists)),
-        (b"/d/../d/.", Err(TreeFault::Exists)),
-        (b"/d/e", Ok(())),
-        (b"/d/e/f", Ok(())),
-        (b"/e/f", Err(TreeFault::Absent)),
-        (b"/d e", Ok(())),
-    ];
+fn each_refusal_comes_in_its_order(rt: HostRuntime) {
+    let mut tree = MemTree::new(rt.alloc());
+    assert!(&rt; all_answer(rt.alloc(), &mut tree, &MAKES));
+    assert!(&rt; all_answer(rt.alloc(), &mut tree, &REMOVES));
+    assert!(&rt; all_answer(rt.alloc(), &mut tree, &DELETES));
+    assert_eq!(&rt; tree.device_failures(), 0);
+}
+
+const RENAMES: [Row; 20] = [
+    (b"/a", Step::Make, Ok(())),
+    (b"/a/b", Step::Make, Ok(())),
+    (b"/a/b/c", Step::Install(3), Ok(())),
+    (b"/a b", Step::Install(1), Ok(())),
+    (b"/a.b", Step::Make, Ok(())),
+    (b"/z", Step::Rename(b"/y"), Err(TreeFault::Absent)),
+    (b"/", Step::Rename(b"/y"), Err(TreeFault::Busy)),
+    (b"/a", Step::Rename(b"/a b"), Err(TreeFault::Exists)),
+    (b"/a", Step::Rename(b"/"), Err(TreeFault::Exists)),
+    (b"/a", Step::Rename(b"/a"), Err(TreeFault::Exists)),
+    (b"/a", Step::Rename(b"/a/d"), Err(TreeFault::WrongKind)),
+    (b"/a", Step::Rename(b"/a/d/e"), Err(TreeFault::WrongKind)),
+    (b"/a", Step::Rename(b"/z/d"), Err(TreeFault::Absent)),
+    (b"/a", Step::Rename(b"/a b/d"), Err(TreeFault::WrongKind)),
+    (b"/a", Step::Rename(b"/a.b/d"), Ok(())),
+    (b"/a b", Step::Rename(b"/a.b/d/e"), Ok(())),
+    (b"/a", Step::Remove, Err(TreeFault::Absent)),
+    (b"/a.b/d", Step::Remove, Err(TreeFault::NotEmpty)),
+    (b"/a.b/d/b/c", Step::Rename(b"/c"), Ok(())),
+    (b"/a.b/d/b", Step::Remove, Ok(())),
+];
+
+#[test]
+fn a_rename_takes_all_below_with_it(rt: HostRuntime) {
+    let mut tree = MemTree::new(rt.alloc());
+    assert!(&rt; all_answer(rt.alloc(), &mut tree, &RENAMES[..15]));
+    assert_eq!(&rt; size_at(rt.alloc(), &tree, b"/a.b/d/b/c"), Some(3));
+    assert_eq!(&rt;
+        kind_at(rt.alloc(), &tree, b"/a.b/d/b"),
+        Some(NodeKind::Dir)
+    );
+    assert_eq!(&rt; kind_at(rt.alloc(), &tree, b"/a"), None);
+    assert_eq!(&rt; kind_at(rt.alloc(), &tree, b"/a/b/c"), None);
+    assert!(&rt; all_answer(rt.alloc(), &mut tree, &RENAMES[15..]));
+    assert_eq!(&rt; size_at(rt.alloc(), &tree, b"/c"), Some(3));
+    assert_eq!(&rt; size_at(rt.alloc(), &tree, b"/a.b/d/e"), Some(1));
+}
+
+#[test]
+fn a_rename_keeps_texts_within_900_octets(rt: HostRuntime) -> Result<(), Fail> {
+    let name = Vec::from_elem(rt.alloc(), b'n', 255)?;
     let root = Path::root(rt.alloc());
     let mut tree = MemTree::new(rt.alloc());
-    assert_eq!(&rt; tree.kind(&root), Some(NodeKind::Dir));
+    let mut here = from(&root, rt.alloc(), name.as_slice())?;
+    assert!(&rt; tree.make_dir(&here).is_ok());
+    for _ in 0..2 {
+        here = from(&here, rt.alloc(), name.as_slice())?;
+        assert!(&rt; tree.make_dir(&here).is_ok());
+    }
+    let top = from(&root, rt.alloc(), name.as_slice())?;
+    let shelf = from(&root, rt.alloc(), b"/d")?;
+    let file = from(&here, rt.alloc(), &name.as_slice()[..131])?;
+    assert!(&rt; install(rt.alloc(), &mut tree, &file, 1).is_ok());
+    assert!(&rt; tree.make_dir(&shelf).is_ok());
+    let too_long = from(&shelf, rt.alloc(), name.as_slice())?;
+    assert_eq!(&rt; tree.rename(&top, &too_long), Err(TreeFault::TooBig));
+    let fitting = from(&shelf, rt.alloc(), &name.as_slice()[..253])?;
+    assert_eq!(&rt; tree.rename(&top, &fitting), Ok(()));
+    assert_eq!(&rt; tree.kind(&file), None);
+    Ok(())
+}
+
+/// The names in a directory, each with a `,` behind it.
+fn names_in<A: Allocator + Copy>(
+    alloc: A,
+    tree: &MemTree<A>,
+    text: &[u8],
+) -> Result<Vec<u8, A>, TreeFault> {
+    let path = from(&Path::root(alloc), alloc, text)?;
+    let mut all = Vec::new(alloc);
+    for place in 0..16usize {
+        if let Some(name) = tree.nth_name(&path, place) {
+            let Ok(_) = all.extend_from_slice(name.octets()) else {
+                return Err(TreeFault::Memory);
+            };
+            let Ok(_) = all.push(b',') else {
+                return Err(TreeFault::Memory);
+            };
+        }
+    }
+    Ok(all)
+}
+
+const NAMES: [Row; 9] = [
+    (b"/b", Step::Install(0), Ok(())),
+    (b"/a.b", Step::Make, Ok(())),
+    (b"/a", Step::Make, Ok(())),
+    (b"/a/y", Step::Make, Ok(())),
+    (b"/a/x", Step::Install(0), Ok(())),
+    (b"/a/y/z", Step::Install(0), Ok(())),
+    (b"/a b", Step::Make, Ok(())),
+    (b"/ab", Step::Make, Ok(())),
+    (b"/a b/c", Step::Install(0), Ok(())),
+];
+
+#[test]
+fn names_come_in_the_order_of_their_octets(rt: HostRuntime) -> Result<(), Fail> {
+    let mut tree = MemTree::new(rt.alloc());
+    assert!(&rt; all_answer(rt.alloc(), &mut tree, &NAMES));
+    let rows: [(&[u8], &[u8]); 7] = [
+        (b"/", b"a,a b,a.b,ab,b,"),
+        (b"/a", b"x,y,"),
+        (b"/a/y", b"z,"),
+        (b"/a b", b"c,"),
+        (b"/a.b", b""),
+        (b"/b", b""),
+        (b"/c", b""),
+    ];
     for (text, expected) in rows {
-        let path = from(&root, rt.alloc(), text)?;
-        let before = tree.kind(&path);
-        assert_eq!(&rt; tree.make_dir(&path), expected, "text {text:?}");
-        let after = if expected.is_ok() {
-            Some(NodeKind::Dir)
-        } else {
-            before
-        };
-        assert_eq!(&rt; tree.kind(&path), after, "text {text:?}");
+        let names = names_in(rt.alloc(), &tree, text)?;
+        assert!(&rt; names.as_slice() == expected, "text {text:?}");
     }
     Ok(())
 }
@@ -41,73 +252,19 @@ fn beside_the_root_4096_nodes_fit(rt: HostRuntime) -> Result<(), Fail> {
     for high in b'0'..=b'o' {
         for low in b'0'..=b'o' {
             let path = from(&root, rt.alloc(), &[high, low])?;
-            assert_eq!(&rt; tree.make_dir(&path), Ok(()), "name {high} {low}");
+            assert!(&rt; tree.make_dir(&path).is_ok());
         }
     }
-    let rows: [(&[u8], TreeFault); 4] = [
-        (b"/one more", TreeFault::Full),
-        (b"/00/one more", TreeFault::Full),
-        (b"/oo", TreeFault::Exists),
-        (b"/a/b", TreeFault::Absent),
+    let rows: [Row; 8] = [
+        (b"/one more", Step::Make, Err(TreeFault::Full)),
+        (b"/one more", Step::Install(1), Err(TreeFault::Full)),
+        (b"/oo", Step::Make, Err(TreeFault::Exists)),
+        (b"/a/b", Step::Make, Err(TreeFault::Absent)),
+        (b"/oo", Step::Remove, Ok(())),
+        (b"/one more", Step::Install(1), Ok(())),
+        (b"/one more", Step::Install(2), Ok(())),
+        (b"/oo", Step::Make, Err(TreeFault::Full)),
     ];
-    for (text, expected) in rows {
-        let path = from(&root, rt.alloc(), text)?;
-        assert_eq!(&rt; tree.make_dir(&path), Err(expected), "text {text:?}");
-    }
+    assert!(&rt; all_answer(rt.alloc(), &mut tree, &rows));
     Ok(())
-}
-
-/// How the calls of a sweep went.
-#[derive(Clone, Copy, Debug, PartialEq, Eq)]
-enum Sweep {
-    /// So many calls were refused memory and went well when they were made again.
-    Refused(u64),
-    Wrong,
-}
-
-/// Makes `/d` and `/d/e`, where a call that is refused memory changes nothing and is made again.
-fn make_two(heap: &Refusing<Global>) -> Sweep {
-    let root = Path::root(heap);
-    let mut tree = MemTree::new(heap);
-    let mut refused = 0;
-    let texts: [&[u8]; 2] = [b"/d", b"/d/e"];
-    for text in texts {
-        let path = match from(&root, heap, text) {
-            Ok(path) => path,
-            Err(TreeFault::Memory) => {
-                refused = 1;
-                match from(&root, heap, text) {
-                    Ok(path) => path,
-                    Err(_) => return Sweep::Wrong,
-                }
-            }
-            Err(_) => return Sweep::Wrong,
-        };
-        match tree.make_dir(&path) {
-            Ok(()) => {}
-            Err(TreeFault::Memory) => {
-                refused = 1;
-                if tree.kind(&path).is_some() || tree.make_dir(&path).is_err() {
-                    return Sweep::Wrong;
-                }
-            }
-            Err(_) => return Sweep::Wrong,
-        }
-        if tree.kind(&path) != Some(NodeKind::Dir) {
-            return Sweep::Wrong;
-        }
-    }
-    Sweep::Refused(refused)
-}
-
-#[test]
-fn each_growth_refused_in_turn(rt: HostRuntime) {
-    let ample = Refusing::new(rt.alloc(), 0);
-    assert_eq!(&rt; make_two(&ample), Sweep::Refused(0));
-    let growths = 0u64.wrapping_sub(ample.left());
-    assert!(&rt; 4 <= growths && growths <= 16, "growths {growths}");
-    for refused in 1..=growths {
-        let heap = Refusing::new(rt.alloc(), refused);
-        assert_eq!(&rt; make_two(&heap), Sweep::Refused(1), "growth {refused}");
-    }
 }
