@@ -1,0 +1,74 @@
+-- A call that the tree refused: what it makes of an operation.
+use Rattle.std.proofs.Common.{◌≡◌, ◌≢◌, ℕ, ◌⊎◌, inl, inr, List, Option, Some, None, Result, Ok, Err, IfOk, OnOk, refl, ap, sym, ◌∙◌, Bool, true, false, ◌∷◌, []}
+use Rattle.std.specs.Option.{option_or}
+use Rattle.ftp_tree.specs.Change.{IsRefused}
+use Rattle.ftp_tree.specs.Tree.{Names, Table, Node, Dir, File, or_else, whenever, directory_refusal, make_refusal, remove_refusal, delete_refusal, source_refusal, target_refusal, rename_refusal, room_refusal, octets_refusal, install_refusal}
+use Rattle.ftp_tree.specs.declared.fault.TreeFault.{TreeFault}
+use Rattle.ftp_tree.specs.declared.fault.TreeFault.TheVariants.{Absent, Exists, NotEmpty, WrongKind, TooBig, Full, Busy, BadOffset, Device, Memory}
+use Rattle.ftp_direct.specs.declared.answer.Answer.{Answer}
+use Rattle.ftp_direct.specs.Answer.{Said, Refused, said_of}
+use Rattle.ftp_direct.specs.Direct.{State, here}
+use Rattle.ftp_direct.specs.Run.{Gives, IsAnswer, told}
+
+-- ---- a reason by the map is no failure of the device
+
+abbrev pub NoDevice : Option TreeFault → Type 0
+NoDevice refusal = refusal ≡ Some Device → ⊥
+
+or_else-no : (first second : Option TreeFault) → NoDevice first → NoDevice second → NoDevice (or_else first second)
+or_else-no None second f s = s
+or_else-no (Some fault) second f s = f
+
+whenever-no : (holds : Bool) (fault : TreeFault) → fault ≢ Device → NoDevice (whenever holds fault)
+whenever-no false fault other e = cc
+whenever-no true fault other e = other (cc)
+
+directory-no : (node : Option Node) → NoDevice (directory_refusal node)
+directory-no None e = cc
+directory-no (Some Dir) e = cc
+directory-no (Some (File octets moment)) e = cc
+
+pub make-no : (table : Table) (path : Names) → NoDevice (make_refusal table path)
+unfolding make_refusal
+make-no table path =
+    or_else-no _ _ (whenever-no _ Exists (λ e. cc)) (or_else-no _ _ (or_else-no _ _ (directory-no _) (whenever-no _ TooBig (λ e. cc))) (whenever-no _ Full (λ e. cc)))
+
+-- ---- the code by which it is told
+
+told-other : (fault : TreeFault) (code : ℕ) → fault ≢ Device → told fault code ≡ code
+told-other Absent code other = refl
+told-other Exists code other = refl
+told-other NotEmpty code other = refl
+told-other WrongKind code other = refl
+told-other TooBig code other = refl
+told-other Full code other = refl
+told-other Busy code other = refl
+told-other BadOffset code other = refl
+told-other Device code other = absurd (other refl)
+told-other Memory code other = refl
+
+-- what a refused call leaves and says is the answer: where the map gave a reason the code was due
+answers : (refusal : Option TreeFault) (fault : TreeFault) (code before after : ℕ) (table new : Table) (cwd : Names) (due : Said × State) (said : Said)
+    → IsRefused refusal fault table new before after → fault ≢ Memory → NoDevice refusal
+    → ((why : TreeFault) → refusal ≡ Some why → Gives due (Refused code) (here table cwd)) → said ≡ Refused (told fault code)
+    → IsAnswer before after due (here table cwd) said (here new cwd)
+answers None fault code before after table new cwd due said (same, inl (memory, kept)) other never is e = absurd (other memory)
+answers None fault code before after table new cwd due said (same, inr (device, changed)) other never is e = record {
+  steady = λ kept. absurd (changed kept);
+  failed = λ ne. (e ∙ ap (λ f. Refused (told f code)) device, ap (λ t. here t cwd) same);
+}
+answers (Some why) fault code before after table new cwd due said (same, (reason, kept)) other never is e =
+    let ours : fault ≢ Device = λ d. never (ap Some (sym reason ∙ d)) in
+    let gives = is why refl in record {
+      steady = λ kept. (e ∙ ap Refused (told-other fault code ours) ∙ gives.0, ap (λ t. here t cwd) same ∙ gives.1);
+      failed = λ ne. absurd (ne kept);
+    }
+
+pub if_refused : {A E : Type 0} (result : Result (Answer A) E) (refusal : Option TreeFault) (fault : TreeFault) (code before after : ℕ) (table new : Table) (cwd : Names) (due : Said × State)
+    → IfOk result (λ answer. said_of answer ≡ Refused (told fault code)) → OnOk result (fault ≢ Memory)
+    → IsRefused refusal fault table new before after → NoDevice refusal
+    → ((why : TreeFault) → refusal ≡ Some why → Gives due (Refused code) (here table cwd))
+    → IfOk result (λ answer. IsAnswer before after due (here table cwd) (said_of answer) (here new cwd))
+if_refused (Ok answer) refusal fault code before after table new cwd due e other refused never is =
+    answers refusal fault code before after table new cwd due (said_of answer) refused other never is e
+if_refused (Err why) refusal fault code before after table new cwd due e other refused never is = tt

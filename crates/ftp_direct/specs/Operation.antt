@@ -1,0 +1,42 @@
+-- What a user asks of a server, as values: which operations can be sent at all. No command, reply or connection stands here.
+use Rattle.std.specs.Prelude.{ℕ, ◌&&◌, ◌||◌, ◌==◌, Bool, true, false, not, nat_le, nat_eq, List, [], ◌∷◌, length}
+use Rattle.std.specs.List.{list_all, starts_with}
+use Rattle.ftp_tree.specs.Path.{is_path_octet}
+use Rattle.ftp_direct.specs.declared.op.Op.{Op}
+use Rattle.ftp_direct.specs.declared.op.Op.TheVariants as Ops
+
+-- a path text that can be sent: 1 to 900 octets, each 32 to 126
+abbrev pub is_path_text : List ℕ → Bool
+is_path_text text = nat_le 1 (length text) && nat_le (length text) 900 && list_all is_path_octet text
+
+-- a path text that may be left out
+abbrev pub is_optional_text : List ℕ → Bool
+is_optional_text text = (length text == 0) || is_path_text text
+
+-- a number that can be sent: at most 18 digits
+abbrev pub is_number : ℕ → Bool
+is_number number = nat_le number 999999999999999999
+
+-- a text that begins with `-` would be read as an option of the command for names (own choice)
+abbrev pub is_option : List ℕ → Bool
+is_option text = starts_with nat_eq text (45 ∷ [])
+
+-- whether an operation can be sent
+abbrev pub can_be_sent : Op (List ℕ) → Bool
+can_be_sent Ops.Where = true
+can_be_sent (Ops.ChangeDir path) = is_path_text path
+can_be_sent Ops.Up = true
+can_be_sent (Ops.MakeDir path) = is_path_text path
+can_be_sent (Ops.RemoveDir path) = is_path_text path
+can_be_sent (Ops.Delete path) = is_path_text path
+can_be_sent (Ops.Rename from to) = is_path_text from && is_path_text to
+can_be_sent (Ops.Put path octets how) = is_path_text path
+can_be_sent (Ops.Append path octets how) = is_path_text path
+can_be_sent (Ops.PutFrom path offset octets how) = is_path_text path && is_number offset
+can_be_sent (Ops.Get path how) = is_path_text path
+can_be_sent (Ops.GetFrom path offset how) = is_path_text path && is_number offset
+can_be_sent (Ops.Size path how) = is_path_text path
+can_be_sent (Ops.Modified path) = is_path_text path
+can_be_sent (Ops.Facts path) = is_optional_text path
+can_be_sent (Ops.List path how) = is_optional_text path
+can_be_sent (Ops.Names path how) = is_optional_text path && not (is_option path)

@@ -1,0 +1,49 @@
+// What a user asks of a server.
+use ftp_mode::Mode;
+use ftp_repr::{Kind, Structure};
+
+/// How a transfer goes: the representation (RFC 959, sections 3.1 and 3.4) and the data connection.
+#[derive(Clone, Copy, Debug, PartialEq, Eq)]
+pub struct How {
+    pub kind: Kind,
+    pub structure: Structure,
+    pub mode: Mode,
+    /// Restart markers are asked for, in an upload in image, file structure and block mode.
+    pub marks: bool,
+    /// The server opens the data connection, and else the client.
+    pub active: bool,
+    /// By EPRT and EPSV (RFC 2428) also over IPv4.
+    pub extended: bool,
+}
+
+/// An operation of a user; `P` is how a text is held. Path texts have 1 to 900 octets, each 32 to 126.
+#[derive(Debug, Drop)]
+pub enum Op<P> {
+    /// Which directory is the current one.
+    Where,
+    ChangeDir(P),
+    Up,
+    MakeDir(P),
+    RemoveDir(P),
+    Delete(P),
+    /// From the first path to the second.
+    Rename(P, P),
+    /// A path and the octets of the file.
+    Put(P, P, How),
+    /// A path and the octets that go behind those of the file.
+    Append(P, P, How),
+    /// A path, how many octets of the file stay, and the octets that go behind them.
+    PutFrom(P, u64, P, How),
+    Get(P, How),
+    /// A path, and the place from which its octets are asked for.
+    GetFrom(P, u64, How),
+    /// How many octets a transfer in that type would have, in file structure and stream mode.
+    Size(P, How),
+    Modified(P),
+    /// An empty text is the current directory.
+    Facts(P),
+    /// The entries of a directory; an empty text is the current one.
+    List(P, How),
+    /// The pathnames of a directory's files; an empty text is the current directory.
+    Names(P, How),
+}

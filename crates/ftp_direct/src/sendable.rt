@@ -1,0 +1,55 @@
+// Which operations can be sent at all.
+ghost use Rattle.std.specs.Prelude.{◌≡◌, ◌↔◌, IsTrue};
+ghost use Rattle.ftp_direct.specs.Operation.{can_be_sent, is_number, is_option, is_optional_text, is_path_text};
+
+use crate::op::Op;
+use ftp_facts::Text;
+use std::alloc::Allocator;
+
+/// Whether an operation can be sent: its path texts have 1 to 900 octets, each 32 to 126 (where one may be left out, none too),
+/// its offset at most 18 digits, and the text of names does not begin with `-`.
+pub(crate) fn can_be_sent<A: Allocator>(op: &Op<Text<A>>) -> bool
+    ensures { result ≡ can_be_sent op.now }
+{
+    match op {
+        Op::Where | Op::Up => true,
+        Op::ChangeDir(path)
+        | Op::MakeDir(path)
+        | Op::RemoveDir(path)
+        | Op::Delete(path)
+        | Op::Modified(path) => is_path_text(path.as_slice()),
+        Op::Rename(from, to) => is_path_text(from.as_slice()) && is_path_text(to.as_slice()),
+        Op::Put(path, _, _) | Op::Append(path, _, _) | Op::Get(path, _) | Op::Size(path, _) =>
+            is_path_text(path.as_slice()),
+        Op::PutFrom(path, offset, _, _) | Op::GetFrom(path, offset, _) => is_path_text(
+            path.as_slice(),
+        ) && is_number(*offset),
+        Op::Facts(path) | Op::List(path, _) => is_optional_text(path.as_slice()),
+        Op::Names(path, _) => is_optional_text(path.as_slice()) && !is_option(path.as_slice()),
+    }
+}
+
+fn is_path_text(text: &[u8]) -> bool
+    ensures { result ≡ is_path_text text.now }
+{
+    ftp_tree::is_path_text(text)
+}
+
+fn is_optional_text(text: &[u8]) -> bool
+    ensures { result ≡ is_optional_text text.now }
+{
+    text.is_empty() || is_path_text(text)
+}
+
+fn is_option(text: &[u8]) -> bool
+    ensures { result ≡ is_option text.now }
+{
+    text.starts_with(b"-")
+}
+
+/// Whether a number has at most 18 digits.
+pub(crate) fn is_number(number: u64) -> bool
+    ensures { result ≡ is_number number }
+{
+    number <= 999_999_999_999_999_999
+}
