@@ -1,1 +1,6 @@
+pub mod BelowLemmas
+pub mod NodeLemmas
+pub mod PieceLemmas
 pub mod RefusalLemmas
+pub mod RenameLemmas
+pub mod ResolveLemmas

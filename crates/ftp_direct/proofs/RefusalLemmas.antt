@@ -2,12 +2,13 @@
 use Rattle.std.proofs.Common.{◌≡◌, ◌≢◌, ℕ, ◌⊎◌, inl, inr, List, Option, Some, None, Result, Ok, Err, IfOk, OnOk, refl, ap, sym, ◌∙◌, Bool, true, false, ◌∷◌, []}
 use Rattle.std.specs.Option.{option_or}
 use Rattle.ftp_tree.specs.Change.{IsRefused}
-use Rattle.ftp_tree.specs.Tree.{Names, Table, Node, Dir, File, or_else, whenever, directory_refusal, make_refusal, remove_refusal, delete_refusal, source_refusal, target_refusal, rename_refusal, room_refusal, octets_refusal, install_refusal}
+use Rattle.ftp_tree.specs.Tree.{Names, Table, Node, Dir, File, or_else, whenever, directory_refusal, empty_refusal, remove_answer, file_refusal, source_answer, make_refusal, remove_refusal, delete_refusal, source_refusal, target_refusal, rename_refusal, room_refusal, octets_refusal, install_refusal}
 use Rattle.ftp_tree.specs.declared.fault.TreeFault.{TreeFault}
 use Rattle.ftp_tree.specs.declared.fault.TreeFault.TheVariants.{Absent, Exists, NotEmpty, WrongKind, TooBig, Full, Busy, BadOffset, Device, Memory}
 use Rattle.ftp_direct.specs.declared.answer.Answer.{Answer}
 use Rattle.ftp_direct.specs.Answer.{Said, Refused, said_of}
-use Rattle.ftp_direct.specs.Direct.{State, here}
+use Rattle.ftp_direct.specs.declared.op.Op.{Op}
+use Rattle.ftp_direct.specs.Direct.{State, chosen, done, due, here, refusal}
 use Rattle.ftp_direct.specs.Run.{Gives, IsAnswer, told}
 
 -- ---- a reason by the map is no failure of the device
@@ -32,6 +33,47 @@ pub make-no : (table : Table) (path : Names) → NoDevice (make_refusal table pa
 unfolding make_refusal
 make-no table path =
     or_else-no _ _ (whenever-no _ Exists (λ e. cc)) (or_else-no _ _ (or_else-no _ _ (directory-no _) (whenever-no _ TooBig (λ e. cc))) (whenever-no _ Full (λ e. cc)))
+
+empty-no : (names : List (List ℕ)) (path : Names) → NoDevice (empty_refusal names path)
+empty-no (name ∷ names) path e = cc
+empty-no [] [] e = cc
+empty-no [] (name ∷ names) e = cc
+
+remove_answer-no : (node : Option Node) (names : List (List ℕ)) (path : Names) → NoDevice (remove_answer node names path)
+remove_answer-no None names path e = cc
+remove_answer-no (Some (File octets moment)) names path e = cc
+remove_answer-no (Some Dir) names path e = empty-no names path e
+
+pub remove-no : (table : Table) (path : Names) → NoDevice (remove_refusal table path)
+unfolding remove_refusal
+remove-no table path = remove_answer-no _ _ path
+
+file-no : (node : Option Node) → NoDevice (file_refusal node)
+file-no None e = cc
+file-no (Some Dir) e = cc
+file-no (Some (File octets moment)) e = cc
+
+pub delete-no : (table : Table) (path : Names) → NoDevice (delete_refusal table path)
+unfolding delete_refusal
+delete-no table path = file-no _
+
+source_answer-no : (node : Option Node) (path : Names) → NoDevice (source_answer node path)
+source_answer-no None path e = cc
+source_answer-no (Some node) [] e = cc
+source_answer-no (Some node) (name ∷ names) e = cc
+
+source-no : (table : Table) (path : Names) → NoDevice (source_refusal table path)
+unfolding source_refusal
+source-no table path = source_answer-no _ path
+
+target-no : (table : Table) (from to : Names) → NoDevice (target_refusal table from to)
+unfolding target_refusal
+target-no table from to =
+    or_else-no _ _ (whenever-no _ Exists (λ e. cc)) (or_else-no _ _ (whenever-no _ WrongKind (λ e. cc)) (or_else-no _ _ (directory-no _) (whenever-no _ TooBig (λ e. cc))))
+
+pub rename-no : (table : Table) (from to : Names) → NoDevice (rename_refusal table from to)
+unfolding rename_refusal
+rename-no table from to = or_else-no _ _ (source-no table from) (target-no table from to)
 
 -- ---- the code by which it is told
 
@@ -72,3 +114,17 @@ pub if_refused : {A E : Type 0} (result : Result (Answer A) E) (refusal : Option
 if_refused (Ok answer) refusal fault code before after table new cwd due e other refused never is =
     answers refusal fault code before after table new cwd due (said_of answer) refused other never is e
 if_refused (Err why) refusal fault code before after table new cwd due e other refused never is = tt
+
+-- ---- what is due, by the refusal
+
+pub gives_refused : (state : State) (op : Op (List ℕ)) (moment code : ℕ) → refusal state op ≡ Some code → Gives (due state op moment) (Refused code) state
+gives_refused state op moment code is =
+    (ap (λ c. (chosen c state (done state op moment)).0) (sym is), ap (λ c. (chosen c state (done state op moment)).1) (sym is))
+
+pub gives_done : (state : State) (op : Op (List ℕ)) (moment : ℕ) → refusal state op ≡ None → Gives (due state op moment) (done state op moment).0 (done state op moment).1
+gives_done state op moment is =
+    (ap (λ c. (chosen c state (done state op moment)).0) (sym is), ap (λ c. (chosen c state (done state op moment)).1) (sym is))
+
+-- where the tree was not called
+pub still : (count : ℕ) (due : Said × State) (state : State) (said : Said) → Gives due said state → IsAnswer count count due state said state
+still count due state said gives = record { steady = λ _. gives; failed = λ ne. absurd (ne refl) }

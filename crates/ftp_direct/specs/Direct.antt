@@ -104,6 +104,19 @@ is_as_it_is kind structure = false
 abbrev pub offset_refusal : ℕ → How → Option ℕ
 offset_refusal offset how = if (offset == 0) || is_as_it_is how.kind how.structure then None else Some 504
 
+-- the first octets of the file that a text names are not had
+abbrev pub front_code : State → List ℕ → ℕ → Option ℕ
+front_code state text count = refused_there (limited (named state text) (front_refusal state.table (named state text) count))
+
+-- the octets that a transfer in this type would have, in file structure and stream mode (RFC 3659, section 4)
+abbrev pub size_in : Kind → List ℕ → ℕ
+size_in Ascii octets = length (asc octets)
+size_in Image octets = length octets
+
+-- a number that is too long to be said (own choice)
+abbrev pub number_code : ℕ → Option ℕ
+number_code number = if is_number number then None else Some 550
+
 -- the first reason by the map why an operation is refused, one row an operation
 abbrev pub refusal : State → Op (List ℕ) → Option ℕ
 refusal state Ops.Where = None
@@ -119,10 +132,10 @@ refusal state (Ops.Put text octets how) = put_refusal state (named state text) (
 refusal state (Ops.Append text octets how) = put_refusal state (named state text) (length (octets_or_none state.table (named state text)) + length octets)
 refusal state (Ops.PutFrom text offset octets how) =
     or_code (offset_refusal offset how) (or_code (past_refusal state (named state text) offset) (put_refusal state (named state text) (offset + length octets)))
-refusal state (Ops.Get text how) = refused_there (limited (named state text) (front_refusal state.table (named state text) 0))
-refusal state (Ops.GetFrom text offset how) = or_code (offset_refusal offset how) (refused_there (limited (named state text) (front_refusal state.table (named state text) offset)))
-refusal state (Ops.Size text how) = refused_there (limited (named state text) (front_refusal state.table (named state text) 0))
-refusal state (Ops.Modified text) = refused_there (limited (named state text) (front_refusal state.table (named state text) 0))
+refusal state (Ops.Get text how) = front_code state text 0
+refusal state (Ops.GetFrom text offset how) = or_code (offset_refusal offset how) (front_code state text offset)
+refusal state (Ops.Size text how) = or_code (front_code state text 0) (number_code (size_in how.kind (octets_or_none state.table (named state text))))
+refusal state (Ops.Modified text) = front_code state text 0
 refusal state (Ops.Facts text) = refused_there (limited (named_or_here state text) (absent_refusal (node_at state.table (named_or_here state text))))
 refusal state (Ops.List text how) = refused_listing (limited (named_or_here state text) (directory_refusal (node_at state.table (named_or_here state text))))
 refusal state (Ops.Names text how) = refused_there (limited (named_or_here state text) (absent_refusal (node_at state.table (named_or_here state text))))
@@ -179,11 +192,6 @@ file_in table path text name = if fits (child path name) && is_file (node_at tab
 unfoldable pub names_for : Table → Names → List ℕ → List (List ℕ)
 names_for table path text = if is_file (node_at table path) then text ∷ [] else filter_map (file_in table path text) (children table path)
 
--- the octets that a transfer in this type would have, in file structure and stream mode (RFC 3659, section 4)
-abbrev pub size_in : Kind → List ℕ → ℕ
-size_in Ascii octets = length (asc octets)
-size_in Image octets = length octets
-
 -- a file put behind some octets that are kept
 abbrev pub put : State → Names → List ℕ → List ℕ → ℕ → Said × State
 put state path kept octets moment = (Done, record state { table = installed state.table path (kept ++ octets) moment })
@@ -210,9 +218,10 @@ done state (Ops.Names text how) moment = (NameList (names_for state.table (named
 
 -- ---- operations in order
 
-abbrev pub answered : Option ℕ → State → Op (List ℕ) → ℕ → Said × State
-answered (Some code) state op moment = (Refused code, state)
-answered None state op moment = done state op moment
+-- a refusal by a code, which changes nothing, or what is done
+abbrev pub chosen : Option ℕ → State → Said × State → Said × State
+chosen (Some code) state done = (Refused code, state)
+chosen None state done = done
 
 -- the first code: of a login that is not known, of the map
 abbrev pub code_of : State → Op (List ℕ) → Option ℕ
@@ -220,7 +229,7 @@ code_of state op = if state.known then refusal state op else Some 530
 
 -- the answer of an operation at a moment, and the state after it: one that cannot be sent changes nothing, and so does a refused one
 unfoldable pub answer : State → Op (List ℕ) → ℕ → Said × State
-answer state op moment = if can_be_sent op then answered (code_of state op) state op moment else (BadOperation, state)
+answer state op moment = if can_be_sent op then chosen (code_of state op) state (done state op moment) else (BadOperation, state)
 
 -- a list of operations, each with its moment: the answers, and the state after the last
 unfoldable pub answers : State → List (Op (List ℕ) × ℕ) → List Said × State
@@ -236,4 +245,4 @@ abbrev pub here : Table → Names → State
 here table cwd = record { table = table; cwd = cwd; known = true }
 
 abbrev pub due : State → Op (List ℕ) → ℕ → Said × State
-due state op moment = answered (refusal state op) state op moment
+due state op moment = chosen (refusal state op) state (done state op moment)

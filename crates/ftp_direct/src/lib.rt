@@ -4,6 +4,9 @@
 
 mod account;
 mod answer;
+mod busy;
+mod files;
+mod nodes;
 mod op;
 mod places;
 mod refusal;

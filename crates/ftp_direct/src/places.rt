@@ -1,30 +1,73 @@
-// Operations on directories and names.
-ghost use Rattle.std.specs.Prelude.{◌≡◌, IsTrue, IfOk, OnErr};
+// Operations on the current directory, on directories and on names.
+ghost use Rattle.std.specs.Prelude.{◌≡◌, IsTrue, IfOk, OnErr, is_some};
+ghost use Rattle.std.specs.List.{list_all};
+ghost use Rattle.ftp_tree.specs.Path.{is_component};
 ghost use Rattle.ftp_direct.specs.Answer.{said_of};
-ghost use Rattle.ftp_direct.specs.Direct.{due, here};
+ghost use Rattle.ftp_tree.specs.Tree.{or_else, source_refusal};
+ghost use Rattle.ftp_direct.specs.Direct.{busy_refusal, due, here};
 ghost use Rattle.ftp_direct.specs.Operation.{is_path_text};
-ghost use Rattle.ftp_direct.specs.Run.{IsAnswer};
+ghost use Rattle.ftp_direct.specs.Run.{Gives, IsAnswer};
 
 use crate::answer::Answer;
+use crate::busy::is_busy;
+use crate::nodes::{absent_fault, directory_fault};
 use crate::op::Op;
-use crate::refusal::{UNAVAILABLE, find, refused};
+use crate::refusal::{BAD_NAME, UNAVAILABLE, find, refused};
 use ftp_facts::Text;
 use ftp_tree::{Path, Tree};
 use std::alloc::{AllocError, Allocator};
 
+/// Says which directory is the current one.
+pub(crate) fn say_where<A: Allocator + Clone, T: Tree<A>>(alloc: &A, tree: &T, cwd: &Path<A>) -> Result<Answer<A>, AllocError>
+    ensures { IfOk result (λ answer. let old = here (T.table tree.now) cwd.now in Gives (due old Op.Where 0) (said_of answer) old) }
+{
+    let _tree = tree;
+    Ok(Answer::Path(Text::copy_of(alloc.clone()?, cwd.text())?))
+}
+
+/// Goes to a directory.
+pub(crate) fn change_dir<A: Allocator + Clone, T: Tree<A>>(alloc: &A, tree: &T, cwd: &mut Path<A>, text: &Text<A>) -> Result<Answer<A>, AllocError>
+    requires { IsTrue (is_path_text text.now) }
+    ensures answer { IfOk result (λ answer. let table = T.table tree.now in
+        Gives (due (here table cwd.old) (Op.ChangeDir text.now) 0) (said_of answer) (here table cwd.new)) }
+    ensures named { IsTrue (list_all is_component cwd.old) → IsTrue (list_all is_component cwd.new) }
+    ensures kept { OnErr result (cwd.new ≡ cwd.old) }
+{
+    let Some(path) = find(alloc, cwd, text)? else {
+        return Ok(Answer::Refused(UNAVAILABLE));
+    };
+    if directory_fault(tree, &path).is_some() {
+        return Ok(Answer::Refused(UNAVAILABLE));
+    }
+    *cwd = path;
+    Ok(Answer::Done)
+}
+
+/// Goes to the parent of the current directory; from the root nowhere.
+#[tactic(auto, using(crate::proofs::ResolveLemmas::up_parent))]
+pub(crate) fn go_up<A: Allocator + Clone, T: Tree<A>>(alloc: &A, tree: &T, cwd: &mut Path<A>) -> Result<Answer<A>, AllocError>
+    ensures answer { IfOk result (λ answer. let table = T.table tree.now in Gives (due (here table cwd.old) Op.Up 0) (said_of answer) (here table cwd.new)) }
+    ensures named { IsTrue (list_all is_component cwd.old) → IsTrue (list_all is_component cwd.new) }
+    ensures kept { OnErr result (cwd.new ≡ cwd.old) }
+{
+    let _tree = tree;
+    match cwd.resolve(alloc.clone()?, b"..") {
+        Ok(path) => {
+            *cwd = path;
+            Ok(Answer::Done)
+        }
+        Err(_) => Err(AllocError),
+    }
+}
+
 /// Makes a directory, and says its path.
-pub(crate) fn make_dir<A: Allocator + Clone, T: Tree<A>>(
-    alloc: &A,
-    tree: &mut T,
-    cwd: &Path<A>,
-    text: &Text<A>,
-) -> Result<Answer<A>, AllocError>
+pub(crate) fn make_dir<A: Allocator + Clone, T: Tree<A>>(alloc: &A, tree: &mut T, cwd: &Path<A>, text: &Text<A>) -> Result<Answer<A>, AllocError>
     requires { IsTrue (is_path_text text.now) }
     ensures answer { IfOk result (λ answer. let old = here (T.table tree.old) cwd.now in
         IsAnswer (T.failures tree.old) (T.failures tree.new) (due old (Op.MakeDir text.now) 0) old (said_of answer) (here (T.table tree.new) cwd.now)) }
     ensures kept { OnErr result ((T.table tree.new ≡ T.table tree.old) × (T.failures tree.new ≡ T.failures tree.old)) }
 {
-    let Some(path) = find(alloc, cwd, text.as_slice())? else {
+    let Some(path) = find(alloc, cwd, text)? else {
         return Ok(Answer::Refused(UNAVAILABLE));
     };
     let made = Text::copy_of(alloc.clone()?, path.text())?;
@@ -32,4 +75,79 @@ pub(crate) fn make_dir<A: Allocator + Clone, T: Tree<A>>(
         Ok(()) => Ok(Answer::Path(made)),
         Err(fault) => refused(fault, UNAVAILABLE),
     }
+}
+
+/// Removes a directory.
+pub(crate) fn remove_dir<A: Allocator + Clone, T: Tree<A>>(alloc: &A, tree: &mut T, cwd: &Path<A>, text: &Text<A>) -> Result<Answer<A>, AllocError>
+    requires text { IsTrue (is_path_text text.now) }
+    requires cwd { IsTrue (list_all is_component cwd.now) }
+    ensures answer { IfOk result (λ answer. let old = here (T.table tree.old) cwd.now in
+        IsAnswer (T.failures tree.old) (T.failures tree.new) (due old (Op.RemoveDir text.now) 0) old (said_of answer) (here (T.table tree.new) cwd.now)) }
+    ensures kept { OnErr result ((T.table tree.new ≡ T.table tree.old) × (T.failures tree.new ≡ T.failures tree.old)) }
+{
+    let Some(path) = find(alloc, cwd, text)? else {
+        return Ok(Answer::Refused(UNAVAILABLE));
+    };
+    if is_busy(&path, cwd) {
+        return Ok(Answer::Refused(UNAVAILABLE));
+    }
+    match tree.remove_dir(&path) {
+        Ok(()) => Ok(Answer::Done),
+        Err(fault) => refused(fault, UNAVAILABLE),
+    }
+}
+
+/// Deletes a file.
+pub(crate) fn delete<A: Allocator + Clone, T: Tree<A>>(alloc: &A, tree: &mut T, cwd: &Path<A>, text: &Text<A>) -> Result<Answer<A>, AllocError>
+    requires { IsTrue (is_path_text text.now) }
+    ensures answer { IfOk result (λ answer. let old = here (T.table tree.old) cwd.now in
+        IsAnswer (T.failures tree.old) (T.failures tree.new) (due old (Op.Delete text.now) 0) old (said_of answer) (here (T.table tree.new) cwd.now)) }
+    ensures kept { OnErr result ((T.table tree.new ≡ T.table tree.old) × (T.failures tree.new ≡ T.failures tree.old)) }
+{
+    let Some(path) = find(alloc, cwd, text)? else {
+        return Ok(Answer::Refused(UNAVAILABLE));
+    };
+    match tree.delete(&path) {
+        Ok(()) => Ok(Answer::Done),
+        Err(fault) => refused(fault, UNAVAILABLE),
+    }
+}
+
+/// Moves what stands at a path, with all below it.
+pub(crate) fn rename<A: Allocator + Clone, T: Tree<A>>(
+    alloc: &A,
+    tree: &mut T,
+    cwd: &Path<A>,
+    from: &Text<A>,
+    to: &Text<A>,
+) -> Result<Answer<A>, AllocError>
+    requires old { IsTrue (is_path_text from.now) }
+    requires new { IsTrue (is_path_text to.now) }
+    requires cwd { IsTrue (list_all is_component cwd.now) }
+    ensures answer { IfOk result (λ answer. let old = here (T.table tree.old) cwd.now in
+        IsAnswer (T.failures tree.old) (T.failures tree.new) (due old (Op.Rename from.now to.now) 0) old (said_of answer) (here (T.table tree.new) cwd.now)) }
+    ensures kept { OnErr result ((T.table tree.new ≡ T.table tree.old) × (T.failures tree.new ≡ T.failures tree.old)) }
+{
+    let Some(source) = find(alloc, cwd, from)? else {
+        return Ok(Answer::Refused(UNAVAILABLE));
+    };
+    if is_held(tree, &source, cwd) {
+        return Ok(Answer::Refused(UNAVAILABLE));
+    }
+    let Some(target) = find(alloc, cwd, to)? else {
+        return Ok(Answer::Refused(BAD_NAME));
+    };
+    match tree.rename(&source, &target) {
+        Ok(()) => Ok(Answer::Done),
+        Err(fault) => refused(fault, BAD_NAME),
+    }
+}
+
+/// Whether nothing can be moved from a path: nothing stands there, or it is in use.
+fn is_held<A: Allocator, T: Tree<A>>(tree: &T, path: &Path<A>, cwd: &Path<A>) -> bool
+    requires path { IsTrue (list_all is_component path.now) }
+    requires cwd { IsTrue (list_all is_component cwd.now) }
+    ensures { is_some (or_else (source_refusal (T.table tree.now) path.now) (busy_refusal (here (T.table tree.now) cwd.now) path.now)) ≡ result }
+{
+    absent_fault(tree, path).is_some() || is_busy(path, cwd)
 }

@@ -1,11 +1,13 @@
 // Why an operation is refused, as the code of the reply that tells it (RFC 959, section 4.2).
-ghost use Rattle.std.specs.Prelude.{◌≡◌, ◌≢◌, IsTrue, IfOk, IfErr, OnOk, OnErr, MatchOption, true, false};
-ghost use Rattle.ftp_tree.specs.Path.{fits, resolved};
+ghost use Rattle.std.specs.Prelude.{◌≡◌, ◌≢◌, IsTrue, IfOk, IfErr, OnOk, OnErr, IfSome, MatchOption, true, false};
+ghost use Rattle.std.specs.List.{list_all};
+ghost use Rattle.ftp_tree.specs.Path.{fits, is_component, resolved};
 ghost use Rattle.ftp_direct.specs.Answer.{Refused, said_of};
 ghost use Rattle.ftp_direct.specs.Operation.{is_path_text};
 ghost use Rattle.ftp_direct.specs.Run.{told};
 
 use crate::answer::Answer;
+use ftp_facts::Text;
 use ftp_tree::{Path, TreeFault};
 use std::alloc::{AllocError, Allocator};
 
@@ -43,13 +45,14 @@ pub(crate) fn refused<A: Allocator>(fault: TreeFault, code: u16) -> Result<Answe
 pub(crate) fn find<A: Allocator + Clone>(
     alloc: &A,
     cwd: &Path<A>,
-    text: &[u8],
+    text: &Text<A>,
 ) -> Result<Option<Path<A>>, AllocError>
     requires { IsTrue (is_path_text text.now) }
-    ensures { IfOk result (λ found. MatchOption found (fits (resolved cwd.now text.now) ≡ false)
+    ensures found { IfOk result (λ found. MatchOption found (fits (resolved cwd.now text.now) ≡ false)
         (λ path. (path ≡ resolved cwd.now text.now) × (fits path ≡ true))) }
+    ensures named { IsTrue (list_all is_component cwd.now) → IfOk result (λ found. IfSome found (λ path. IsTrue (list_all is_component path))) }
 {
-    match cwd.resolve(alloc.clone()?, text) {
+    match cwd.resolve(alloc.clone()?, text.as_slice()) {
         Ok(path) => Ok(Some(path)),
         Err(TreeFault::TooBig) => Ok(None),
         Err(_) => Err(AllocError),

@@ -1,0 +1,139 @@
+-- What the reading calls of a tree say of the node that stands at a path.
+use Rattle.std.proofs.Common.{◌≡◌, ℕ, ◌≤◌, Bool, true, false, not, nat_le, List, [], length, Option, Some, None, is_some, refl, ap, sym, ◌∙◌, ◌∷◌, if◌then◌else◌}
+use Rattle.std.proofs.lemmas.Bool.Decides.{nat_tests}
+use Rattle.std.proofs.Math.Dec.{leb-zero}
+use mathlib.Core.Bool.{false≢true, true≢false}
+use Rattle.ftp_tree.specs.Path.{fits, resolved}
+use Rattle.std.specs.Option.{option_map, unwrap_or}
+use Rattle.ftp_tree.specs.Tree.{Names, Node, Dir, File, Table, node_at, kind_of, kind_at, octets_of, moment_of, of_node, octets_at, size_at, stamp_at, octets_or_none, directory_refusal, front_answer, front_refusal, whenever, or_else, is_within, source_answer, source_refusal, target_refusal, rename_refusal}
+use Rattle.ftp_tree.specs.declared.fault.TreeFault.{TreeFault}
+use Rattle.ftp_tree.specs.declared.fault.TreeFault.TheVariants.{Absent, WrongKind, Busy, TooBig}
+use Rattle.ftp_tree.specs.declared.tree.NodeKind.{NodeKind}
+use Rattle.ftp_tree.specs.declared.tree.NodeKind.TheVariants as Kinds
+use Rattle.ftp_direct.specs.declared.op.Op.TheVariants as Ops
+use Rattle.ftp_direct.specs.Direct.{absent_refusal, busy_refusal, here, is_file, limited, or_code, refusal, refused_name, refused_there}
+
+-- by its kind
+abbrev directory_by : Option NodeKind → Option TreeFault
+directory_by None = Some Absent
+directory_by (Some Kinds.Dir) = None
+directory_by (Some Kinds.File) = Some WrongKind
+
+directory_node : (node : Option Node) → directory_refusal node ≡ directory_by (option_map kind_of node)
+directory_node None = refl
+directory_node (Some Dir) = refl
+directory_node (Some (File octets moment)) = refl
+
+pub directory_kind : (table : Table) (path : Names) → directory_refusal (node_at table path) ≡ directory_by (kind_at table path)
+unfolding kind_at
+directory_kind table path = directory_node (node_at table path)
+
+abbrev absent_by : Option NodeKind → Option TreeFault
+absent_by None = Some Absent
+absent_by (Some kind) = None
+
+absent_node : (node : Option Node) → absent_refusal node ≡ absent_by (option_map kind_of node)
+absent_node None = refl
+absent_node (Some Dir) = refl
+absent_node (Some (File octets moment)) = refl
+
+pub absent_kind : (table : Table) (path : Names) → absent_refusal (node_at table path) ≡ absent_by (kind_at table path)
+unfolding kind_at
+absent_kind table path = absent_node (node_at table path)
+
+abbrev file_by : Option NodeKind → Bool
+file_by None = false
+file_by (Some Kinds.Dir) = false
+file_by (Some Kinds.File) = true
+
+file_node : (node : Option Node) → is_file node ≡ file_by (option_map kind_of node)
+file_node None = refl
+file_node (Some Dir) = refl
+file_node (Some (File octets moment)) = refl
+
+pub file_kind : (table : Table) (path : Names) → is_file (node_at table path) ≡ file_by (kind_at table path)
+unfolding kind_at
+file_kind table path = file_node (node_at table path)
+
+-- by its size
+abbrev lacks : Option ℕ → ℕ → Bool
+lacks None count = true
+lacks (Some size) count = not (nat_le count size)
+
+whenever-some : (holds : Bool) (fault : TreeFault) → is_some (whenever holds fault) ≡ holds
+whenever-some true fault = refl
+whenever-some false fault = refl
+
+front_node : (node : Option Node) (count : ℕ) → is_some (front_answer node count) ≡ lacks (option_map length (of_node octets_of node)) count
+front_node None count = refl
+front_node (Some Dir) count = refl
+front_node (Some (File octets moment)) count = whenever-some _ _
+
+pub front_size : (table : Table) (path : Names) (count : ℕ) → is_some (front_refusal table path count) ≡ lacks (size_at table path) count
+unfolding front_refusal size_at octets_at
+front_size table path count = front_node (node_at table path) count
+
+len_option : (octets : Option (List ℕ)) → length (unwrap_or octets []) ≡ unwrap_or (option_map length octets) 0
+len_option None = refl
+len_option (Some octets) = refl
+
+pub len_size : (table : Table) (path : Names) → length (octets_or_none table path) ≡ unwrap_or (size_at table path) 0
+unfolding size_at
+len_size table path = len_option (octets_at table path)
+
+-- by its moment
+stamp_node : (node : Option Node) → is_some (front_answer node 0) ≡ not (is_some (of_node moment_of node))
+stamp_node None = refl
+stamp_node (Some Dir) = refl
+stamp_node (Some (File octets moment)) = whenever-some _ _ ∙ ap not (leb-zero (length octets))
+
+pub front_stamp : (table : Table) (path : Names) → is_some (front_refusal table path 0) ≡ not (is_some (stamp_at table path))
+unfolding front_refusal stamp_at
+front_stamp table path = stamp_node (node_at table path)
+
+-- ---- what is moved
+
+source_clear : (node : Option Node) (path cwd : Names) → is_some (absent_refusal node) ≡ false → is_within path cwd ≡ false → source_answer node path ≡ None
+unfolding is_within
+source_clear None path cwd there free = cc
+source_clear (Some node) [] cwd there free = cc
+source_clear (Some node) (name ∷ names) cwd there free = refl
+
+-- something stands there that is not busy: it can be moved
+pub source_free : (table : Table) (path cwd : Names) → is_some (absent_refusal (node_at table path)) ≡ false → is_within path cwd ≡ false → source_refusal table path ≡ None
+unfolding source_refusal
+source_free table path cwd there free = source_clear (node_at table path) path cwd there free
+
+source_none : (node : Option Node) (path : Names) → is_some (absent_refusal node) ≡ true → source_answer node path ≡ Some Absent
+source_none None path absent = refl
+source_none (Some node) path absent = absurd (false≢true absent)
+
+pub source_absent : (table : Table) (path : Names) → is_some (absent_refusal (node_at table path)) ≡ true → source_refusal table path ≡ Some Absent
+unfolding source_refusal
+source_absent table path absent = source_none (node_at table path) path absent
+
+pub rename_target : (table : Table) (from to : Names) → source_refusal table from ≡ None → rename_refusal table from to ≡ target_refusal table from to
+unfolding rename_refusal
+rename_target table from to free = ap (λ source. or_else source (target_refusal table from to)) free
+
+or_some : (first : Option TreeFault) (fault : TreeFault) → is_some (or_else first (Some fault)) ≡ true
+or_some None fault = refl
+or_some (Some first) fault = refl
+
+pub held_busy : (table : Table) (path cwd : Names) (busy : Bool) → is_some (absent_refusal (node_at table path)) ≡ false → is_within path cwd ≡ busy
+    → is_some (or_else (source_refusal table path) (whenever busy Busy)) ≡ busy
+held_busy table path cwd true there is = or_some (source_refusal table path) Busy
+held_busy table path cwd false there is = ap (λ source. is_some (or_else source None)) (source_free table path cwd there is)
+
+pub held_absent : (table : Table) (path : Names) (busy : Option TreeFault) → is_some (absent_refusal (node_at table path)) ≡ true
+    → is_some (or_else (source_refusal table path) busy) ≡ true
+held_absent table path busy absent = ap (λ source. is_some (or_else source busy)) (source_absent table path absent)
+
+or_free : (first second : Option TreeFault) → is_some (or_else first second) ≡ false → first ≡ None
+or_free None second free = refl
+or_free (Some fault) second free = absurd (true≢false free)
+
+-- what can be moved is refused by the new name alone
+pub rename_free : (table : Table) (from to : Names) (busy : Option TreeFault) → is_some (or_else (source_refusal table from) busy) ≡ false
+    → rename_refusal table from to ≡ target_refusal table from to
+rename_free table from to busy free = rename_target table from to (or_free (source_refusal table from) busy free)

@@ -1,0 +1,75 @@
+-- What a move answers: what cannot be moved is refused first, and then the new name.
+use Rattle.std.proofs.Common.{◌≡◌, ℕ, Bool, true, false, List, Option, Some, None, is_some, refl, ap, sym, ◌∙◌, if◌then◌else◌}
+use mathlib.Core.Bool.{false≢true, true≢false}
+use Rattle.ftp_tree.specs.Path.{fits, resolved}
+use Rattle.ftp_tree.specs.Tree.{Names, Table, moved, or_else, source_refusal, target_refusal, rename_refusal}
+use Rattle.ftp_tree.specs.declared.fault.TreeFault.{TreeFault}
+use Rattle.ftp_tree.specs.declared.fault.TreeFault.TheVariants.{TooBig}
+use Rattle.ftp_direct.specs.declared.op.Op.TheVariants as Ops
+use Rattle.ftp_direct.specs.Answer.{Done, Refused}
+use Rattle.ftp_direct.specs.Direct.{busy_refusal, due, here, limited, or_code, refusal, refused_name, refused_there}
+use Rattle.ftp_direct.specs.Run.{Gives}
+use Rattle.ftp_direct.proofs.NodeLemmas.{rename_free}
+use Rattle.ftp_direct.proofs.RefusalLemmas.{gives_refused, gives_done}
+
+there_some : (fit : Bool) (refusal : Option TreeFault) → fit ≡ true → is_some refusal ≡ true → refused_there (if fit then refusal else Some TooBig) ≡ Some 550
+there_some false refusal fit some = absurd (false≢true fit)
+there_some true None fit some = absurd (false≢true some)
+there_some true (Some fault) fit some = refl
+
+there_none : (fit : Bool) (refusal : Option TreeFault) → fit ≡ true → is_some refusal ≡ false → refused_there (if fit then refusal else Some TooBig) ≡ None
+there_none false refusal fit none = absurd (false≢true fit)
+there_none true None fit none = refl
+there_none true (Some fault) fit none = absurd (true≢false none)
+
+module _ (table : Table) (cwd : Names) (from to : List ℕ) where
+  held : Names → Bool
+  held path = is_some (or_else (source_refusal table path) (busy_refusal (here table cwd) path))
+
+  -- what is held
+  refused_held : fits (resolved cwd from) ≡ true → held (resolved cwd from) ≡ true → refusal (here table cwd) (Ops.Rename from to) ≡ Some 550
+  unfolding held
+  refused_held fit is =
+      ap (λ code. or_code code (refused_name (limited (resolved cwd to) (target_refusal table (resolved cwd from) (resolved cwd to))))) (there_some _ _ fit is)
+
+  -- else the new name alone refuses
+  refused_named : fits (resolved cwd from) ≡ true → held (resolved cwd from) ≡ false
+      → refusal (here table cwd) (Ops.Rename from to) ≡ refused_name (limited (resolved cwd to) (rename_refusal table (resolved cwd from) (resolved cwd to)))
+  unfolding held
+  refused_named fit free =
+      ap (λ code. or_code code (refused_name (limited (resolved cwd to) (target_refusal table (resolved cwd from) (resolved cwd to))))) (there_none _ _ fit free)
+      ∙ ap (λ refusal. refused_name (limited (resolved cwd to) refusal)) (sym (rename_free table (resolved cwd from) (resolved cwd to) _ free))
+
+  module _ (path : Names) (is : path ≡ resolved cwd from) (fit : fits path ≡ true) where
+    fit_from : fits (resolved cwd from) ≡ true
+    fit_from = ap fits (sym is) ∙ fit
+
+    pub rename_held : is_some (or_else (source_refusal table path) (busy_refusal (here table cwd) path)) ≡ true
+        → Gives (due (here table cwd) (Ops.Rename from to) 0) (Refused 550) (here table cwd)
+    unfolding held
+    rename_held some = gives_refused _ (Ops.Rename from to) 0 550 (refused_held fit_from (ap held (sym is) ∙ some))
+
+    module _ (free : is_some (or_else (source_refusal table path) (busy_refusal (here table cwd) path)) ≡ false) where
+      free_from : held (resolved cwd from) ≡ false
+      unfolding held
+      free_from = ap held (sym is) ∙ free
+
+      pub rename_unfit : fits (resolved cwd to) ≡ false → Gives (due (here table cwd) (Ops.Rename from to) 0) (Refused 553) (here table cwd)
+      rename_unfit long =
+          gives_refused _ (Ops.Rename from to) 0 553
+          (refused_named fit_from free_from ∙ ap (λ b. refused_name (if b then rename_refusal table (resolved cwd from) (resolved cwd to) else Some TooBig)) long)
+
+      module _ (target : Names) (to_is : target ≡ resolved cwd to) (to_fit : fits target ≡ true) where
+        by_name : refusal (here table cwd) (Ops.Rename from to) ≡ refused_name (rename_refusal table path target)
+        by_name =
+            refused_named fit_from free_from
+            ∙ ap (λ b. refused_name (if b then rename_refusal table (resolved cwd from) (resolved cwd to) else Some TooBig)) (ap fits (sym to_is) ∙ to_fit)
+            ∙ ap (λ p. refused_name (rename_refusal table p (resolved cwd to))) (sym is) ∙ ap (λ q. refused_name (rename_refusal table path q)) (sym to_is)
+
+        pub rename_refused : (why : TreeFault) → rename_refusal table path target ≡ Some why → Gives (due (here table cwd) (Ops.Rename from to) 0) (Refused 553) (here table cwd)
+        rename_refused why because = gives_refused _ (Ops.Rename from to) 0 553 (by_name ∙ ap refused_name because)
+
+        pub rename_done : rename_refusal table path target ≡ None → Gives (due (here table cwd) (Ops.Rename from to) 0) Done (here (moved table path target) cwd)
+        rename_done none =
+            let gives = gives_done (here table cwd) (Ops.Rename from to) 0 (by_name ∙ ap refused_name none) in
+            (gives.0, ap (λ p. here (moved table p target) cwd) is ∙ ap (λ q. here (moved table (resolved cwd from) q) cwd) to_is ∙ gives.1)
