@@ -11,7 +11,10 @@ use Rattle.ftp_tree.specs.declared.fault.TreeFault.TheVariants.{Absent, WrongKin
 use Rattle.ftp_tree.specs.declared.tree.NodeKind.{NodeKind}
 use Rattle.ftp_tree.specs.declared.tree.NodeKind.TheVariants as Kinds
 use Rattle.ftp_direct.specs.declared.op.Op.TheVariants as Ops
-use Rattle.ftp_direct.specs.Direct.{absent_refusal, busy_refusal, here, is_file, limited, or_code, refusal, refused_name, refused_there}
+use Rattle.ftp_direct.specs.Answer.{Refused, Stamp}
+use Rattle.ftp_direct.specs.Direct.{absent_refusal, busy_refusal, due, here, is_file}
+use Rattle.ftp_direct.specs.Run.{Gives}
+use Rattle.ftp_direct.proofs.RefusalLemmas.{gives_refused, gives_done, there_some, there_none}
 
 -- by its kind
 abbrev directory_by : Option NodeKind → Option TreeFault
@@ -137,3 +140,20 @@ or_free (Some fault) second free = absurd (true≢false free)
 pub rename_free : (table : Table) (from to : Names) (busy : Option TreeFault) → is_some (or_else (source_refusal table from) busy) ≡ false
     → rename_refusal table from to ≡ target_refusal table from to
 rename_free table from to busy free = rename_target table from to (or_free (source_refusal table from) busy free)
+
+-- ---- when a file was installed
+
+pub stamp_said : (table : Table) (cwd : Names) (text : List ℕ) (path : Names) (seconds : ℕ) → path ≡ resolved cwd text → fits path ≡ true
+    → Some seconds ≡ stamp_at table path → Gives (due (here table cwd) (Ops.Modified text) 0) (Stamp seconds) (here table cwd)
+stamp_said table cwd text path seconds is fit some =
+    let there : stamp_at table (resolved cwd text) ≡ Some seconds = ap (stamp_at table) (sym is) ∙ sym some in
+    let free = there_none _ _ (ap fits (sym is) ∙ fit) (front_stamp table (resolved cwd text) ∙ ap (λ stamp. not (is_some stamp)) there) in
+    let gives = gives_done (here table cwd) (Ops.Modified text) 0 free in
+    (ap (λ stamp. Stamp (unwrap_or stamp 0)) (sym there) ∙ gives.0, gives.1)
+
+pub stamp_none : (table : Table) (cwd : Names) (text : List ℕ) (path : Names) → path ≡ resolved cwd text → fits path ≡ true
+    → None ≡ stamp_at table path → Gives (due (here table cwd) (Ops.Modified text) 0) (Refused 550) (here table cwd)
+stamp_none table cwd text path is fit none =
+    let absent : stamp_at table (resolved cwd text) ≡ None = ap (stamp_at table) (sym is) ∙ sym none in
+    gives_refused (here table cwd) (Ops.Modified text) 0 550
+    (there_some _ _ (ap fits (sym is) ∙ fit) (front_stamp table (resolved cwd text) ∙ ap (λ stamp. not (is_some stamp)) absent))

@@ -1,5 +1,6 @@
 -- A call that the tree refused: what it makes of an operation.
-use Rattle.std.proofs.Common.{◌≡◌, ◌≢◌, ℕ, ◌⊎◌, inl, inr, List, Option, Some, None, Result, Ok, Err, IfOk, OnOk, refl, ap, sym, ◌∙◌, Bool, true, false, ◌∷◌, []}
+use Rattle.std.proofs.Common.{◌≡◌, ◌≢◌, ℕ, ◌⊎◌, inl, inr, List, Option, Some, None, Result, Ok, Err, IfOk, OnOk, is_some, refl, ap, sym, ◌∙◌, subst, Bool, true, false, ◌∷◌, [], if◌then◌else◌}
+use mathlib.Core.Bool.{false≢true, true≢false}
 use Rattle.std.specs.Option.{option_or}
 use Rattle.ftp_tree.specs.Change.{IsRefused}
 use Rattle.ftp_tree.specs.Tree.{Names, Table, Node, Dir, File, or_else, whenever, directory_refusal, empty_refusal, remove_answer, file_refusal, source_answer, make_refusal, remove_refusal, delete_refusal, source_refusal, target_refusal, rename_refusal, room_refusal, octets_refusal, install_refusal}
@@ -8,7 +9,7 @@ use Rattle.ftp_tree.specs.declared.fault.TreeFault.TheVariants.{Absent, Exists, 
 use Rattle.ftp_direct.specs.declared.answer.Answer.{Answer}
 use Rattle.ftp_direct.specs.Answer.{Said, Refused, said_of}
 use Rattle.ftp_direct.specs.declared.op.Op.{Op}
-use Rattle.ftp_direct.specs.Direct.{State, chosen, done, due, here, refusal}
+use Rattle.ftp_direct.specs.Direct.{State, chosen, done, due, here, refusal, refused_there}
 use Rattle.ftp_direct.specs.Run.{Gives, IsAnswer, told}
 
 -- ---- a reason by the map is no failure of the device
@@ -128,3 +129,20 @@ gives_done state op moment is =
 -- where the tree was not called
 pub still : (count : ℕ) (due : Said × State) (state : State) (said : Said) → Gives due said state → IsAnswer count count due state said state
 still count due state said gives = record { steady = λ _. gives; failed = λ ne. absurd (ne refl) }
+
+pub there_some : (fit : Bool) (refusal : Option TreeFault) → fit ≡ true → is_some refusal ≡ true → refused_there (if fit then refusal else Some TooBig) ≡ Some 550
+there_some false refusal fit some = absurd (false≢true fit)
+there_some true None fit some = absurd (false≢true some)
+there_some true (Some fault) fit some = refl
+
+pub there_none : (fit : Bool) (refusal : Option TreeFault) → fit ≡ true → is_some refusal ≡ false → refused_there (if fit then refusal else Some TooBig) ≡ None
+there_none false refusal fit none = absurd (false≢true fit)
+there_none true None fit none = refl
+there_none true (Some fault) fit none = absurd (true≢false none)
+
+-- the same answer, as it is due otherwise
+pub if_due : {A E : Type 0} (result : Result (Answer A) E) (before after : ℕ) (one other : Said × State) (old new : State) → one ≡ other
+    → IfOk result (λ answer. IsAnswer before after one old (said_of answer) new) → IfOk result (λ answer. IsAnswer before after other old (said_of answer) new)
+if_due result before after one other old new is so =
+    let P : Said × State → Type 0 = λ due. IfOk result (λ answer. IsAnswer before after due old (said_of answer) new) in
+    subst P is so

@@ -1,6 +1,5 @@
 -- What a move answers: what cannot be moved is refused first, and then the new name.
 use Rattle.std.proofs.Common.{◌≡◌, ℕ, Bool, true, false, List, Option, Some, None, is_some, refl, ap, sym, ◌∙◌, if◌then◌else◌}
-use mathlib.Core.Bool.{false≢true, true≢false}
 use Rattle.ftp_tree.specs.Path.{fits, resolved}
 use Rattle.ftp_tree.specs.Tree.{Names, Table, moved, or_else, source_refusal, target_refusal, rename_refusal}
 use Rattle.ftp_tree.specs.declared.fault.TreeFault.{TreeFault}
@@ -10,17 +9,7 @@ use Rattle.ftp_direct.specs.Answer.{Done, Refused}
 use Rattle.ftp_direct.specs.Direct.{busy_refusal, due, here, limited, or_code, refusal, refused_name, refused_there}
 use Rattle.ftp_direct.specs.Run.{Gives}
 use Rattle.ftp_direct.proofs.NodeLemmas.{rename_free}
-use Rattle.ftp_direct.proofs.RefusalLemmas.{gives_refused, gives_done}
-
-there_some : (fit : Bool) (refusal : Option TreeFault) → fit ≡ true → is_some refusal ≡ true → refused_there (if fit then refusal else Some TooBig) ≡ Some 550
-there_some false refusal fit some = absurd (false≢true fit)
-there_some true None fit some = absurd (false≢true some)
-there_some true (Some fault) fit some = refl
-
-there_none : (fit : Bool) (refusal : Option TreeFault) → fit ≡ true → is_some refusal ≡ false → refused_there (if fit then refusal else Some TooBig) ≡ None
-there_none false refusal fit none = absurd (false≢true fit)
-there_none true None fit none = refl
-there_none true (Some fault) fit none = absurd (true≢false none)
+use Rattle.ftp_direct.proofs.RefusalLemmas.{gives_refused, gives_done, there_some, there_none}
 
 module _ (table : Table) (cwd : Names) (from to : List ℕ) where
   held : Names → Bool

@@ -1,28 +1,224 @@
 // Operations on the octets of files.
-ghost use Rattle.std.specs.Prelude.{◌≡◌, ◌+◌, ◌<◌, ◌≤◌, ◌↔◌, IsTrue, IfOk, OnErr, MatchOption, None, Some, Option, drop, length, take, true, is_some, not};
-ghost use Rattle.std.specs.Option.{unwrap_or};
+ghost use Rattle.std.specs.Prelude.{◌≡◌, ◌+◌, ◌<◌, ◌≤◌, IsTrue, IfOk, OnErr, MatchOption, None, Some, drop, length, nat_le, take, true, if◌then◌else◌};
 ghost use Rattle.ftp_tree.specs.Path.{fits, resolved};
-ghost use Rattle.ftp_tree.specs.Tree.{Names, front_refusal, octets_or_none};
+ghost use Rattle.ftp_tree.specs.Tree.{Names, octets_or_none};
 ghost use Rattle.ftp_direct.specs.Answer.{said_of};
-ghost use Rattle.ftp_direct.specs.Direct.{chosen, due, front_code, here, is_as_it_is, offset_refusal, put, put_refusal, size_in};
-ghost use Rattle.ftp_direct.specs.Operation.{is_number, is_path_text};
+ghost use Rattle.ftp_direct.specs.Direct.{chosen, due, front_code, here, is_as_it_is, offset_refusal, put, put_refusal, putting_code, size_in};
+ghost use Rattle.ftp_direct.specs.Operation.{is_path_text};
 ghost use Rattle.ftp_direct.specs.Run.{Gives, IsAnswer};
 
 use crate::answer::Answer;
 use crate::nodes::{has_front, len_at};
 use crate::op::{How, Op};
 use crate::refusal::{BAD_NAME, BAD_PARAMETER, NO_ROOM, TOO_MUCH, UNAVAILABLE, find, refused};
-use crate::sendable::is_number;
 use ftp_facts::{Moment, Text};
-use ftp_repr::{Kind, Structure, wire_size};
+use ftp_repr::{Kind, Structure};
 use ftp_tree::{Content, Path, Tree, TreeFault};
 use std::alloc::{AllocError, Allocator};
 
 /// The most octets that are asked of a tree at once.
-const PIECE: usize = 8192;
+pub(crate) const PIECE: usize = 8192;
+
+/// Puts a file with these octets.
+pub(crate) fn put<A: Allocator + Clone, T: Tree<A>>(
+    alloc: &A,
+    tree: &mut T,
+    cwd: &Path<A>,
+    text: &Text<A>,
+    octets: &Text<A>,
+    how: How,
+    moment: Moment,
+) -> Result<Answer<A>, AllocError>
+    requires { IsTrue (is_path_text text.now) }
+    ensures answer { IfOk result (λ answer. let old = here (T.table tree.old) cwd.now in
+        IsAnswer (T.failures tree.old) (T.failures tree.new) (due old (Op.Put text.now octets.now how) moment.seconds) old (said_of answer) (here (T.table tree.new) cwd.now)) }
+    ensures kept { OnErr result ((T.table tree.new ≡ T.table tree.old) × (T.failures tree.new ≡ T.failures tree.old)) }
+{
+    let _how = how;
+    let Some(path) = find(alloc, cwd, text)? else {
+        return Ok(Answer::Refused(BAD_NAME));
+    };
+    install(alloc, tree, &path, 0, octets, moment)
+}
+
+/// Puts these octets behind those of a file, or a new file.
+pub(crate) fn append<A: Allocator + Clone, T: Tree<A>>(
+    alloc: &A,
+    tree: &mut T,
+    cwd: &Path<A>,
+    text: &Text<A>,
+    octets: &Text<A>,
+    how: How,
+    moment: Moment,
+) -> Result<Answer<A>, AllocError>
+    requires { IsTrue (is_path_text text.now) }
+    ensures answer { IfOk result (λ answer. let old = here (T.table tree.old) cwd.now in
+        IsAnswer (T.failures tree.old) (T.failures tree.new) (due old (Op.Append text.now octets.now how) moment.seconds) old (said_of answer) (here (T.table tree.new) cwd.now)) }
+    ensures kept { OnErr result ((T.table tree.new ≡ T.table tree.old) × (T.failures tree.new ≡ T.failures tree.old)) }
+{
+    let _how = how;
+    let Some(path) = find(alloc, cwd, text)? else {
+        return Ok(Answer::Refused(BAD_NAME));
+    };
+    let kept = len_at(tree, &path);
+    install(alloc, tree, &path, kept, octets, moment)
+}
+
+/// Puts these octets behind the first ones of a file.
+pub(crate) fn put_from<A: Allocator + Clone, T: Tree<A>>(
+    alloc: &A,
+    tree: &mut T,
+    cwd: &Path<A>,
+    text: &Text<A>,
+    offset: u64,
+    octets: &Text<A>,
+    how: How,
+    moment: Moment,
+) -> Result<Answer<A>, AllocError>
+    requires { IsTrue (is_path_text text.now) }
+    ensures answer { IfOk result (λ answer. let old = here (T.table tree.old) cwd.now in
+        IsAnswer (T.failures tree.old) (T.failures tree.new) (due old (Op.PutFrom text.now offset octets.now how) moment.seconds) old (said_of answer) (here (T.table tree.new) cwd.now)) }
+    ensures kept { OnErr result ((T.table tree.new ≡ T.table tree.old) × (T.failures tree.new ≡ T.failures tree.old)) }
+{
+    if !takes_offset(offset, how) {
+        return Ok(Answer::Refused(BAD_PARAMETER));
+    }
+    let Some(path) = find(alloc, cwd, text)? else {
+        return Ok(Answer::Refused(BAD_NAME));
+    };
+    if offset > len_at(tree, &path) {
+        return Ok(Answer::Refused(BAD_NAME));
+    }
+    install(alloc, tree, &path, offset, octets, moment)
+}
+
+/// Whether octets can go from that place on in that representation.
+fn takes_offset(offset: u64, how: How) -> bool
+    ensures { offset_refusal offset how ≡ (if result then None else Some 504) }
+{
+    offset == 0 || is_as_it_is(how.kind, how.structure)
+}
+
+/// Whether a file goes as its octets.
+fn is_as_it_is(kind: Kind, structure: Structure) -> bool
+    ensures { result ≡ is_as_it_is kind structure }
+{
+    match kind {
+        Kind::Ascii => false,
+        Kind::Image => match structure {
+            Structure::File => true,
+            Structure::Record => false,
+        },
+    }
+}
+
+/// Installs a file: the first octets of the one that stands there, and these behind them.
+fn install<A: Allocator + Clone, T: Tree<A>>(
+    alloc: &A,
+    tree: &mut T,
+    path: &Path<A>,
+    kept: u64,
+    octets: &Text<A>,
+    moment: Moment,
+) -> Result<Answer<A>, AllocError>
+    requires fit { fits path.now ≡ true }
+    requires within { kept ≤ length (octets_or_none (T.table tree.old) path.now) }
+    ensures answer { (cwd : Names) → IfOk result (λ answer. let old = here (T.table tree.old) cwd in
+        IsAnswer (T.failures tree.old) (T.failures tree.new)
+        (chosen (put_refusal old path.now (kept + length octets.now)) old (put old path.now (take kept (octets_or_none (T.table tree.old) path.now)) octets.now moment.seconds))
+        old (said_of answer) (here (T.table tree.new) cwd)) }
+    ensures kept { OnErr result ((T.table tree.new ≡ T.table tree.old) × (T.failures tree.new ≡ T.failures tree.old)) }
+{
+    let room = match tree.room(path) {
+        Ok(room) => room,
+        Err(fault) => return Ok(Answer::Refused(name_code(fault))),
+    };
+    if !has_room(room, kept, octets) {
+        return Ok(Answer::Refused(TOO_MUCH));
+    }
+    let mut content = front(alloc.clone()?, tree, path, kept)?;
+    content.push(octets.as_slice())?;
+    match tree.install(path, content, moment) {
+        Ok(()) => Ok(Answer::Done),
+        Err(unkept) => refused(unkept.fault, TOO_MUCH),
+    }
+}
+
+/// The code by which a file's new path is refused.
+fn name_code(fault: TreeFault) -> u16
+    ensures { result ≡ putting_code fault }
+{
+    match fault {
+        TreeFault::Full => NO_ROOM,
+        _ => BAD_NAME,
+    }
+}
+
+/// Whether so many octets and these behind them are within the room.
+fn has_room<A: Allocator>(room: u64, kept: u64, octets: &Text<A>) -> bool
+    ensures { result ≡ nat_le (kept + length octets.now) room }
+{
+    let more = octets.as_slice().len() as u64;
+    kept <= room && more <= room - kept
+}
+
+/// Gets a file's octets.
+pub(crate) fn get<A: Allocator + Clone, T: Tree<A>>(alloc: &A, tree: &T, cwd: &Path<A>, text: &Text<A>, how: How) -> Result<Answer<A>, AllocError>
+    requires { IsTrue (is_path_text text.now) }
+    ensures { IfOk result (λ answer. let old = here (T.table tree.now) cwd.now in Gives (due old (Op.Get text.now how) 0) (said_of answer) old) }
+{
+    let _how = how;
+    let Some(path) = find_front(alloc, tree, cwd, text, 0)? else {
+        return Ok(Answer::Refused(UNAVAILABLE));
+    };
+    let octets = read(alloc.clone()?, tree, &path, 0)?;
+    Ok(Answer::Octets(Text::copy_of(alloc.clone()?, octets.as_slice())?))
+}
+
+/// Gets a file's octets from a place on.
+pub(crate) fn get_from<A: Allocator + Clone, T: Tree<A>>(
+    alloc: &A,
+    tree: &T,
+    cwd: &Path<A>,
+    text: &Text<A>,
+    offset: u64,
+    how: How,
+) -> Result<Answer<A>, AllocError>
+    requires { IsTrue (is_path_text text.now) }
+    ensures { IfOk result (λ answer. let old = here (T.table tree.now) cwd.now in Gives (due old (Op.GetFrom text.now offset how) 0) (said_of answer) old) }
+{
+    if !takes_offset(offset, how) {
+        return Ok(Answer::Refused(BAD_PARAMETER));
+    }
+    let Some(path) = find_front(alloc, tree, cwd, text, offset)? else {
+        return Ok(Answer::Refused(UNAVAILABLE));
+    };
+    let octets = read(alloc.clone()?, tree, &path, offset)?;
+    Ok(Answer::Octets(Text::copy_of(alloc.clone()?, octets.as_slice())?))
+}
+
+/// Says when a file was installed.
+pub(crate) fn modified<A: Allocator + Clone, T: Tree<A>>(alloc: &A, tree: &T, cwd: &Path<A>, text: &Text<A>) -> Result<Answer<A>, AllocError>
+    requires { IsTrue (is_path_text text.now) }
+    ensures { IfOk result (λ answer. let old = here (T.table tree.now) cwd.now in Gives (due old (Op.Modified text.now) 0) (said_of answer) old) }
+{
+    let Some(path) = find(alloc, cwd, text)? else {
+        return Ok(Answer::Refused(UNAVAILABLE));
+    };
+    match tree.stamp(&path) {
+        Some(moment) => Ok(Answer::Stamp(moment)),
+        None => Ok(Answer::Refused(UNAVAILABLE)),
+    }
+}
 
 /// The path of the file that a text names, or `None` where no file stands there that has so many octets.
-fn find_front<A: Allocator + Clone, T: Tree<A>>(alloc: &A, tree: &T, cwd: &Path<A>, text: &Text<A>, count: u64) -> Result<Option<Path<A>>, AllocError>
+pub(crate) fn find_front<A: Allocator + Clone, T: Tree<A>>(
+    alloc: &A,
+    tree: &T,
+    cwd: &Path<A>,
+    text: &Text<A>,
+    count: u64,
+) -> Result<Option<Path<A>>, AllocError>
     requires { IsTrue (is_path_text text.now) }
     ensures { IfOk result (λ found. let code = front_code (here (T.table tree.now) cwd.now) text.now count in
         MatchOption found (code ≡ Some 550) (λ path. (path ≡ resolved cwd.now text.now) × (code ≡ None))) }

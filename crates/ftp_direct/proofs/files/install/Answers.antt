@@ -1,0 +1,29 @@
+use Rattle.std.proofs.Common.{◌≡◌, ◌++◌, ◌∙◌, ap, sym, take, length, nat_le}
+use Rattle.ftp_tree.specs.Tree.{octets_or_none}
+use Rattle.ftp_direct.specs.Direct.{here}
+use Rattle.ftp_direct.proofs.RefusalLemmas.{if_refused}
+use Rattle.ftp_direct.proofs.PutLemmas.{none_never, put_len, install_clear, put_done}
+use Rattle.ftp_direct.proofs.files.install.Goals as goal
+
+pub returns-in-Ok-install-clause-answer : goal.returns-in-Ok-install-clause-answer
+returns-in-Ok-install-clause-answer g c = λ cwd.
+    let file = octets_or_none (g.T.Tree.table c.args.tree.now) c.args.path.now in
+    let content = c.push.new.self in
+    let is : content ≡ take c.args.kept file ++ c.args.octets.now = cc (c.in_ok-push.ensures.ok, c.in_ok-content.ensures, c.as_slice.ensures) in
+    let done = c.in-Ok-install.ensures.done in
+    let gives = put_done _ _ cwd _ content (take c.args.kept file) c.args.octets.now c.args.moment.seconds c.requires.fit is (put_len file _ content _ c.requires.within is) done.0 in
+    record {
+      steady = λ _. (gives.0, ap (λ table. here table cwd) done.1 ∙ gives.1);
+      failed = λ ne. absurd (ne done.2);
+    }
+
+pub returns-in-Err-install-clause-answer : goal.returns-in-Err-install-clause-answer
+returns-in-Err-install-clause-answer g c = λ cwd.
+    let file = octets_or_none (g.T.Tree.table c.args.tree.now) c.args.path.now in
+    let content = c.push.new.self in
+    let is : content ≡ take c.args.kept file ++ c.args.octets.now = cc (c.in_ok-push.ensures.ok, c.in_ok-content.ensures, c.as_slice.ensures) in
+    let long = put_len file _ content _ c.requires.within is in
+    let room = c.in-Ok.ensures.room in
+    let clear = install_clear _ _ _ _ room.0 room.1 (ap (λ n. nat_le n c.in-Ok.room) long ∙ sym c.has_room.ensures ∙ c.if-not-has_room.false) in
+    if_refused c.refused.result _ _ 552 _ _ _ _ cwd _ c.refused.ensures.said c.refused.ensures.other c.in-Err-install.ensures.refused
+    (none_never _ _ clear) (λ why e. absurd (none_never _ why clear e))
