@@ -1,7 +1,10 @@
 pub mod BelowLemmas
+pub mod ListingLemmas
 pub mod NodeLemmas
 pub mod PieceLemmas
 pub mod PutLemmas
 pub mod RefusalLemmas
 pub mod RenameLemmas
 pub mod ResolveLemmas
+pub mod RunLemmas
+pub mod SizeLemmas

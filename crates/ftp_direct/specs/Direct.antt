@@ -26,9 +26,12 @@ pub record State : Type 0 where
   pub cwd : Names
   pub known : Bool
 
+abbrev pub standing : Table → Names → Bool → State
+standing table cwd known = record { table = table; cwd = cwd; known = known }
+
 -- at the start the current directory is the root
 abbrev pub start : Table → Bool → State
-start table known = record { table = table; cwd = []; known = known }
+start table known = standing table [] known
 
 -- ---- what a path text names
 
@@ -36,8 +39,11 @@ start table known = record { table = table; cwd = []; known = known }
 abbrev pub named : State → List ℕ → Names
 named state text = resolved state.cwd text
 
+abbrev pub place : Names → List ℕ → Names
+place cwd text = if length text == 0 then cwd else resolved cwd text
+
 abbrev pub named_or_here : State → List ℕ → Names
-named_or_here state text = if length text == 0 then state.cwd else named state text
+named_or_here state text = place state.cwd text
 
 -- a path past the limits of paths is refused first (own choice)
 abbrev pub limited : Names → Option TreeFault → Option TreeFault
@@ -242,7 +248,7 @@ answers state (order ∷ orders) =
 -- ---- what is due to a user whose login is known
 
 abbrev pub here : Table → Names → State
-here table cwd = record { table = table; cwd = cwd; known = true }
+here table cwd = standing table cwd true
 
 abbrev pub due : State → Op (List ℕ) → ℕ → Said × State
 due state op moment = chosen (refusal state op) state (done state op moment)

@@ -1,5 +1,7 @@
 -- Operations one after another on a tree whose device may fail.
 use Rattle.std.specs.Prelude.{◌≡◌, ◌≢◌, ℕ, List, [], ◌∷◌, map}
+use Rattle.ftp_facts.specs.declared.moment.Moment.{Moment}
+use Rattle.ftp_tree.specs.Tree.{Table}
 use Rattle.ftp_tree.specs.declared.fault.TreeFault.{TreeFault}
 use Rattle.ftp_tree.specs.declared.fault.TreeFault.TheVariants as Faults
 use Rattle.ftp_direct.specs.declared.op.Op.{Op}
@@ -31,8 +33,29 @@ pub record Turn : Type 0 where
 abbrev pub order_of : Turn → Op (List ℕ) × ℕ
 order_of turn = (turn.op, turn.moment)
 
+abbrev pub said_in : Turn → Said
+said_in turn = turn.said
+
 -- one operation after another, each from the count and the state that the one before left
 abbrev pub Runs : ℕ → State → List Turn → ℕ → State → Type 0
 Runs before old [] after new = (after ≡ before) × (new ≡ old)
 Runs before old (turn ∷ turns) after new =
     (state : State) × IsAnswer before turn.count (answer old turn.op turn.moment) old turn.said state × Runs turn.count state turns after new
+
+-- the count of device failures is the same behind each
+abbrev pub AreSteady : ℕ → List Turn → Type 0
+AreSteady count [] = Unit {0}
+AreSteady count (turn ∷ turns) = (turn.count ≡ count) × AreSteady count turns
+
+-- these operations were run and said this, and left this count and this map
+pub record Ran (before : ℕ) (old : State) (orders : List (Op (List ℕ) × ℕ)) (said : List Said) (after : ℕ) (table : Table) : Type 0 where
+  pub turns : List Turn
+  pub new : State
+  pub ordered : map order_of turns ≡ orders
+  pub says : map said_in turns ≡ said
+  pub runs : Runs before old turns after new
+  pub left : new.table ≡ table
+
+-- operations with the seconds of their moments
+abbrev pub orders_of : List (Op (List ℕ) × Moment) → List (Op (List ℕ) × ℕ)
+orders_of list = map (λ order. (order.0, order.1.seconds)) list

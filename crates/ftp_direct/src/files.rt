@@ -138,9 +138,9 @@ fn install<A: Allocator + Clone, T: Tree<A>>(
     }
     let mut content = front(alloc.clone()?, tree, path, kept)?;
     content.push(octets.as_slice())?;
-    match tree.install(path, content, moment) {
+    match tree.install(path, &mut content, moment) {
         Ok(()) => Ok(Answer::Done),
-        Err(unkept) => refused(unkept.fault, TOO_MUCH),
+        Err(fault) => refused(fault, TOO_MUCH),
     }
 }
 
@@ -163,7 +163,13 @@ fn has_room<A: Allocator>(room: u64, kept: u64, octets: &Text<A>) -> bool
 }
 
 /// Gets a file's octets.
-pub(crate) fn get<A: Allocator + Clone, T: Tree<A>>(alloc: &A, tree: &T, cwd: &Path<A>, text: &Text<A>, how: How) -> Result<Answer<A>, AllocError>
+pub(crate) fn get<A: Allocator + Clone, T: Tree<A>>(
+    alloc: &A,
+    tree: &T,
+    cwd: &Path<A>,
+    text: &Text<A>,
+    how: How,
+) -> Result<Answer<A>, AllocError>
     requires { IsTrue (is_path_text text.now) }
     ensures { IfOk result (λ answer. let old = here (T.table tree.now) cwd.now in Gives (due old (Op.Get text.now how) 0) (said_of answer) old) }
 {
@@ -198,7 +204,12 @@ pub(crate) fn get_from<A: Allocator + Clone, T: Tree<A>>(
 }
 
 /// Says when a file was installed.
-pub(crate) fn modified<A: Allocator + Clone, T: Tree<A>>(alloc: &A, tree: &T, cwd: &Path<A>, text: &Text<A>) -> Result<Answer<A>, AllocError>
+pub(crate) fn modified<A: Allocator + Clone, T: Tree<A>>(
+    alloc: &A,
+    tree: &T,
+    cwd: &Path<A>,
+    text: &Text<A>,
+) -> Result<Answer<A>, AllocError>
     requires { IsTrue (is_path_text text.now) }
     ensures { IfOk result (λ answer. let old = here (T.table tree.now) cwd.now in Gives (due old (Op.Modified text.now) 0) (said_of answer) old) }
 {
@@ -226,12 +237,21 @@ pub(crate) fn find_front<A: Allocator + Clone, T: Tree<A>>(
     let Some(path) = find(alloc, cwd, text)? else {
         return Ok(None);
     };
-    if has_front(tree, &path, count) { Ok(Some(path)) } else { Ok(None) }
+    if has_front(tree, &path, count) {
+        Ok(Some(path))
+    } else {
+        Ok(None)
+    }
 }
 
 #[tactic(auto, using(crate::proofs::PieceLemmas::read_more))]
 /// The octets of the file at a path from a place on; none where no file stands.
-fn read<A: Allocator, T: Tree<A>>(alloc: A, tree: &T, path: &Path<A>, from: u64) -> Result<Vec<u8, A>, AllocError>
+fn read<A: Allocator, T: Tree<A>>(
+    alloc: A,
+    tree: &T,
+    path: &Path<A>,
+    from: u64,
+) -> Result<Vec<u8, A>, AllocError>
     ensures { IfOk result (λ octets. octets.items ≡ drop from (octets_or_none (T.table tree.now) path.now)) }
 {
     let end = len_at(tree, path);
@@ -246,7 +266,12 @@ fn read<A: Allocator, T: Tree<A>>(alloc: A, tree: &T, path: &Path<A>, from: u64)
 }
 
 /// The first octets of the file at a path, to be installed again.
-fn front<A: Allocator, T: Tree<A>>(alloc: A, tree: &T, path: &Path<A>, count: u64) -> Result<Content<A>, AllocError>
+fn front<A: Allocator, T: Tree<A>>(
+    alloc: A,
+    tree: &T,
+    path: &Path<A>,
+    count: u64,
+) -> Result<Content<A>, AllocError>
     requires { count ≤ length (octets_or_none (T.table tree.now) path.now) }
     ensures { IfOk result (λ content. content ≡ take count (octets_or_none (T.table tree.now) path.now)) }
 {
@@ -264,5 +289,9 @@ fn piece_len(wanted: u64) -> usize
     ensures most { result ≤ wanted }
     ensures some { 0 < wanted → 0 < result }
 {
-    if wanted < PIECE as u64 { wanted as usize } else { PIECE }
+    if wanted < PIECE as u64 {
+        wanted as usize
+    } else {
+        PIECE
+    }
 }

@@ -5,13 +5,19 @@
 mod account;
 mod answer;
 mod busy;
+mod direct_run;
 mod files;
+mod laws;
+mod listings;
 mod nodes;
 mod op;
 mod places;
 mod refusal;
 mod sendable;
+mod sizes;
 
 pub use account::{Account, Accounts, Login, SameUser};
 pub use answer::Answer;
+pub use direct_run::direct;
+pub use laws::steady_run;
 pub use op::{How, Op};

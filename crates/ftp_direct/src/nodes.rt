@@ -8,7 +8,10 @@ use std::alloc::Allocator;
 
 /// Why no directory is had at a path.
 #[tactic(auto, using(crate::proofs::NodeLemmas::directory_kind))]
-pub(crate) fn directory_fault<A: Allocator, T: Tree<A>>(tree: &T, path: &Path<A>) -> Option<TreeFault>
+pub(crate) fn directory_fault<A: Allocator, T: Tree<A>>(
+    tree: &T,
+    path: &Path<A>,
+) -> Option<TreeFault>
     ensures { result ≡ directory_refusal (node_at (T.table tree.now) path.now) }
 {
     match tree.kind(path) {

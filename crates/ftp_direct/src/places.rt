@@ -18,7 +18,11 @@ use ftp_tree::{Path, Tree};
 use std::alloc::{AllocError, Allocator};
 
 /// Says which directory is the current one.
-pub(crate) fn say_where<A: Allocator + Clone, T: Tree<A>>(alloc: &A, tree: &T, cwd: &Path<A>) -> Result<Answer<A>, AllocError>
+pub(crate) fn say_where<A: Allocator + Clone, T: Tree<A>>(
+    alloc: &A,
+    tree: &T,
+    cwd: &Path<A>,
+) -> Result<Answer<A>, AllocError>
     ensures { IfOk result (λ answer. let old = here (T.table tree.now) cwd.now in Gives (due old Op.Where 0) (said_of answer) old) }
 {
     let _tree = tree;
@@ -26,7 +30,12 @@ pub(crate) fn say_where<A: Allocator + Clone, T: Tree<A>>(alloc: &A, tree: &T, c
 }
 
 /// Goes to a directory.
-pub(crate) fn change_dir<A: Allocator + Clone, T: Tree<A>>(alloc: &A, tree: &T, cwd: &mut Path<A>, text: &Text<A>) -> Result<Answer<A>, AllocError>
+pub(crate) fn change_dir<A: Allocator + Clone, T: Tree<A>>(
+    alloc: &A,
+    tree: &T,
+    cwd: &mut Path<A>,
+    text: &Text<A>,
+) -> Result<Answer<A>, AllocError>
     requires { IsTrue (is_path_text text.now) }
     ensures answer { IfOk result (λ answer. let table = T.table tree.now in
         Gives (due (here table cwd.old) (Op.ChangeDir text.now) 0) (said_of answer) (here table cwd.new)) }
@@ -45,7 +54,11 @@ pub(crate) fn change_dir<A: Allocator + Clone, T: Tree<A>>(alloc: &A, tree: &T, 
 
 /// Goes to the parent of the current directory; from the root nowhere.
 #[tactic(auto, using(crate::proofs::ResolveLemmas::up_parent))]
-pub(crate) fn go_up<A: Allocator + Clone, T: Tree<A>>(alloc: &A, tree: &T, cwd: &mut Path<A>) -> Result<Answer<A>, AllocError>
+pub(crate) fn go_up<A: Allocator + Clone, T: Tree<A>>(
+    alloc: &A,
+    tree: &T,
+    cwd: &mut Path<A>,
+) -> Result<Answer<A>, AllocError>
     ensures answer { IfOk result (λ answer. let table = T.table tree.now in Gives (due (here table cwd.old) Op.Up 0) (said_of answer) (here table cwd.new)) }
     ensures named { IsTrue (list_all is_component cwd.old) → IsTrue (list_all is_component cwd.new) }
     ensures kept { OnErr result (cwd.new ≡ cwd.old) }
@@ -61,7 +74,12 @@ pub(crate) fn go_up<A: Allocator + Clone, T: Tree<A>>(alloc: &A, tree: &T, cwd: 
 }
 
 /// Makes a directory, and says its path.
-pub(crate) fn make_dir<A: Allocator + Clone, T: Tree<A>>(alloc: &A, tree: &mut T, cwd: &Path<A>, text: &Text<A>) -> Result<Answer<A>, AllocError>
+pub(crate) fn make_dir<A: Allocator + Clone, T: Tree<A>>(
+    alloc: &A,
+    tree: &mut T,
+    cwd: &Path<A>,
+    text: &Text<A>,
+) -> Result<Answer<A>, AllocError>
     requires { IsTrue (is_path_text text.now) }
     ensures answer { IfOk result (λ answer. let old = here (T.table tree.old) cwd.now in
         IsAnswer (T.failures tree.old) (T.failures tree.new) (due old (Op.MakeDir text.now) 0) old (said_of answer) (here (T.table tree.new) cwd.now)) }
@@ -78,7 +96,12 @@ pub(crate) fn make_dir<A: Allocator + Clone, T: Tree<A>>(alloc: &A, tree: &mut T
 }
 
 /// Removes a directory.
-pub(crate) fn remove_dir<A: Allocator + Clone, T: Tree<A>>(alloc: &A, tree: &mut T, cwd: &Path<A>, text: &Text<A>) -> Result<Answer<A>, AllocError>
+pub(crate) fn remove_dir<A: Allocator + Clone, T: Tree<A>>(
+    alloc: &A,
+    tree: &mut T,
+    cwd: &Path<A>,
+    text: &Text<A>,
+) -> Result<Answer<A>, AllocError>
     requires text { IsTrue (is_path_text text.now) }
     requires cwd { IsTrue (list_all is_component cwd.now) }
     ensures answer { IfOk result (λ answer. let old = here (T.table tree.old) cwd.now in
@@ -98,7 +121,12 @@ pub(crate) fn remove_dir<A: Allocator + Clone, T: Tree<A>>(alloc: &A, tree: &mut
 }
 
 /// Deletes a file.
-pub(crate) fn delete<A: Allocator + Clone, T: Tree<A>>(alloc: &A, tree: &mut T, cwd: &Path<A>, text: &Text<A>) -> Result<Answer<A>, AllocError>
+pub(crate) fn delete<A: Allocator + Clone, T: Tree<A>>(
+    alloc: &A,
+    tree: &mut T,
+    cwd: &Path<A>,
+    text: &Text<A>,
+) -> Result<Answer<A>, AllocError>
     requires { IsTrue (is_path_text text.now) }
     ensures answer { IfOk result (λ answer. let old = here (T.table tree.old) cwd.now in
         IsAnswer (T.failures tree.old) (T.failures tree.new) (due old (Op.Delete text.now) 0) old (said_of answer) (here (T.table tree.new) cwd.now)) }

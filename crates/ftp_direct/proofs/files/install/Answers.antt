@@ -17,8 +17,8 @@ returns-in-Ok-install-clause-answer g c = λ cwd.
       failed = λ ne. absurd (ne done.2);
     }
 
-pub returns-in-Err-install-clause-answer : goal.returns-in-Err-install-clause-answer
-returns-in-Err-install-clause-answer g c = λ cwd.
+pub returns-clause-answer : goal.returns-clause-answer
+returns-clause-answer g c = λ cwd.
     let file = octets_or_none (g.T.Tree.table c.args.tree.now) c.args.path.now in
     let content = c.push.new.self in
     let is : content ≡ take c.args.kept file ++ c.args.octets.now = cc (c.in_ok-push.ensures.ok, c.in_ok-content.ensures, c.as_slice.ensures) in

@@ -1,0 +1,10 @@
+use Rattle.std.proofs.Common.{◌≡◌, map, take, IsTrue}
+use Rattle.std.specs.List.{filter_map, list_all}
+use Rattle.ftp_tree.specs.Path.{is_name}
+use Rattle.ftp_tree.specs.Tree.{children}
+use Rattle.ftp_direct.specs.Answer.{listed_of}
+use Rattle.ftp_direct.specs.Direct.{entry_in}
+use Rattle.ftp_direct.proofs.listings.entries.Given as goal
+
+abbrev pub invariant-loop-name : goal.invariant-loop-name
+invariant-loop-name g l = map listed_of l.entries.items ≡ filter_map (entry_in (g.T.Tree.table l.tree) l.path) (take l.name-index l.name-items)

@@ -1,0 +1,13 @@
+use Rattle.std.proofs.Common.{◌≡◌, ◌∙◌, ap, sym, subst, List, ℕ, true, false, IfOk, MatchOption, ◌∷◌, [], ◌==◌, length}
+use Rattle.ftp_tree.specs.Path.{fits, resolved}
+use Rattle.ftp_tree.specs.Tree.{Names}
+use Rattle.ftp_direct.specs.Direct.{place}
+use Rattle.ftp_direct.proofs.ListingLemmas.{place_here}
+use Rattle.ftp_direct.proofs.listings.find_here.Goals as goal
+
+pub returns-clause-found : goal.returns-clause-found
+returns-clause-found g c =
+    let P : Names → Type 0 = λ path. IfOk c.find-2.result (λ found. MatchOption found (fits path ≡ false) (λ is. (is ≡ path) × (fits is ≡ true))) in
+    let same : resolved c.args.cwd.now c.in_ok-here.here ≡ place c.args.cwd.now c.args.text.now =
+    ap (resolved c.args.cwd.now) c.in_ok-here.ensures ∙ place_here c.args.cwd.now c.args.text.now (ap (λ t. length t == 0) (sym c.as_slice.ensures) ∙ sym c.is_empty.ensures ∙ c.if-not-is_empty.false) in
+    subst P same c.find-2.ensures.found

@@ -1,0 +1,109 @@
+// Operations one after another.
+ghost use Rattle.std.specs.Prelude.{◌≡◌, ℕ, IsTrue, IfOk, IfErr, List, OnErr, map, take};
+ghost use Rattle.std.specs.List.{list_all};
+ghost use Rattle.ftp_tree.specs.Path.{is_component};
+ghost use Rattle.ftp_direct.specs.Account.{is_known};
+ghost use Rattle.ftp_direct.specs.Answer.{Said, said_of};
+ghost use Rattle.ftp_direct.specs.Direct.{answer, due, here, standing, start};
+ghost use Rattle.ftp_direct.specs.Operation.{can_be_sent};
+ghost use Rattle.ftp_direct.specs.Run.{IsAnswer, Ran, orders_of};
+
+use crate::account::{Accounts, Login};
+use crate::answer::Answer;
+use crate::files::{append, get, get_from, modified, put, put_from};
+use crate::listings::{facts, list, names};
+use crate::op::Op;
+use crate::places::{change_dir, delete, go_up, make_dir, remove_dir, rename, say_where};
+use crate::refusal::NOT_LOGGED_IN;
+use crate::sendable::can_be_sent;
+use crate::sizes::size;
+use ftp_facts::{Moment, Text};
+use ftp_tree::{Path, Tree};
+use std::alloc::{AllocError, Allocator};
+
+/// Runs operations on a tree, one after another, each at its moment, as the user that a login names (RFC 959, section 4.1).
+///
+/// Where the count of the tree's device failures changes in an operation's call, that operation is refused by 451 and changes
+/// nothing. It gives up only where memory was refused: then a beginning of the list was done, and the rest was not begun.
+pub fn direct<A: Allocator + Clone, T: Tree<A>>(
+    alloc: &A,
+    tree: &mut T,
+    accounts: &Accounts<A>,
+    login: &Login<A>,
+    list: &[(Op<Text<A>>, Moment)],
+) -> Result<Vec<Answer<A>, A>, AllocError>
+    ensures answers { IfOk result (λ answers. let known = is_known accounts.now login.now.user login.now.pass in
+        Ran (T.failures tree.old) (start (T.table tree.old) known) (orders_of list.now) (map said_of answers.items) (T.failures tree.new) (T.table tree.new)) }
+    ensures begun { IfErr result (λ _. let known = is_known accounts.now login.now.user login.now.pass in
+        (count : ℕ) × (said : List Said) × Ran (T.failures tree.old) (start (T.table tree.old) known) (take count (orders_of list.now)) said (T.failures tree.new) (T.table tree.new)) }
+{
+    let known = accounts.is_known(login);
+    let mut answers = Vec::new(alloc.clone()?);
+    let mut cwd = Path::root(alloc.clone()?);
+    for (op, moment) in list {
+        answers.push(answer(alloc, tree, &mut cwd, known, op, *moment)?)?;
+    }
+    Ok(answers)
+}
+
+/// Answers one operation, from a current directory and for a login that is known or not.
+fn answer<A: Allocator + Clone, T: Tree<A>>(
+    alloc: &A,
+    tree: &mut T,
+    cwd: &mut Path<A>,
+    known: bool,
+    op: &Op<Text<A>>,
+    moment: Moment,
+) -> Result<Answer<A>, AllocError>
+    requires { IsTrue (list_all is_component cwd.old) }
+    ensures answer { IfOk result (λ said. let old = standing (T.table tree.old) cwd.old known in
+        IsAnswer (T.failures tree.old) (T.failures tree.new) (answer old op.now moment.seconds) old (said_of said) (standing (T.table tree.new) cwd.new known)) }
+    ensures named { IsTrue (list_all is_component cwd.new) }
+    ensures kept { OnErr result ((T.table tree.new ≡ T.table tree.old) × (T.failures tree.new ≡ T.failures tree.old)) }
+{
+    if !can_be_sent(op) {
+        return Ok(Answer::BadOperation);
+    }
+    if !known {
+        return Ok(Answer::Refused(NOT_LOGGED_IN));
+    }
+    due(alloc, tree, cwd, op, moment)
+}
+
+/// Answers one operation that can be sent, for a login that is known.
+fn due<A: Allocator + Clone, T: Tree<A>>(
+    alloc: &A,
+    tree: &mut T,
+    cwd: &mut Path<A>,
+    op: &Op<Text<A>>,
+    moment: Moment,
+) -> Result<Answer<A>, AllocError>
+    requires sent { IsTrue (can_be_sent op.now) }
+    requires cwd { IsTrue (list_all is_component cwd.old) }
+    ensures answer { IfOk result (λ answer. let old = here (T.table tree.old) cwd.old in
+        IsAnswer (T.failures tree.old) (T.failures tree.new) (due old op.now moment.seconds) old (said_of answer) (here (T.table tree.new) cwd.new)) }
+    ensures named { IsTrue (list_all is_component cwd.new) }
+    ensures kept { OnErr result ((T.table tree.new ≡ T.table tree.old) × (T.failures tree.new ≡ T.failures tree.old)) }
+{
+    match op {
+        Op::Where => say_where(alloc, tree, cwd),
+        Op::ChangeDir(text) => change_dir(alloc, tree, cwd, text),
+        Op::Up => go_up(alloc, tree, cwd),
+        Op::MakeDir(text) => make_dir(alloc, tree, cwd, text),
+        Op::RemoveDir(text) => remove_dir(alloc, tree, cwd, text),
+        Op::Delete(text) => delete(alloc, tree, cwd, text),
+        Op::Rename(from, to) => rename(alloc, tree, cwd, from, to),
+        Op::Put(text, octets, how) => put(alloc, tree, cwd, text, octets, *how, moment),
+        Op::Append(text, octets, how) => append(alloc, tree, cwd, text, octets, *how, moment),
+        Op::PutFrom(text, offset, octets, how) => put_from(
+            alloc, tree, cwd, text, *offset, octets, *how, moment,
+        ),
+        Op::Get(text, how) => get(alloc, tree, cwd, text, *how),
+        Op::GetFrom(text, offset, how) => get_from(alloc, tree, cwd, text, *offset, *how),
+        Op::Size(text, how) => size(alloc, tree, cwd, text, *how),
+        Op::Modified(text) => modified(alloc, tree, cwd, text),
+        Op::Facts(text) => facts(alloc, tree, cwd, text),
+        Op::List(text, how) => list(alloc, tree, cwd, text, *how),
+        Op::Names(text, how) => names(alloc, tree, cwd, text, *how),
+    }
+}

@@ -1,0 +1,295 @@
+// Operations that list.
+ghost use Rattle.std.specs.Prelude.{◌≡◌, ◌≢◌, ◌<◌, ◌++◌, [], IsTrue, IfOk, IfSome, OnOk, MatchOption, false, map, option_and_then, option_map, true};
+ghost use Rattle.std.specs.List.{filter_map, list_all};
+ghost use Rattle.std.specs.Option.{ForSome, option_to_list};
+ghost use Rattle.ftp_facts.specs.Fact.{IsValue};
+ghost use Rattle.ftp_tree.specs.Path.{fits, is_component, is_name};
+ghost use Rattle.ftp_tree.specs.Tree.{Dir, children, size_at};
+ghost use Rattle.ftp_direct.specs.Answer.{listed_of, said_of};
+ghost use Rattle.ftp_direct.specs.Direct.{behind, due, entries_in, entry_at, entry_in, file_in, here, listing_code, names_for, perm_of, place, size_fact};
+ghost use Rattle.ftp_direct.specs.Operation.{is_optional_text};
+ghost use Rattle.ftp_direct.specs.Run.{Gives};
+
+use crate::answer::Answer;
+use crate::busy::is_root;
+use crate::nodes::{absent_fault, directory_fault, is_file};
+use crate::op::{How, Op};
+use crate::refusal::{BAD_ARGUMENT, UNAVAILABLE, find};
+use crate::sendable::is_number;
+use ftp_facts::{Entry, Kind, Text};
+use ftp_tree::{Path, Tree, TreeFault};
+use std::alloc::{AllocError, Allocator};
+
+/// Says the entry of what stands at a path.
+pub(crate) fn facts<A: Allocator + Clone, T: Tree<A>>(
+    alloc: &A,
+    tree: &T,
+    cwd: &Path<A>,
+    text: &Text<A>,
+) -> Result<Answer<A>, AllocError>
+    requires text { IsTrue (is_optional_text text.now) }
+    requires cwd { IsTrue (list_all is_component cwd.now) }
+    ensures { IfOk result (λ answer. let old = here (T.table tree.now) cwd.now in Gives (due old (Op.Facts text.now) 0) (said_of answer) old) }
+{
+    let Some(path) = find_here(alloc, cwd, text)? else {
+        return Ok(Answer::Refused(UNAVAILABLE));
+    };
+    if absent_fault(tree, &path).is_some() {
+        return Ok(Answer::Refused(UNAVAILABLE));
+    }
+    Ok(Answer::Entry(entry(alloc, tree, &path, path.text())?))
+}
+
+/// Lists a directory.
+pub(crate) fn list<A: Allocator + Clone, T: Tree<A>>(
+    alloc: &A,
+    tree: &T,
+    cwd: &Path<A>,
+    text: &Text<A>,
+    how: How,
+) -> Result<Answer<A>, AllocError>
+    requires text { IsTrue (is_optional_text text.now) }
+    requires cwd { IsTrue (list_all is_component cwd.now) }
+    ensures { IfOk result (λ answer. let old = here (T.table tree.now) cwd.now in Gives (due old (Op.List text.now how) 0) (said_of answer) old) }
+{
+    let _how = how;
+    let Some(path) = find_here(alloc, cwd, text)? else {
+        return Ok(Answer::Refused(UNAVAILABLE));
+    };
+    match directory_fault(tree, &path) {
+        None => Ok(Answer::Entries(entries(alloc, tree, &path)?)),
+        Some(fault) => Ok(Answer::Refused(listing_code(fault))),
+    }
+}
+
+/// The code by which a listing is refused.
+fn listing_code(fault: TreeFault) -> u16
+    ensures { result ≡ listing_code fault }
+{
+    match fault {
+        TreeFault::WrongKind => BAD_ARGUMENT,
+        _ => UNAVAILABLE,
+    }
+}
+
+/// Names a directory's files, or a file.
+pub(crate) fn names<A: Allocator + Clone, T: Tree<A>>(
+    alloc: &A,
+    tree: &T,
+    cwd: &Path<A>,
+    text: &Text<A>,
+    how: How,
+) -> Result<Answer<A>, AllocError>
+    requires text { IsTrue (is_optional_text text.now) }
+    requires cwd { IsTrue (list_all is_component cwd.now) }
+    ensures { IfOk result (λ answer. let old = here (T.table tree.now) cwd.now in Gives (due old (Op.Names text.now how) 0) (said_of answer) old) }
+{
+    let _how = how;
+    let Some(path) = find_here(alloc, cwd, text)? else {
+        return Ok(Answer::Refused(UNAVAILABLE));
+    };
+    if absent_fault(tree, &path).is_some() {
+        return Ok(Answer::Refused(UNAVAILABLE));
+    }
+    Ok(Answer::Names(pathnames(alloc, tree, &path, text)?))
+}
+
+/// The path that a text names, or the current directory's where it is empty; `None` past the limits of paths.
+fn find_here<A: Allocator + Clone>(
+    alloc: &A,
+    cwd: &Path<A>,
+    text: &Text<A>,
+) -> Result<Option<Path<A>>, AllocError>
+    requires text { IsTrue (is_optional_text text.now) }
+    requires cwd { IsTrue (list_all is_component cwd.now) }
+    ensures found { IfOk result (λ found. let path = place cwd.now text.now in
+        MatchOption found (fits path ≡ false) (λ is. (is ≡ path) × (fits is ≡ true))) }
+    ensures named { IfOk result (λ found. IfSome found (λ path. IsTrue (list_all is_component path))) }
+{
+    if !text.as_slice().is_empty() {
+        return find(alloc, cwd, text);
+    }
+    let here = Text::copy_of(alloc.clone()?, b".")?;
+    find(alloc, cwd, &here)
+}
+
+/// The entry of what stands at a path, under a name.
+fn entry<A: Allocator + Clone, T: Tree<A>>(
+    alloc: &A,
+    tree: &T,
+    path: &Path<A>,
+    name: &[u8],
+) -> Result<Entry<A>, AllocError>
+    requires path { IsTrue (list_all is_component path.now) }
+    requires name { name.now ≢ [] }
+    ensures { IfOk result (λ entry. listed_of entry ≡ entry_at (T.table tree.now) path.now name.now) }
+{
+    let name = Text::copy_of(alloc.clone()?, name)?;
+    if !is_file(tree, path) {
+        let perm = Text::copy_of(alloc.clone()?, dir_perm(path))?;
+        return Ok(Entry {
+            name,
+            kind: Some(Kind::Dir),
+            size: None,
+            modify: None,
+            perm: Some(perm),
+        });
+    }
+    let perm = Text::copy_of(alloc.clone()?, b"adfrw")?;
+    Ok(Entry {
+        name,
+        kind: Some(Kind::File),
+        size: size_fact(tree, path),
+        modify: tree.stamp(path),
+        perm: Some(perm),
+    })
+}
+
+/// The permissions of a directory (RFC 3659, section 7.5.5).
+fn dir_perm<A: Allocator>(path: &Path<A>) -> &'static [u8]
+    requires { IsTrue (list_all is_component path.now) }
+    ensures perm { result.now ≡ perm_of path.now Dir }
+    ensures value { IsValue result.now }
+{
+    if is_root(path) { b"celmp" } else { b"cdeflmp" }
+}
+
+/// The size of the file at a path, where it can be said.
+fn size_fact<A: Allocator, T: Tree<A>>(tree: &T, path: &Path<A>) -> Option<u64>
+    ensures value { result ≡ option_and_then size_fact (size_at (T.table tree.now) path.now) }
+    ensures fits { ForSome result (λ size. size < 1_000_000_000_000_000_000) }
+{
+    match tree.size(path) {
+        Some(size) => { if is_number(size) { Some(size) } else { None } }
+        None => None,
+    }
+}
+
+/// The entries of a directory.
+fn entries<A: Allocator + Clone, T: Tree<A>>(
+    alloc: &A,
+    tree: &T,
+    path: &Path<A>,
+) -> Result<Vec<Entry<A>, A>, AllocError>
+    requires { IsTrue (list_all is_component path.now) }
+    ensures { IfOk result (λ entries. map listed_of entries.items ≡ entries_in (T.table tree.now) path.now) }
+{
+    let names = names_in(alloc, tree, path)?;
+    let mut entries = Vec::new(alloc.clone()?);
+    for name in &names {
+        push_some(&mut entries, entry_in(alloc, tree, path, name)?)?;
+    }
+    Ok(entries)
+}
+
+/// The entry of a name in a directory, where its path is within the limits of paths.
+fn entry_in<A: Allocator + Clone, T: Tree<A>>(
+    alloc: &A,
+    tree: &T,
+    path: &Path<A>,
+    name: &Text<A>,
+) -> Result<Option<Entry<A>>, AllocError>
+    requires path { IsTrue (list_all is_component path.now) }
+    requires name { IsTrue (is_name name.now) }
+    ensures { IfOk result (λ entry. option_map listed_of entry ≡ entry_in (T.table tree.now) path.now name.now) }
+{
+    let Some(child) = find(alloc, path, name)? else {
+        return Ok(None);
+    };
+    Ok(Some(entry(alloc, tree, &child, name.as_slice())?))
+}
+
+/// The text of a file, or the pathnames of a directory's files.
+fn pathnames<A: Allocator + Clone, T: Tree<A>>(
+    alloc: &A,
+    tree: &T,
+    path: &Path<A>,
+    text: &Text<A>,
+) -> Result<Vec<Text<A>, A>, AllocError>
+    requires { IsTrue (list_all is_component path.now) }
+    ensures { IfOk result (λ names. names.items ≡ names_for (T.table tree.now) path.now text.now) }
+{
+    if !is_file(tree, path) {
+        return files(alloc, tree, path, text);
+    }
+    let mut names = Vec::new(alloc.clone()?);
+    names.push(Text::copy_of(alloc.clone()?, text.as_slice())?)?;
+    Ok(names)
+}
+
+/// The pathnames of a directory's files.
+fn files<A: Allocator + Clone, T: Tree<A>>(
+    alloc: &A,
+    tree: &T,
+    path: &Path<A>,
+    text: &Text<A>,
+) -> Result<Vec<Text<A>, A>, AllocError>
+    requires { IsTrue (list_all is_component path.now) }
+    ensures { IfOk result (λ files. files.items ≡ filter_map (file_in (T.table tree.now) path.now text.now) (children (T.table tree.now) path.now)) }
+{
+    let names = names_in(alloc, tree, path)?;
+    let mut files = Vec::new(alloc.clone()?);
+    for name in &names {
+        push_some(&mut files, file_in(alloc, tree, path, text, name)?)?;
+    }
+    Ok(files)
+}
+
+/// The pathname of a name in a directory, where it is a file's.
+fn file_in<A: Allocator + Clone, T: Tree<A>>(
+    alloc: &A,
+    tree: &T,
+    path: &Path<A>,
+    text: &Text<A>,
+    name: &Text<A>,
+) -> Result<Option<Text<A>>, AllocError>
+    requires path { IsTrue (list_all is_component path.now) }
+    requires name { IsTrue (is_name name.now) }
+    ensures { IfOk result (λ file. file ≡ file_in (T.table tree.now) path.now text.now name.now) }
+{
+    let Some(child) = find(alloc, path, name)? else {
+        return Ok(None);
+    };
+    if !is_file(tree, &child) {
+        return Ok(None);
+    }
+    Ok(Some(behind(alloc, text.as_slice(), name.as_slice())?))
+}
+
+/// A name behind the text that names its directory, with a `/` between them.
+fn behind<A: Allocator + Clone>(alloc: &A, text: &[u8], name: &[u8]) -> Result<Text<A>, AllocError>
+    ensures { IfOk result (λ joined. joined ≡ behind text.now name.now) }
+{
+    let mut joined = Vec::from_slice(alloc.clone()?, text)?;
+    if !text.is_empty() && !text.ends_with(b"/") {
+        joined.push(b'/')?;
+    }
+    joined.extend_from_slice(name)?;
+    Text::copy_of(alloc.clone()?, joined.as_slice())
+}
+
+/// The names in a directory, in the order of their octets.
+fn names_in<A: Allocator + Clone, T: Tree<A>>(
+    alloc: &A,
+    tree: &T,
+    path: &Path<A>,
+) -> Result<Vec<Text<A>, A>, AllocError>
+    ensures names { IfOk result (λ names. names.items ≡ children (T.table tree.now) path.now) }
+    ensures named { IfOk result (λ names. IsTrue (list_all is_name names.items)) }
+{
+    let mut names = Vec::new(alloc.clone()?);
+    while let Some(name) = tree.nth_name(path, names.len()) {
+        names.push(Text::copy_of(alloc.clone()?, name.octets())?)?;
+    }
+    Ok(names)
+}
+
+/// Puts an item behind the others, if there is one.
+fn push_some<X: Drop, A: Allocator>(list: &mut Vec<X, A>, item: Option<X>) -> Result<(), AllocError>
+    ensures { OnOk result (list.new.items ≡ list.old.items ++ option_to_list item) }
+{
+    if let Some(item) = item {
+        list.push(item)?;
+    }
+    Ok(())
+}
