@@ -1,0 +1,12 @@
+pub mod ClientRows
+pub mod ServerRows
+pub mod DecoderLemmas
+pub mod WireLemmas
+pub mod EarLemmas
+pub mod AgreementLemmas
+pub mod ReaderLemmas
+pub mod RowNumbers
+pub mod ServerUploads
+pub mod WorldRows
+pub mod ReadingLemmas
+pub mod ClientNumbers

@@ -1,0 +1,8 @@
+use Rattle.ftp_protocol.proofs.ReadingLemmas.{one_reading, reads_stated}
+use Rattle.ftp_protocol.proofs.laws.reading.Goals as goal
+
+pub returns-clause-one : goal.returns-clause-one
+returns-clause-one c = one_reading
+
+pub returns-clause-stated : goal.returns-clause-stated
+returns-clause-stated c = reads_stated

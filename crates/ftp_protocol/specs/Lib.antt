@@ -1,0 +1,7 @@
+pub mod Settings
+pub mod Ear
+pub mod Decoder
+pub mod Link
+pub mod server
+pub mod client
+pub mod world

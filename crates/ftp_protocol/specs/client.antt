@@ -1,0 +1,13 @@
+-- The client's machine. The files are in the order in which they are to be read.
+pub mod Values
+pub mod Listing
+pub mod Replies
+pub mod View
+pub mod Plan
+pub mod Moving
+pub mod Dialogue
+pub mod Calls
+pub mod Failing
+pub mod Bounds
+pub mod Laws
+pub mod Rows

@@ -1,0 +1,93 @@
+-- How much a client has still to do, whatever comes of it: what is begun, and what is given. A world of both ends comes to rest by
+-- these numbers, and needs no clause of its own for it.
+use Rattle.std.specs.Prelude.{ℕ, ◌+◌, ◌<◌, ◌≤◌, ◌⊎◌, length, if◌then◌else◌}
+use Rattle.ftp_endpoint.specs.declared.host.Host.{Host}
+use Rattle.ftp_protocol.specs.client.Calls.{hears_octet, listening, listen_refused, data_opened, data_refused, data_end, data_fault, receives_octet, gives_data, control_end}
+use Rattle.ftp_protocol.specs.client.View.{View, Job, Idle, Waiting, Doing, Moving, Told, Flow, Up, Down, stands}
+use Rattle.ftp_protocol.specs.declared.client.Replied.{Replied}
+use Rattle.ftp_protocol.specs.declared.client.Replied.TheVariants as Replies
+use Rattle.ftp_protocol.specs.declared.client.Standing.{Standing}
+use Rattle.ftp_protocol.specs.declared.client.Standing.TheVariants as Stands
+use Rattle.ftp_protocol.specs.declared.client.Step.{Step}
+use Rattle.ftp_protocol.specs.declared.client.Step.TheVariants as Steps
+
+-- ---- what is still to begin: commands, openings and transfers
+
+-- of the login: USER and PASS
+abbrev pub login_left : Standing → ℕ
+login_left Stands.Greeting = 2
+login_left Stands.User = 1
+login_left other = 0
+
+-- behind a step of an operation
+abbrev pub steps_left : Step → ℕ
+steps_left Steps.Kind = 7
+steps_left Steps.Structure = 6
+steps_left Steps.Mode = 5
+steps_left Steps.Listen = 4
+steps_left Steps.Passive = 4
+steps_left Steps.Port = 3
+steps_left Steps.Connect = 3
+steps_left Steps.Restart = 2
+steps_left Steps.Source = 2
+steps_left Steps.Last = 0
+
+-- a transfer whose 1yz is awaited has still to begin. (An operation that sends an ABOR has that still to begin, and an upload over
+-- breaks all commands of the tries that are left.)
+abbrev pub transfer_left : Replied → ℕ
+transfer_left Replies.Nothing = 1
+transfer_left other = 0
+
+abbrev pub job_left : Job → ℕ
+job_left Idle = 0
+job_left (Waiting op) = 9
+job_left (Doing op step) = steps_left step
+job_left (Moving op transfer) = transfer_left transfer.replied
+job_left (Told answer) = 0
+
+abbrev pub to_begin : View → ℕ
+to_begin v = login_left v.standing + job_left v.job
+
+-- ---- what is still to be given, if nothing more is taken: octets, and a close
+
+abbrev pub octets_left : Flow → ℕ
+octets_left (Up left mark) = length left
+octets_left (Down decoder mark) = 0
+
+abbrev pub upload_left : Job → ℕ
+upload_left (Moving op transfer) = octets_left transfer.flow
+upload_left other = 0
+
+abbrev pub closes_left : View → ℕ
+closes_left v = (if v.closing then 1 else 0) + (if stands v.link then 1 else 0)
+
+abbrev pub still_to_give : View → ℕ
+still_to_give v = length v.owed + upload_left v.job + closes_left v
+
+-- ---- the laws
+
+-- a call gives more to do only where it begins something; the answer that a Telnet octet is owed has three octets at most
+pub record Lowers (most : ℕ) (old new : View) : Type 0 where
+  pub begins : to_begin new ≤ to_begin old
+  pub gives : (to_begin new < to_begin old) ⊎ (still_to_give new ≤ still_to_give old + most)
+
+abbrev pub HearingLowers : Type 0
+HearingLowers = (v : View) (octet : ℕ) → Lowers 3 v (hears_octet v octet)
+
+abbrev pub ReceivingLowers : Type 0
+ReceivingLowers = (v : View) (octet : ℕ) → Lowers 0 v (receives_octet v octet)
+
+-- so does each event of the data connection, and the end of the control connection; a port that is told, and a link that is
+-- opened, are a close more
+pub record EventsLower (v : View) : Type 0 where
+  pub listening_lowers : (port : ℕ) → Lowers 1 v (listening port v)
+  pub refused_lowers : Lowers 0 v (listen_refused v)
+  pub opened_lowers : (host : Host) → Lowers 1 v (data_opened host v)
+  pub unopened_lowers : Lowers 0 v (data_refused v)
+  pub end_lowers : Lowers 0 v (data_end v)
+  pub fault_lowers : Lowers 0 v (data_fault v)
+  pub control_end_lowers : Lowers 0 v (control_end v)
+  pub gives_lowers : (count : ℕ) → Lowers 0 v (gives_data count v)
+
+abbrev pub CallsLower : Type 0
+CallsLower = (v : View) → EventsLower v

@@ -1,0 +1,25 @@
+-- TYPE, STRU, MODE (RFC 959, section 4.1.2) and OPTS (RFC 2389, section 4; RFC 3659, section 7.9).
+use Rattle.std.specs.Prelude.{Option, Some, None}
+use Rattle.ftp_command.specs.declared.command.Kind.{Kind}
+use Rattle.ftp_command.specs.declared.command.Structure.{Structure}
+use Rattle.ftp_command.specs.declared.command.Mode.{Mode}
+use Rattle.ftp_protocol.specs.Settings.{kind_of, structure_of, mode_of}
+use Rattle.ftp_protocol.specs.server.View.{Session}
+use Rattle.ftp_protocol.specs.server.Replies.{Turn, tells}
+use Rattle.ftp_protocol.specs.declared.said.Text.TheVariants as Texts
+use Rattle.ftp_protocol.specs.declared.said.Said.TheVariants as Say
+use Rattle.ftp_protocol.specs.declared.session.Facts.{Facts}
+
+abbrev pub set_kind : Kind → Session → Turn
+set_kind kind v = tells Texts.TypeSet (record v { settings = record v.settings { kind = kind_of kind } })
+
+abbrev pub set_structure : Structure → Session → Turn
+set_structure structure v = tells Texts.StructureSet (record v { settings = record v.settings { structure = structure_of structure } })
+
+abbrev pub set_mode : Mode → Session → Turn
+set_mode mode v = tells Texts.ModeSet (record v { settings = record v.settings { mode = mode_of mode } })
+
+-- OPTS: facts are chosen, or the option is not known
+abbrev pub choose : Option Facts → Session → Turn
+choose (Some facts) v = (record v { facts = facts }, Say.Chosen)
+choose None v = tells Texts.BadArgument v

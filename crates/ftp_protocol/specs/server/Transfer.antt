@@ -1,0 +1,111 @@
+-- How a transfer begins: REST (RFC 3659, section 5), RETR, STOR, APPE, LIST, NLST, MLSD (RFC 959, section 4.1.3).
+use Rattle.std.specs.Prelude.{ℕ, List, drop, length, Option, Some, None, if◌then◌else◌}
+use Rattle.ftp_tree.specs.Tree.{Names, octets_or_none, room_refusal}
+use Rattle.ftp_direct.specs.Direct.{refusal, refused_room, limited, or_code, past_refusal, front_code, offset_refusal, named_or_here}
+use Rattle.ftp_direct.specs.declared.op.Op.TheVariants as Ops
+use Rattle.ftp_mode.specs.Block.{marked_text}
+use Rattle.ftp_mode.specs.Laws.{wire}
+use Rattle.ftp_protocol.specs.Settings.{form_of, has_markers}
+use Rattle.ftp_protocol.specs.Decoder.{no_octets}
+use Rattle.ftp_protocol.specs.server.View.{Move, Session, direct_of, how_of}
+use Rattle.ftp_protocol.specs.server.Replies.{Turn, tells}
+use Rattle.ftp_protocol.specs.server.Endpoint.{forgotten}
+use Rattle.ftp_protocol.specs.server.Walk.{unless, path_of}
+use Rattle.ftp_protocol.specs.server.Ask.{given}
+use Rattle.ftp_protocol.specs.server.Listing.{listing_wire, list_lines, entry_lines, name_lines}
+use Rattle.ftp_protocol.specs.declared.settings.Settings.{Settings}
+use Rattle.ftp_protocol.specs.declared.said.Text.TheVariants as Texts
+use Rattle.ftp_protocol.specs.declared.said.Said.TheVariants as Say
+use Rattle.ftp_protocol.specs.declared.session.Once.{Once}
+use Rattle.ftp_protocol.specs.declared.session.Once.TheVariants as Onces
+use Rattle.ftp_protocol.specs.declared.session.Transfer.TheVariants as Moves
+use Rattle.ftp_protocol.specs.declared.session.Way.TheVariants as Ways
+use Rattle.ftp_protocol.specs.declared.session.Link.{Link}
+use Rattle.ftp_protocol.specs.declared.session.Link.TheVariants as At
+
+-- ---- where a transfer begins in its file
+
+-- the place that REST named right before, or the file's start
+abbrev pub place_of : Once Names → ℕ
+place_of (Onces.Restart place) = place
+place_of Onces.Nothing = 0
+place_of (Onces.Rename from) = 0
+
+-- REST; own choice: another place than the start only in type I and file structure
+abbrev pub rests : Option ℕ → ℕ → Session → Turn
+rests None place v = (record v { once = Onces.Restart place }, Say.Restarting place)
+rests (Some code) place v = tells Texts.BadParameter v
+
+abbrev pub rest : ℕ → Session → Turn
+rest place v = rests (offset_refusal place (how_of v.settings)) place v
+
+-- ---- the data connection: at an endpoint, at a port, or by the link that is open already
+
+abbrev pub begin : Link Move → Move → Session → Turn
+begin At.Free move v = tells Texts.NoConnection v
+begin (At.Port endpoint) move v = tells Texts.Opens (record v { link = At.Opening move (Ways.To endpoint) })
+begin At.Door move v = tells Texts.Opens (record v { link = At.Opening move Ways.Door })
+begin At.Ready move v = tells Texts.Opens (record v { link = At.Moving move })
+begin (At.Asked asked) move v = tells Texts.NoConnection v
+begin (At.Opening other way) move v = tells Texts.NoConnection v
+begin (At.Moving other) move v = tells Texts.NoConnection v
+
+-- a transfer command forgets the endpoint where it is refused by path, and else uses it up (own choice)
+abbrev pub starts : Option ℕ → Move → Session → Turn
+starts None move v = begin v.link move v
+starts (Some code) move v = unless (Some code) (forgotten v) (tells Texts.Opens v)
+
+-- ---- downloads and listings: what is sent
+
+-- the octets of a file from a place on, in the representation in force; own choice: with markers, counted from that place,
+-- wherever the mode and the type have them
+abbrev pub file_wire : Settings → ℕ → List ℕ → List ℕ
+file_wire settings from octets = if has_markers settings then marked_text from octets else wire settings.mode (form_of settings) octets
+
+abbrev pub sent_from : Session → Names → ℕ → List ℕ
+sent_from v path place = file_wire v.settings place (drop place (octets_or_none v.table path))
+
+abbrev pub retr : Once Names → List ℕ → Session → Turn
+retr once text v =
+    starts (front_code (direct_of v) text (place_of once)) (Moves.Down (sent_from v (path_of v text) (place_of once))) v
+
+-- the path that an argument names which may be left out
+abbrev pub path_or_here : Session → Option (List ℕ) → Names
+path_or_here v text = named_or_here (direct_of v) (given text)
+
+abbrev pub list : Option (List ℕ) → Session → Turn
+list text v =
+    starts (refusal (direct_of v) (Ops.Names (given text) (how_of v.settings)))
+    (Moves.Listing (listing_wire v.settings.mode (list_lines v.table (path_or_here v text)))) v
+
+abbrev pub nlst : Option (List ℕ) → Session → Turn
+nlst text v =
+    starts (refusal (direct_of v) (Ops.Names (given text) (how_of v.settings)))
+    (Moves.Listing (listing_wire v.settings.mode (name_lines v.table (path_or_here v text) (given text)))) v
+
+abbrev pub mlsd : Option (List ℕ) → Session → Turn
+mlsd text v =
+    starts (refusal (direct_of v) (Ops.List (given text) (how_of v.settings)))
+    (Moves.Listing (listing_wire v.settings.mode (entry_lines v.facts v.table (path_or_here v text)))) v
+
+-- ---- uploads: held apart from the map until they end (own choice). An upload over breaks will ask for nothing else: SIZE,
+-- then REST and STOR
+
+-- why no octet at all can be put at a path
+abbrev pub room_code : Session → Names → Option ℕ
+room_code v path = refused_room (limited path (room_refusal v.table path))
+
+-- STOR: behind as many octets of the file there as REST named, which has to have so many
+abbrev pub stor_at : ℕ → Names → Session → Turn
+stor_at place path v =
+    starts (or_code (past_refusal (direct_of v) path place) (room_code v path)) (Moves.Up path place (no_octets v.settings)) v
+
+abbrev pub stor : Once Names → List ℕ → Session → Turn
+stor once text v = stor_at (place_of once) (path_of v text) v
+
+-- APPE: behind all octets of the file there
+abbrev pub appe_at : Names → Session → Turn
+appe_at path v = starts (room_code v path) (Moves.Up path (length (octets_or_none v.table path)) (no_octets v.settings)) v
+
+abbrev pub appe : List ℕ → Session → Turn
+appe text v = appe_at (path_of v text) v

@@ -1,0 +1,112 @@
+-- What is claimed of a session, in words that a reader can check: after every event the reports and the map agree with the
+-- operations that were begun; where nothing is in flight each of them has its report, and another can be begun; and without
+-- breaks, refusals and an end of the control connection that is the direct run. Want of memory and failures of a device are no
+-- events here: the ends' clauses hold where neither count changed.
+use Rattle.std.specs.Prelude.{◌≡◌, ℕ, ◌≤◌, List, [], ◌∷◌, length, None, IsTrue}
+use Rattle.ftp_endpoint.specs.declared.host.Host.{Host}
+use Rattle.ftp_endpoint.specs.declared.host.Host.TheVariants.{V4, V6}
+use Rattle.ftp_endpoint.specs.Written.{IsTypedHost}
+use Rattle.ftp_direct.specs.Account.{is_known, is_user, is_password}
+use Rattle.ftp_direct.specs.Answer.{Said}
+use Rattle.ftp_direct.specs.Direct.{State, start as direct_start, answers}
+use Rattle.ftp_tree.specs.Tree.{Table, IsTree, octets_in, total_limit}
+use Rattle.ftp_protocol.specs.client.View.{client}
+use Rattle.ftp_protocol.specs.server.Calls.{start}
+use Rattle.ftp_protocol.specs.server.Machine.{Reading, IsReading}
+use Rattle.ftp_protocol.specs.server.View.{Accounts}
+use Rattle.ftp_protocol.specs.world.Agreement.{Order, Agrees, WorldAgrees, IsDirect, Leads, AreHonest}
+use Rattle.ftp_protocol.specs.world.Events.{Event, Deliver, Open, End, IsQuiet, is_free}
+use Rattle.ftp_protocol.specs.world.World.{World, world, Mark}
+
+-- ---- how a session begins
+
+-- who logs in, the accounts, the map, and the hosts of the two ends
+pub record Beginning : Type 0 where
+  pub user : List ℕ
+  pub pass : List ℕ
+  pub accounts : Accounts
+  pub table : Table
+  pub near_host : Host
+  pub far_host : Host
+
+-- both hosts are of one family
+abbrev pub AreRelated : Host → Host → Type 0
+AreRelated (V4 one) (V4 other) = Unit {0}
+AreRelated (V6 one) (V6 other) = Unit {0}
+AreRelated one other = ⊥
+
+-- a login of the type, a map within the limits, hosts of one family
+pub record IsFair (b : Beginning) : Type 0 where
+  pub user : IsTrue (is_user b.user)
+  pub pass : IsTrue (is_password b.pass)
+  pub tree : IsTree b.table
+  pub octets : octets_in b.table ≤ total_limit
+  pub near_typed : IsTypedHost b.near_host
+  pub far_typed : IsTypedHost b.far_host
+  pub hosts : AreRelated b.near_host b.far_host
+
+-- the world of two ends as they begin, each the other's peer
+abbrev pub world_of : Beginning → World
+world_of b = world (client b.user b.pass b.near_host b.far_host) (start b.table b.accounts b.far_host b.near_host)
+
+-- where the direct run begins
+abbrev pub state_of : Beginning → State
+state_of b = direct_start b.table (is_known b.accounts b.user b.pass)
+
+-- ---- the claims
+
+-- something holds of every list of events, the operations that they began and the world that they lead to; `read` is how the
+-- server reads its lines
+abbrev pub Always : (Reading → Beginning → List Event → List Order → World → Type 0) → Type 0
+Always Holds =
+    (read : Reading) → IsReading read → (b : Beginning) → IsFair b
+    → (events : List Event) (begun : List Order) (w : World) → Leads read (world_of b) events begun w → Holds read b events begun w
+
+-- any moment, any break: after every event of every list there is agreement
+abbrev pub AgreesAlways : Type 0
+AgreesAlways = Always (λ read b events begun w. WorldAgrees (state_of b) begun w)
+
+-- where nothing is in flight each operation begun has its report, and another is possible
+pub record IsAnswered (begun : List Order) (w : World) : Type 0 where
+  pub reported : length w.reports ≡ length begun
+  pub free : IsTrue (is_free w)
+
+abbrev pub QuietIsAnswered : Type 0
+QuietIsAnswered = Always (λ read b events begun w. IsQuiet w → IsAnswered begun w)
+
+-- nothing but deliveries, openings and ends
+abbrev pub IsSettling : Event → Type 0
+IsSettling (Deliver queue count) = Unit {0}
+IsSettling Open = Unit {0}
+IsSettling (End queue) = Unit {0}
+IsSettling event = ⊥
+
+abbrev pub AreSettling : List Event → Type 0
+AreSettling [] = Unit {0}
+AreSettling (event ∷ events) = IsSettling event × AreSettling events
+
+-- from every world such events lead to one in which nothing is in flight
+abbrev pub Settles : Reading → World → Type 0
+Settles read w = (events : List Event) × (new : World) × AreSettling events × Leads read w events [] new × IsQuiet new
+
+abbrev pub SettlesAlways : Type 0
+SettlesAlways = Always (λ read b events begun w. Settles read w)
+
+-- the headline: on honest connections, once nothing is in flight, the reports and the map are those of the direct run
+abbrev pub Headline : Type 0
+Headline = Always (λ read b events begun w. AreHonest events → IsQuiet w → IsDirect (state_of b) begun w)
+
+-- ---- the headline is agreement without marks
+
+abbrev pub AreUnmarked : List (List Mark) → Type 0
+AreUnmarked [] = Unit {0}
+AreUnmarked (marks ∷ more) = (marks ≡ []) × AreUnmarked more
+
+-- the answers and the map of the direct run
+abbrev pub AreAnswers : State → List Order → List Said → Table → Type 0
+AreAnswers from begun reports table = (reports ≡ (answers from begun).0) × (table ≡ (answers from begun).1.table)
+
+abbrev pub UnmarkedIsDirect : Type 0
+UnmarkedIsDirect =
+    (from : State) (begun : List Order) (marks : List (List Mark)) (reports : List Said) (table : Table)
+    → AreUnmarked marks → length reports ≡ length begun → Agrees from begun marks None reports table → AreAnswers from begun reports table

@@ -1,0 +1,7 @@
+//! Laws of the functions by which a client reads replies: functions that do nothing, whose contracts are laws of `specs/client`.
+ghost use Rattle.ftp_protocol.specs.client.Laws.{NumberIsRead};
+
+/// A number is read just where the text says one.
+pub fn number()
+    ensures { NumberIsRead }
+{}

@@ -1,0 +1,32 @@
+//! What holds of the line reader and of the decoder: functions that do nothing, whose contracts are laws.
+ghost use Rattle.ftp_protocol.specs.Ear.{EarGivesEvents, ReaderIsEar};
+ghost use Rattle.ftp_protocol.specs.Decoder.{DecodesWhatIsSettled, WireGivesFile, MarkedWireGivesFile, FrontGivesFront, MarkedFrontGivesFront};
+ghost use Rattle.ftp_protocol.specs.server.Machine.{OneReading, ReadsStated};
+
+use ftp_nvt::Ear;
+use std::alloc::Allocator;
+
+/// The ear gives, octet by octet, what all octets say.
+pub fn ear()
+    ensures { EarGivesEvents }
+{}
+
+/// The reader of a control connection is seen as the ear behind what it has heard.
+pub fn reader<A: Allocator>(reader: &Ear<A>)
+    ensures { ReaderIsEar reader.now }
+{}
+
+/// A decoder has settled what the wire settles that came, and the one text of a file, ended, gives the file.
+pub fn decoder()
+    ensures settled { DecodesWhatIsSettled }
+    ensures whole { WireGivesFile }
+    ensures marked { MarkedWireGivesFile }
+    ensures front { FrontGivesFront }
+    ensures marked_front { MarkedFrontGivesFront }
+{}
+
+/// Lines are read in one way, and the line of a command as that command.
+pub fn reading()
+    ensures one { OneReading }
+    ensures stated { ReadsStated }
+{}

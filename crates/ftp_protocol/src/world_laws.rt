@@ -1,0 +1,7 @@
+//! Laws of what is claimed of a session: functions that do nothing, whose contracts are laws of `specs/world`.
+ghost use Rattle.ftp_protocol.specs.world.Claims.{UnmarkedIsDirect};
+
+/// Without breaks, refusals and an end of the control connection, agreement is the direct run.
+pub fn unmarked_agreement_is_the_direct_run()
+    ensures { UnmarkedIsDirect }
+{}
