@@ -110,3 +110,7 @@ abbrev pub UnmarkedIsDirect : Type 0
 UnmarkedIsDirect =
     (from : State) (begun : List Order) (marks : List (List Mark)) (reports : List Said) (table : Table)
     → AreUnmarked marks → length reports ≡ length begun → Agrees from begun marks None reports table → AreAnswers from begun reports table
+
+-- so the headline follows from agreement at any moment, and from what holds where nothing is in flight
+abbrev pub HeadlineFollows : Type 0
+HeadlineFollows = AgreesAlways → QuietIsAnswered → Headline
