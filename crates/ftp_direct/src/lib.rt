@@ -21,3 +21,6 @@ pub use answer::Answer;
 pub use direct_run::direct;
 pub use laws::steady_run;
 pub use op::{How, Op};
+
+#[cfg(test)]
+mod tests;

@@ -1,0 +1,3 @@
+mod accounts;
+mod operations;
+mod rows;
