@@ -108,7 +108,8 @@ delivers_clean : (zero_count : Bool) (read : Reading) (queue : Queue) (count : �
     → DeliversBy zero_count read queue count old new → Clean old → Clean new
 delivers_clean true read queue count old new m c = subst Clean (sym m.is) (settled_clean _ (pulled_clean queue old m.gave c))
 delivers_clean false read queue count old new d c =
-    subst Clean (sym d.is) (settled_clean _ (pushed_clean read queue d.taken _ (filled_clean queue old d.counts c)))
+    let full = filled_clean queue old d.counts c in
+    subst Clean (sym d.is) (settled_clean _ (pushed_clean read queue d.taken _ (record { marks = full.marks; cutoff = full.cutoff })))
 
 does_clean : (read : Reading) (event : Event) (old new : World) → IsHonest event → Does read event old new → Clean old → Clean new
 does_clean read (Deliver queue count) old new honest does c = delivers_clean _ read queue count old new does c
@@ -122,7 +123,7 @@ does_clean read (Next op moment) old new honest does c =
 
 happens_clean : (read : Reading) (event : Event) (old new : World) (possible : Bool) → IsHonest event
     → Happens read event old possible new → Clean old → Clean new
-happens_clean read event old new true honest happens c = does_clean read event old new honest happens.1 c
+happens_clean read event old new true honest happens c = does_clean read event _ new honest happens.1 (record { marks = c.marks; cutoff = c.cutoff })
 happens_clean read event old new false honest happens c = subst Clean (sym happens.1) c
 
 leads_clean : (read : Reading) (w : World) (events : List Event) (begun : List Order) (new : World) → AreHonest events
@@ -132,10 +133,10 @@ leads_clean read w (event ∷ events) begun new honest leads c =
     leads_clean read leads.1 events leads.2 new honest.1 leads.5 (happens_clean read event w leads.1 leads.0 honest.0 leads.3 c)
 
 pub headline_follows : HeadlineFollows
-headline_follows agrees answered read is b fair events begun w leads honest quiet =
+headline_follows agrees answered read is b fair events begun w timed leads honest quiet =
     let clean = leads_clean read (world_of b) events begun w honest leads (record { marks = tt; cutoff = refl }) in
-    let agree : WorldAgrees (state_of b) begun w = agrees read is b fair events begun w leads in
-    let done = answered read is b fair events begun w leads quiet in
+    let agree : WorldAgrees (state_of b) begun w = agrees read is b fair events begun w timed leads in
+    let done = answered read is b fair events begun w timed leads quiet in
     let direct = unmarked_is_direct (state_of b) begun w.marks w.reports w.far.session.table clean.marks done.reported
     (subst (λ cutoff. Agrees (state_of b) begun w.marks cutoff w.reports w.far.session.table) clean.cutoff agree) in
     record { reports = direct.0; table = direct.1 }

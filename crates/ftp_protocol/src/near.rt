@@ -7,8 +7,8 @@ ghost use Rattle.ftp_protocol.specs.client.View.{View};
 ghost use Rattle.std.specs.Option.{option_map};
 
 use crate::Wants;
-use ftp_endpoint::Host;
 use ftp_direct::{Answer, Op};
+use ftp_endpoint::Host;
 use ftp_facts::Text;
 use std::alloc::Allocator;
 

@@ -115,7 +115,7 @@ unless_closing f v = if v.closing then v else f v
 
 -- a port is listened at: PORT names it
 abbrev pub door_by : Link → Job → ℕ → View → View
-door_by Links.Asked (Doing op step) port v = goes_on op Steps.Listen (record v { link = Links.Door port })
+door_by Links.Asked (Doing op Steps.Listen) port v = goes_on op Steps.Listen (record v { link = Links.Door port })
 door_by link job port v = v
 
 unfoldable pub listening : ℕ → View → View
@@ -131,7 +131,7 @@ listen_refused v = unless_closing (λ v. doorless_by v.link v) v
 
 -- the link that the client opened is there, and the next command is sent
 abbrev pub connected : Job → View → View
-connected (Doing op step) v = goes_on op Steps.Connect (record v { link = Links.Open })
+connected (Doing op Steps.Connect) v = goes_on op Steps.Connect (record v { link = Links.Open })
 connected job v = v
 
 -- own choice: the link at the client's port has to come from the server's host, and another is closed

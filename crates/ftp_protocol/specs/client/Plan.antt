@@ -82,25 +82,28 @@ opening_of None op = alone_step op
 opening_of (Some how) op = opening_step how
 
 -- TYPE, STRU and MODE in that order, each only where it differs from the last that the server accepted
-abbrev pub setting_step : (now wanted : Settings) → Step → Step
-setting_step now wanted behind =
-    if not (same_kind now.kind wanted.kind) then Steps.Kind
-    else (if not (same_structure now.structure wanted.structure) then Steps.Structure
-    else (if not (same_mode now.mode wanted.mode) then Steps.Mode else behind))
+abbrev pub from_mode : (now wanted : Settings) → Step → Step
+from_mode now wanted behind = if same_mode now.mode wanted.mode then behind else Steps.Mode
 
-abbrev pub first_step_by : Option Settings → Settings → Op (List ℕ) → Step
-first_step_by None now op = opening_of (how_of op) op
-first_step_by (Some wanted) now op = setting_step now wanted (opening_of (how_of op) op)
+abbrev pub from_structure : (now wanted : Settings) → Step → Step
+from_structure now wanted behind = if same_structure now.structure wanted.structure then from_mode now wanted behind else Steps.Structure
+
+abbrev pub from_kind : (now wanted : Settings) → Step → Step
+from_kind now wanted behind = if same_kind now.kind wanted.kind then from_structure now wanted behind else Steps.Kind
+
+abbrev pub step_by : (Settings → Settings → Step → Step) → Option Settings → Settings → Op (List ℕ) → Step
+step_by from None now op = opening_of (how_of op) op
+step_by from (Some wanted) now op = from now wanted (opening_of (how_of op) op)
 
 -- the first step of an operation, where the server has these settings
 abbrev pub first_step : Settings → Op (List ℕ) → Step
-first_step now op = first_step_by (asked_settings op) now op
+first_step now op = step_by from_kind (asked_settings op) now op
 
 -- the step behind one that was answered well
 abbrev pub next_step : Settings → Op (List ℕ) → Step → Step
-next_step now op Steps.Kind = first_step now op
-next_step now op Steps.Structure = first_step now op
-next_step now op Steps.Mode = first_step now op
+next_step now op Steps.Kind = step_by from_structure (asked_settings op) now op
+next_step now op Steps.Structure = step_by from_mode (asked_settings op) now op
+next_step now op Steps.Mode = opening_of (how_of op) op
 next_step now op Steps.Listen = Steps.Port
 next_step now op Steps.Port = behind_opening (offset_of op)
 next_step now op Steps.Passive = Steps.Connect

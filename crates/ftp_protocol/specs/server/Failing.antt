@@ -12,8 +12,8 @@ use Rattle.ftp_protocol.specs.Ear.{ear_step, ear_out}
 use Rattle.ftp_protocol.specs.server.View.{Move, Session, View, line_limit}
 use Rattle.ftp_protocol.specs.server.Endpoint.{forgotten, unlinked}
 use Rattle.ftp_protocol.specs.server.Act.{forgets}
-use Rattle.ftp_protocol.specs.server.Machine.{owes, replied, later, is_idle, is_abor, is_moving, heard_line, abort_said, Reading, lost}
-use Rattle.ftp_protocol.specs.server.Calls.{link_of, receives_octet, takes_given, takes_all, with_link}
+use Rattle.ftp_protocol.specs.server.Machine.{owes, replied, later, may_hear, is_idle, is_abor, is_moving, heard_line, abort_said, Reading, lost}
+use Rattle.ftp_protocol.specs.server.Calls.{link_of, may_receive, receives_octet, takes_given, takes_all, with_link}
 use Rattle.ftp_protocol.specs.declared.heard.Heard.{Heard}
 use Rattle.ftp_protocol.specs.declared.heard.Heard.TheVariants.{TooLong, Bad, Asks}
 use Rattle.ftp_protocol.specs.declared.said.Text.TheVariants as Texts
@@ -147,10 +147,10 @@ EventsAreHeard read (event ∷ events) v w = (x : View) × EventIsHeard read eve
 abbrev pub OctetIsHeard : Reading → View → ℕ → View → Type 0
 OctetIsHeard read v octet w = EventsAreHeard read (ear_out line_limit v.ear octet) (record v { ear = ear_step line_limit v.ear octet }) w
 
--- control octets in order
+-- control octets in order, each of which may be heard when its turn comes
 abbrev pub AreHeard : Reading → View → List ℕ → View → Type 0
 AreHeard read v [] w = w ≡ v
-AreHeard read v (octet ∷ octets) w = (x : View) × OctetIsHeard read v octet x × AreHeard read x octets w
+AreHeard read v (octet ∷ octets) w = (may_hear v ≡ true) × (x : View) × OctetIsHeard read v octet x × AreHeard read x octets w
 
 -- one data octet
 abbrev pub OctetIsReceived : View → ℕ → View → Type 0
@@ -158,4 +158,4 @@ OctetIsReceived v octet w = (w ≡ receives_octet v octet) ⊎ UploadFails (link
 
 abbrev pub AreReceived : View → List ℕ → View → Type 0
 AreReceived v [] w = w ≡ v
-AreReceived v (octet ∷ octets) w = (x : View) × OctetIsReceived v octet x × AreReceived x octets w
+AreReceived v (octet ∷ octets) w = (may_receive v ≡ true) × (x : View) × OctetIsReceived v octet x × AreReceived x octets w

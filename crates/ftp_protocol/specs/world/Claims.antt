@@ -2,20 +2,23 @@
 -- operations that were begun; where nothing is in flight each of them has its report, and another can be begun; and without
 -- breaks, refusals and an end of the control connection that is the direct run. Want of memory and failures of a device are no
 -- events here: the ends' clauses hold where neither count changed.
-use Rattle.std.specs.Prelude.{◌≡◌, ℕ, ◌≤◌, List, [], ◌∷◌, length, None, IsTrue}
+use Rattle.std.specs.Prelude.{◌≡◌, ℕ, ◌≤◌, ◌&&◌, Bool, true, nat_le, List, [], ◌∷◌, length, None, IsTrue}
 use Rattle.ftp_endpoint.specs.declared.host.Host.{Host}
 use Rattle.ftp_endpoint.specs.declared.host.Host.TheVariants.{V4, V6}
 use Rattle.ftp_endpoint.specs.Written.{IsTypedHost}
 use Rattle.ftp_direct.specs.Account.{is_known, is_user, is_password}
 use Rattle.ftp_direct.specs.Answer.{Said}
 use Rattle.ftp_direct.specs.Direct.{State, start as direct_start, answers}
-use Rattle.ftp_tree.specs.Tree.{Table, IsTree, octets_in, total_limit}
+use Rattle.std.specs.List.{list_all}
+use Rattle.std.specs.FinMap as fin
+use Rattle.ftp_tree.specs.Path.{is_name}
+use Rattle.ftp_tree.specs.Tree.{Names, Node, Dir, File, Table, IsTree, octets_in, total_limit}
 use Rattle.ftp_protocol.specs.client.View.{client}
 use Rattle.ftp_protocol.specs.server.Calls.{start}
 use Rattle.ftp_protocol.specs.server.Machine.{Reading, IsReading}
 use Rattle.ftp_protocol.specs.server.View.{Accounts}
 use Rattle.ftp_protocol.specs.world.Agreement.{Order, Agrees, WorldAgrees, IsDirect, Leads, AreHonest}
-use Rattle.ftp_protocol.specs.world.Events.{Event, Deliver, Open, End, IsQuiet, is_free}
+use Rattle.ftp_protocol.specs.world.Events.{Event, Deliver, Open, End, Next, IsQuiet, is_free}
 use Rattle.ftp_protocol.specs.world.World.{World, world, Mark}
 
 -- ---- how a session begins
@@ -35,12 +38,25 @@ AreRelated (V4 one) (V4 other) = Unit {0}
 AreRelated (V6 one) (V6 other) = Unit {0}
 AreRelated one other = ⊥
 
--- a login of the type, a map within the limits, hosts of one family
+-- the last second of a moment (own choice: the end of the year 9999)
+abbrev pub last_second : ℕ
+last_second = 253402300799
+
+-- a path of names, and of a file a moment
+abbrev pub is_sound_node : Node → Bool
+is_sound_node Dir = true
+is_sound_node (File octets moment) = nat_le moment last_second
+
+abbrev pub is_sound_entry : Names × Node → Bool
+is_sound_entry entry = list_all is_name entry.0 && is_sound_node entry.1
+
+-- a login of the type, a map of names and moments within the limits, hosts of one family
 pub record IsFair (b : Beginning) : Type 0 where
   pub user : IsTrue (is_user b.user)
   pub pass : IsTrue (is_password b.pass)
   pub tree : IsTree b.table
   pub octets : octets_in b.table ≤ total_limit
+  pub entries : IsTrue (list_all is_sound_entry (fin.entries b.table))
   pub near_typed : IsTypedHost b.near_host
   pub far_typed : IsTypedHost b.far_host
   pub hosts : AreRelated b.near_host b.far_host
@@ -55,12 +71,21 @@ state_of b = direct_start b.table (is_known b.accounts b.user b.pass)
 
 -- ---- the claims
 
+-- each operation is begun at a moment
+abbrev pub IsTimed : Event → Type 0
+IsTimed (Next op moment) = moment ≤ last_second
+IsTimed event = Unit {0}
+
+abbrev pub AreTimed : List Event → Type 0
+AreTimed [] = Unit {0}
+AreTimed (event ∷ events) = IsTimed event × AreTimed events
+
 -- something holds of every list of events, the operations that they began and the world that they lead to; `read` is how the
 -- server reads its lines
 abbrev pub Always : (Reading → Beginning → List Event → List Order → World → Type 0) → Type 0
 Always Holds =
     (read : Reading) → IsReading read → (b : Beginning) → IsFair b
-    → (events : List Event) (begun : List Order) (w : World) → Leads read (world_of b) events begun w → Holds read b events begun w
+    → (events : List Event) (begun : List Order) (w : World) → AreTimed events → Leads read (world_of b) events begun w → Holds read b events begun w
 
 -- any moment, any break: after every event of every list there is agreement
 abbrev pub AgreesAlways : Type 0

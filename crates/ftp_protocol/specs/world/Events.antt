@@ -94,13 +94,17 @@ pub record Takes (read : Reading) (queue : Queue) (count : ℕ) (w : World) (tak
   pub may : MayTake read queue w taken
   pub some : 0 < count → IsTrue (is_some (in_queue queue w)) → IsTrue (may_take queue w) → 0 < taken
 
+-- the octets that a delivery took, out of a queue
+abbrev pub taking : Queue → ℕ → World → World
+taking queue count w = record w { taken = take count (in_queue queue w) }
+
 -- a delivery of so many octets: the queue is filled up to them, and the first are offered
 pub record Delivers (read : Reading) (queue : Queue) (count : ℕ) (old new : World) : Type 0 where
   pub counts : List ℕ
   pub taken : ℕ
   pub fills : Fills queue count old counts
   pub takes : Takes read queue count (filled queue old counts) taken
-  pub is : new ≡ settled (pushed read queue taken (filled queue old counts))
+  pub is : new ≡ settled (pushed read queue taken (taking queue taken (filled queue old counts)))
 
 -- own choice: a delivery of none moves what one call with 4,096 octets of room gives, and offers nothing
 pub record Moves (queue : Queue) (old new : World) : Type 0 where
@@ -229,9 +233,13 @@ Does read Break old new = new ≡ settled (breaks old)
 Does read EndControl old new = new ≡ settled (ends_control old)
 Does read (Next op moment) old new = new ≡ settled (begins op moment old)
 
+-- what the event before took is no longer lent
+abbrev pub lends_none : World → World
+lends_none w = record w { taken = [] }
+
 -- a step of a world: an event that is possible happens, and one that isn't changes nothing
 abbrev pub Happens : Reading → Event → World → Bool → World → Type 0
-Happens read event old true new = IsTrue (can_happen event old) × Does read event old new
+Happens read event old true new = IsTrue (can_happen event old) × Does read event (lends_none old) new
 Happens read event old false new = (can_happen event old ≡ false) × (new ≡ old)
 
 -- nothing is in flight: no octet moves, no link opens, and nobody is to be told of an end

@@ -25,7 +25,8 @@ pub data Mark : Type 0 where
 
 -- `asked` and `replied` are on their way over the control connection, `rising` and `falling` over the data link, each to the server
 -- and to the client; `came` counts the octets that were taken from the present link, `listens` the ports that were listened at;
--- `marks` are those of each operation begun; `cutoff` is how many were begun when the control connection ended
+-- `marks` are those of each operation begun; `cutoff` is how many were begun when the control connection ended; `taken` are the octets
+-- that the last event took, where it was a delivery
 pub record World : Type 0 where
   pub near : Near
   pub far : Far
@@ -40,6 +41,7 @@ pub record World : Type 0 where
   pub marks : List (List Mark)
   pub reports : List Said
   pub cutoff : Option ℕ
+  pub taken : List ℕ
 
 -- two ends as they begin
 abbrev pub world : Near → Far → World
@@ -57,6 +59,7 @@ world near far = record {
   marks = [];
   reports = [];
   cutoff = None;
+  taken = [];
 }
 
 -- a mark of the operation that was begun last
