@@ -1,3 +1,4 @@
 mod accounts;
+mod limits;
 mod operations;
 mod rows;
