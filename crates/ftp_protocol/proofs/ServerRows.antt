@@ -1,6 +1,6 @@
 -- The worked rows of a server, computed.
 use Rattle.std.proofs.Common.{◌≡◌, ℕ, List, [], ◌∷◌, ◌++◌, Option, Some, None, true, refl, ap, ◌∙◌}
-use Rattle.std.specs.Prelude.{codes, decimal, drop, map, nat_le, unwrap_or}
+use Rattle.std.specs.Prelude.{codes, decimal, drop, filter_map, nat_le, unwrap_or}
 use Rattle.ftp_command.specs.declared.command.Command.TheVariants as command
 use Rattle.ftp_command.specs.declared.command.Kind.TheVariants as Kinds
 use Rattle.ftp_command.specs.declared.command.Passive.TheVariants as Families
@@ -177,9 +177,9 @@ x_line size day =
 x_lines : (table : Table) → node_at table (of (codes "d")) ≡ Some Dir → children table (of (codes "d")) ≡ codes "x" ∷ []
     → node_at table (codes "d" ∷ codes "x" ∷ []) ≡ Some (File (codes "abc") 946684800)
     → list_lines table (of (codes "d")) ≡ x_line (decimal 3) (decimal 1) ∷ []
-unfolding year_and_place month_and_place
+unfolding year_and_place month_and_place fits text_of
 x_lines table d kids x =
-    ap (λ node. list_lines_at node table (of (codes "d"))) d ∙ ap (λ names. map (child_line table (of (codes "d"))) names) kids
+    ap (λ node. list_lines_at node table (of (codes "d"))) d ∙ ap (λ names. filter_map (child_line table (of (codes "d"))) names) kids
     ∙ ap (λ node. node_line (codes "x") (unwrap_or node Dir) ∷ []) x
 
 pub listing : Listing

@@ -13,13 +13,12 @@ use Rattle.ftp_mode.specs.declared.fault.FrameFault.{FrameFault}
 use Rattle.ftp_protocol.specs.Settings.{form_of}
 use Rattle.ftp_protocol.specs.declared.settings.Settings.{Settings}
 
--- where both readers stand, the octets of the file that are settled, and the last restart marker
+-- where both readers stand, and the octets of the file that are settled
 pub record Decoder : Type 0 where
   pub form : Form
   pub reading : Reading
   pub taking : Taking
   pub content : List ℕ
-  pub marked : Option (List ℕ)
 
 -- no octet came
 abbrev pub no_octets : Settings → Decoder
@@ -28,7 +27,6 @@ no_octets settings = record {
   reading = start settings.mode settings.structure;
   taking = fresh;
   content = [];
-  marked = None;
 }
 
 -- a sign of the file settles octets
@@ -41,7 +39,7 @@ with_sign d sign = record d {
 -- what the wire says: a sign of the file, or a restart marker, which is no part of it (RFC 959, section 3.5)
 abbrev pub with_said : Decoder → Said → Decoder
 with_said d (says sign) = with_sign d sign
-with_said d (marker text) = record d { marked = Some text }
+with_said d (marker text) = d
 
 abbrev pub with_all : Decoder → List Said → Decoder
 with_all d [] = d

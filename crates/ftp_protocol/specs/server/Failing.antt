@@ -128,9 +128,17 @@ HeardFails heard v w =
 abbrev pub LineIsHeard : Heard (List ℕ) → View → View → Type 0
 LineIsHeard heard v w = (w ≡ heard_line heard v) ⊎ HeardFails heard v w
 
--- a line whose command takes memory to hold, and which is read as none for want of it: the line is answered 451
+-- a command that holds a text; one without an argument takes no memory to be read
+abbrev pub holds_text : Command (List ℕ) → Bool
+holds_text (command.List text) = is_some text
+holds_text (command.Nlst text) = is_some text
+holds_text (command.Mlst text) = is_some text
+holds_text (command.Mlsd text) = is_some text
+holds_text other = may_fail other
+
+-- a line whose command takes memory to hold, and which is read as none for want of it: the line is answered 451 when its turn comes
 abbrev pub ReadingFails : Heard (List ℕ) → View → View → Type 0
-ReadingFails (Asks command) v w = (may_fail command ≡ true) × (w ≡ heard_line (Bad Faults.Memory) v)
+ReadingFails (Asks command) v w = (holds_text command ≡ true) × (w ≡ heard_line (Bad Faults.Memory) v)
 ReadingFails heard v w = ⊥
 
 -- an event of the ear

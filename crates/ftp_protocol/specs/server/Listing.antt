@@ -1,9 +1,10 @@
 -- What LIST, NLST and MLSD send (RFC 959, section 4.1.3; RFC 1123, section 4.1.2.7; RFC 3659, section 7).
-use Rattle.std.specs.Prelude.{ℕ, ◌+◌, ◌-◌, ◌*◌, ◌/◌, List, [], ◌∷◌, ◌++◌, length, take, drop, map, replicate, Option, Some, None, codes, decimal}
+use Rattle.std.specs.Prelude.{ℕ, ◌+◌, ◌-◌, ◌*◌, ◌/◌, List, [], ◌∷◌, ◌++◌, length, take, drop, map, replicate, Option, Some, None, codes, decimal, if◌then◌else◌}
 use Rattle.std.specs.Option.{unwrap_or}
-use Rattle.std.specs.List.{flat_map}
+use Rattle.std.specs.List.{flat_map, filter_map}
 use Rattle.ftp_facts.specs.Calendar.{year_and_place, month_and_place}
 use Rattle.ftp_facts.specs.Moment.{four_digits}
+use Rattle.ftp_tree.specs.Path.{fits}
 use Rattle.ftp_tree.specs.Tree.{Names, Node, Dir, File, Table, node_at, children}
 use Rattle.ftp_direct.specs.Direct.{entries_in, names_for, child}
 use Rattle.ftp_repr.specs.Signs.{Form}
@@ -67,9 +68,9 @@ abbrev pub node_line : List ℕ → Node → List ℕ
 node_line name (File octets moment) = list_line (codes "-rw-r--r--") (length octets) moment name
 node_line name Dir = list_line (codes "drwxr-xr-x") 0 0 name
 
--- the line of a name in a directory
-abbrev pub child_line : Table → Names → List ℕ → List ℕ
-child_line table path name = node_line name (unwrap_or (node_at table (child path name)) Dir)
+-- the line of a name in a directory; nothing is said of a path past the limits of paths (own choice)
+abbrev pub child_line : Table → Names → List ℕ → Option (List ℕ)
+child_line table path name = if fits (child path name) then Some (node_line name (unwrap_or (node_at table (child path name)) Dir)) else None
 
 -- the last component of a path
 abbrev pub last_name : Names → List ℕ
@@ -80,7 +81,7 @@ last_name (name ∷ next ∷ names) = last_name (next ∷ names)
 -- a line for each name of a directory, in the order of their octets, or the one of a file
 abbrev pub list_lines_at : Option Node → Table → Names → List (List ℕ)
 list_lines_at (Some (File octets moment)) table path = node_line (last_name path) (File octets moment) ∷ []
-list_lines_at (Some Dir) table path = map (child_line table path) (children table path)
+list_lines_at (Some Dir) table path = filter_map (child_line table path) (children table path)
 list_lines_at None table path = []
 
 abbrev pub list_lines : Table → Names → List (List ℕ)
