@@ -1,9 +1,11 @@
 pub mod AgreementLemmas
 pub mod ClientNumbers
 pub mod ClientRows
+pub mod CommandsInFlight
 pub mod DecoderLemmas
 pub mod EarLemmas
 pub mod HonestLemmas
+pub mod LineInFlight
 pub mod ReaderLemmas
 pub mod ReadingLemmas
 pub mod RowNumbers

@@ -1,15 +1,16 @@
 -- The reader of a control connection, octet by octet: Telnet octets are taken out and the rest is cut into lines (RFC 854,
 -- "The NVT printer and keyboard"; RFC 959, section 4). Both ends hear by it. Whatever it gives, over all octets, is what
 -- `ftp_nvt` says that they say: that is its law.
-use Rattle.std.specs.Prelude.{◌≡◌, ℕ, ◌+◌, ◌-◌, List, [], ◌∷◌, ◌++◌, map, length, take, ◌==◌, if◌then◌else◌}
+use Rattle.std.specs.Prelude.{◌≡◌, ◌≤◌, ℕ, ◌+◌, ◌-◌, List, [], ◌∷◌, ◌++◌, map, length, take, count_by, ◌==◌, if◌then◌else◌}
 use Rattle.std.specs.List.{flat_map}
-use Rattle.ftp_nvt.specs.Lines.{NvtEvent, line, too_long, owed, events}
+use Rattle.ftp_nvt.specs.Lines.{NvtEvent, line, too_long, owed, events, Lacks, written_line}
 use Rattle.ftp_nvt.specs.Telnet.{TelnetUnit, place_behind, unit_ended, bare_of, owed_of}
 use Rattle.ftp_nvt.specs.Ear.{HasHeard, limit_of}
 use Rattle.ftp_nvt.specs.declared.ear.Ear.{Ear as Reader}
 use Rattle.ftp_nvt.specs.declared.line.Stage.{Stage}
 use Rattle.ftp_nvt.specs.declared.line.Stage.TheVariants.{Start, Inside, AfterReturn, Past}
 use Rattle.ftp_nvt.specs.declared.line.TheConstants.{NUL, LF, CR}
+use Rattle.ftp_nvt.specs.declared.telnet.TheConstants.{IAC, WONT, DONT}
 use Rattle.ftp_nvt.specs.declared.telnet.Place.{Place}
 use Rattle.ftp_nvt.specs.declared.telnet.Place.TheVariants as At
 use Rattle.ftp_repr.specs.Machine.{Machine, after, gives}
@@ -122,3 +123,28 @@ EarGivesEvents = (limit : ℕ) (octets : List ℕ) → gives (ear limit) quiet o
 -- a reader that has heard octets is seen as the ear behind them
 abbrev pub ReaderIsEar : {A : Type 0} → Reader A → Type 0
 ReaderIsEar reader = (octets : List ℕ) → HasHeard reader octets → ear_of reader ≡ after (ear (limit_of reader)) quiet octets
+
+-- how many octets a text takes in its line, the end not counted: CR goes as CR NUL, and a doubled 255 is one
+abbrev pub line_len : List ℕ → ℕ
+line_len text = length text + count_by (λ c. c == CR) text
+
+-- a line as it is written, heard between two lines: of a front of it nothing is said, wherever it is cut; the whole says this
+-- line and no more, and the ear is between two lines again
+pub record HearsLine (limit : ℕ) (text : List ℕ) : Type 0 where
+  pub front : (front back : List ℕ) (octet : ℕ) → front ++ octet ∷ back ≡ written_line text → gives (ear limit) quiet front ≡ []
+  pub whole : gives (ear limit) quiet (written_line text) ≡ line text ∷ []
+  pub rest : after (ear limit) quiet (written_line text) ≡ quiet
+
+abbrev pub LineIsHeard : Type 0
+LineIsHeard = (limit : ℕ) (text : List ℕ) → Lacks LF text → line_len text + 2 ≤ limit → HearsLine limit text
+
+-- the answer to a Telnet octet, which the other end is owed: nothing is said of it, and nothing is owed to it
+abbrev pub answer_of : ℕ → ℕ → List ℕ
+answer_of verb octet = IAC ∷ verb ∷ octet ∷ []
+
+pub record HearsAnswer (limit verb octet : ℕ) : Type 0 where
+  pub front : (n : ℕ) → gives (ear limit) quiet (take n (answer_of verb octet)) ≡ []
+  pub rest : after (ear limit) quiet (answer_of verb octet) ≡ quiet
+
+abbrev pub AnswerIsDropped : Type 0
+AnswerIsDropped = (limit octet : ℕ) → HearsAnswer limit WONT octet × HearsAnswer limit DONT octet

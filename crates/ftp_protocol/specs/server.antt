@@ -12,6 +12,7 @@ pub mod Listing
 pub mod Transfer
 pub mod Act
 pub mod Machine
+pub mod InFlight
 pub mod Calls
 pub mod Failing
 pub mod Rows

@@ -1,6 +1,7 @@
 //! What holds of the line reader and of the decoder: functions that do nothing, whose contracts are laws.
-ghost use Rattle.ftp_protocol.specs.Ear.{EarGivesEvents, ReaderIsEar};
+ghost use Rattle.ftp_protocol.specs.Ear.{AnswerIsDropped, EarGivesEvents, LineIsHeard, ReaderIsEar};
 ghost use Rattle.ftp_protocol.specs.Decoder.{DecodesWhatIsSettled, WireGivesFile, MarkedWireGivesFile, FrontGivesFront, MarkedFrontGivesFront};
+ghost use Rattle.ftp_protocol.specs.server.InFlight as server;
 ghost use Rattle.ftp_protocol.specs.server.Machine.{OneReading, ReadsStated};
 
 use ftp_nvt::Ear;
@@ -29,4 +30,21 @@ pub fn decoder()
 pub fn reading()
     ensures one { OneReading }
     ensures stated { ReadsStated }
+{}
+
+/// A line that was written is heard as itself wherever it is cut, and an answer to a Telnet octet is dropped.
+pub fn in_flight()
+    ensures line { LineIsHeard }
+    ensures answer { AnswerIsDropped }
+{}
+
+/// A command line and an answer to a Telnet octet are heard by the server as themselves and as nothing else, wherever they are
+/// cut; so is a row of lines, one after another.
+pub fn commands_in_flight()
+    ensures pieces { server.HeardInPieces }
+    ensures line { server.LineIsHeard }
+    ensures command { server.CommandIsHeard }
+    ensures answer { server.AnswerIsDropped }
+    ensures ear { server.LineLeavesEar }
+    ensures row { server.RowIsHeard }
 {}
