@@ -24,7 +24,7 @@ both : (a b : Bool) → (a && b) ≡ true → (a ≡ true) × (b ≡ true)
 both true b is = (refl, is)
 both false b is = absurd (let e : false ≡ true = is in cc)
 
-and_both : (a b : Bool) → a ≡ true → b ≡ true → (a && b) ≡ true
+pub and_both : (a b : Bool) → a ≡ true → b ≡ true → (a && b) ≡ true
 and_both a b one other = rw (one, other) refl
 
 -- decimal digits, as a test and as a relation
@@ -43,7 +43,7 @@ digits_all (c ∷ text) all = and_both _ _ (is_digit c all.0) (digits_all text a
 at_most : (n m : ℕ) → nat_le n m ≡ true → n ≤ m
 at_most n m is = grind (arith, nat_tests)
 
-is_at_most : (n m : ℕ) → n ≤ m → nat_le n m ≡ true
+pub is_at_most : (n m : ℕ) → n ≤ m → nat_le n m ≡ true
 is_at_most n m le = grind (arith, nat_tests)
 
 -- what the tests of a number say

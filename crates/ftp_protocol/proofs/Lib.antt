@@ -8,6 +8,7 @@ pub mod HonestLemmas
 pub mod LineInFlight
 pub mod ReaderLemmas
 pub mod ReadingLemmas
+pub mod RepliesInFlight
 pub mod RowNumbers
 pub mod ServerRows
 pub mod ServerUploads

@@ -7,6 +7,7 @@ pub mod Plan
 pub mod Moving
 pub mod Dialogue
 pub mod Calls
+pub mod InFlight
 pub mod Failing
 pub mod Bounds
 pub mod Laws

@@ -1,6 +1,7 @@
 //! What holds of the line reader and of the decoder: functions that do nothing, whose contracts are laws.
 ghost use Rattle.ftp_protocol.specs.Ear.{AnswerIsDropped, EarGivesEvents, LineIsHeard, ReaderIsEar};
 ghost use Rattle.ftp_protocol.specs.Decoder.{DecodesWhatIsSettled, WireGivesFile, MarkedWireGivesFile, FrontGivesFront, MarkedFrontGivesFront};
+ghost use Rattle.ftp_protocol.specs.client.InFlight as client;
 ghost use Rattle.ftp_protocol.specs.server.InFlight as server;
 ghost use Rattle.ftp_protocol.specs.server.Machine.{OneReading, ReadsStated};
 
@@ -47,4 +48,11 @@ pub fn commands_in_flight()
     ensures answer { server.AnswerIsDropped }
     ensures ear { server.LineLeavesEar }
     ensures row { server.RowIsHeard }
+{}
+
+/// A reply and an answer to a Telnet octet are heard by the client as themselves and as nothing else, wherever they are cut.
+pub fn replies_in_flight()
+    ensures pieces { client.HeardInPieces }
+    ensures reply { client.ReplyIsHeard }
+    ensures answer { client.AnswerIsDropped }
 {}

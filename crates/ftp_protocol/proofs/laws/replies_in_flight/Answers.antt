@@ -1,0 +1,11 @@
+use Rattle.ftp_protocol.proofs.RepliesInFlight.{in_pieces, reply_is_heard, answer_is_dropped_here}
+use Rattle.ftp_protocol.proofs.laws.replies_in_flight.Goals as goal
+
+pub returns-clause-pieces : goal.returns-clause-pieces
+returns-clause-pieces c = in_pieces
+
+pub returns-clause-reply : goal.returns-clause-reply
+returns-clause-reply c = reply_is_heard
+
+pub returns-clause-answer : goal.returns-clause-answer
+returns-clause-answer c = answer_is_dropped_here
