@@ -9,6 +9,7 @@ pub mod LineInFlight
 pub mod ReaderLemmas
 pub mod ReadingLemmas
 pub mod RepliesInFlight
+pub mod RestLemmas
 pub mod RowNumbers
 pub mod ServerRows
 pub mod ServerUploads

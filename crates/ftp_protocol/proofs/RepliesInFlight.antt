@@ -16,11 +16,12 @@ use Rattle.ftp_repr.specs.Machine.{after, gives}
 use Rattle.ftp_protocol.specs.Ear.{Ear, quiet, ear, ear_out, ear_step}
 use Rattle.ftp_protocol.specs.client.Calls.{reply_limit, line_taken, events_taken, hears_octet, hears, may_hear}
 use Rattle.ftp_protocol.specs.client.Dialogue.{answered}
-use Rattle.ftp_protocol.specs.client.InFlight.{HeardInPieces, OnlyHeard, IsAtRest, IsCarried, IsWritten, octets_of, HearsReply, ReplyIsHeard, AnswerIsDropped}
+use Rattle.ftp_protocol.specs.client.InFlight.{HeardInPieces, OnlyHeard, IsAtRest, IsCarried, IsWritten, octets_of, HearsReply, ReplyIsHeard, AnswerIsDropped, Reply, RowIsHeard}
 use Rattle.ftp_protocol.specs.client.Replies.{Gathered, Between, Begun, Heard, GoesOn, Says, are_within, code_in_front, is_last, line_heard}
 use Rattle.ftp_protocol.specs.client.Values.{number_within}
 use Rattle.ftp_protocol.specs.client.View.{View}
 use Rattle.ftp_protocol.proofs.ClientNumbers.{Within, is_given, and_both, is_at_most, says_within}
+use Rattle.ftp_protocol.proofs.RestLemmas.{answered_at_rest}
 use Rattle.ftp_protocol.proofs.LineInFlight.{Closes, unended, line_closes, written_is, front_of_front, front_says, answer_is_dropped}
 
 -- ---- octets of which nothing is said
@@ -296,6 +297,14 @@ reply_is_heard code texts v is rest =
           ∙ ap (λ s. answered code texts (with_lines s v)) (sym rest.gathered);
       may = λ fronts backs octet cut. ap may_hear (cuts fronts backs octet cut).is;
     }
+
+pub row_is_heard : RowIsHeard
+row_is_heard [] v all rest = refl
+row_is_heard ((code, texts) ∷ replies) v all rest =
+    let one = reply_is_heard code texts v all.0 rest in
+    let behind = flat_map (λ (reply : Reply). octets_of reply.0 reply.1) replies in
+    in_pieces v (octets_of code texts) behind ∙ ap (λ u. hears u behind) one.whole
+    ∙ row_is_heard replies (answered code texts v) all.1 (answered_at_rest code texts v rest)
 
 -- ---- an answer
 

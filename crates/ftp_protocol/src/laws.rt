@@ -50,9 +50,12 @@ pub fn commands_in_flight()
     ensures row { server.RowIsHeard }
 {}
 
-/// A reply and an answer to a Telnet octet are heard by the client as themselves and as nothing else, wherever they are cut.
+/// A reply and an answer to a Telnet octet are heard by the client as themselves and as nothing else, wherever they are cut; so is
+/// a row of replies, one after another.
 pub fn replies_in_flight()
     ensures pieces { client.HeardInPieces }
     ensures reply { client.ReplyIsHeard }
     ensures answer { client.AnswerIsDropped }
+    ensures rest { client.AnsweredAtRest }
+    ensures row { client.RowIsHeard }
 {}

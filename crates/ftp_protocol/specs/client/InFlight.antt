@@ -58,3 +58,22 @@ ReplyIsHeard = (code : ℕ) (texts : List Text) (v : View) → IsWritten code te
 abbrev pub AnswerIsDropped : Type 0
 AnswerIsDropped =
     (octet : ℕ) (v : View) → v.ear ≡ quiet → (hears v (answer_of WONT octet) ≡ v) × (hears v (answer_of DONT octet) ≡ v)
+
+-- what a reply does leaves the client between two replies, so that a row of them is heard one after another
+abbrev pub AnsweredAtRest : Type 0
+AnsweredAtRest = (code : ℕ) (texts : List Text) (v : View) → IsAtRest v → IsAtRest (answered code texts v)
+
+-- ---- a row of replies
+
+-- a code and the texts of the lines
+abbrev pub Reply : Type 0
+Reply = ℕ × List Text
+
+abbrev pub answered_all : List Reply → View → View
+answered_all [] v = v
+answered_all ((code, texts) ∷ replies) v = answered_all replies (answered code texts v)
+
+abbrev pub RowIsHeard : Type 0
+RowIsHeard =
+    (replies : List Reply) (v : View) → AllByRecursion (λ reply. IsWritten reply.0 reply.1) replies → IsAtRest v
+    → hears v (flat_map (λ reply. octets_of reply.0 reply.1) replies) ≡ answered_all replies v
