@@ -78,7 +78,7 @@ active_report = refl
 
 pub broken_download : BrokenDownload
 unfolding answered starts passive_value data_opened data_end data_fault
-broken_download = (refl, refl)
+broken_download = (refl, refl, refl)
 
 pub passive_upload : PassiveUpload
 unfolding answered starts passive_value data_opened gives_data wants

@@ -251,10 +251,12 @@ ActiveReport =
     reported (get active ∷ set ∷ port 49152 ∷ replied 200 [] ∷ begins ∷ opened here ∷ octets (codes "abc") ∷ complete ∷ ended ∷ [])
     ≡ Some (Octets (codes "abc"))
 
--- a broken download gives what came, without an unpaired CR; one that ends early counts as broken
+-- a broken download gives what came, without an unpaired CR, whatever its final reply says of a whole; one that ends early counts
+-- as broken
 abbrev pub BrokenDownload : Type 0
 BrokenDownload =
     (reported (get text ∷ named ∷ opened here ∷ begins ∷ octets (97 ∷ 13 ∷ []) ∷ broken ∷ cut ∷ []) ≡ Some (Broken (97 ∷ []) None))
+    × (reported (get text ∷ named ∷ opened here ∷ begins ∷ octets (97 ∷ 13 ∷ []) ∷ broken ∷ complete ∷ []) ≡ Some (Broken (97 ∷ []) None))
     × (reported (get records ∷ set ∷ replied 200 [] ∷ named ∷ opened here ∷ begins ∷ octets (97 ∷ 255 ∷ 1 ∷ []) ∷ ended ∷ complete ∷ [])
     ≡ Some (Broken (97 ∷ 10 ∷ []) None))
 
