@@ -11,6 +11,7 @@ pub mod ReadingLemmas
 pub mod RepliesInFlight
 pub mod RestLemmas
 pub mod RowNumbers
+pub mod ServerBounds
 pub mod ServerRows
 pub mod ServerUploads
 pub mod WireLemmas

@@ -1,4 +1,5 @@
 //! Laws of what is claimed of a session: functions that do nothing, whose contracts are laws of `specs/world`.
+ghost use Rattle.ftp_protocol.specs.world.Bounds.{ServerLowers};
 ghost use Rattle.ftp_protocol.specs.world.Claims.{HeadlineFollows, UnmarkedIsDirect};
 
 /// Without breaks, refusals and an end of the control connection, agreement is the direct run.
@@ -9,4 +10,9 @@ pub fn unmarked_agreement_is_the_direct_run()
 /// The headline follows from agreement after every event, and from what holds where nothing is in flight.
 pub fn headline_follows_from_agreement()
     ensures { HeadlineFollows }
+{}
+
+/// No call of the server that takes no octets makes more to do for it.
+pub fn server_comes_to_rest()
+    ensures { ServerLowers }
 {}
