@@ -180,7 +180,7 @@ unit_said limit u before (command c) h = let n = none_said limit u before [] h i
 -- ---- octets
 
 -- an octet ends no unit, or one
-ends : (place : Place) (c : ℕ) → (unit_ended place c ≡ []) ⊎ ((unit : TelnetUnit) × (unit_ended place c ≡ unit ∷ []))
+pub ends : (place : Place) (c : ℕ) → (unit_ended place c ≡ []) ⊎ ((unit : TelnetUnit) × (unit_ended place c ≡ unit ∷ []))
 ends At.Between c =
     elim (decided (c == 255)) [
       | inl e ↦ inl (rw e refl)

@@ -1,4 +1,6 @@
 pub mod AgreementLemmas
+pub mod ClientBounds
+pub mod ClientCalls
 pub mod ClientNumbers
 pub mod ClientRows
 pub mod CommandsInFlight

@@ -1,4 +1,5 @@
 //! Laws of what is claimed of a session: functions that do nothing, whose contracts are laws of `specs/world`.
+ghost use Rattle.ftp_protocol.specs.client.Bounds.{CallsLower, HearingLowers, ReceivingLowers};
 ghost use Rattle.ftp_protocol.specs.world.Bounds.{ServerLowers};
 ghost use Rattle.ftp_protocol.specs.world.Claims.{HeadlineFollows, UnmarkedIsDirect};
 
@@ -15,4 +16,11 @@ pub fn headline_follows_from_agreement()
 /// No call of the server that takes no octets makes more to do for it.
 pub fn server_comes_to_rest()
     ensures { ServerLowers }
+{}
+
+/// No call of the client that begins nothing makes more to do for it, but for the answers that Telnet octets are owed.
+pub fn client_comes_to_rest()
+    ensures hearing { HearingLowers }
+    ensures receiving { ReceivingLowers }
+    ensures events { CallsLower }
 {}

@@ -1,0 +1,11 @@
+use Rattle.ftp_protocol.proofs.ClientCalls.{hearing_lowers, receiving_lowers, calls_lower}
+use Rattle.ftp_protocol.proofs.world_laws.client_comes_to_rest.Goals as goal
+
+pub returns-clause-hearing : goal.returns-clause-hearing
+returns-clause-hearing c = hearing_lowers
+
+pub returns-clause-receiving : goal.returns-clause-receiving
+returns-clause-receiving c = receiving_lowers
+
+pub returns-clause-events : goal.returns-clause-events
+returns-clause-events c = calls_lower
