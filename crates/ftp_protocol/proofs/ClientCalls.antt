@@ -172,7 +172,7 @@ more_job_low (Waiting op) v = same v
 more_job_low (Doing op step) v = same v
 more_job_low (Told answer) v = same v
 
-more_low : (v : View) → Low v (more v)
+pub more_low : (v : View) → Low v (more v)
 more_low v = both 0 v (more_job v.job v) (more v) (more_job_low v.job v) (checked_low (more_job v.job v).job (more_job v.job v))
 
 behind_more : (old v : View) → Low old v → Low old (more v)
@@ -505,7 +505,7 @@ over_low (Links.Dialing endpoint) ending v = same v
 over_low (Links.Awaiting port) ending v = same v
 over_low (Links.Over before) ending v = same v
 
-one_more : (v w : View) → Low v w → Lowers 1 v w
+pub one_more : (v w : View) → Low v w → Lowers 1 v w
 one_more v w low = record { begins = low.begins; gives = by_case low.gives }
   where
     by_case : (to_begin w < to_begin v) ⊎ (still_to_give w ≤ still_to_give v + 0) → (to_begin w < to_begin v) ⊎ (still_to_give w ≤ still_to_give v + 1)

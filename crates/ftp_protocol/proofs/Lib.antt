@@ -1,6 +1,7 @@
 pub mod AgreementLemmas
 pub mod ClientBounds
 pub mod ClientCalls
+pub mod ClientGiving
 pub mod ClientNumbers
 pub mod ClientRows
 pub mod CommandsInFlight

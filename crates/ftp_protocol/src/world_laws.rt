@@ -1,5 +1,5 @@
 //! Laws of what is claimed of a session: functions that do nothing, whose contracts are laws of `specs/world`.
-ghost use Rattle.ftp_protocol.specs.client.Bounds.{CallsLower, HearingLowers, ReceivingLowers};
+ghost use Rattle.ftp_protocol.specs.client.Bounds.{CallsLower, GivingPays, HearingLowers, ReceivingLowers, WantLowers};
 ghost use Rattle.ftp_protocol.specs.world.Bounds.{ServerLowers};
 ghost use Rattle.ftp_protocol.specs.world.Claims.{HeadlineFollows, UnmarkedIsDirect};
 
@@ -23,4 +23,6 @@ pub fn client_comes_to_rest()
     ensures hearing { HearingLowers }
     ensures receiving { ReceivingLowers }
     ensures events { CallsLower }
+    ensures giving { GivingPays }
+    ensures want { WantLowers }
 {}

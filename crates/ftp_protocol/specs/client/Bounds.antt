@@ -1,8 +1,9 @@
 -- How much a client has still to do, whatever comes of it: what is begun, and what is given. A world of both ends comes to rest by
 -- these numbers, and needs no clause of its own for it.
-use Rattle.std.specs.Prelude.{ℕ, ◌+◌, ◌<◌, ◌≤◌, ◌⊎◌, length, if◌then◌else◌}
+use Rattle.std.specs.Prelude.{◌≡◌, ℕ, ◌+◌, ◌<◌, ◌≤◌, ◌⊎◌, true, length, if◌then◌else◌}
 use Rattle.ftp_endpoint.specs.declared.host.Host.{Host}
-use Rattle.ftp_protocol.specs.client.Calls.{hears_octet, listening, listen_refused, data_opened, data_refused, data_end, data_fault, receives_octet, gives_data, control_end}
+use Rattle.ftp_protocol.specs.client.Calls.{hears_octet, listening, listen_refused, data_opened, data_refused, data_end, data_fault, receives_octet, gives_control, gives_data, to_give, data_closed, control_end}
+use Rattle.ftp_protocol.specs.client.Failing.{short, listening_short, data_opened_short, data_end_short}
 use Rattle.ftp_protocol.specs.client.View.{View, Job, Idle, Waiting, Doing, Moving, Told, Flow, Up, Down, stands}
 use Rattle.ftp_protocol.specs.declared.client.Replied.{Replied}
 use Rattle.ftp_protocol.specs.declared.client.Replied.TheVariants as Replies
@@ -91,3 +92,26 @@ pub record EventsLower (v : View) : Type 0 where
 
 abbrev pub CallsLower : Type 0
 CallsLower = (v : View) → EventsLower v
+
+-- octets that go out, and a close that is done, are so much less to be given
+pub record Pays (count : ℕ) (old new : View) : Type 0 where
+  pub begins : to_begin new ≤ to_begin old
+  pub gives : (to_begin new < to_begin old) ⊎ (still_to_give new + count ≤ still_to_give old)
+
+pub record PullsPay (v : View) : Type 0 where
+  pub control_pays : (count : ℕ) → count ≤ length v.owed → Pays count v (gives_control count v)
+  pub data_pays : (count : ℕ) → count ≤ length (to_give v) → Pays count v (gives_data count v)
+  pub close_pays : v.closing ≡ true → Pays 1 v (data_closed v)
+
+abbrev pub GivingPays : Type 0
+GivingPays = (v : View) → PullsPay v
+
+-- want of memory makes no more to do either; `hear` and `data_hear` end by it behind the octets that they took
+pub record ShortLowers (v : View) : Type 0 where
+  pub hearing : Lowers 0 v (short v)
+  pub listening_lowers : (port : ℕ) → Lowers 1 v (listening_short port v)
+  pub opened_lowers : Lowers 1 v (data_opened_short v)
+  pub end_lowers : Lowers 0 v (data_end_short v)
+
+abbrev pub WantLowers : Type 0
+WantLowers = (v : View) → ShortLowers v
