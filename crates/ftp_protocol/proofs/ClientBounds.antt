@@ -1,29 +1,19 @@
 -- No call of the client that begins nothing makes more to do for it.
-use Rattle.std.proofs.Common.{◌≡◌, ℕ, ◌+◌, ◌-◌, ◌<◌, ◌≤◌, ◌⊎◌, inl, inr, List, [], ◌∷◌, ◌++◌, Bool, true, false, ◌||◌, ◌&&◌, ◌==◌, Option, Some, None, refl, sym, ap, subst, ◌∙◌, append-nil, arith, length, length-append, drop}
+use Rattle.std.proofs.Common.{◌≡◌, ℕ, ◌+◌, ◌<◌, ◌≤◌, ◌⊎◌, inl, inr, List, Bool, true, false, ◌||◌, Option, Some, None, refl, ap, arith}
 use Rattle.std.specs.Prelude.{if◌then◌else◌}
-use Rattle.std.proofs.lemmas.List.{length-drop}
 use Rattle.ftp_command.specs.declared.command.Command.{Command}
-use Rattle.ftp_direct.specs.Answer.{Said, Refused, Foreign, Unopened}
+use Rattle.ftp_direct.specs.Answer.{Said}
 use Rattle.ftp_direct.specs.declared.op.How.{How}
 use Rattle.ftp_direct.specs.declared.op.Op.{Op}
 use Rattle.ftp_direct.specs.declared.op.Op.TheVariants as Ops
-use Rattle.ftp_endpoint.specs.declared.endpoint.Endpoint.{Endpoint}
-use Rattle.ftp_reply.specs.Lines.{Text}
-use Rattle.ftp_protocol.specs.Link.{same_host}
 use Rattle.ftp_protocol.specs.Settings.{same_kind, same_structure, same_mode}
-use Rattle.ftp_protocol.specs.client.Bounds.{login_left, steps_left, transfer_left, job_left, to_begin, octets_left, upload_left, closes_left, still_to_give, Lowers}
-use Rattle.ftp_protocol.specs.client.Dialogue.{sends_if, last_job, placed, begins, goes_on, greeted, enters_with, enters, user_answered, pass_answered, set_accepted, dials, named, port_named, passive_named, text_of, completed, intermediate, awaits_reply, refused, step_answered, answer_in, judged, checked_by, checked_job, checked, more_by, more_job, more, with_reply, awaited, opened, marked_flow, noted, unless_open, before_opening, behind_opening, transfer_answered, job_answered, stand_answered, judged_reply, answered, closes, has_begun, is_given}
+use Rattle.ftp_protocol.specs.client.Bounds.{login_left, steps_left, job_left, to_begin, upload_left, still_to_give, Lowers}
+use Rattle.ftp_protocol.specs.client.Dialogue.{sends_if, last_job, placed, begins, goes_on}
 use Rattle.ftp_protocol.specs.client.Moving.{flow_of}
-use Rattle.ftp_protocol.specs.client.Plan.{asked_settings, how_of, offset_of, behind_opening as opened_step, opening_step, alone_step, opening_of, from_mode, from_structure, from_kind, step_by, first_step, next_step, accepted, command_of, is_extended}
-use Rattle.ftp_protocol.specs.client.Replies.{Verdict, Preliminary, Completion, Intermediate, Negative, Closing, Displaced, verdict_of}
-use Rattle.ftp_protocol.specs.client.Values.{passive_value, extended_value, mark_value}
-use Rattle.ftp_protocol.specs.client.View.{View, Job, Idle, Waiting, Doing, Moving, Told, Transfer, Flow, Up, Down, stands, tells, tells_read, failed_job, failure_said, fails_by, fails, strange}
+use Rattle.ftp_protocol.specs.client.Plan.{asked_settings, how_of, offset_of, behind_opening as opened_step, alone_step, opening_of, from_mode, from_structure, from_kind, step_by, first_step, next_step, command_of}
+use Rattle.ftp_protocol.specs.client.View.{View, Job, Idle, Waiting, Doing, Moving, Told, Flow, stands, tells, tells_read, failed_job, failure_said, fails_by, strange}
 use Rattle.ftp_protocol.specs.declared.client.Failure.{Failure}
 use Rattle.ftp_protocol.specs.declared.client.Failure.TheVariants as Failures
-use Rattle.ftp_protocol.specs.declared.client.Link.{Link}
-use Rattle.ftp_protocol.specs.declared.client.Link.TheVariants as Links
-use Rattle.ftp_protocol.specs.declared.client.Replied.{Replied}
-use Rattle.ftp_protocol.specs.declared.client.Replied.TheVariants as Replies
 use Rattle.ftp_protocol.specs.declared.client.Standing.{Standing}
 use Rattle.ftp_protocol.specs.declared.client.Standing.TheVariants as Stands
 use Rattle.ftp_protocol.specs.declared.client.Step.{Step}

@@ -1,30 +1,27 @@
 -- What a reply, an event of the data connection or an octet leaves a client to do.
-use Rattle.std.proofs.Common.{◌≡◌, ℕ, ◌+◌, ◌-◌, ◌<◌, ◌≤◌, ◌⊎◌, inl, inr, List, [], ◌∷◌, ◌++◌, Bool, true, false, ◌||◌, ◌&&◌, ◌==◌, Option, Some, None, refl, sym, ap, subst, ◌∙◌, append-nil, arith, length, length-append, drop, map}
-use Rattle.std.specs.Prelude.{if◌then◌else◌}
+use Rattle.std.proofs.Common.{◌≡◌, ℕ, ◌+◌, ◌<◌, ◌≤◌, ◌⊎◌, inl, inr, List, [], ◌∷◌, ◌++◌, Bool, true, false, ◌&&◌, ◌==◌, Option, Some, None, refl, sym, ap, subst, append-nil, arith, length, length-append}
 use Rattle.std.specs.List.{flat_map}
 use Rattle.std.proofs.lemmas.List.{length-drop}
 use Rattle.ftp_nvt.specs.Lines.{NvtEvent, line, too_long, owed}
-use Rattle.ftp_nvt.specs.Telnet.{TelnetUnit, data_octet, option, subnegotiation, command, unit_ended, owed_of}
+use Rattle.ftp_nvt.specs.Telnet.{TelnetUnit, data_octet, option, subnegotiation, command}
 use Rattle.ftp_nvt.specs.declared.line.Stage.{Stage}
 use Rattle.ftp_nvt.specs.declared.line.Stage.TheVariants as Lined
-use Rattle.ftp_nvt.specs.declared.telnet.Place.{Place}
-use Rattle.ftp_nvt.specs.declared.telnet.Place.TheVariants as At
 use Rattle.ftp_nvt.proofs.CutLemmas.{decided}
-use Rattle.ftp_direct.specs.Answer.{Said, Refused, Foreign, Unopened}
+use Rattle.ftp_direct.specs.Answer.{Refused, Foreign, Unopened}
 use Rattle.ftp_direct.specs.declared.op.Op.{Op}
 use Rattle.ftp_endpoint.specs.declared.endpoint.Endpoint.{Endpoint}
 use Rattle.ftp_endpoint.specs.declared.host.Host.{Host}
 use Rattle.ftp_reply.specs.Lines.{Text}
 use Rattle.ftp_protocol.specs.Ear.{Ear, Unfinished, ended_text, within_out, line_out, unit_says, ear_out, ear_step}
 use Rattle.ftp_protocol.specs.Link.{same_host}
-use Rattle.ftp_protocol.specs.client.Bounds.{login_left, steps_left, transfer_left, job_left, to_begin, octets_left, upload_left, closes_left, still_to_give, Lowers, HearingLowers, ReceivingLowers, EventsLower, CallsLower}
-use Rattle.ftp_protocol.specs.client.Calls.{reply_limit, line_taken, event_taken, events_taken, hears_octet, unless_closing, door_by, listening, doorless_by, listen_refused, connected, accepted, opened_by, data_opened, unopened_by, data_refused, ending_of, over_by, data_end, data_fault, heard_by, receives_octet, went, goes_by, gives_data, control_end}
-use Rattle.ftp_protocol.specs.client.Dialogue.{begins, goes_on, greeted, enters_with, enters, user_answered, pass_answered, set_accepted, dials, named, port_named, passive_named, text_of, completed, intermediate, awaits_reply, refused, step_answered, answer_in, judged, checked_by, checked_job, checked, more_by, more_job, more, with_reply, awaited, opened, marked_flow, noted, unless_open, before_opening, behind_opening, transfer_answered, job_answered, stand_answered, judged_reply, answered, closes, has_begun, is_given}
+use Rattle.ftp_protocol.specs.client.Bounds.{login_left, transfer_left, job_left, to_begin, octets_left, upload_left, closes_left, still_to_give, Lowers, HearingLowers, ReceivingLowers, EventsLower, CallsLower}
+use Rattle.ftp_protocol.specs.client.Calls.{reply_limit, line_taken, event_taken, events_taken, unless_closing, door_by, listening, doorless_by, listen_refused, connected, accepted, opened_by, data_opened, unopened_by, data_refused, ending_of, over_by, data_end, data_fault, heard_by, went, goes_by, gives_data, control_end}
+use Rattle.ftp_protocol.specs.client.Dialogue.{begins, greeted, enters_with, enters, user_answered, pass_answered, set_accepted, dials, named, port_named, passive_named, text_of, completed, intermediate, awaits_reply, step_answered, answer_in, judged, checked_by, checked_job, more_by, more_job, more, with_reply, awaited, opened, marked_flow, noted, unless_open, before_opening, behind_opening, transfer_answered, job_answered, stand_answered, judged_reply, answered, closes, has_begun, is_given}
 use Rattle.ftp_protocol.specs.client.Moving.{flow_octet}
 use Rattle.ftp_protocol.specs.client.Plan.{asked_settings, accepted as set_by, is_extended}
 use Rattle.ftp_protocol.specs.client.Replies.{Heard, GoesOn, Says, Faulty, line_heard, Between, Verdict, Preliminary, Completion, Intermediate, Negative, Closing, Displaced, verdict_of}
 use Rattle.ftp_protocol.specs.client.Values.{passive_value, extended_value, mark_value}
-use Rattle.ftp_protocol.specs.client.View.{View, Job, Idle, Waiting, Doing, Moving, Told, Transfer, Flow, Up, Down, stands, tells, fails, strange}
+use Rattle.ftp_protocol.specs.client.View.{View, Job, Idle, Waiting, Doing, Moving, Told, Transfer, Flow, Up, Down, stands, tells, strange}
 use Rattle.ftp_protocol.specs.declared.client.Ending.{Ending}
 use Rattle.ftp_protocol.specs.declared.client.Ending.TheVariants as Endings
 use Rattle.ftp_protocol.specs.declared.client.Failure.TheVariants as Failures

@@ -1,12 +1,12 @@
 -- What a client gives is less to be given, and want of memory makes no more to do.
-use Rattle.std.proofs.Common.{◌≡◌, ℕ, ◌+◌, ◌-◌, ◌<◌, ◌≤◌, ◌⊎◌, inl, inr, [], Bool, true, false, ◌||◌, None, refl, ap, arith, length}
+use Rattle.std.proofs.Common.{◌≡◌, ℕ, ◌+◌, ◌<◌, ◌≤◌, ◌⊎◌, inl, inr, [], Bool, true, false, None, refl, ap, arith, length}
 use Rattle.std.specs.Prelude.{if◌then◌else◌}
 use Rattle.std.proofs.lemmas.List.{length-drop}
-use Rattle.ftp_protocol.specs.client.Bounds.{login_left, transfer_left, job_left, to_begin, octets_left, upload_left, closes_left, still_to_give, Lowers, Pays, PullsPay, GivingPays, ShortLowers, WantLowers}
-use Rattle.ftp_protocol.specs.client.Calls.{gives_control, moving_over, left_in, given_of, to_give, went, goes_by, gives_data, data_closed}
+use Rattle.ftp_protocol.specs.client.Bounds.{login_left, transfer_left, job_left, to_begin, octets_left, upload_left, closes_left, still_to_give, Lowers, Pays, GivingPays, WantLowers}
+use Rattle.ftp_protocol.specs.client.Calls.{moving_over, left_in, given_of, to_give, went, goes_by, gives_data}
 use Rattle.ftp_protocol.specs.client.Dialogue.{has_begun, more}
 use Rattle.ftp_protocol.specs.client.Failing.{short, door_short, opened_short, over_short}
-use Rattle.ftp_protocol.specs.client.View.{View, Job, Idle, Waiting, Doing, Moving, Told, Transfer, Flow, Up, Down, stands, fails, fails_by}
+use Rattle.ftp_protocol.specs.client.View.{View, Job, Idle, Waiting, Doing, Moving, Told, Flow, Up, Down}
 use Rattle.ftp_protocol.specs.declared.client.Ending.TheVariants as Endings
 use Rattle.ftp_protocol.specs.declared.client.Failure.TheVariants as Failures
 use Rattle.ftp_protocol.specs.declared.client.Link.{Link}

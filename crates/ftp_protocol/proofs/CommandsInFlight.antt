@@ -1,24 +1,19 @@
 -- Command lines in flight, as the server hears them.
-use Rattle.std.proofs.Common.{◌≡◌, ℕ, ◌+◌, ◌≤◌, List, [], ◌∷◌, ◌++◌, Bool, true, false, not, ◌&&◌, ◌==◌, Option, Some, None, refl, sym, ap, subst, ◌∙◌, arith, length}
-use Rattle.std.specs.Prelude.{count_by, IsTrue, if◌then◌else◌}
-use Rattle.std.specs.List.{flat_map, list_all, AllByRecursion}
-use Rattle.ftp_nvt.specs.Lines.{NvtEvent, line, Lacks, written_line}
-use Rattle.ftp_command.specs.Line.{IsLine, IsStated, IsTyped, is_no_feed, line_of}
-use Rattle.ftp_command.specs.declared.command.Command.{Command}
+use Rattle.std.proofs.Common.{◌≡◌, ℕ, List, [], ◌∷◌, ◌++◌, Bool, true, false, not, ◌&&◌, ◌==◌, Option, Some, None, refl, sym, ap, subst, ◌∙◌, arith}
+use Rattle.std.specs.Prelude.{if◌then◌else◌}
+use Rattle.std.specs.List.{flat_map, list_all}
+use Rattle.ftp_nvt.specs.Lines.{NvtEvent, Lacks, written_line}
+use Rattle.ftp_command.specs.Line.{IsLine, is_no_feed, line_of}
 use Rattle.ftp_repr.specs.Machine.{after, gives}
-use Rattle.ftp_repr.proofs.MachineLemmas.{after-append}
-use Rattle.ftp_protocol.specs.Ear as ears
-use Rattle.ftp_protocol.specs.Ear.{Ear, quiet, ear, ear_out, ear_step, line_len, answer_of}
-use Rattle.ftp_protocol.specs.server.Endpoint.{forgotten}
-use Rattle.ftp_protocol.specs.server.InFlight.{HeardInPieces, only_heard, HearsLine, LineIsHeard, CommandIsHeard, AnswerIsDropped, LineLeavesEar, heard_lines, RowIsHeard}
-use Rattle.ftp_protocol.specs.server.Machine.{Reading, IsReading, given_out, completed, turned, obeyed, waited, later, is_idle, settled, at_break, concluded, ends_closing, aborts, abort_said, aborted, is_abor, is_moving, heard_line, heard_events, hears_octet, hears, may_hear, MayHear}
+use Rattle.ftp_protocol.specs.Ear.{Ear, quiet, ear, ear_out, ear_step}
+use Rattle.ftp_protocol.specs.server.InFlight.{HeardInPieces, HearsLine, LineIsHeard, CommandIsHeard, AnswerIsDropped, LineLeavesEar, RowIsHeard}
+use Rattle.ftp_protocol.specs.server.Machine.{Reading, given_out, obeyed, waited, later, is_idle, aborts, abort_said, aborted, is_abor, is_moving, heard_line, heard_events, hears_octet, hears, may_hear, MayHear}
 use Rattle.ftp_protocol.specs.server.View.{Move, View, line_limit}
 use Rattle.ftp_protocol.specs.declared.heard.Heard.{Heard}
-use Rattle.ftp_protocol.specs.declared.heard.Heard.TheVariants.{TooLong, Bad, Asks}
 use Rattle.ftp_protocol.specs.declared.session.Link.{Link}
 use Rattle.ftp_protocol.specs.declared.session.Link.TheVariants as At
 use Rattle.ftp_protocol.specs.declared.session.Transfer.TheVariants as Moves
-use Rattle.ftp_protocol.proofs.LineInFlight.{Keeps, Ends, Closes, unended, line_closes, written_is, front_of_front, front_says, answer_is_dropped}
+use Rattle.ftp_protocol.proofs.LineInFlight.{Closes, unended, line_closes, written_is, front_of_front, front_says, answer_is_dropped}
 use Rattle.ftp_protocol.proofs.ReadingLemmas.{reads_stated}
 
 -- ---- octets of which nothing is said

@@ -1,18 +1,18 @@
 -- A line in flight: what an ear makes of each octet of it.
-use Rattle.std.proofs.Common.{◌≡◌, ℕ, ◌+◌, ◌-◌, ◌<◌, ◌≤◌, ◌≢◌, List, [], ◌∷◌, ◌++◌, Bool, true, false, ◌==◌, inl, inr, refl, sym, ap, subst, ◌∙◌, append_assoc, append-nil, arith, length, length-append, take, ne_eqb, eqb-true, lt_irrefl}
-use Rattle.std.specs.Prelude.{count_by, cond, zero, suc}
+use Rattle.std.proofs.Common.{◌≡◌, ℕ, ◌+◌, ◌-◌, ◌<◌, ◌≤◌, List, [], ◌∷◌, ◌++◌, false, ◌==◌, inl, inr, refl, sym, ap, subst, ◌∙◌, append_assoc, append-nil, arith, length, length-append, take, ne_eqb, eqb-true, lt_irrefl}
+use Rattle.std.specs.Prelude.{cond, zero, suc}
 use Rattle.std.specs.List.{flat_map}
 use Rattle.std.proofs.Math.Seq.{take-append_seam}
 use Rattle.std.proofs.lemmas.List.Sums.{sum_by-cons}
 use Rattle.ftp_nvt.specs.Lines.{NvtEvent, line, Lacks, written_octet, written_line}
-use Rattle.ftp_nvt.specs.Telnet.{TelnetUnit, data_octet, unit_ended, place_behind, bare_of}
+use Rattle.ftp_nvt.specs.Telnet.{data_octet, unit_ended, place_behind, bare_of}
 use Rattle.ftp_nvt.specs.declared.line.Stage.TheVariants.{Inside, AfterReturn}
 use Rattle.ftp_nvt.specs.declared.telnet.Place.{Place}
 use Rattle.ftp_nvt.specs.declared.telnet.Place.TheVariants as At
 use Rattle.ftp_nvt.proofs.CutLemmas.{decided}
 use Rattle.ftp_repr.specs.Machine.{IsFront, after, gives}
 use Rattle.ftp_repr.proofs.MachineLemmas.{after-append, gives-append, gives-front}
-use Rattle.ftp_protocol.specs.Ear.{Ear, Unfinished, quiet, no_line, longer, within_step, within_out, line_step, line_out, liner, unit_says, ear, ear_step, ear_out, line_len, HearsLine, LineIsHeard, HearsAnswer, AnswerIsDropped}
+use Rattle.ftp_protocol.specs.Ear.{Ear, Unfinished, quiet, no_line, within_step, within_out, line_step, line_out, liner, unit_says, ear, ear_step, ear_out, line_len, LineIsHeard, AnswerIsDropped}
 
 -- ---- octets of which nothing is said
 

@@ -1,14 +1,13 @@
 -- Replies in flight, as the client hears them.
-use Rattle.std.proofs.Common.{◌≡◌, ℕ, ◌+◌, ◌*◌, ◌/◌, ◌%◌, ◌<◌, ◌≤◌, ◌⊎◌, inl, inr, List, [], ◌∷◌, ◌++◌, Bool, true, false, ◌&&◌, ◌==◌, Some, refl, sym, ap, subst, ◌∙◌, append_assoc, append-nil, arith, length, length-append, take, drop, All}
-use Rattle.std.specs.Prelude.{nat_eq, nat_le, if◌then◌else◌}
+use Rattle.std.proofs.Common.{◌≡◌, ℕ, ◌+◌, ◌/◌, ◌%◌, ◌<◌, ◌⊎◌, inl, inr, List, [], ◌∷◌, ◌++◌, true, false, Some, refl, sym, ap, subst, ◌∙◌, append_assoc, append-nil, arith, length, length-append, All}
 use Rattle.std.specs.Char.{digit_value, is_ascii_digit}
-use Rattle.std.specs.List.{flat_map, sum_by, starts_with, AllByRecursion}
+use Rattle.std.specs.List.{flat_map, AllByRecursion}
 use Rattle.std.specs.Str.Parse.{digits_value}
 use Rattle.std.proofs.lemmas.Bool.Decides.{Decides-eqb, nat_tests}
 use Rattle.std.proofs.lemmas.List.Elements.{All-head, All-tail}
 use Rattle.std.proofs.lemmas.List.Sums.{sum_by-append}
 use Rattle.std.proofs.lemmas.Slice.Eq.{starts_is}
-use Rattle.ftp_nvt.specs.Lines.{NvtEvent, line, written_line}
+use Rattle.ftp_nvt.specs.Lines.{written_line}
 use Rattle.ftp_nvt.proofs.CutLemmas.{decided}
 use Rattle.ftp_reply.specs.Lines.{Text, AreWithin}
 use Rattle.ftp_reply.specs.Reply.{IsCode, code_text, last_line, opening_line, begins_with_digits, padded, written_after, written, but_last, inner_lines}
@@ -16,8 +15,8 @@ use Rattle.ftp_repr.specs.Machine.{after, gives}
 use Rattle.ftp_protocol.specs.Ear.{Ear, quiet, ear, ear_out, ear_step}
 use Rattle.ftp_protocol.specs.client.Calls.{reply_limit, line_taken, events_taken, hears_octet, hears, may_hear}
 use Rattle.ftp_protocol.specs.client.Dialogue.{answered}
-use Rattle.ftp_protocol.specs.client.InFlight.{HeardInPieces, OnlyHeard, IsAtRest, IsCarried, IsWritten, octets_of, HearsReply, ReplyIsHeard, AnswerIsDropped, Reply, RowIsHeard}
-use Rattle.ftp_protocol.specs.client.Replies.{Gathered, Between, Begun, Heard, GoesOn, Says, are_within, code_in_front, is_last, line_heard}
+use Rattle.ftp_protocol.specs.client.InFlight.{HeardInPieces, OnlyHeard, IsCarried, octets_of, ReplyIsHeard, AnswerIsDropped, Reply, RowIsHeard}
+use Rattle.ftp_protocol.specs.client.Replies.{Gathered, Between, Begun, GoesOn, Says, are_within, is_last, line_heard}
 use Rattle.ftp_protocol.specs.client.Values.{number_within}
 use Rattle.ftp_protocol.specs.client.View.{View}
 use Rattle.ftp_protocol.proofs.ClientNumbers.{Within, is_given, and_both, is_at_most, says_within}

@@ -1,5 +1,5 @@
 -- What a reply does leaves the client between two replies: nothing that is heard is touched by it.
-use Rattle.std.proofs.Common.{◌≡◌, ℕ, Bool, true, false, ◌&&◌, ◌==◌, List, Option, Some, None, refl}
+use Rattle.std.proofs.Common.{ℕ, Bool, true, false, ◌&&◌, ◌==◌, List, Option, Some, None, refl}
 use Rattle.std.specs.Prelude.{if◌then◌else◌}
 use Rattle.ftp_command.specs.declared.command.Command.{Command}
 use Rattle.ftp_direct.specs.Answer.{Said, Refused, Foreign}
@@ -7,16 +7,15 @@ use Rattle.ftp_direct.specs.declared.op.Op.{Op}
 use Rattle.ftp_endpoint.specs.declared.endpoint.Endpoint.{Endpoint}
 use Rattle.ftp_reply.specs.Lines.{Text}
 use Rattle.ftp_protocol.specs.Link.{same_host}
-use Rattle.ftp_protocol.specs.client.Dialogue.{sends_if, last_job, answer_in, awaited, marked_flow, placed, begins, goes_on, greeted, enters_with, enters, user_answered, pass_answered, set_accepted, dials, named, port_named, passive_named, text_of, completed, intermediate, awaits_reply, refused, step_answered, judged, checked_by, checked_job, checked, more_by, more_job, more, with_reply, opened, noted, unless_open, before_opening, behind_opening, transfer_answered, job_answered, stand_answered, judged_reply, answered, closes, has_begun, is_given}
+use Rattle.ftp_protocol.specs.client.Dialogue.{sends_if, last_job, answer_in, awaited, marked_flow, placed, goes_on, greeted, enters_with, enters, user_answered, pass_answered, set_accepted, dials, named, port_named, passive_named, text_of, completed, intermediate, awaits_reply, step_answered, judged, checked_by, checked_job, more_by, more_job, more, with_reply, opened, noted, unless_open, before_opening, behind_opening, transfer_answered, job_answered, stand_answered, judged_reply, answered, closes, has_begun, is_given}
 use Rattle.ftp_protocol.specs.client.InFlight.{IsAtRest, AnsweredAtRest}
 use Rattle.ftp_protocol.specs.client.Moving.{flow_of}
 use Rattle.ftp_protocol.specs.client.Plan.{asked_settings, first_step, next_step, accepted, command_of, is_extended}
 use Rattle.ftp_protocol.specs.client.Replies.{Verdict, Preliminary, Completion, Intermediate, Negative, Closing, Displaced, verdict_of}
 use Rattle.ftp_protocol.specs.client.Values.{passive_value, extended_value, mark_value}
-use Rattle.ftp_protocol.specs.client.View.{View, Job, Idle, Waiting, Doing, Moving, Told, Transfer, Flow, tells, tells_read, fails_by, fails, strange}
+use Rattle.ftp_protocol.specs.client.View.{View, Job, Idle, Waiting, Doing, Moving, Told, Transfer, Flow, tells, tells_read, fails_by, strange}
 use Rattle.ftp_protocol.specs.declared.client.Failure.{Failure}
 use Rattle.ftp_protocol.specs.declared.client.Failure.TheVariants as Failures
-use Rattle.ftp_protocol.specs.declared.client.Ending.{Ending}
 use Rattle.ftp_protocol.specs.declared.client.Link.{Link}
 use Rattle.ftp_protocol.specs.declared.client.Link.TheVariants as Links
 use Rattle.ftp_protocol.specs.declared.client.Replied.{Replied}

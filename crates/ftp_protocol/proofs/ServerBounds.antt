@@ -1,15 +1,14 @@
 -- No call of the server that takes no octets makes more to do.
-use Rattle.std.proofs.Common.{◌≡◌, ℕ, ◌+◌, ◌*◌, ◌-◌, ◌<◌, ◌≤◌, ◌⊎◌, inl, inr, List, [], ◌∷◌, ◌++◌, Bool, true, false, ◌||◌, Option, Some, None, refl, sym, ap, subst, ◌∙◌, append-nil, arith, length, drop}
+use Rattle.std.proofs.Common.{◌≡◌, ℕ, ◌+◌, ◌<◌, ◌≤◌, ◌⊎◌, inl, inr, List, [], ◌∷◌, ◌++◌, Bool, true, false, ◌||◌, Option, Some, None, refl, sym, ap, subst, ◌∙◌, append-nil, arith, length}
 use Rattle.std.specs.Prelude.{if◌then◌else◌}
 use Rattle.std.proofs.lemmas.List.{length-drop}
-use Rattle.ftp_command.specs.declared.command.Command.{Command}
 use Rattle.ftp_protocol.specs.Link.{same_host}
 use Rattle.ftp_protocol.specs.server.Calls.{link_of, given_by, listening_turn, unheard, door_opens_for, opens, refuses, takes_given, ends, breaks, control_end}
-use Rattle.ftp_protocol.specs.server.Endpoint.{is_standing, forgotten}
-use Rattle.ftp_protocol.specs.server.Failing.{LineFails, WaitingFails, Late, InstallFails, ListingFails, line_lost, install_lost}
+use Rattle.ftp_protocol.specs.server.Endpoint.{is_standing}
+use Rattle.ftp_protocol.specs.server.Failing.{LineFails, WaitingFails, Late, InstallFails, ListingFails, install_lost}
 use Rattle.ftp_protocol.specs.server.Machine.{given_out, completed, obeyed, waited, later, is_idle, turned, lost}
 use Rattle.ftp_protocol.specs.server.View.{Move, View}
-use Rattle.ftp_protocol.specs.world.Bounds.{lines_left, stages_left, to_begin, closes_left, still_to_give, Lowers, CallsLower, ServerLowers}
+use Rattle.ftp_protocol.specs.world.Bounds.{lines_left, stages_left, to_begin, Lowers, ServerLowers}
 use Rattle.ftp_protocol.specs.world.Far.{clock_step, control_step, listening_step, no_port_step, opened_step, refused_step, end_step, break_step, close_step, given_step, Ended, Given}
 use Rattle.ftp_protocol.specs.declared.heard.Heard.{Heard}
 use Rattle.ftp_protocol.specs.declared.heard.Heard.TheVariants.{TooLong, Bad, Asks}

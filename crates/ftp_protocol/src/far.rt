@@ -9,10 +9,12 @@ ghost use Rattle.ftp_protocol.specs.world.Far.{Acts, Ended, Given, Heard, Receiv
 use crate::Wants;
 use ftp_endpoint::Host;
 use ftp_facts::Moment;
+use ftp_tree::Tree;
+use std::alloc::Allocator;
 
 /// The server's end. Its `view` is what it holds; where a count of refused growths or of device failures changed in a call
 /// (they move on by wrapping), the call left what `specs` says of it, and every later call is a step again.
-pub trait Far: Drop {
+pub trait Far<A: Allocator, T: Tree<A>>: Drop {
     ghost view: { Self → View };
 
     /// How many growths were refused to it, and how often its tree's device failed; both move on by wrapping.
@@ -83,4 +85,8 @@ pub trait Far: Drop {
     /// What it wants of the connections. Takes no memory.
     fn wants(&self) -> Wants
         ensures { result ≡ wants (view self.now) };
+
+    /// Its tree, whose map is that of the session.
+    fn tree(&self) -> &T
+        ensures { T.table result.now ≡ (view self.now).session.table };
 }

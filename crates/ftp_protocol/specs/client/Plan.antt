@@ -1,5 +1,5 @@
 -- An operation as the commands that it sends, one after the reply to the other (RFC 959, sections 4.1 and 5.4; RFC 2428; RFC 3659).
-use Rattle.std.specs.Prelude.{ℕ, Bool, true, false, ◌||◌, not, List, [], ◌∷◌, Option, Some, None, if◌then◌else◌}
+use Rattle.std.specs.Prelude.{ℕ, Bool, true, false, ◌||◌, List, [], ◌∷◌, Option, Some, None, if◌then◌else◌}
 use Rattle.ftp_command.specs.declared.command.Command.{Command}
 use Rattle.ftp_command.specs.declared.command.Command.TheVariants as Commands
 use Rattle.ftp_command.specs.declared.command.Passive.TheVariants as Passives

@@ -7,7 +7,7 @@ use Rattle.ftp_nvt.specs.declared.telnet.TheConstants.{WONT, DONT}
 use Rattle.ftp_command.specs.Line.{IsLine, IsStated, IsTyped, line_of}
 use Rattle.ftp_command.specs.declared.command.Command.{Command}
 use Rattle.ftp_repr.specs.Machine.{after}
-use Rattle.ftp_protocol.specs.Ear.{Ear, quiet, ear, answer_of}
+use Rattle.ftp_protocol.specs.Ear.{quiet, ear, answer_of}
 use Rattle.ftp_protocol.specs.server.Machine.{Reading, IsReading, heard_line, hears, may_hear, MayHear}
 use Rattle.ftp_protocol.specs.server.View.{View, line_limit}
 use Rattle.ftp_protocol.specs.declared.heard.Heard.TheVariants.{Asks}
