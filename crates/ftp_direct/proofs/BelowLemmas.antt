@@ -5,9 +5,8 @@ use Rattle.std.specs.Cmp.Lexicographic.{pointwise}
 use Rattle.std.proofs.lemmas.Bool.{and_parts}
 use Rattle.std.proofs.lemmas.Bool.Decides.{nat_tests}
 use mathlib.Core.Bool.{false≢true}
-use Rattle.ftp_tree.specs.Path.{is_slash, is_name_octet, is_component, joined, text_of}
-use Rattle.ftp_tree.specs.Tree.{is_within}
-use Rattle.ftp_tree.proofs.PathLemmas.{component-octets, name_octet-slash}
+use Rattle.ftp_path.specs.Path.{is_slash, is_name_octet, is_component, joined, text_of, is_within}
+use Rattle.ftp_path.proofs.PathLemmas.{component-octets, name_octet-slash}
 use Rattle.ftp_direct.specs.Below.{goes_on, is_root}
 
 and-assoc : (a b c : Bool) → (a && (b && c)) ≡ ((a && b) && c)

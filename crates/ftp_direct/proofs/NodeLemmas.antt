@@ -3,9 +3,9 @@ use Rattle.std.proofs.Common.{◌≡◌, ℕ, ◌≤◌, Bool, true, false, not,
 use Rattle.std.proofs.lemmas.Bool.Decides.{nat_tests}
 use Rattle.std.proofs.Math.Dec.{leb-zero}
 use mathlib.Core.Bool.{false≢true, true≢false}
-use Rattle.ftp_tree.specs.Path.{fits, resolved}
+use Rattle.ftp_path.specs.Path.{fits, resolved, Names, is_within}
 use Rattle.std.specs.Option.{option_map, unwrap_or}
-use Rattle.ftp_tree.specs.Tree.{Names, Node, Dir, File, Table, node_at, kind_of, kind_at, octets_of, moment_of, of_node, octets_at, size_at, stamp_at, octets_or_none, directory_refusal, front_answer, front_refusal, whenever, or_else, is_within, source_answer, source_refusal, target_refusal, rename_refusal}
+use Rattle.ftp_tree.specs.Tree.{Node, Dir, File, Table, node_at, kind_of, kind_at, octets_of, moment_of, of_node, octets_at, size_at, stamp_at, octets_or_none, directory_refusal, front_answer, front_refusal, whenever, or_else, source_answer, source_refusal, target_refusal, rename_refusal}
 use Rattle.ftp_tree.specs.declared.fault.TreeFault.{TreeFault}
 use Rattle.ftp_tree.specs.declared.fault.TreeFault.TheVariants.{Absent, WrongKind, Busy, TooBig}
 use Rattle.ftp_tree.specs.declared.tree.NodeKind.{NodeKind}

@@ -2,8 +2,8 @@
 use Rattle.std.proofs.Common.{◌≡◌, ℕ, ◌+◌, ◌≤◌, Bool, true, false, not, nat_le, List, ◌++◌, length, take, Option, Some, None, refl, ap, sym, ◌∙◌, arith, length-append, if◌then◌else◌}
 use Rattle.std.proofs.lemmas.Bool.{le-leb, leb-true}
 use Rattle.std.proofs.lemmas.List.{length-take-le}
-use Rattle.ftp_tree.specs.Path.{fits}
-use Rattle.ftp_tree.specs.Tree.{Names, Table, or_else, whenever, installed, room_refusal, room_at, octets_refusal, install_refusal}
+use Rattle.ftp_path.specs.Path.{fits, Names}
+use Rattle.ftp_tree.specs.Tree.{Table, or_else, whenever, installed, room_refusal, room_at, octets_refusal, install_refusal}
 use Rattle.ftp_tree.specs.declared.fault.TreeFault.{TreeFault}
 use Rattle.ftp_tree.specs.declared.fault.TreeFault.TheVariants.{TooBig, Full}
 use Rattle.ftp_direct.specs.Answer.{Done}

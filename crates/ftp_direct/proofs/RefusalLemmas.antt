@@ -3,7 +3,8 @@ use Rattle.std.proofs.Common.{◌≡◌, ◌≢◌, ℕ, ◌⊎◌, inl, inr, Li
 use mathlib.Core.Bool.{false≢true, true≢false}
 use Rattle.std.specs.Option.{option_or}
 use Rattle.ftp_tree.specs.Change.{IsRefused}
-use Rattle.ftp_tree.specs.Tree.{Names, Table, Node, Dir, File, or_else, whenever, directory_refusal, empty_refusal, remove_answer, file_refusal, source_answer, make_refusal, remove_refusal, delete_refusal, source_refusal, target_refusal, rename_refusal, room_refusal, octets_refusal, install_refusal}
+use Rattle.ftp_path.specs.Path.{Names}
+use Rattle.ftp_tree.specs.Tree.{Table, Node, Dir, File, or_else, whenever, directory_refusal, empty_refusal, remove_answer, file_refusal, source_answer, make_refusal, remove_refusal, delete_refusal, source_refusal, target_refusal, rename_refusal, room_refusal, octets_refusal, install_refusal}
 use Rattle.ftp_tree.specs.declared.fault.TreeFault.{TreeFault}
 use Rattle.ftp_tree.specs.declared.fault.TreeFault.TheVariants.{Absent, Exists, NotEmpty, WrongKind, TooBig, Full, Busy, BadOffset, Device, Memory}
 use Rattle.ftp_direct.specs.declared.answer.Answer.{Answer}

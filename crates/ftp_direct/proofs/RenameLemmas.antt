@@ -1,7 +1,7 @@
 -- What a move answers: what cannot be moved is refused first, and then the new name.
 use Rattle.std.proofs.Common.{◌≡◌, ℕ, Bool, true, false, List, Option, Some, None, is_some, refl, ap, sym, ◌∙◌, if◌then◌else◌}
-use Rattle.ftp_tree.specs.Path.{fits, resolved}
-use Rattle.ftp_tree.specs.Tree.{Names, Table, moved, or_else, source_refusal, target_refusal, rename_refusal}
+use Rattle.ftp_path.specs.Path.{fits, resolved, Names}
+use Rattle.ftp_tree.specs.Tree.{Table, moved, or_else, source_refusal, target_refusal, rename_refusal}
 use Rattle.ftp_tree.specs.declared.fault.TreeFault.{TreeFault}
 use Rattle.ftp_tree.specs.declared.fault.TreeFault.TheVariants.{TooBig}
 use Rattle.ftp_direct.specs.declared.op.Op.TheVariants as Ops

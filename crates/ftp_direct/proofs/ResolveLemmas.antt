@@ -1,6 +1,6 @@
 -- Where some texts lead.
 use Rattle.std.proofs.Common.{◌≡◌, ℕ, true, List, [], ◌∷◌, refl}
-use Rattle.ftp_tree.specs.Path.{parent, resolved}
+use Rattle.ftp_path.specs.Path.{parent, resolved}
 
 pub up_parent : (here : List (List ℕ)) → resolved here (46 ∷ 46 ∷ []) ≡ parent here
 unfolding resolved

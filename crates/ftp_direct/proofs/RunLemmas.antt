@@ -3,7 +3,8 @@ use Rattle.std.proofs.Common.{◌≡◌, ◌≢◌, ℕ, Bool, true, false, List
 use Rattle.std.specs.Prelude.{map}
 use Rattle.std.proofs.lemmas.List.{map-append, take_all}
 use Rattle.ftp_facts.specs.declared.moment.Moment.{Moment}
-use Rattle.ftp_tree.specs.Tree.{Names, Table}
+use Rattle.ftp_path.specs.Path.{Names}
+use Rattle.ftp_tree.specs.Tree.{Table}
 use Rattle.ftp_direct.specs.declared.op.Op.{Op}
 use Rattle.ftp_direct.specs.declared.answer.Answer.{Answer}
 use Rattle.ftp_direct.specs.Answer.{Said, BadOperation, Refused, said_of}

@@ -1,6 +1,6 @@
 -- How the canonical texts of paths begin with one another.
 use Rattle.std.specs.Prelude.{ℕ, Bool, true, false, ◌&&◌, ◌==◌, List, [], ◌∷◌}
-use Rattle.ftp_tree.specs.Path.{is_slash}
+use Rattle.ftp_path.specs.Path.{is_slash}
 
 -- the second text starts with the first, and ends there or goes on with a `/`
 abbrev pub goes_on : List ℕ → List ℕ → Bool

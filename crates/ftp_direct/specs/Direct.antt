@@ -5,8 +5,8 @@ use Rattle.std.specs.Prelude.{ℕ, ◌+◌, ◌-◌, ◌==◌, ◌&&◌, ◌||�
 use Rattle.std.specs.Option.{option_map, option_or, unwrap_or}
 use Rattle.std.specs.List.{filter, filter_map, list_any, ends_with}
 use Rattle.std.specs.Cmp.Lexicographic.{pointwise}
-use Rattle.ftp_tree.specs.Path.{parent, fits, resolved, text_of, is_slash}
-use Rattle.ftp_tree.specs.Tree.{Names, Node, Dir, File, Table, node_at, octets_at, octets_or_none, stamp_at, children, or_else, whenever, directory_refusal, is_within, made, removed, installed, moved, make_refusal, remove_refusal, delete_refusal, source_refusal, target_refusal, room_refusal, octets_refusal, front_refusal}
+use Rattle.ftp_path.specs.Path.{parent, fits, resolved, text_of, is_slash, Names, is_within}
+use Rattle.ftp_tree.specs.Tree.{Node, Dir, File, Table, node_at, octets_at, octets_or_none, stamp_at, children, or_else, whenever, directory_refusal, made, removed, installed, moved, make_refusal, remove_refusal, delete_refusal, source_refusal, target_refusal, room_refusal, octets_refusal, front_refusal}
 use Rattle.ftp_tree.specs.declared.fault.TreeFault.{TreeFault}
 use Rattle.ftp_tree.specs.declared.fault.TreeFault.TheVariants as Faults
 use Rattle.ftp_repr.specs.Ascii.{asc}

@@ -1,7 +1,7 @@
 -- What a user asks of a server, as values: which operations can be sent at all. No command, reply or connection stands here.
 use Rattle.std.specs.Prelude.{ℕ, ◌&&◌, ◌||◌, ◌==◌, Bool, true, false, not, nat_le, nat_eq, List, [], ◌∷◌, length}
 use Rattle.std.specs.List.{list_all, starts_with}
-use Rattle.ftp_tree.specs.Path.{is_path_octet}
+use Rattle.ftp_path.specs.Path.{is_path_octet}
 use Rattle.ftp_direct.specs.declared.op.Op.{Op}
 use Rattle.ftp_direct.specs.declared.op.Op.TheVariants as Ops
 

@@ -1,8 +1,7 @@
 // Which paths the current directory is at or below.
 ghost use Rattle.std.specs.Prelude.{◌≡◌, IsTrue};
 ghost use Rattle.std.specs.List.{list_all};
-ghost use Rattle.ftp_tree.specs.Path.{is_component};
-ghost use Rattle.ftp_tree.specs.Tree.{is_within};
+ghost use Rattle.ftp_path.specs.Path.{is_component, is_within};
 ghost use Rattle.ftp_direct.specs.Below.{goes_on, is_root};
 
 use ftp_tree::Path;

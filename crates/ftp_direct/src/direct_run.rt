@@ -1,7 +1,7 @@
 // Operations one after another.
 ghost use Rattle.std.specs.Prelude.{◌≡◌, ℕ, IsTrue, IfOk, IfErr, List, OnErr, map, take};
 ghost use Rattle.std.specs.List.{list_all};
-ghost use Rattle.ftp_tree.specs.Path.{is_component};
+ghost use Rattle.ftp_path.specs.Path.{is_component};
 ghost use Rattle.ftp_direct.specs.Account.{is_known};
 ghost use Rattle.ftp_direct.specs.Answer.{Said, said_of};
 ghost use Rattle.ftp_direct.specs.Direct.{answer, due, here, standing, start};

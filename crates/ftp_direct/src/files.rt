@@ -1,7 +1,7 @@
 // Operations on the octets of files.
 ghost use Rattle.std.specs.Prelude.{◌≡◌, ◌+◌, ◌<◌, ◌≤◌, IsTrue, IfOk, OnErr, MatchOption, None, Some, drop, length, nat_le, take, true, if◌then◌else◌};
-ghost use Rattle.ftp_tree.specs.Path.{fits, resolved};
-ghost use Rattle.ftp_tree.specs.Tree.{Names, octets_or_none};
+ghost use Rattle.ftp_path.specs.Path.{fits, resolved, Names};
+ghost use Rattle.ftp_tree.specs.Tree.{octets_or_none};
 ghost use Rattle.ftp_direct.specs.Answer.{said_of};
 ghost use Rattle.ftp_direct.specs.Direct.{chosen, due, front_code, here, is_as_it_is, offset_refusal, put, put_refusal, putting_code, size_in};
 ghost use Rattle.ftp_direct.specs.Operation.{is_path_text};

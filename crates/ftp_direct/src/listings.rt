@@ -3,7 +3,7 @@ ghost use Rattle.std.specs.Prelude.{◌≡◌, ◌≢◌, ◌<◌, ◌++◌, [],
 ghost use Rattle.std.specs.List.{filter_map, list_all};
 ghost use Rattle.std.specs.Option.{ForSome, option_to_list};
 ghost use Rattle.ftp_facts.specs.Fact.{IsValue};
-ghost use Rattle.ftp_tree.specs.Path.{fits, is_component, is_name};
+ghost use Rattle.ftp_path.specs.Path.{fits, is_component, is_name};
 ghost use Rattle.ftp_tree.specs.Tree.{Dir, children, size_at};
 ghost use Rattle.ftp_direct.specs.Answer.{listed_of, said_of};
 ghost use Rattle.ftp_direct.specs.Direct.{behind, due, entries_in, entry_at, entry_in, file_in, here, listing_code, names_for, perm_of, place, size_fact};

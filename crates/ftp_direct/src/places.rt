@@ -1,7 +1,7 @@
 // Operations on the current directory, on directories and on names.
 ghost use Rattle.std.specs.Prelude.{◌≡◌, IsTrue, IfOk, OnErr, is_some};
 ghost use Rattle.std.specs.List.{list_all};
-ghost use Rattle.ftp_tree.specs.Path.{is_component};
+ghost use Rattle.ftp_path.specs.Path.{is_component};
 ghost use Rattle.ftp_direct.specs.Answer.{said_of};
 ghost use Rattle.ftp_tree.specs.Tree.{or_else, source_refusal};
 ghost use Rattle.ftp_direct.specs.Direct.{busy_refusal, due, here};

@@ -1,14 +1,14 @@
 // Why an operation is refused, as the code of the reply that tells it (RFC 959, section 4.2).
 ghost use Rattle.std.specs.Prelude.{◌≡◌, ◌≢◌, IsTrue, IfOk, IfErr, OnOk, OnErr, IfSome, MatchOption, true, false};
 ghost use Rattle.std.specs.List.{list_all};
-ghost use Rattle.ftp_tree.specs.Path.{fits, is_component, resolved};
+ghost use Rattle.ftp_path.specs.Path.{fits, is_component, resolved};
 ghost use Rattle.ftp_direct.specs.Answer.{Refused, said_of};
 ghost use Rattle.ftp_direct.specs.Operation.{is_path_text};
 ghost use Rattle.ftp_direct.specs.Run.{told};
 
 use crate::answer::Answer;
 use ftp_facts::Text;
-use ftp_tree::{Path, TreeFault};
+use ftp_tree::{Path, PathFault, TreeFault};
 use std::alloc::{AllocError, Allocator};
 
 pub(crate) const LOCAL_FAULT: u16 = 451;
@@ -54,7 +54,7 @@ pub(crate) fn find<A: Allocator + Clone>(
 {
     match cwd.resolve(alloc.clone()?, text.as_slice()) {
         Ok(path) => Ok(Some(path)),
-        Err(TreeFault::TooBig) => Ok(None),
+        Err(PathFault::TooBig) => Ok(None),
         Err(_) => Err(AllocError),
     }
 }

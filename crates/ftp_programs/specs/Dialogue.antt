@@ -8,7 +8,7 @@ use Rattle.ftp_command.specs.declared.command.Command.TheVariants as Commands
 use Rattle.ftp_command.specs.declared.fault.CommandFault.{CommandFault}
 use Rattle.ftp_command.specs.declared.fault.CommandFault.TheVariants as Faults
 use Rattle.ftp_nvt.specs.Lines.{NvtEvent, line, too_long, owed, events}
-use Rattle.ftp_tree.specs.Path.{resolved, fits}
+use Rattle.ftp_path.specs.Path.{resolved, fits}
 use Rattle.ftp_tree.specs.Tree.{Table, root_alone, make_refusal, made}
 use Rattle.ftp_tree.specs.declared.fault.TreeFault.{TreeFault}
 use Rattle.ftp_programs.specs.Login.{user_named, is_password}

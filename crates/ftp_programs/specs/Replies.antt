@@ -1,6 +1,6 @@
 -- The replies of the login and tree dialogue, as they stand on the wire (RFC 959, sections 4.2 and 5.4).
 use Rattle.std.specs.Prelude.{ℕ, List, [], ◌∷◌, ◌++◌, Bool, false, ◌==◌, ◌||◌, codes, flat_map, if◌then◌else◌}
-use Rattle.ftp_tree.specs.Path.{text_of}
+use Rattle.ftp_path.specs.Path.{text_of}
 use Rattle.ftp_programs.specs.declared.reply.Reply.{Reply}
 use Rattle.ftp_programs.specs.declared.reply.Reply.TheVariants.{Fixed, Created, Owed}
 use Rattle.ftp_programs.specs.declared.text.Text.{Text}

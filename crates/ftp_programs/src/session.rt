@@ -1,7 +1,7 @@
 // The login and the tree of one control connection, and what they answer (RFC 959, sections 4.1 and 5.4).
 ghost use Rattle.std.specs.Prelude.{◌≡◌, ◌≢◌, IfOk, OnErr, IsTrue, [], unwrap_or};
 ghost use Rattle.std.specs.Option.{option_copied};
-ghost use Rattle.ftp_tree.specs.Path.{IsPathText, resolved};
+ghost use Rattle.ftp_path.specs.Path.{IsPathText, resolved};
 ghost use Rattle.ftp_programs.specs.Dialogue.{start, decided, obeyed, user, pass, make_dir, is_free, fault_text};
 ghost use Rattle.ftp_programs.specs.Turns.{TurnsLine, IsPathOfMkd};
 ghost use Rattle.ftp_programs.specs.Login.{user_named};
@@ -113,7 +113,7 @@ impl<A: Allocator + Copy> Session<A> {
     {
         let path = match Path::root(self.alloc).resolve(self.alloc, text) {
             Ok(path) => path,
-            Err(fault) => return refused(fault),
+            Err(fault) => return refused(TreeFault::from(fault)),
         };
         match self.tree.make_dir(&path) {
             Ok(()) => Ok(Reply::Created(path)),

@@ -7,8 +7,8 @@ use Rattle.ftp_command.specs.declared.command.Passive.TheVariants as Families
 use Rattle.ftp_direct.specs.Account.{is_known}
 use Rattle.ftp_direct.specs.Direct.{refusal, front_code}
 use Rattle.ftp_direct.specs.declared.op.Op.TheVariants as Ops
-use Rattle.ftp_tree.specs.Path.{resolved, fits, parent, text_of}
-use Rattle.ftp_tree.specs.Tree.{source_refusal, target_refusal, rename_refusal, front_refusal, octets_at, octets_or_none, is_within, node_at, children, Table, Dir, File}
+use Rattle.ftp_path.specs.Path.{resolved, fits, parent, text_of, is_within}
+use Rattle.ftp_tree.specs.Tree.{source_refusal, target_refusal, rename_refusal, front_refusal, octets_at, octets_or_none, node_at, children, Table, Dir, File}
 use Rattle.ftp_protocol.specs.server.View.{Move, Session, View, direct_of, how_of}
 use Rattle.ftp_protocol.specs.server.Replies.{reply_octets, reply_of}
 use Rattle.ftp_protocol.specs.server.Transfer.{starts, file_wire, path_or_here}

@@ -6,8 +6,8 @@ use Rattle.ftp_command.specs.declared.command.Kind.TheVariants as Kinds
 use Rattle.ftp_command.specs.declared.command.Mode.TheVariants as Modes
 use Rattle.ftp_direct.specs.Account.{is_known}
 use Rattle.ftp_direct.specs.Direct.{or_code, past_refusal}
-use Rattle.ftp_tree.specs.Path.{resolved, fits, text_of}
-use Rattle.ftp_tree.specs.Tree.{Names, Table, File, node_at, octets_at, octets_or_none, room_refusal, room_at}
+use Rattle.ftp_path.specs.Path.{resolved, fits, text_of, Names}
+use Rattle.ftp_tree.specs.Tree.{Table, File, node_at, octets_at, octets_or_none, room_refusal, room_at}
 use Rattle.ftp_repr.specs.declared.form.Kind.TheVariants as KindOf
 use Rattle.ftp_repr.specs.declared.form.Structure.TheVariants as StructureOf
 use Rattle.ftp_mode.specs.declared.mode.Mode.TheVariants as ModeOf

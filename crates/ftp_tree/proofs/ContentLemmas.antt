@@ -3,7 +3,8 @@ use Rattle.std.proofs.Common.{ℕ, ◌+◌, ◌≤◌, ◌≡◌, not, Option, S
 use Rattle.std.specs.Option.{option_map, unwrap_or}
 use Rattle.std.proofs.lemmas.Bool.{leb-true}
 use Rattle.std.proofs.lemmas.List.{length-append, take-append-drop, take-take, drop-take}
-use Rattle.ftp_tree.specs.Tree.{Names, Node, Dir, File, Table, node_at, kind_of, octets_of, of_node, octets_at, octets_or_none, whenever, front_answer, front_refusal}
+use Rattle.ftp_path.specs.Path.{Names}
+use Rattle.ftp_tree.specs.Tree.{Node, Dir, File, Table, node_at, kind_of, octets_of, of_node, octets_at, octets_or_none, whenever, front_answer, front_refusal}
 use Rattle.ftp_tree.specs.declared.fault.TreeFault.TheVariants.{Absent, WrongKind, BadOffset}
 use Rattle.ftp_tree.specs.declared.tree.NodeKind.{NodeKind}
 use Rattle.ftp_tree.proofs.TableLemmas.{held}

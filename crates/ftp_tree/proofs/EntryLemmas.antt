@@ -15,8 +15,8 @@ use lib.Dec.{T}
 use Rattle.std.proofs.lemmas.Bool.{and_parts, cases_lt, true≢false}
 use Rattle.std.proofs.lemmas.List.{map-append, map-set, length-map, length-take, length-append, take_more, take_at, take-append-drop, append_assoc, drop-drop, drop_all}
 use Rattle.std.proofs.lemmas.List.Sums.{sum_by_more_le, AllPass-from_list_all}
-use Rattle.ftp_tree.specs.Tree.{Names, Node, Dir, path_cmp, length_of, is_within, moved_path}
-use Rattle.ftp_tree.specs.Path.{fits}
+use Rattle.ftp_tree.specs.Tree.{Node, Dir, length_of}
+use Rattle.ftp_path.specs.Path.{fits, Names, path_cmp, is_within, moved_path}
 use Rattle.ftp_tree.specs.Store.{Rows, row, rows, kept_node, octets_of_rows, is_in_order, StandsAt, HasGap, all_moves_fit, moved_name, moved_rows, put_all}
 use Rattle.ftp_tree.specs.declared.entry.Kept.{Kept}
 use Rattle.ftp_tree.specs.declared.entry.Entry.{Entry}

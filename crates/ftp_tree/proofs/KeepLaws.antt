@@ -5,14 +5,14 @@ use Rattle.std.specs.Ordering.{eq_by_cmp}
 use Rattle.std.specs.FinMap as fin
 use Rattle.std.proofs.lemmas.Bool.{cond-true, cond-false, true≢false}
 use Rattle.std.proofs.lemmas.List.{append-nil, append_assoc, length-append, length-take}
-use Rattle.ftp_tree.specs.Path.{parent}
-use Rattle.ftp_tree.specs.Tree.{Names, Node, Dir, File, Table, path_cmp, node_at, is_within, children, root_alone, made, removed, installed, moved, IsTree, whenever, directory_refusal, place_refusal, nodes_refusal, make_refusal, file_refusal, delete_refusal, empty_refusal, remove_answer, remove_refusal, rename_refusal, room_answer, room_refusal, octets_refusal, install_refusal}
+use Rattle.ftp_path.specs.Path.{parent, Names, path_cmp, is_within}
+use Rattle.ftp_tree.specs.Tree.{Node, Dir, File, Table, node_at, children, root_alone, made, removed, installed, moved, IsTree, whenever, directory_refusal, place_refusal, nodes_refusal, make_refusal, file_refusal, delete_refusal, empty_refusal, remove_answer, remove_refusal, rename_refusal, room_answer, room_refusal, octets_refusal, install_refusal}
 use Rattle.ftp_tree.specs.declared.fault.TreeFault.{TreeFault}
 use Rattle.ftp_tree.specs.declared.fault.TreeFault.TheVariants.{Exists, WrongKind}
 use Rattle.ftp_tree.specs.Laws.{ChangesKeepTrees}
-use Rattle.ftp_tree.proofs.PathLemmas.{parent-last}
+use Rattle.ftp_path.proofs.PathLemmas.{parent-last}
 use Rattle.ftp_tree.proofs.EntryLemmas.{path_total}
-use Rattle.ftp_tree.proofs.KeyLemmas.{within-parts, within-append}
+use Rattle.ftp_path.proofs.KeyLemmas.{within-parts, within-append}
 use Rattle.ftp_tree.proofs.TableLemmas.{both-none, table_of-none, node_at-root}
 use Rattle.ftp_tree.proofs.LawLemmas.{same, false-where, parent-append, target-parts, rename-moves, children-stand}
 

@@ -11,13 +11,13 @@ use Rattle.std.specs.FinMap as fin
 use Rattle.std.specs.FinMap.Entries.{find}
 use Rattle.std.proofs.lemmas.Bool.{cond-true, cond-false, true≢false}
 use Rattle.std.proofs.lemmas.List.{append-nil, length-append, length-take, drop_at}
-use Rattle.ftp_tree.specs.Path.{parent}
+use Rattle.ftp_path.specs.Path.{parent, Names, path_cmp, is_within, only_name, name_in, moved_path}
 use Rattle.ftp_tree.specs.Store.{Rows}
-use Rattle.ftp_tree.specs.Tree.{Names, Node, Table, path_cmp, node_at, is_within, only_name, name_in, children, under, moved, moved_path, IsTree, whenever, directory_refusal, source_refusal, target_refusal, rename_refusal}
+use Rattle.ftp_tree.specs.Tree.{Node, Table, node_at, children, under, moved, IsTree, whenever, directory_refusal, source_refusal, target_refusal, rename_refusal}
 use Rattle.ftp_tree.specs.declared.fault.TreeFault.TheVariants.{Exists, WrongKind}
 use Rattle.ftp_tree.specs.Laws.{UnderStandsBelow, RenameMovesAll, ChildrenStand}
 use Rattle.ftp_tree.proofs.EntryLemmas.{path_total, path_same}
-use Rattle.ftp_tree.proofs.KeyLemmas.{within-parts, within-append}
+use Rattle.ftp_path.proofs.KeyLemmas.{within-parts, within-append}
 use Rattle.ftp_tree.proofs.TableLemmas.{both-none, not-held}
 
 -- ---- paths with one front

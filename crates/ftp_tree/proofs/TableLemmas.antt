@@ -11,8 +11,8 @@ use Rattle.std.specs.FinMap.{is_sorted}
 use Rattle.std.specs.FinMap.Entries.{find, put, below_all, by_order, is_sorted-where_key, find-where_key, length-put}
 use Rattle.std.proofs.lemmas.Bool.{and_parts, and_from, cond-true, true≢false, leb-true, lt-leb, le-leb}
 use Rattle.std.proofs.lemmas.List.Sums.{sum_by-cons}
-use Rattle.ftp_tree.specs.Path.{fits, joined, parent}
-use Rattle.ftp_tree.specs.Tree.{Names, Node, Dir, File, Table, path_cmp, node_at, octets_of, of_node, octets_at, octets_or_none, length_of, octets_in, children, name_in, is_within, moved_path, moves_fit, moved, root_alone, made, removed, installed, or_else, whenever, directory_refusal, file_refusal, place_refusal, nodes_refusal, make_refusal, empty_refusal, remove_answer, remove_refusal, delete_refusal, source_answer, source_refusal, target_refusal, rename_refusal, room_answer, room_refusal, room_at, install_refusal}
+use Rattle.ftp_path.specs.Path.{fits, joined, parent, Names, path_cmp, name_in, is_within, moved_path}
+use Rattle.ftp_tree.specs.Tree.{Node, Dir, File, Table, node_at, octets_of, of_node, octets_at, octets_or_none, length_of, octets_in, children, moves_fit, moved, root_alone, made, removed, installed, or_else, whenever, directory_refusal, file_refusal, place_refusal, nodes_refusal, make_refusal, empty_refusal, remove_answer, remove_refusal, delete_refusal, source_answer, source_refusal, target_refusal, rename_refusal, room_answer, room_refusal, room_at, install_refusal}
 use Rattle.ftp_tree.specs.declared.fault.TreeFault.{TreeFault}
 use Rattle.ftp_tree.specs.declared.fault.TreeFault.TheVariants.{Exists, WrongKind, TooBig, Full, Busy}
 use Rattle.ftp_tree.specs.Store.{Rows, is_in_order, octets_of_rows, table_of, all_moves_fit, moved_name, moved_rows, put_all, IsStore}

@@ -1,7 +1,8 @@
 -- What the definitions of a tree say of single paths.
 use Rattle.std.specs.Prelude.{◌≡◌, ◌↔◌, ℕ, false, true, List, [], ◌∷◌, ◌++◌, length, None, IsSome}
 use Rattle.std.specs.List.{Contains}
-use Rattle.ftp_tree.specs.Tree.{Names, Table, node_at, is_within, under, moved, children, root_alone, made, removed, installed, IsTree, make_refusal, delete_refusal, remove_refusal, rename_refusal, install_refusal}
+use Rattle.ftp_path.specs.Path.{Names, is_within}
+use Rattle.ftp_tree.specs.Tree.{Table, node_at, under, moved, children, root_alone, made, removed, installed, IsTree, make_refusal, delete_refusal, remove_refusal, rename_refusal, install_refusal}
 
 -- what stands below a path
 abbrev pub UnderStandsBelow : Type 0

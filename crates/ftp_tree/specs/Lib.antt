@@ -1,6 +1,4 @@
 pub mod Change
-pub mod Kept
 pub mod Laws
-pub mod Path
 pub mod Store
 pub mod Tree

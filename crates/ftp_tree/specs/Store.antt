@@ -7,8 +7,8 @@ use Rattle.std.specs.FinMap.{is_sorted}
 use Rattle.std.specs.FinMap.Entries.{put}
 use Rattle.std.specs.Option.{unwrap_or}
 use Rattle.std.specs.declared.cmp.Ordering.TheVariants.{Less, Greater}
-use Rattle.ftp_tree.specs.Path.{fits}
-use Rattle.ftp_tree.specs.Tree.{Names, Node, Dir, File, Table, path_cmp, length_of, is_within, moved_path, total_limit}
+use Rattle.ftp_path.specs.Path.{fits, Names, path_cmp, is_within, moved_path}
+use Rattle.ftp_tree.specs.Tree.{Node, Dir, File, Table, length_of, total_limit}
 use Rattle.ftp_tree.specs.declared.entry.Entry.{Entry}
 use Rattle.ftp_tree.specs.declared.entry.Kept as kept
 use Rattle.ftp_tree.specs.declared.entry.Kept.TheVariants as variants

@@ -1,31 +1,22 @@
 -- The tree of a server, as a finite map from paths (lists of names) to directories and files; what may be changed, and what
 -- is refused. No command and no reply stands here (RFC 959, section 4.1.3; the limits are own choices).
-use Rattle.std.specs.Prelude.{◌≡◌, ℕ, ◌-◌, ◌||◌, not, min, List, [], ◌∷◌, ◌++◌, length, drop, map, Bool, Option, Some, None, IsSome, is_some, nat_le, nat_eq, if◌then◌else◌}
+use Rattle.std.specs.Prelude.{◌≡◌, ℕ, ◌-◌, ◌||◌, not, min, List, [], ◌∷◌, length, drop, map, Bool, Option, Some, None, IsSome, is_some, nat_le, if◌then◌else◌}
 use Rattle.std.specs.Option.{option_map, option_or, unwrap_or}
-use Rattle.std.specs.List.{starts_with, filter, filter_map, list_all, sum_by}
-use Rattle.std.specs.Cmp.Lexicographic.{slice_cmp, pointwise}
+use Rattle.std.specs.List.{filter, filter_map, list_all, sum_by}
 use Rattle.std.specs.FinMap as fin
 use Rattle.std.specs.FinMap.{FinMap}
-use Rattle.std.specs.declared.cmp.Ordering.{Ordering}
-use Rattle.std.specs.Ordering.{nat_cmp}
-use Rattle.ftp_tree.specs.Path.{parent, fits}
+use Rattle.ftp_path.specs.Path.{Names, parent, fits, path_cmp, is_within, name_in, moved_path}
+use Rattle.ftp_path.specs.declared.fault.PathFault.{PathFault}
+use Rattle.ftp_path.specs.declared.fault.PathFault.TheVariants as PathFaults
 use Rattle.ftp_tree.specs.declared.fault.TreeFault.{TreeFault}
-use Rattle.ftp_tree.specs.declared.fault.TreeFault.TheVariants.{Absent, Exists, NotEmpty, WrongKind, TooBig, Full, Busy, BadOffset}
+use Rattle.ftp_tree.specs.declared.fault.TreeFault.TheVariants.{Absent, Exists, NotEmpty, WrongKind, TooBig, Full, Busy, BadOffset, Memory}
 use Rattle.ftp_tree.specs.declared.tree.NodeKind.{NodeKind}
 use Rattle.ftp_tree.specs.declared.tree.NodeKind.TheVariants as Kinds
-
--- a path: the names on the way from the root
-abbrev pub Names : Type 0
-Names = List (List ℕ)
 
 -- what stands at a path: a directory, or a file with its octets and the second in which it was installed
 pub data Node : Type 0 where
   Dir : Node
   File : (octets : List ℕ) → (moment : ℕ) → Node
-
--- paths in the order of their names, and names in the order of their octets
-abbrev pub path_cmp : Names → Names → Ordering
-path_cmp = slice_cmp (slice_cmp nat_cmp)
 
 -- the map of all paths at which something stands
 abbrev pub Table : Type 0
@@ -72,19 +63,6 @@ stamp_at table path = of_node moment_of (node_at table path)
 abbrev pub octets_or_none : Table → Names → List ℕ
 octets_or_none table path = unwrap_or (octets_at table path) []
 
--- the second path is the first or below it
-unfoldable pub is_within : Names → Names → Bool
-is_within above path = starts_with (pointwise nat_eq) path above
-
--- the name by which a directory calls a node that stands directly in it
-abbrev pub only_name : Names → Option (List ℕ)
-only_name [] = None
-only_name (name ∷ []) = Some name
-only_name (name ∷ next ∷ names) = None
-
-unfoldable pub name_in : Names → Names → Option (List ℕ)
-name_in above path = if is_within above path then only_name (drop (length above) path) else None
-
 -- the names in a directory, in the order of their octets
 unfoldable pub children : Table → Names → List (List ℕ)
 children table path = filter_map (name_in path) (fin.keys table)
@@ -119,10 +97,6 @@ removed table path = fin.remove table path
 unfoldable pub installed : Table → Names → List ℕ → ℕ → Table
 installed table path octets moment = fin.insert table path (File octets moment)
 
--- where a path leads once what stands at `from` is called `to`: below it the rest of the path is kept
-unfoldable pub moved_path : Names → Names → Names → Names
-moved_path from to path = if is_within from path then to ++ drop (length from) path else path
-
 -- with all that stood at `from` or below it at `to` and below it
 unfoldable pub moved : Table → Names → Names → Table
 moved table from to = fin.from_entries (map (λ entry. (moved_path from to entry.0, entry.1)) (fin.entries table))
@@ -132,6 +106,11 @@ unfoldable pub under : Table → Names → Table
 under table path = fin.from_entries (map (λ entry. (drop (length path) entry.0, entry.1)) (filter (λ entry. is_within path entry.0) (fin.entries table)))
 
 -- ---- what is refused, and why: the first reason that applies
+
+-- a path's fault, as a tree tells it
+abbrev pub of_path : PathFault → TreeFault
+of_path PathFaults.TooBig = TooBig
+of_path PathFaults.Memory = Memory
 
 -- the first of two reasons
 abbrev pub or_else : Option TreeFault → Option TreeFault → Option TreeFault

@@ -3,8 +3,8 @@ ghost use Rattle.std.specs.Prelude.{◌≡◌, ◌≤◌, ◌++◌, [], None, If
 ghost use Rattle.ftp_tree.specs.Tree.{front_refusal, octets_or_none};
 
 use crate::fault::TreeFault;
-use crate::path::Path;
 use crate::tree::Tree;
+use ftp_path::Path;
 use std::alloc::{AllocError, Allocator};
 use std::marker::Model;
 use std::mem;

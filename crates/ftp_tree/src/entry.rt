@@ -6,16 +6,15 @@ ghost use Rattle.std.specs.List.{filter_map, slice_get};
 ghost use Rattle.std.specs.Option.{option_map, unwrap_or};
 ghost use Rattle.std.specs.Ordering.{eq_by_cmp};
 ghost use Rattle.std.specs.Vec.{vec_capacity, vec_len};
-ghost use Rattle.ftp_tree.specs.Kept.{IsJoined, IsKept, names_of};
-ghost use Rattle.ftp_tree.specs.Path.{fits};
+ghost use Rattle.ftp_path.specs.Kept.{IsJoined, IsKept, names_of};
+ghost use Rattle.ftp_path.specs.Path.{fits, is_within, moved_path, name_in, path_cmp};
 ghost use Rattle.ftp_tree.specs.Store.{HasGap, StandsAt, all_moves_fit, kept_node, moved_name, moved_rows, octets_of_rows, put_all, rows, standing_node};
-ghost use Rattle.ftp_tree.specs.Tree.{is_within, moved_path, name_in, octets_of, path_cmp};
+ghost use Rattle.ftp_tree.specs.Tree.{octets_of};
 
 use crate::content::Content;
-use crate::key::{is_within, name_in, order};
-use crate::name::Name;
-use crate::path::Path;
 use ftp_facts::Moment;
+use ftp_path::key::{is_within, name_in, order};
+use ftp_path::{Name, Path};
 use std::alloc::{AllocError, Allocator};
 use std::cmp::Ordering;
 

@@ -1,4 +1,8 @@
-// Why a call on a path or a tree was refused.
+// Why a call on a tree was refused.
+ghost use Rattle.std.specs.Prelude.{◌≡◌};
+ghost use Rattle.ftp_tree.specs.Tree.{of_path};
+
+use ftp_path::PathFault;
 use thiserror::Error;
 
 /// A refused call changes nothing; of several refusals the first of the call's own order is given, `Memory` last.
@@ -34,4 +38,15 @@ pub enum TreeFault {
     /// The allocator refused a growth.
     #[error("out of memory")]
     Memory,
+}
+
+impl From<PathFault> for TreeFault {
+    ghost from_gives = { λ fault told. told ≡ of_path fault };
+
+    fn from(fault: PathFault) -> TreeFault {
+        match fault {
+            PathFault::TooBig => TreeFault::TooBig,
+            PathFault::Memory => TreeFault::Memory,
+        }
+    }
 }

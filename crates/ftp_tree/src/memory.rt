@@ -1,19 +1,18 @@
 // A tree in memory: its entries in the order of their paths, and the root, which is none of them.
 ghost use Rattle.std.specs.Prelude.{◌≡◌, ◌≤◌, ◌<◌, [], None, OnErr, OnOk, drop, length, take};
 ghost use Rattle.std.specs.Option.{option_map};
-ghost use Rattle.ftp_tree.specs.Kept.{IsJoined, names_of};
-ghost use Rattle.ftp_tree.specs.Path.{parent};
+ghost use Rattle.ftp_path.specs.Kept.{IsJoined, names_of};
+ghost use Rattle.ftp_path.specs.Path.{parent};
 ghost use Rattle.ftp_tree.specs.Store.{standing_node};
 ghost use Rattle.ftp_tree.specs.Tree.{delete_refusal, directory_refusal, install_refusal, installed, made, make_refusal, moved, moves_fit, node_at, nodes_refusal, octets_or_none, or_else, place_refusal, remove_refusal, removed, rename_refusal, room_at, room_refusal, root_alone, source_refusal, target_refusal};
 
 use crate::content::Content;
 use crate::entry::{self, Entry, Kept, Standing};
 use crate::fault::TreeFault;
-use crate::key::is_within;
-use crate::name::Name;
-use crate::path::Path;
 use crate::tree::{NodeKind, Tree};
 use ftp_facts::Moment;
+use ftp_path::key::is_within;
+use ftp_path::{Name, Path};
 use std::alloc::{AllocError, Allocator};
 use std::marker::Model;
 

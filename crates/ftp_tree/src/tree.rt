@@ -6,9 +6,8 @@ ghost use Rattle.ftp_tree.specs.Change.{IsDone, IsRefused};
 
 use crate::content::Content;
 use crate::fault::TreeFault;
-use crate::name::Name;
-use crate::path::Path;
 use ftp_facts::Moment;
+use ftp_path::{Name, Path};
 use std::alloc::Allocator;
 
 /// What stands at a path.

@@ -4,7 +4,7 @@ use Rattle.ftp_command.specs.declared.command.Command.{Command}
 use Rattle.ftp_command.specs.declared.command.Command.TheVariants as command
 use Rattle.ftp_command.specs.declared.fault.CommandFault.{CommandFault}
 use Rattle.ftp_command.specs.declared.fault.CommandFault.TheVariants as Faults
-use Rattle.ftp_tree.specs.Tree.{Names}
+use Rattle.ftp_path.specs.Path.{Names}
 use Rattle.ftp_protocol.specs.server.View.{Footing, Session}
 use Rattle.ftp_protocol.specs.server.Entries.{option_facts}
 use Rattle.ftp_protocol.specs.server.Replies.{Turn, tells}

@@ -4,7 +4,8 @@ use Rattle.std.specs.Prelude.{◌≡◌, ℕ, ◌+◌, Bool, true, false, ◌&&�
 use Rattle.ftp_endpoint.specs.declared.host.Host.{Host}
 use Rattle.ftp_mode.specs.Said.{Said, says, marker}
 use Rattle.ftp_mode.specs.declared.fault.FrameFault.{FrameFault}
-use Rattle.ftp_tree.specs.Tree.{Names, Table}
+use Rattle.ftp_path.specs.Path.{Names}
+use Rattle.ftp_tree.specs.Tree.{Table}
 use Rattle.ftp_protocol.specs.Ear.{quiet}
 use Rattle.ftp_protocol.specs.Decoder.{Decoder, with_sign, with_said, read_on, octet_says, fault_of}
 use Rattle.ftp_protocol.specs.Link.{same_host}

@@ -4,8 +4,8 @@ use Rattle.std.specs.Option.{unwrap_or}
 use Rattle.std.specs.List.{flat_map, filter_map}
 use Rattle.ftp_facts.specs.Calendar.{year_and_place, month_and_place}
 use Rattle.ftp_facts.specs.Moment.{four_digits}
-use Rattle.ftp_tree.specs.Path.{fits}
-use Rattle.ftp_tree.specs.Tree.{Names, Node, Dir, File, Table, node_at, children}
+use Rattle.ftp_path.specs.Path.{fits, Names}
+use Rattle.ftp_tree.specs.Tree.{Node, Dir, File, Table, node_at, children}
 use Rattle.ftp_direct.specs.Direct.{entries_in, names_for, child}
 use Rattle.ftp_repr.specs.Signs.{Form}
 use Rattle.ftp_repr.specs.declared.form.Kind.TheVariants as Kinds

@@ -5,7 +5,8 @@ use Rattle.ftp_command.specs.Command.{Says, Refuses}
 use Rattle.ftp_command.specs.Line.{IsStated, IsTyped, line_of}
 use Rattle.ftp_command.specs.declared.command.Command.{Command}
 use Rattle.ftp_command.specs.declared.command.Command.TheVariants as command
-use Rattle.ftp_tree.specs.Tree.{Names, Table, octets_or_none, octets_refusal, installed}
+use Rattle.ftp_path.specs.Path.{Names}
+use Rattle.ftp_tree.specs.Tree.{Table, octets_or_none, octets_refusal, installed}
 use Rattle.ftp_protocol.specs.Ear.{ear_step, ear_out}
 use Rattle.ftp_protocol.specs.Decoder.{Decoder, is_whole, ended, broken}
 use Rattle.ftp_protocol.specs.server.View.{Footing, Move, Session, View, line_limit}

@@ -6,8 +6,7 @@ use Rattle.ftp_endpoint.specs.Written.{six_text}
 use Rattle.ftp_endpoint.specs.declared.endpoint.Endpoint.{Endpoint}
 use Rattle.ftp_reply.specs.Reply.{written}
 use Rattle.ftp_reply.specs.Values.{doubled}
-use Rattle.ftp_tree.specs.Path.{text_of as path_text}
-use Rattle.ftp_tree.specs.Tree.{Names}
+use Rattle.ftp_path.specs.Path.{text_of as path_text, Names}
 use Rattle.ftp_direct.specs.Direct.{entry_at}
 use Rattle.ftp_protocol.specs.server.Texts.{code_of, text_of}
 use Rattle.ftp_protocol.specs.server.View.{Session}

@@ -12,7 +12,8 @@ use Rattle.ftp_endpoint.specs.declared.endpoint.Endpoint.{Endpoint}
 use Rattle.ftp_command.specs.declared.fault.CommandFault.TheVariants as Faults
 use Rattle.ftp_endpoint.specs.declared.host.Host.{Host}
 use Rattle.ftp_endpoint.specs.declared.host.Host.TheVariants.{V4}
-use Rattle.ftp_tree.specs.Tree.{Names, Dir, File, Table, node_at, children, installed, moved, moves_fit, room_at}
+use Rattle.ftp_path.specs.Path.{Names}
+use Rattle.ftp_tree.specs.Tree.{Dir, File, Table, node_at, children, installed, moved, moves_fit, room_at}
 use Rattle.ftp_protocol.specs.server.View.{Accounts, View}
 use Rattle.ftp_protocol.specs.server.Machine.{heard_line}
 use Rattle.ftp_protocol.specs.server.Calls.{start, listening, listen_refused, data_opened, data_refused, receives, gives_data, data_end, data_fault, data_closed, to_give, wants}

@@ -1,6 +1,7 @@
 -- How a transfer begins: REST (RFC 3659, section 5), RETR, STOR, APPE, LIST, NLST, MLSD (RFC 959, section 4.1.3).
 use Rattle.std.specs.Prelude.{ℕ, List, drop, length, Option, Some, None, if◌then◌else◌}
-use Rattle.ftp_tree.specs.Tree.{Names, octets_or_none, room_refusal}
+use Rattle.ftp_path.specs.Path.{Names}
+use Rattle.ftp_tree.specs.Tree.{octets_or_none, room_refusal}
 use Rattle.ftp_direct.specs.Direct.{refusal, refused_room, limited, or_code, past_refusal, front_code, offset_refusal, named_or_here}
 use Rattle.ftp_direct.specs.declared.op.Op.TheVariants as Ops
 use Rattle.ftp_mode.specs.Block.{marked_text}

@@ -2,7 +2,8 @@
 -- and 4.1. Beside them stand two counts, of refused growths and of device failures (`Failing`).
 use Rattle.std.specs.Prelude.{ℕ, Bool, true, false, List, [], Option}
 use Rattle.ftp_endpoint.specs.declared.host.Host.{Host}
-use Rattle.ftp_tree.specs.Tree.{Names, Table}
+use Rattle.ftp_path.specs.Path.{Names}
+use Rattle.ftp_tree.specs.Tree.{Table}
 use Rattle.ftp_direct.specs.Direct.{State}
 use Rattle.ftp_direct.specs.declared.account.Account.{Account}
 use Rattle.ftp_direct.specs.declared.op.How.{How}

@@ -1,8 +1,8 @@
 -- The map and the current directory: CWD, CDUP, MKD, RMD, DELE, RNFR, RNTO (RFC 959, section 4.1.3). What is refused, and
 -- why, is said as the direct run says it of the operation.
 use Rattle.std.specs.Prelude.{ℕ, ◌==◌, List, Option, Some, None, if◌then◌else◌}
-use Rattle.ftp_tree.specs.Path.{parent, resolved}
-use Rattle.ftp_tree.specs.Tree.{Names, or_else, made, removed, moved, source_refusal, rename_refusal}
+use Rattle.ftp_path.specs.Path.{parent, resolved, Names}
+use Rattle.ftp_tree.specs.Tree.{or_else, made, removed, moved, source_refusal, rename_refusal}
 use Rattle.ftp_direct.specs.Direct.{refusal, refused_there, refused_name, limited, busy_refusal}
 use Rattle.ftp_direct.specs.declared.op.Op.TheVariants as Ops
 use Rattle.ftp_protocol.specs.server.View.{Session, direct_of}

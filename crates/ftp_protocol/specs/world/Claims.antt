@@ -11,8 +11,8 @@ use Rattle.ftp_direct.specs.Answer.{Said}
 use Rattle.ftp_direct.specs.Direct.{State, start as direct_start, answers}
 use Rattle.std.specs.List.{list_all}
 use Rattle.std.specs.FinMap as fin
-use Rattle.ftp_tree.specs.Path.{is_name}
-use Rattle.ftp_tree.specs.Tree.{Names, Node, Dir, File, Table, IsTree, octets_in, total_limit}
+use Rattle.ftp_path.specs.Path.{is_name, Names}
+use Rattle.ftp_tree.specs.Tree.{Node, Dir, File, Table, IsTree, octets_in, total_limit}
 use Rattle.ftp_protocol.specs.client.View.{client}
 use Rattle.ftp_protocol.specs.server.Calls.{start}
 use Rattle.ftp_protocol.specs.server.Machine.{Reading, IsReading}

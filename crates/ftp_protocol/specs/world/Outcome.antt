@@ -11,7 +11,8 @@ use Rattle.ftp_direct.specs.declared.op.Op.TheVariants as Ops
 use Rattle.ftp_mode.specs.Laws.{settled_content}
 use Rattle.ftp_mode.specs.Said.{Said as WireSaid, says, marker}
 use Rattle.ftp_repr.specs.Machine.{IsFront}
-use Rattle.ftp_tree.specs.Tree.{Names, installed, octets_or_none, octets_refusal}
+use Rattle.ftp_path.specs.Path.{Names}
+use Rattle.ftp_tree.specs.Tree.{installed, octets_or_none, octets_refusal}
 use Rattle.ftp_protocol.specs.Decoder.{Decoder, no_octets, octet_says, decoded_octet}
 use Rattle.ftp_protocol.specs.Settings.{form_of, has_markers}
 use Rattle.ftp_protocol.specs.client.Moving.{written, upload_text, last_mark}

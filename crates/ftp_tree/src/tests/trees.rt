@@ -1,93 +1,7 @@
-use super::from;
-use crate::{Content, MemTree, NodeKind, Path, Tree, TreeFault};
-use ftp_facts::Moment;
+use super::{Row, Step, all_answer, from, put};
+use crate::{MemTree, NodeKind, Path, Tree, TreeFault};
 use std::alloc::Allocator;
 use std::test::Fail;
-
-/// What a step of a test does.
-#[derive(Clone, Copy, Debug)]
-enum Step {
-    Make,
-    Remove,
-    Delete,
-    /// With so many octets.
-    Install(usize),
-    Rename(&'static [u8]),
-}
-
-/// A path, what is done there, and what that answers.
-type Row = (&'static [u8], Step, Result<(), TreeFault>);
-
-/// Does a step.
-fn act<A: Allocator + Copy>(
-    alloc: A,
-    tree: &mut MemTree<A>,
-    text: &[u8],
-    step: Step,
-) -> Result<(), TreeFault> {
-    let root = Path::root(alloc);
-    let path = from(&root, alloc, text)?;
-    match step {
-        Step::Make => tree.make_dir(&path),
-        Step::Remove => tree.remove_dir(&path),
-        Step::Delete => tree.delete(&path),
-        Step::Install(count) => install(alloc, tree, &path, count),
-        Step::Rename(to) => {
-            let to = from(&root, alloc, to)?;
-            tree.rename(&path, &to)
-        }
-    }
-}
-
-/// Installs a file of so many octets, all `x`, in the second 7.
-fn install<A: Allocator + Copy>(
-    alloc: A,
-    tree: &mut MemTree<A>,
-    path: &Path<A>,
-    count: usize,
-) -> Result<(), TreeFault> {
-    let mut content = Content::new(alloc);
-    let Ok(octets) = Vec::from_elem(alloc, b'x', count) else {
-        return Err(TreeFault::Memory);
-    };
-    let Ok(_) = content.push(octets.as_slice()) else {
-        return Err(TreeFault::Memory);
-    };
-    let Some(moment) = Moment::new(7) else {
-        return Err(TreeFault::Memory);
-    };
-    let answer = tree.install(path, &mut content, moment);
-    let left = if answer.is_ok() { 0 } else { count as u64 };
-    if content.len() == left {
-        answer
-    } else {
-        Err(TreeFault::Device)
-    }
-}
-
-/// Whether each row answers as it says.
-fn all_answer<A: Allocator + Copy>(alloc: A, tree: &mut MemTree<A>, rows: &[Row]) -> bool {
-    for (text, step, expected) in rows {
-        if act(alloc, tree, text, *step) != *expected {
-            return false;
-        }
-    }
-    true
-}
-
-fn kind_at<A: Allocator + Copy>(alloc: A, tree: &MemTree<A>, text: &[u8]) -> Option<NodeKind> {
-    match from(&Path::root(alloc), alloc, text) {
-        Ok(path) => tree.kind(&path),
-        Err(_) => None,
-    }
-}
-
-fn size_at<A: Allocator + Copy>(alloc: A, tree: &MemTree<A>, text: &[u8]) -> Option<u64> {
-    match from(&Path::root(alloc), alloc, text) {
-        Ok(path) => tree.size(&path),
-        Err(_) => None,
-    }
-}
 
 const MAKES: [Row; 9] = [
     (b"/", Step::Make, Err(TreeFault::Exists)),
@@ -129,7 +43,7 @@ fn each_refusal_comes_in_its_order(rt: HostRuntime) {
     assert_eq!(&rt; tree.device_failures(), 0);
 }
 
-const RENAMES: [Row; 20] = [
+const RENAMES: [Row; 27] = [
     (b"/a", Step::Make, Ok(())),
     (b"/a/b", Step::Make, Ok(())),
     (b"/a/b/c", Step::Install(3), Ok(())),
@@ -145,27 +59,24 @@ const RENAMES: [Row; 20] = [
     (b"/a", Step::Rename(b"/z/d"), Err(TreeFault::Absent)),
     (b"/a", Step::Rename(b"/a b/d"), Err(TreeFault::WrongKind)),
     (b"/a", Step::Rename(b"/a.b/d"), Ok(())),
+    (b"/a.b/d/b/c", Step::Size(Some(3)), Ok(())),
+    (b"/a.b/d/b", Step::Kind(Some(NodeKind::Dir)), Ok(())),
+    (b"/a", Step::Kind(None), Ok(())),
+    (b"/a/b/c", Step::Kind(None), Ok(())),
     (b"/a b", Step::Rename(b"/a.b/d/e"), Ok(())),
     (b"/a", Step::Remove, Err(TreeFault::Absent)),
     (b"/a.b/d", Step::Remove, Err(TreeFault::NotEmpty)),
     (b"/a.b/d/b/c", Step::Rename(b"/c"), Ok(())),
     (b"/a.b/d/b", Step::Remove, Ok(())),
+    (b"/c", Step::Size(Some(3)), Ok(())),
+    (b"/c", Step::Kind(Some(NodeKind::File)), Ok(())),
+    (b"/a.b/d/e", Step::Size(Some(1)), Ok(())),
 ];
 
 #[test]
 fn a_rename_takes_all_below_with_it(rt: HostRuntime) {
     let mut tree = MemTree::new(rt.alloc());
-    assert!(&rt; all_answer(rt.alloc(), &mut tree, &RENAMES[..15]));
-    assert_eq!(&rt; size_at(rt.alloc(), &tree, b"/a.b/d/b/c"), Some(3));
-    assert_eq!(&rt;
-        kind_at(rt.alloc(), &tree, b"/a.b/d/b"),
-        Some(NodeKind::Dir)
-    );
-    assert_eq!(&rt; kind_at(rt.alloc(), &tree, b"/a"), None);
-    assert_eq!(&rt; kind_at(rt.alloc(), &tree, b"/a/b/c"), None);
-    assert!(&rt; all_answer(rt.alloc(), &mut tree, &RENAMES[15..]));
-    assert_eq!(&rt; size_at(rt.alloc(), &tree, b"/c"), Some(3));
-    assert_eq!(&rt; size_at(rt.alloc(), &tree, b"/a.b/d/e"), Some(1));
+    assert!(&rt; all_answer(rt.alloc(), &mut tree, &RENAMES));
 }
 
 #[test]
@@ -182,8 +93,10 @@ fn a_rename_keeps_texts_within_900_octets(rt: HostRuntime) -> Result<(), Fail> {
     let top = from(&root, rt.alloc(), name.as_slice())?;
     let shelf = from(&root, rt.alloc(), b"/d")?;
     let file = from(&here, rt.alloc(), &name.as_slice()[..131])?;
-    assert!(&rt; install(rt.alloc(), &mut tree, &file, 1).is_ok());
+    assert!(&rt; put(rt.alloc(), &mut tree, &file, b"x", 7).is_ok());
     assert!(&rt; tree.make_dir(&shelf).is_ok());
+    let below = from(&file, rt.alloc(), b"n");
+    assert!(&rt; matches!(&below, Err(TreeFault::TooBig)));
     let too_long = from(&shelf, rt.alloc(), name.as_slice())?;
     assert_eq!(&rt; tree.rename(&top, &too_long), Err(TreeFault::TooBig));
     let fitting = from(&shelf, rt.alloc(), &name.as_slice()[..253])?;

@@ -1,6 +1,5 @@
 use Rattle.std.proofs.Common.{◌≡◌, ◌∙◌, ap, sym, subst, List, ℕ, true, false, IfOk, MatchOption, ◌∷◌, [], ◌==◌, length}
-use Rattle.ftp_tree.specs.Path.{fits, resolved}
-use Rattle.ftp_tree.specs.Tree.{Names}
+use Rattle.ftp_path.specs.Path.{fits, resolved, Names}
 use Rattle.ftp_direct.specs.Direct.{place}
 use Rattle.ftp_direct.proofs.ListingLemmas.{place_here}
 use Rattle.ftp_direct.proofs.listings.find_here.Goals as goal

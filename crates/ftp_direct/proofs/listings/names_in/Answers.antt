@@ -1,7 +1,7 @@
 use Rattle.std.proofs.Common.{◌≡◌, ◌∙◌, ◌++◌, ◌∷◌, [], Some, None, ap, sym, arith, take, vec_len}
 use Rattle.std.specs.List.{list_all, slice_get}
 use Rattle.std.proofs.lemmas.List.{take_all}
-use Rattle.ftp_tree.specs.Path.{is_name}
+use Rattle.ftp_path.specs.Path.{is_name}
 use Rattle.ftp_tree.specs.Tree.{children}
 use Rattle.ftp_direct.proofs.ListingLemmas.{names_more, names_named, names_within, names_end}
 use Rattle.ftp_direct.proofs.listings.names_in.Goals as goal

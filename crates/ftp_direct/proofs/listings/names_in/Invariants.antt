@@ -1,6 +1,6 @@
 use Rattle.std.proofs.Common.{◌≡◌, ◌≤◌, ◌-◌, length, take, IsTrue, vec_len}
 use Rattle.std.specs.List.{list_all}
-use Rattle.ftp_tree.specs.Path.{is_name}
+use Rattle.ftp_path.specs.Path.{is_name}
 use Rattle.ftp_tree.specs.Tree.{children}
 use Rattle.ftp_direct.proofs.listings.names_in.Given as goal
 

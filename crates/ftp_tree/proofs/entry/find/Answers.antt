@@ -1,5 +1,5 @@
 use Rattle.std.proofs.Common.{Some, sym, ap, ◌∙◌}
-use Rattle.ftp_tree.specs.Kept.{names_of}
+use Rattle.ftp_path.specs.Kept.{names_of}
 use Rattle.ftp_tree.specs.Store.{rows, kept_node}
 use Rattle.ftp_tree.specs.Tree.{File}
 use Rattle.ftp_tree.proofs.EntryLemmas.{find-gap, find-entry}

@@ -2,7 +2,7 @@ use Rattle.std.proofs.Common.{◌++◌, length, drop, sym, ap, ◌∙◌, arith}
 use Rattle.std.specs.FinMap.{is_sorted}
 use Rattle.std.specs.FinMap.Entries.{put}
 use Rattle.std.specs.Option.{option_to_list, unwrap_or}
-use Rattle.ftp_tree.specs.Tree.{path_cmp}
+use Rattle.ftp_path.specs.Path.{path_cmp}
 use Rattle.std.proofs.lemmas.List.{take_all}
 use Rattle.ftp_tree.specs.Store.{rows, kept_node, moved_rows, put_all}
 use Rattle.ftp_tree.proofs.EntryLemmas.{moved-none, moved-step, sorted-put_all}

@@ -1,7 +1,7 @@
 use Rattle.std.proofs.Common.{◌≡◌, drop}
 use Rattle.std.specs.List.{filter_map, slice_get}
-use Rattle.ftp_tree.specs.Kept.{names_of}
-use Rattle.ftp_tree.specs.Tree.{name_in}
+use Rattle.ftp_path.specs.Kept.{names_of}
+use Rattle.ftp_path.specs.Path.{name_in}
 use Rattle.ftp_tree.specs.Store.{rows}
 use Rattle.ftp_tree.proofs.entry.nth_name.Given as goal
 

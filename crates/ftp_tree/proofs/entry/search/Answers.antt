@@ -1,5 +1,5 @@
 use Rattle.std.proofs.Common.{◌+◌, ◌-◌, ◌/◌, ◌<◌, ◌≤◌, length, arith}
-use Rattle.ftp_tree.specs.Kept.{names_of}
+use Rattle.ftp_path.specs.Kept.{names_of}
 use Rattle.ftp_tree.specs.Store.{rows}
 use Rattle.ftp_tree.proofs.EntryLemmas.{rows-length, more-before, more-behind, stands-here, gap-from, compared}
 use Rattle.ftp_tree.proofs.entry.search.Goals as goal

@@ -1,5 +1,5 @@
 use Rattle.std.proofs.Common.{◌-◌, ◌≤◌, length}
-use Rattle.ftp_tree.specs.Kept.{names_of}
+use Rattle.ftp_path.specs.Kept.{names_of}
 use Rattle.ftp_tree.specs.Store.{rows}
 use Rattle.ftp_tree.proofs.EntryLemmas.{AllBefore, AllBehind}
 use Rattle.ftp_tree.proofs.entry.search.Given as goal

@@ -1,7 +1,8 @@
 use Rattle.std.proofs.Common.{length, ap, ◌∙◌}
 use Rattle.std.specs.FinMap.Entries.{put}
 use Rattle.ftp_tree.specs.Store.{rows}
-use Rattle.ftp_tree.specs.Tree.{File, path_cmp, install_refusal, installed}
+use Rattle.ftp_path.specs.Path.{path_cmp}
+use Rattle.ftp_tree.specs.Tree.{File, install_refusal, installed}
 use Rattle.ftp_tree.proofs.TableLemmas.{installed-store}
 use Rattle.ftp_tree.proofs.memory.MemTree.put_file.Goals as goal
 

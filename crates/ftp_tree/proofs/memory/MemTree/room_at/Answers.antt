@@ -1,6 +1,6 @@
 use Rattle.std.proofs.Common.{◌≡◌, ◌-◌, length, sym, ap, ◌∙◌, arith}
 use Rattle.std.specs.Prelude.{min}
-use Rattle.ftp_tree.specs.Kept.{names_of}
+use Rattle.ftp_path.specs.Kept.{names_of}
 use Rattle.ftp_tree.specs.Store.{rows, octets_of_rows, table_of}
 use Rattle.ftp_tree.specs.Tree.{octets_or_none, room_at}
 use Rattle.ftp_tree.proofs.TableLemmas.{freed-le, room_at-table}

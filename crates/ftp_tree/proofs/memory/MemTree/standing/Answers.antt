@@ -1,9 +1,10 @@
 use Rattle.std.proofs.Common.{◌≡◌, ◌<◌, length, sym, ap, ◌∙◌, arith}
 use Rattle.std.specs.FinMap.Entries.{find}
 use Rattle.std.proofs.lemmas.Grind.{common_steps}
-use Rattle.ftp_tree.specs.Kept.{names_of}
+use Rattle.ftp_path.specs.Kept.{names_of}
 use Rattle.ftp_tree.specs.Store.{rows}
-use Rattle.ftp_tree.specs.Tree.{node_at, path_cmp}
+use Rattle.ftp_path.specs.Path.{path_cmp}
+use Rattle.ftp_tree.specs.Tree.{node_at}
 use Rattle.ftp_tree.proofs.TableLemmas.{node_at-none, node_at-some}
 use Rattle.ftp_tree.proofs.memory.MemTree.standing.Goals as goal
 

@@ -1,8 +1,9 @@
 use Rattle.std.proofs.Common.{sym, ap, ◌∙◌}
 use Rattle.std.specs.List.{filter_map, slice_get}
-use Rattle.ftp_tree.specs.Kept.{names_of}
+use Rattle.ftp_path.specs.Kept.{names_of}
 use Rattle.ftp_tree.specs.Store.{rows}
-use Rattle.ftp_tree.specs.Tree.{children, name_in}
+use Rattle.ftp_path.specs.Path.{name_in}
+use Rattle.ftp_tree.specs.Tree.{children}
 use Rattle.ftp_tree.proofs.TableLemmas.{children-table}
 use Rattle.ftp_tree.proofs.memory.MemTreeTree.nth_name.Goals as goal
 

@@ -1,0 +1,96 @@
+-- Pathnames (RFC 959, section 5.3.2, a string of printable ASCII). That `/` stands between names, and what `.`, `..` and an
+-- empty component name, are own choices, as the standard leaves them to the server.
+use Rattle.std.specs.Prelude.{ℕ, ◌-◌, ◌≤◌, Bool, not, ◌&&◌, ◌||◌, ◌==◌, nat_le, List, [], ◌∷◌, ◌++◌, length, take, drop, fold, Option, Some, None, if◌then◌else◌, IsTrue, nat_eq}
+use Rattle.std.specs.Cmp.Lexicographic.{slice_cmp, pointwise}
+use Rattle.std.specs.List.{list_all, slice_split, starts_with}
+use Rattle.std.specs.Ordering.{nat_cmp}
+use Rattle.std.specs.declared.cmp.Ordering.{Ordering}
+
+-- the octet between two names, `/`
+abbrev pub is_slash : ℕ → Bool
+is_slash octet = octet == 47
+
+-- an octet of a pathname: printable ASCII or a space, 32 to 126
+abbrev pub is_path_octet : ℕ → Bool
+is_path_octet octet = nat_le 32 octet && nat_le octet 126
+
+-- an octet of a name: one of a pathname that is no `/`
+abbrev pub is_name_octet : ℕ → Bool
+is_name_octet octet = is_path_octet octet && not (is_slash octet)
+
+-- a pathname as it comes in a command: 1 to 900 octets (own choice), each 32 to 126
+abbrev pub IsPathText : List ℕ → Type 0
+IsPathText text = (1 ≤ length text) × (length text ≤ 900) × IsTrue (list_all is_path_octet text)
+
+-- a component that stays where it is: an empty one, or `.`
+abbrev pub is_here : List ℕ → Bool
+is_here component = (length component == 0) || pointwise nat_eq component (46 ∷ [])
+
+-- a component that goes up to the parent: `..`
+abbrev pub is_above : List ℕ → Bool
+is_above component = pointwise nat_eq component (46 ∷ 46 ∷ [])
+
+-- a component that names something: octets of a name, not empty, not `.`, not `..`
+abbrev pub is_component : List ℕ → Bool
+is_component component = list_all is_name_octet component && not (is_here component) && not (is_above component)
+
+-- a name: such a component, of at most 255 octets (own choice)
+abbrev pub is_name : List ℕ → Bool
+is_name name = is_component name && nat_le (length name) 255
+
+-- the directory that a path stands in; the root's is the root
+unfoldable pub parent : List (List ℕ) → List (List ℕ)
+parent path = take (length path - 1) path
+
+-- where one component leads from a path
+abbrev pub followed : List (List ℕ) → List ℕ → List (List ℕ)
+followed path component = if is_here component then path else (if is_above component then parent path else path ++ component ∷ [])
+
+-- a text that starts at the root: one that begins with `/`
+abbrev pub is_rooted : List ℕ → Bool
+is_rooted text = starts_with nat_eq text (47 ∷ [])
+
+-- the path that a text names, read from a path: its components, followed in turn from there or from the root; no tree is looked at
+unfoldable pub resolved : List (List ℕ) → List ℕ → List (List ℕ)
+resolved here text = fold followed (if is_rooted text then [] else here) (slice_split is_slash text)
+
+-- each name with a `/` before it
+abbrev pub joined : List (List ℕ) → List ℕ
+joined [] = []
+joined (name ∷ names) = 47 ∷ (name ++ joined names)
+
+-- the canonical text of a path: `/` for the root, else each name with a `/` before it
+unfoldable pub text_of : List (List ℕ) → List ℕ
+text_of [] = 47 ∷ []
+text_of (name ∷ names) = joined (name ∷ names)
+
+-- the limits of a path (own choice): names of at most 255 octets, a canonical text of at most 900
+unfoldable pub fits : List (List ℕ) → Bool
+fits path = list_all (λ name. nat_le (length name) 255) path && nat_le (length (text_of path)) 900
+
+-- ---- paths beside each other
+
+-- a path: the names on the way from the root
+abbrev pub Names : Type 0
+Names = List (List ℕ)
+
+-- paths in the order of their names, and names in the order of their octets
+abbrev pub path_cmp : Names → Names → Ordering
+path_cmp = slice_cmp (slice_cmp nat_cmp)
+
+-- the second path is the first or below it
+unfoldable pub is_within : Names → Names → Bool
+is_within above path = starts_with (pointwise nat_eq) path above
+
+-- the name by which a directory calls a node that stands directly in it
+abbrev pub only_name : Names → Option (List ℕ)
+only_name [] = None
+only_name (name ∷ []) = Some name
+only_name (name ∷ next ∷ names) = None
+
+unfoldable pub name_in : Names → Names → Option (List ℕ)
+name_in above path = if is_within above path then only_name (drop (length above) path) else None
+
+-- where a path leads once what stands at `from` is called `to`: below it the rest of the path is kept
+unfoldable pub moved_path : Names → Names → Names → Names
+moved_path from to path = if is_within from path then to ++ drop (length from) path else path

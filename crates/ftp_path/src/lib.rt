@@ -1,0 +1,16 @@
+//! Names and paths; no IO. A path is a list of names; a text is resolved to one without a look at any tree (RFC 959,
+//! section 5.3.2), and `key` compares paths by their names joined.
+#![tactic(auto)]
+
+mod fault;
+pub mod key;
+mod name;
+mod path;
+mod walk;
+
+pub use fault::PathFault;
+pub use name::{Name, is_path_text};
+pub use path::Path;
+
+#[cfg(test)]
+mod tests;
