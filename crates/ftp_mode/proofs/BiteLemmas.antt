@@ -11,9 +11,10 @@ use Rattle.ftp_mode.specs.declared.step.Part.{Part}
 use Rattle.ftp_mode.specs.declared.deframer.State.{State}
 use Rattle.ftp_mode.specs.declared.deframer.State.TheVariants.{Plain, Outside, Escaped, Head, High, Low, Inside, Marking, Ended, Failed}
 use Rattle.ftp_mode.specs.declared.fault.FrameFault.{FrameFault}
-use Rattle.ftp_mode.specs.Said.{Said, octets_said}
-use Rattle.ftp_mode.specs.Block.{ends_of}
-use Rattle.ftp_mode.specs.Reading.{Reading, IsGoing, going, Place, plain, outside, inside, count_on, after_block, reader}
+use Rattle.ftp_framer.specs.Said.{Said, octets_said}
+use Rattle.ftp_framer.specs.Block.{ends_of}
+use Rattle.ftp_framer.specs.Count.{count_on}
+use Rattle.ftp_mode.specs.Reading.{Reading, IsGoing, going, Place, plain, outside, inside, after_block, reader}
 use Rattle.ftp_mode.specs.Deframing.{reading_of, reading, owed, last_marker, gave_said, part_said, Moves, Bites, Reads, Refuses, FailsAt, Hears}
 use Rattle.ftp_mode.proofs.ReaderRuns.{run_after, run_gives, plain_runs, outside_runs, ended_after, ended_gives, short_after, short_gives, full_after, full_gives}
 

@@ -5,15 +5,16 @@ use Rattle.ftp_repr.specs.Machine.{after, gives}
 use Rattle.ftp_repr.specs.Signs.{end_file}
 use Rattle.ftp_repr.specs.declared.form.Structure.{Structure}
 use Rattle.ftp_repr.specs.declared.form.Structure.TheVariants.{File, Record}
-use Rattle.ftp_mode.specs.declared.mode.Mode.{Mode}
-use Rattle.ftp_mode.specs.declared.mode.Mode.TheVariants.{Stream, Block as Blocks}
+use Rattle.ftp_framer.specs.declared.mode.Mode.{Mode}
+use Rattle.ftp_framer.specs.declared.mode.Mode.TheVariants.{Stream, Block as Blocks}
 use Rattle.ftp_mode.specs.declared.fault.FrameFault.{FrameFault}
 use Rattle.ftp_mode.specs.declared.fault.FrameFault.TheVariants.{BadEscape, Suspect, BadMarker, EndedEarly}
-use Rattle.ftp_mode.specs.Said.{Said, says, octets_said}
+use Rattle.ftp_framer.specs.Said.{Said, says, octets_said}
 use Rattle.ftp_mode.specs.Units.{units_octets, units_said, IsText, Reads}
 use Rattle.ftp_mode.specs.Fault.{Begins, IsFault}
 use Rattle.ftp_mode.specs.Front.{IsCut, IsOpen, Front}
-use Rattle.ftp_mode.specs.Reading.{Reading, going, failed, Place, plain, ended, count_on, next, is_complete_at, is_complete, first_place, start, at_end, reader}
+use Rattle.ftp_framer.specs.Count.{count_on, next}
+use Rattle.ftp_mode.specs.Reading.{Reading, going, failed, Place, plain, ended, is_complete_at, is_complete, first_place, start, at_end, reader}
 use Rattle.ftp_mode.specs.Deframing.{Moves}
 use Rattle.ftp_mode.specs.Laws.{ReadsTo}
 use Rattle.ftp_mode.proofs.ReaderRuns.{run_gives, plain_runs}

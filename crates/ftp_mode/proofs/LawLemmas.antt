@@ -1,5 +1,5 @@
--- The laws over whole files, for each mode, type and structure.
-use Rattle.std.proofs.Common.{◌≡◌, ℕ, ◌+◌, ◌<◌, ◌^◌, List, [], ◌∷◌, ◌++◌, map, length, refl, ap, sym, subst, ◌∙◌, arith, append_assoc, append-nil}
+-- The laws of the reader over whole files, for each mode, type and structure.
+use Rattle.std.proofs.Common.{◌≡◌, ℕ, ◌+◌, ◌<◌, ◌^◌, List, [], ◌∷◌, ◌++◌, map, length, refl, ap, sym, subst, ◌∙◌, append_assoc, append-nil}
 use Rattle.ftp_repr.specs.Machine.{gives, IsFront}
 use Rattle.ftp_repr.specs.Signs.{Sign, octet, Form, wire_octets, signs_of}
 use Rattle.ftp_repr.specs.Content.{content}
@@ -7,39 +7,20 @@ use Rattle.ftp_repr.specs.declared.form.Kind.{Kind}
 use Rattle.ftp_repr.specs.declared.form.Structure.{Structure}
 use Rattle.ftp_repr.specs.declared.form.Structure.TheVariants.{File, Record}
 use Rattle.ftp_repr.proofs.MachineLemmas.{gives-front}
-use Rattle.ftp_repr.proofs.SignLemmas.{IsWhole, whole-signs_of, signs_of-cons}
+use Rattle.ftp_repr.proofs.SignLemmas.{whole-signs_of, signs_of-cons}
 use Rattle.ftp_repr.proofs.ContentLemmas.{content-signs_of, content_front}
-use Rattle.ftp_mode.specs.declared.mode.Mode.{Mode}
-use Rattle.ftp_mode.specs.declared.mode.Mode.TheVariants.{Stream, Block as Blocks}
-use Rattle.ftp_mode.specs.Said.{Said, says, marker, file_signs}
-use Rattle.ftp_mode.specs.Block.{marked_text}
+use Rattle.ftp_framer.specs.declared.mode.Mode.{Mode}
+use Rattle.ftp_framer.specs.declared.mode.Mode.TheVariants.{Stream, Block as Blocks}
+use Rattle.ftp_framer.specs.Said.{Said, says, marker, file_signs}
+use Rattle.ftp_framer.specs.Block.{marked_text}
 use Rattle.ftp_mode.specs.Units.{Reads}
 use Rattle.ftp_mode.specs.Reading.{start, reader}
-use Rattle.ftp_mode.specs.Writing.{blank, writer, with_marks, unmarked, never}
-use Rattle.ftp_mode.specs.Laws.{unsaid_end, wire_text, wire, settled_content, ended_content, image_file, EndsItself}
+use Rattle.ftp_framer.specs.Wire.{wire, image_file}
+use Rattle.ftp_mode.specs.Laws.{unsaid_end, settled_content, ended_content, EndsItself}
 use Rattle.ftp_mode.proofs.ExactLemmas.{reads_to}
 use Rattle.ftp_mode.proofs.TextLemmas.{row_said, file-row_said, record_is_text, IsPlainRow, plain_says, rows_are_text, text_is}
-use Rattle.ftp_mode.proofs.WriterLemmas.{gives-copying, gives-free, gives-filling}
-use Rattle.ftp_mode.proofs.MarkLemmas.{plain_row, gives-marked}
+use Rattle.ftp_framer.proofs.LawLemmas.{image_signs}
 use Rattle.ftp_mode.proofs.MarkedText.{marked_says}
-
--- the writer of a whole row gives the one text
-pub writes_text : (m : Mode) (s : Structure) (ss : List Sign) → IsWhole ss → gives writer (blank m s) ss ≡ wire_text m s ss
-writes_text Stream File ss h = gives-copying ss
-writes_text Stream Record ss h = gives-free ss
-writes_text Blocks File ss h = gives-filling unmarked [] ss (record { due = refl; same = refl }) (omega arith) h
-writes_text Blocks Record ss h = gives-filling never [] ss (record { due = refl; same = refl }) (omega arith) h
-
-pub writes_wire : (m : Mode) (f : Form) (b : List ℕ) → gives writer (blank m f.structure) (signs_of f b) ≡ wire m f b
-writes_wire m f b = writes_text m f.structure (signs_of f b) (whole-signs_of f b)
-
-image_signs : (b : List ℕ) → signs_of image_file b ≡ plain_row b
-image_signs [] = refl
-image_signs (c ∷ b) = signs_of-cons image_file c b ∙ ap (λ l. octet c ∷ l) (image_signs b)
-
-pub writes_marked : (from : ℕ) (b : List ℕ) → from + length b < 2 ^ 64
-    → gives writer (with_marks from (blank Blocks File)) (signs_of image_file b) ≡ marked_text from b
-writes_marked from b fits = ap (gives writer (with_marks from (blank Blocks File))) (image_signs b) ∙ gives-marked from b fits
 
 -- in file structure a file is octets and the end of file
 plain_octets : (w : List ℕ) (ss : List Sign) → IsPlainRow ss → IsPlainRow (map octet w ++ ss)

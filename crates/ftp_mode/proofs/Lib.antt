@@ -1,13 +1,10 @@
 pub mod ReaderRuns
 pub mod BiteLemmas
-pub mod FramingLemmas
 pub mod MoveLemmas
 pub mod UnitLemmas
 pub mod CutLemmas
 pub mod ShapeLemmas
 pub mod ExactLemmas
 pub mod TextLemmas
-pub mod WriterLemmas
-pub mod MarkLemmas
 pub mod MarkedText
 pub mod LawLemmas

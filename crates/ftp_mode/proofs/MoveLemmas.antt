@@ -5,11 +5,12 @@ use Rattle.std.proofs.lemmas.Bool.{ne_eqb}
 use Rattle.ftp_repr.specs.Machine.{after, gives}
 use Rattle.ftp_repr.proofs.MachineLemmas.{after-append, gives-append}
 use Rattle.ftp_mode.specs.declared.fault.FrameFault.TheVariants.{BadMarker}
-use Rattle.ftp_mode.specs.Said.{Said, marker, octets_said}
-use Rattle.ftp_mode.specs.Marker.{is_marker_octet, IsMarker}
-use Rattle.ftp_mode.specs.Block.{Block, block_octets, block_said, IsBlock, has, count_of, ends_of}
+use Rattle.ftp_framer.specs.Said.{Said, marker, octets_said}
+use Rattle.ftp_framer.specs.Marker.{is_marker_octet, IsMarker}
+use Rattle.ftp_framer.specs.Block.{Block, block_octets, block_said, IsBlock, has, count_of, ends_of}
 use Rattle.ftp_mode.specs.Fault.{is_no_length}
-use Rattle.ftp_mode.specs.Reading.{Reading, going, failed, Place, at_head, at_low, inside, marking, count_on, next, after_block, is_complete_at, place_step, place_out, reader}
+use Rattle.ftp_framer.specs.Count.{count_on, next}
+use Rattle.ftp_mode.specs.Reading.{Reading, going, failed, Place, at_head, at_low, inside, marking, after_block, is_complete_at, place_step, place_out, reader}
 use Rattle.ftp_mode.specs.Deframing.{Moves}
 use Rattle.ftp_mode.proofs.ReaderRuns.{full_after, full_gives, failed_after, failed_gives}
 

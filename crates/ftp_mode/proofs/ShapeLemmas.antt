@@ -6,14 +6,14 @@ use Rattle.std.proofs.lemmas.List.{length-take-le, take_all, take-append-drop, l
 use Rattle.ftp_repr.specs.declared.form.Structure.{Structure}
 use Rattle.ftp_repr.specs.declared.form.Structure.TheVariants.{File, Record}
 use Rattle.ftp_repr.proofs.AsciiLemmas.{decided}
-use Rattle.ftp_mode.specs.declared.mode.Mode.{Mode}
-use Rattle.ftp_mode.specs.declared.mode.Mode.TheVariants.{Stream, Block as Blocks}
+use Rattle.ftp_framer.specs.declared.mode.Mode.{Mode}
+use Rattle.ftp_framer.specs.declared.mode.Mode.TheVariants.{Stream, Block as Blocks}
 use Rattle.ftp_mode.specs.declared.fault.FrameFault.{FrameFault}
 use Rattle.ftp_mode.specs.declared.fault.FrameFault.TheVariants.{BadEscape, Suspect, BadMarker}
-use Rattle.ftp_mode.specs.Said.{Said, octets_said}
-use Rattle.ftp_mode.specs.Stream.{is_code}
-use Rattle.ftp_mode.specs.Marker.{is_marker_octet, IsMarker}
-use Rattle.ftp_mode.specs.Block.{Block, IsBlock, has, count_of}
+use Rattle.ftp_framer.specs.Said.{Said, octets_said}
+use Rattle.ftp_framer.specs.Stream.{is_code}
+use Rattle.ftp_framer.specs.Marker.{is_marker_octet, IsMarker}
+use Rattle.ftp_framer.specs.Block.{Block, IsBlock, has, count_of}
 use Rattle.ftp_mode.specs.Units.{WireUnit, one, escape, whole, unit_octets, unit_said, unit_ends, IsUnit, GoesOn, units_octets, units_said, IsText}
 use Rattle.ftp_mode.specs.Fault.{is_no_length, Begins}
 use Rattle.ftp_mode.specs.Front.{IsCut, IsOpen}

@@ -7,11 +7,11 @@ use Rattle.ftp_repr.specs.declared.form.Structure.{Structure}
 use Rattle.ftp_repr.specs.declared.form.Structure.TheVariants.{Record}
 use Rattle.ftp_repr.proofs.AsciiLemmas.{decided}
 use Rattle.ftp_repr.proofs.SignLemmas.{IsWhole}
-use Rattle.ftp_mode.specs.declared.mode.Mode.{Mode}
-use Rattle.ftp_mode.specs.declared.mode.Mode.TheVariants.{Stream, Block as Blocks}
-use Rattle.ftp_mode.specs.Said.{Said, says, octets_said, file_signs}
-use Rattle.ftp_mode.specs.Stream.{escaped_octet, plain_text, record_text}
-use Rattle.ftp_mode.specs.Block.{Block, block_said, IsBlock, has, count_of, ends_of, block_text, blocks_text, data_text, rows_text}
+use Rattle.ftp_framer.specs.declared.mode.Mode.{Mode}
+use Rattle.ftp_framer.specs.declared.mode.Mode.TheVariants.{Stream, Block as Blocks}
+use Rattle.ftp_framer.specs.Said.{Said, says, octets_said, file_signs}
+use Rattle.ftp_framer.specs.Stream.{escaped_octet, plain_text, record_text}
+use Rattle.ftp_framer.specs.Block.{Block, block_said, IsBlock, has, count_of, ends_of, block_text, blocks_text, data_text, rows_text}
 use Rattle.ftp_mode.specs.Units.{WireUnit, one, escape, whole, unit_octets, unit_said, unit_ends, IsUnit, GoesOn, units_octets, units_said, IsText}
 
 -- one more unit in front of a text

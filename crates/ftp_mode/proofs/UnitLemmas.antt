@@ -4,12 +4,13 @@ use Rattle.std.specs.List.{AllByRecursion}
 use Rattle.ftp_repr.specs.Machine.{after, gives}
 use Rattle.ftp_repr.specs.declared.form.Structure.{Structure}
 use Rattle.ftp_repr.specs.declared.form.Structure.TheVariants.{File, Record}
-use Rattle.ftp_mode.specs.declared.mode.Mode.{Mode}
-use Rattle.ftp_mode.specs.declared.mode.Mode.TheVariants.{Stream, Block as Blocks}
-use Rattle.ftp_mode.specs.Said.{Said}
-use Rattle.ftp_mode.specs.Stream.{is_code, code_said, code_ends}
+use Rattle.ftp_framer.specs.declared.mode.Mode.{Mode}
+use Rattle.ftp_framer.specs.declared.mode.Mode.TheVariants.{Stream, Block as Blocks}
+use Rattle.ftp_framer.specs.Said.{Said}
+use Rattle.ftp_framer.specs.Stream.{is_code, code_said, code_ends}
 use Rattle.ftp_mode.specs.Units.{WireUnit, one, escape, whole, unit_octets, unit_said, unit_ends, IsUnit, GoesOn, units_octets, units_said, IsText}
-use Rattle.ftp_mode.specs.Reading.{going, Place, outside, ended, count_on, next, first_place, start, reader}
+use Rattle.ftp_framer.specs.Count.{count_on, next}
+use Rattle.ftp_mode.specs.Reading.{going, Place, outside, ended, first_place, start, reader}
 use Rattle.ftp_mode.specs.Deframing.{Moves}
 use Rattle.ftp_mode.proofs.MoveLemmas.{moves_append, counted, block_moves}
 

@@ -14,7 +14,7 @@ use Rattle.ftp_mode.specs.declared.deframer.Gave.{Gave}
 use Rattle.ftp_mode.specs.declared.deframer.Gave.TheVariants.{Nothing as GaveNothing, Octets as GaveOctets, Marker as GaveMarker}
 use Rattle.ftp_mode.specs.declared.deframer.Bite.{Bite}
 use Rattle.ftp_mode.specs.declared.deframer.Deframer.{Deframer}
-use Rattle.ftp_mode.specs.Said.{Said, says, marker, octets_said}
+use Rattle.ftp_framer.specs.Said.{Said, says, marker, octets_said}
 use Rattle.ftp_mode.specs.Reading.{Reading, IsGoing, going, failed, plain, outside, escaped, at_head, at_high, at_low, inside, marking, ended, reader, read_step, read_out}
 
 -- what a part says, where this is the last marker

@@ -3,13 +3,13 @@ use Rattle.std.specs.Prelude.{◌≡◌, ℕ, ◌+◌, ◌<◌, ◌⊎◌, List,
 use Rattle.std.specs.List.{AllByRecursion}
 use Rattle.ftp_repr.specs.declared.form.Structure.{Structure}
 use Rattle.ftp_repr.specs.declared.form.Structure.TheVariants.{File, Record}
-use Rattle.ftp_mode.specs.declared.mode.Mode.{Mode}
-use Rattle.ftp_mode.specs.declared.mode.Mode.TheVariants.{Stream, Block as Blocks}
+use Rattle.ftp_framer.specs.declared.mode.Mode.{Mode}
+use Rattle.ftp_framer.specs.declared.mode.Mode.TheVariants.{Stream, Block as Blocks}
 use Rattle.ftp_mode.specs.declared.fault.FrameFault.{FrameFault}
 use Rattle.ftp_mode.specs.declared.fault.FrameFault.TheVariants.{BadEscape, Suspect, BadMarker}
-use Rattle.ftp_mode.specs.Stream.{is_code}
-use Rattle.ftp_mode.specs.Block.{has, count_of}
-use Rattle.ftp_mode.specs.Marker.{is_marker_octet}
+use Rattle.ftp_framer.specs.Stream.{is_code}
+use Rattle.ftp_framer.specs.Block.{has, count_of}
+use Rattle.ftp_framer.specs.Marker.{is_marker_octet}
 use Rattle.ftp_mode.specs.Units.{WireUnit, GoesOn, units_octets}
 
 -- own choice: an escape octet before an octet that is no code, at the place of that octet

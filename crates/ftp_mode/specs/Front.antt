@@ -3,12 +3,12 @@ use Rattle.std.specs.Prelude.{◌≡◌, ℕ, ◌<◌, ◌⊎◌, List, [], ◌�
 use Rattle.std.specs.List.{AllByRecursion}
 use Rattle.ftp_repr.specs.declared.form.Structure.{Structure}
 use Rattle.ftp_repr.specs.declared.form.Structure.TheVariants.{File, Record}
-use Rattle.ftp_mode.specs.declared.mode.Mode.{Mode}
-use Rattle.ftp_mode.specs.declared.mode.Mode.TheVariants.{Stream, Block as Blocks}
+use Rattle.ftp_framer.specs.declared.mode.Mode.{Mode}
+use Rattle.ftp_framer.specs.declared.mode.Mode.TheVariants.{Stream, Block as Blocks}
 use Rattle.ftp_mode.specs.declared.fault.FrameFault.{FrameFault}
-use Rattle.ftp_mode.specs.Said.{Said, octets_said}
-use Rattle.ftp_mode.specs.Block.{has, count_of}
-use Rattle.ftp_mode.specs.Marker.{is_marker_octet}
+use Rattle.ftp_framer.specs.Said.{Said, octets_said}
+use Rattle.ftp_framer.specs.Block.{has, count_of}
+use Rattle.ftp_framer.specs.Marker.{is_marker_octet}
 use Rattle.ftp_mode.specs.Units.{WireUnit, GoesOn, units_octets, units_said, IsText}
 use Rattle.ftp_mode.specs.Fault.{is_no_length, IsFault}
 

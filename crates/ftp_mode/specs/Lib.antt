@@ -1,12 +1,6 @@
-pub mod Said
-pub mod Stream
-pub mod Marker
-pub mod Block
 pub mod Units
 pub mod Front
 pub mod Fault
 pub mod Reading
-pub mod Writing
 pub mod Deframing
-pub mod Framing
 pub mod Laws

@@ -1,17 +1,18 @@
 -- The reader of a wire, octet by octet. The laws tie it to what whole wires read as.
-use Rattle.std.specs.Prelude.{ℕ, ◌+◌, ◌-◌, ◌^◌, min, List, [], ◌∷◌, ◌++◌, Bool, true, false, if◌then◌else◌, ◌&&◌, ◌==◌, nat_lt, length, IsTrue}
+use Rattle.std.specs.Prelude.{ℕ, ◌-◌, List, [], ◌∷◌, ◌++◌, Bool, true, false, if◌then◌else◌, ◌&&◌, ◌==◌, nat_lt, length, IsTrue}
 use Rattle.ftp_repr.specs.Machine.{Machine}
 use Rattle.ftp_repr.specs.Signs.{octet}
 use Rattle.ftp_repr.specs.declared.form.Structure.{Structure}
 use Rattle.ftp_repr.specs.declared.form.Structure.TheVariants.{File, Record}
-use Rattle.ftp_mode.specs.declared.mode.Mode.{Mode}
-use Rattle.ftp_mode.specs.declared.mode.Mode.TheVariants.{Stream, Block as Blocks}
+use Rattle.ftp_framer.specs.declared.mode.Mode.{Mode}
+use Rattle.ftp_framer.specs.declared.mode.Mode.TheVariants.{Stream, Block as Blocks}
 use Rattle.ftp_mode.specs.declared.fault.FrameFault.{FrameFault}
 use Rattle.ftp_mode.specs.declared.fault.FrameFault.TheVariants.{BadEscape, Suspect, BadMarker, EndedEarly}
-use Rattle.ftp_mode.specs.Said.{Said, says, marker}
-use Rattle.ftp_mode.specs.Stream.{is_code, code_said, code_ends}
-use Rattle.ftp_mode.specs.Marker.{is_marker_octet}
-use Rattle.ftp_mode.specs.Block.{has, count_of, ends_of}
+use Rattle.ftp_framer.specs.Said.{Said, says, marker}
+use Rattle.ftp_framer.specs.Stream.{is_code, code_said, code_ends}
+use Rattle.ftp_framer.specs.Marker.{is_marker_octet}
+use Rattle.ftp_framer.specs.Block.{has, count_of, ends_of}
+use Rattle.ftp_framer.specs.Count.{next}
 use Rattle.ftp_mode.specs.Fault.{is_no_length}
 
 -- where in a text the next octet stands
@@ -29,13 +30,6 @@ pub data Place : Type 0 where
 pub data Reading : Type 0 where
   going : (count : ℕ) (at : Place) → Reading
   failed : (fault : FrameFault) → Reading
-
--- a count of octets, which stops at the greatest number of 64 bits
-abbrev pub count_on : ℕ → ℕ → ℕ
-count_on n more = min (n + more) (2 ^ 64 - 1)
-
-abbrev pub next : ℕ → ℕ
-next n = count_on n 1
 
 abbrev pub after_block : ℕ → Place
 after_block d = if has d 64 then ended else at_head

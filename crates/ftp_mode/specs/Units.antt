@@ -4,11 +4,11 @@ use Rattle.std.specs.List.{flat_map, AllByRecursion}
 use Rattle.ftp_repr.specs.Signs.{octet, end_file}
 use Rattle.ftp_repr.specs.declared.form.Structure.{Structure}
 use Rattle.ftp_repr.specs.declared.form.Structure.TheVariants.{File, Record}
-use Rattle.ftp_mode.specs.declared.mode.Mode.{Mode}
-use Rattle.ftp_mode.specs.declared.mode.Mode.TheVariants.{Stream, Block as Blocks}
-use Rattle.ftp_mode.specs.Said.{Said, says, octets_said}
-use Rattle.ftp_mode.specs.Stream.{is_code, code_said, code_ends}
-use Rattle.ftp_mode.specs.Block.{Block, block_octets, block_said, IsBlock, has}
+use Rattle.ftp_framer.specs.declared.mode.Mode.{Mode}
+use Rattle.ftp_framer.specs.declared.mode.Mode.TheVariants.{Stream, Block as Blocks}
+use Rattle.ftp_framer.specs.Said.{Said, says, octets_said}
+use Rattle.ftp_framer.specs.Stream.{is_code, code_said, code_ends}
+use Rattle.ftp_framer.specs.Block.{Block, block_octets, block_said, IsBlock, has}
 
 -- an octet, an escape octet and its code, or a block
 pub data WireUnit : Type 0 where

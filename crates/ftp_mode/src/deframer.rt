@@ -1,12 +1,13 @@
 ghost use Rattle.std.specs.Prelude.{◌≡◌, ◌≢◌, ◌+◌, ◌<◌, ◌≤◌, ◌⊎◌, ◌++◌, ℕ, List, [], ◌∷◌, ◌-◌, ◌^◌, ◌↔◌, min, length, take, drop, IfOk, IfErr, OnOk, OnErr, IsOk, IsTrue, IsFalse, IfSome, IfNone, slice_index};
-ghost use Rattle.ftp_mode.specs.Reading.{Reading, start, at_end, broken_state, going, failed, after_block, count_on, is_complete};
+ghost use Rattle.ftp_framer.specs.Block.{ends_of};
+ghost use Rattle.ftp_framer.specs.Count.{count_on};
+ghost use Rattle.ftp_mode.specs.Reading.{Reading, start, at_end, broken_state, going, failed, after_block, is_complete};
 ghost use Rattle.ftp_mode.specs.Deframing.{reading, owed, last_marker, part_said, Hears, Fails, Bites, Reads, Refuses, IsControl};
-ghost use Rattle.ftp_mode.specs.Block.{ends_of};
 
 use crate::fault::FrameFault;
-use crate::mode::Mode;
 use crate::step::{Part, Step};
 use arrayvec::ArrayVec;
+use ftp_framer::Mode;
 use ftp_repr::{Structure, first_ff};
 
 /// Where in a text the next octet stands.

@@ -5,25 +5,18 @@ ghost use Rattle.ftp_repr.specs.Machine.{IsFront, after, gives};
 ghost use Rattle.ftp_repr.specs.Signs.{Sign, Form, signs_of};
 ghost use Rattle.ftp_repr.specs.declared.form.Structure.{Structure};
 ghost use Rattle.ftp_repr.specs.declared.form.Structure.TheVariants.{File};
-ghost use Rattle.ftp_mode.specs.declared.mode.Mode.{Mode};
-ghost use Rattle.ftp_mode.specs.declared.mode.Mode.TheVariants.{Block};
+ghost use Rattle.ftp_framer.specs.declared.mode.Mode.{Mode};
+ghost use Rattle.ftp_framer.specs.declared.mode.Mode.TheVariants.{Block};
 ghost use Rattle.ftp_mode.specs.declared.fault.FrameFault.{FrameFault};
 ghost use Rattle.ftp_mode.specs.declared.fault.FrameFault.TheVariants.{EndedEarly};
-ghost use Rattle.ftp_mode.specs.Said.{Said, says, file_signs};
-ghost use Rattle.ftp_mode.specs.Block.{marked_text};
+ghost use Rattle.ftp_framer.specs.Said.{Said, says, file_signs};
+ghost use Rattle.ftp_framer.specs.Block.{marked_text};
 ghost use Rattle.ftp_mode.specs.Units.{Reads};
 ghost use Rattle.ftp_mode.specs.Fault.{IsFault};
 ghost use Rattle.ftp_mode.specs.Front.{Front};
 ghost use Rattle.ftp_mode.specs.Reading.{reader, start, failed, at_end};
-ghost use Rattle.ftp_mode.specs.Writing.{writer, blank, with_marks};
-ghost use Rattle.ftp_mode.specs.Laws.{ReadsTo, wire, settled_content, ended_content, image_file, EndsItself};
-
-/// The signs of a file are written as its one text, with its markers where they are asked for.
-pub fn one_text()
-    ensures plain { (m : Mode) (f : Form) (b : List ℕ) → gives writer (blank m f.structure) (signs_of f b) ≡ wire m f b }
-    ensures marked { (from : ℕ) (b : List ℕ) → from + length b < 2 ^ 64
-        → gives writer (with_marks from (blank Block File)) (signs_of image_file b) ≡ marked_text from b }
-{}
+ghost use Rattle.ftp_framer.specs.Wire.{wire, image_file};
+ghost use Rattle.ftp_mode.specs.Laws.{ReadsTo, settled_content, ended_content, EndsItself};
 
 /// The text of a file reads as its signs, whatever follows it where it ends by itself.
 pub fn reads_again()

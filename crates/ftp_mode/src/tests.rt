@@ -1,9 +1,8 @@
 mod helpers;
 mod reading;
-mod writing;
 
-use crate::tests::helpers::{comes_back, unmarked};
-use crate::{FrameFault, Mode};
+use crate::tests::helpers::{FILE_BLOCK, How, comes_back};
+use crate::{FrameFault, Framer, Mode};
 use ftp_repr::{Kind, Structure};
 use std::alloc::Global;
 use std::test::Fail;
@@ -28,16 +27,12 @@ const FILES: [&'static [u8]; 8] = [
     &[0x00, 0x0A, 0x0D, 0x0A, 0xFF, 0x0A],
 ];
 
-/// Whether each file comes back, by pieces of several sizes.
-fn all_come_back(
-    alloc: Global,
-    kind: Kind,
-    structure: Structure,
-    mode: Mode,
-) -> Result<bool, Fail> {
+/// Whether each file comes back, by rooms and pieces of several sizes.
+fn all_come_back(alloc: Global, how: How) -> Result<bool, Fail> {
     for file in FILES {
-        for piece in [1, 3, 64] {
-            if !comes_back(alloc, unmarked(kind, structure, mode), file, piece)? {
+        for size in [1, 3, 64] {
+            let mut framer = Framer::new(how.mode, how.structure);
+            if !comes_back(alloc, &mut framer, how, file, size)? {
                 return Ok(false);
             }
         }
@@ -50,12 +45,31 @@ fn each_representation_there_and_back(rt: HostRuntime) -> Result<(), Fail> {
     for kind in KINDS {
         for structure in STRUCTURES {
             for mode in MODES {
+                let how = How {
+                    kind,
+                    structure,
+                    mode,
+                };
                 assert!(&rt;
-                    all_come_back(rt.alloc(), kind, structure, mode)?,
+                    all_come_back(rt.alloc(), how)?,
                     "{kind:?} {structure:?} {mode:?}"
                 );
             }
         }
+    }
+    Ok(())
+}
+
+#[test]
+fn seventy_thousand_octets_with_a_marker_come_back(rt: HostRuntime) -> Result<(), Fail> {
+    let file = vec![in rt.alloc(); b'x'; 70_000]?;
+    for size in [1, 4096, 70_000] {
+        let mut framer = Framer::new(Mode::Block, Structure::File);
+        framer.mark(0);
+        assert!(&rt;
+            comes_back(rt.alloc(), &mut framer, FILE_BLOCK, file.as_slice(), size)?,
+            "by {size}"
+        );
     }
     Ok(())
 }

@@ -12,12 +12,12 @@ use Rattle.ftp_repr.specs.declared.form.Structure.{Structure}
 use Rattle.ftp_repr.specs.declared.form.Structure.TheVariants.{File, Record}
 use Rattle.ftp_repr.specs.declared.sender.Sender.{Sender}
 use Rattle.ftp_repr.proofs.SignLemmas.{signs_of-append}
-use Rattle.ftp_mode.specs.declared.framer.Framer.{Framer}
-use Rattle.ftp_mode.specs.declared.mode.Mode.{Mode}
-use Rattle.ftp_mode.specs.declared.mode.Mode.TheVariants.{Stream, Block}
-use Rattle.ftp_mode.specs.Framing.{still_to_write, owed_octets, writing}
-use Rattle.ftp_mode.specs.Writing.{writer, blank, with_marks}
-use Rattle.ftp_mode.proofs.LawLemmas.{writes_wire, writes_marked}
+use Rattle.ftp_framer.specs.declared.framer.Framer.{Framer}
+use Rattle.ftp_framer.specs.declared.mode.Mode.{Mode}
+use Rattle.ftp_framer.specs.declared.mode.Mode.TheVariants.{Stream, Block}
+use Rattle.ftp_framer.specs.Framing.{still_to_write, owed_octets, writing}
+use Rattle.ftp_framer.specs.Writing.{writer, blank, with_marks}
+use Rattle.ftp_framer.proofs.LawLemmas.{writes_wire, writes_marked}
 use Rattle.ftp_programs.proofs.Fronts.{Appends-front, AppendsFront-more, Appends-then-front}
 use Rattle.ftp_programs.specs.Beginning.{AppendsFront}
 use Rattle.ftp_programs.specs.Frame.{Frames, FramesFront, form_of, frame_text}

@@ -13,7 +13,7 @@ use Rattle.ftp_mode.specs.declared.deframer.Deframer.{Deframer}
 use Rattle.ftp_mode.specs.declared.fault.FrameFault.{FrameFault}
 use Rattle.ftp_mode.specs.declared.step.Part.TheVariants.{Need}
 use Rattle.ftp_mode.specs.declared.step.Step.{Step}
-use Rattle.ftp_mode.specs.Said.{Said, says, marker, file_signs, octets_said}
+use Rattle.ftp_framer.specs.Said.{Said, says, marker, file_signs, octets_said}
 use Rattle.ftp_mode.specs.Reading.{Reading, IsGoing, failed, reader, start}
 use Rattle.ftp_mode.specs.Deframing.{reading, owed, part_said, last_marker, Hears, FailsAt}
 use Rattle.ftp_mode.proofs.ReaderRuns.{failed_after, failed_gives}

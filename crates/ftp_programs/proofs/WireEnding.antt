@@ -14,11 +14,11 @@ use Rattle.ftp_repr.proofs.ContentLemmas.{gives-receiving}
 use Rattle.ftp_repr.proofs.MachineLemmas.{after-append, gives-append}
 use Rattle.ftp_mode.specs.declared.fault.FrameFault.{FrameFault}
 use Rattle.ftp_mode.specs.declared.fault.FrameFault.TheVariants.{EndedEarly}
-use Rattle.ftp_mode.specs.declared.mode.Mode.{Mode}
-use Rattle.ftp_mode.specs.declared.mode.Mode.TheVariants.{Stream, Block as Blocks}
-use Rattle.ftp_mode.specs.Said.{Said, says, file_signs}
-use Rattle.ftp_mode.specs.Stream.{code_said}
-use Rattle.ftp_mode.specs.Block.{has, ends_of, octets_of}
+use Rattle.ftp_framer.specs.declared.mode.Mode.{Mode}
+use Rattle.ftp_framer.specs.declared.mode.Mode.TheVariants.{Stream, Block as Blocks}
+use Rattle.ftp_framer.specs.Said.{Said, says, file_signs}
+use Rattle.ftp_framer.specs.Stream.{code_said}
+use Rattle.ftp_framer.specs.Block.{has, ends_of, octets_of}
 use Rattle.ftp_mode.specs.Units.{WireUnit, one, escape, whole, unit_said, unit_ends, units_said, IsText}
 use Rattle.ftp_mode.specs.Reading.{Reading, Place, going, failed, is_complete, is_complete_at, at_end, reader, start}
 use Rattle.ftp_mode.specs.Deframing.{reading}

@@ -8,7 +8,7 @@ use Rattle.ftp_repr.specs.Received.{receiver_form, taking}
 use Rattle.ftp_repr.proofs.ContentLemmas.{content_front}
 use Rattle.ftp_repr.proofs.MachineLemmas.{gives-front}
 use Rattle.ftp_mode.specs.declared.fault.FrameFault.{FrameFault}
-use Rattle.ftp_mode.specs.Said.{Said, file_signs}
+use Rattle.ftp_framer.specs.Said.{Said, file_signs}
 use Rattle.ftp_mode.specs.Reading.{reader, start}
 use Rattle.ftp_mode.specs.Deframing.{reading, owed}
 use Rattle.ftp_mode.specs.Laws.{settled_content, ended_content}

@@ -6,10 +6,10 @@ use Rattle.ftp_repr.specs.declared.form.Kind.{Kind}
 use Rattle.ftp_repr.specs.declared.form.Kind.TheVariants.{Ascii, Image}
 use Rattle.ftp_repr.specs.declared.form.Structure.{Structure}
 use Rattle.ftp_repr.specs.declared.form.Structure.TheVariants.{File, Record}
-use Rattle.ftp_mode.specs.declared.mode.Mode.{Mode}
-use Rattle.ftp_mode.specs.declared.mode.Mode.TheVariants.{Stream, Block}
-use Rattle.ftp_mode.specs.Block.{marked_text}
-use Rattle.ftp_mode.specs.Laws.{wire}
+use Rattle.ftp_framer.specs.declared.mode.Mode.{Mode}
+use Rattle.ftp_framer.specs.declared.mode.Mode.TheVariants.{Stream, Block}
+use Rattle.ftp_framer.specs.Block.{marked_text}
+use Rattle.ftp_framer.specs.Wire.{wire}
 use Rattle.ftp_programs.specs.Beginning.{AppendsFront}
 use Rattle.ftp_programs.specs.declared.frames.Representation.{Representation}
 

@@ -5,7 +5,7 @@ use Rattle.ftp_repr.specs.Receiving.{fresh, receiving}
 use Rattle.ftp_repr.specs.Received.{receiver_form, taking}
 use Rattle.ftp_mode.specs.declared.fault.FrameFault.{FrameFault}
 use Rattle.ftp_mode.specs.declared.fault.FrameFault.TheVariants.{EndedEarly}
-use Rattle.ftp_mode.specs.Said.{Said, file_signs}
+use Rattle.ftp_framer.specs.Said.{Said, file_signs}
 use Rattle.ftp_mode.specs.Reading.{Reading, IsGoing, reader, start, failed, at_end, is_complete}
 use Rattle.ftp_mode.specs.Deframing.{reading, owed}
 use Rattle.ftp_mode.specs.Laws.{settled_content, ended_content}

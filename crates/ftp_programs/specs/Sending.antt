@@ -2,7 +2,7 @@
 use Rattle.std.specs.Prelude.{◌≡◌, ℕ, List, ◌++◌, false}
 use Rattle.ftp_repr.specs.Signs.{Sign}
 use Rattle.ftp_repr.specs.Sending.{has_sent_end, still_to_send}
-use Rattle.ftp_mode.specs.Framing.{still_to_write}
+use Rattle.ftp_framer.specs.Framing.{still_to_write}
 use Rattle.ftp_programs.specs.declared.frames.Sending.{Sending}
 
 -- the octets that are still to be made, where these octets of the file are still to come

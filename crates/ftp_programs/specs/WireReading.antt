@@ -7,7 +7,7 @@ use Rattle.std.specs.Io.KnownBytes.{Appends, Consumes, IsAtEnd}
 use Rattle.ftp_repr.specs.Content.{content}
 use Rattle.ftp_mode.specs.declared.fault.FrameFault.{FrameFault}
 use Rattle.ftp_mode.specs.declared.fault.FrameFault.TheVariants.{BadEscape, Suspect, BadMarker, EndedEarly}
-use Rattle.ftp_mode.specs.Said.{Said, file_signs}
+use Rattle.ftp_framer.specs.Said.{Said, file_signs}
 use Rattle.ftp_mode.specs.Units.{Reads}
 use Rattle.ftp_mode.specs.Fault.{IsFault}
 use Rattle.ftp_mode.specs.Front.{Front}

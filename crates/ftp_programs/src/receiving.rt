@@ -3,7 +3,7 @@ ghost use Rattle.std.specs.Prelude.{◌≡◌, ◌≢◌, ◌==◌, ◌++◌, �
 ghost use Rattle.std.specs.Io.KnownBytes.{Appends, IsAtEnd};
 ghost use Rattle.ftp_repr.specs.Items.{signs, given_signs};
 ghost use Rattle.ftp_repr.specs.Received.{Receives};
-ghost use Rattle.ftp_mode.specs.Said.{file_signs};
+ghost use Rattle.ftp_framer.specs.Said.{file_signs};
 ghost use Rattle.ftp_mode.specs.Deframing.{part_said};
 ghost use Rattle.ftp_programs.specs.Beginning.{AppendsFront};
 ghost use Rattle.ftp_programs.specs.WireReading.{fault_line, ReadsTo, Tells, TellsFront};

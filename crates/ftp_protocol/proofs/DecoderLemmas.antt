@@ -6,7 +6,7 @@ use Rattle.ftp_repr.specs.Receiving.{Taking, receiving}
 use Rattle.ftp_repr.specs.Content.{content}
 use Rattle.ftp_repr.proofs.MachineLemmas.{after-append, gives-append}
 use Rattle.ftp_repr.proofs.ContentLemmas.{gives-receiving}
-use Rattle.ftp_mode.specs.Said.{Said, says, marker, file_signs}
+use Rattle.ftp_framer.specs.Said.{Said, says, marker, file_signs}
 use Rattle.ftp_mode.specs.Reading.{Reading, reader, start, read_step}
 use Rattle.ftp_mode.proofs.LawLemmas.{front_again, front_marked}
 use Rattle.ftp_protocol.specs.Settings.{form_of}

@@ -10,7 +10,7 @@ use Rattle.ftp_path.specs.Path.{resolved, fits, text_of, Names}
 use Rattle.ftp_tree.specs.Tree.{Table, File, node_at, octets_at, octets_or_none, room_refusal, room_at}
 use Rattle.ftp_repr.specs.declared.form.Kind.TheVariants as KindOf
 use Rattle.ftp_repr.specs.declared.form.Structure.TheVariants as StructureOf
-use Rattle.ftp_mode.specs.declared.mode.Mode.TheVariants as ModeOf
+use Rattle.ftp_framer.specs.declared.mode.Mode.TheVariants as ModeOf
 use Rattle.ftp_protocol.specs.Settings.{first_settings}
 use Rattle.ftp_protocol.specs.Decoder.{Decoder, no_octets, decoder_of, ended}
 use Rattle.ftp_protocol.specs.Ear.{quiet}

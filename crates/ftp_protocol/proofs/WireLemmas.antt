@@ -10,12 +10,13 @@ use Rattle.ftp_repr.specs.declared.form.Structure.{Structure}
 use Rattle.ftp_repr.specs.declared.form.Structure.TheVariants.{File, Record}
 use Rattle.ftp_repr.proofs.MachineLemmas.{after-append, gives-append}
 use Rattle.ftp_repr.proofs.ContentLemmas.{gives-receiving, content-signs_of}
-use Rattle.ftp_mode.specs.Said.{Said, says, file_signs}
+use Rattle.ftp_framer.specs.Said.{Said, says, file_signs}
 use Rattle.ftp_mode.specs.Reading.{Reading, going, failed, reader, start, is_complete}
-use Rattle.ftp_mode.specs.Laws.{ReadsTo, wire, unsaid_end}
-use Rattle.ftp_mode.specs.Block.{marked_text}
-use Rattle.ftp_mode.specs.declared.mode.Mode.{Mode}
-use Rattle.ftp_mode.specs.declared.mode.Mode.TheVariants.{Stream, Block as Blocks}
+use Rattle.ftp_framer.specs.Wire.{wire}
+use Rattle.ftp_mode.specs.Laws.{ReadsTo, unsaid_end}
+use Rattle.ftp_framer.specs.Block.{marked_text}
+use Rattle.ftp_framer.specs.declared.mode.Mode.{Mode}
+use Rattle.ftp_framer.specs.declared.mode.Mode.TheVariants.{Stream, Block as Blocks}
 use Rattle.ftp_mode.proofs.LawLemmas.{reads_wire, marked_reads}
 use Rattle.ftp_mode.proofs.ExactLemmas.{reads_to}
 use Rattle.ftp_mode.proofs.TextLemmas.{file-row_said}

@@ -4,11 +4,12 @@ use Rattle.std.specs.Prelude.{◌≡◌, ℕ, ◌<◌, ◌+◌, ◌^◌, List, [
 use Rattle.ftp_repr.specs.Machine.{IsFront}
 use Rattle.ftp_repr.specs.Signs.{Sign, end_file, Form}
 use Rattle.ftp_repr.specs.Receiving.{Taking, fresh, receiving}
-use Rattle.ftp_mode.specs.Said.{Said, says, marker}
+use Rattle.ftp_framer.specs.Said.{Said, says, marker}
 use Rattle.ftp_mode.specs.Reading.{Reading, going, failed, start, read_step, read_out, is_complete_at}
-use Rattle.ftp_mode.specs.Block.{marked_text}
-use Rattle.ftp_mode.specs.Laws.{wire, settled_content, image_file}
-use Rattle.ftp_mode.specs.declared.mode.Mode.TheVariants as Modes
+use Rattle.ftp_framer.specs.Block.{marked_text}
+use Rattle.ftp_framer.specs.Wire.{wire, image_file}
+use Rattle.ftp_mode.specs.Laws.{settled_content}
+use Rattle.ftp_framer.specs.declared.mode.Mode.TheVariants as Modes
 use Rattle.ftp_mode.specs.declared.fault.FrameFault.{FrameFault}
 use Rattle.ftp_protocol.specs.Settings.{form_of}
 use Rattle.ftp_protocol.specs.declared.settings.Settings.{Settings}

@@ -11,8 +11,8 @@ use Rattle.ftp_repr.specs.declared.form.Kind.{Kind}
 use Rattle.ftp_repr.specs.declared.form.Kind.TheVariants as Kinds
 use Rattle.ftp_repr.specs.declared.form.Structure.{Structure}
 use Rattle.ftp_repr.specs.declared.form.Structure.TheVariants as Structures
-use Rattle.ftp_mode.specs.declared.mode.Mode.{Mode}
-use Rattle.ftp_mode.specs.declared.mode.Mode.TheVariants as Modes
+use Rattle.ftp_framer.specs.declared.mode.Mode.{Mode}
+use Rattle.ftp_framer.specs.declared.mode.Mode.TheVariants as Modes
 use Rattle.ftp_protocol.specs.declared.settings.Settings.{Settings}
 
 -- the defaults: ASCII, file, stream (RFC 959, section 5.1)

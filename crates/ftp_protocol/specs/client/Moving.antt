@@ -5,9 +5,9 @@ use Rattle.ftp_direct.specs.Answer.{Said, Octets, Entries, Names, Broken}
 use Rattle.ftp_direct.specs.declared.op.How.{How}
 use Rattle.ftp_direct.specs.declared.op.Op.{Op}
 use Rattle.ftp_direct.specs.declared.op.Op.TheVariants as Ops
-use Rattle.ftp_mode.specs.Block.{marked_text}
-use Rattle.ftp_mode.specs.Laws.{wire}
-use Rattle.ftp_mode.specs.Said.{Said as WireSaid, says, marker}
+use Rattle.ftp_framer.specs.Block.{marked_text}
+use Rattle.ftp_framer.specs.Wire.{wire}
+use Rattle.ftp_framer.specs.Said.{Said as WireSaid, says, marker}
 use Rattle.ftp_protocol.specs.Decoder.{no_octets, octet_says, decoded_octet, broken}
 use Rattle.ftp_protocol.specs.Settings.{form_of, has_markers}
 use Rattle.ftp_protocol.specs.client.Listing.{entries_value, names_value}

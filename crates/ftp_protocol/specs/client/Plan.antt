@@ -9,8 +9,8 @@ use Rattle.ftp_endpoint.specs.declared.host.Host.TheVariants.{V4, V6}
 use Rattle.ftp_direct.specs.declared.op.How.{How}
 use Rattle.ftp_direct.specs.declared.op.Op.{Op}
 use Rattle.ftp_direct.specs.declared.op.Op.TheVariants as Ops
-use Rattle.ftp_mode.specs.declared.mode.Mode.{Mode}
-use Rattle.ftp_mode.specs.declared.mode.Mode.TheVariants as Modes
+use Rattle.ftp_framer.specs.declared.mode.Mode.{Mode}
+use Rattle.ftp_framer.specs.declared.mode.Mode.TheVariants as Modes
 use Rattle.ftp_repr.specs.declared.form.Kind.TheVariants as Kinds
 use Rattle.ftp_repr.specs.declared.form.Structure.TheVariants as Structures
 use Rattle.ftp_protocol.specs.Settings.{kind_asked, structure_asked, mode_asked, same_kind, same_structure, same_mode}

@@ -10,7 +10,7 @@ use Rattle.ftp_direct.specs.Answer.{Said, Done, Path, Octets, Stamp, Refused, Ba
 use Rattle.ftp_direct.specs.declared.op.How.{How}
 use Rattle.ftp_direct.specs.declared.op.Op.{Op}
 use Rattle.ftp_direct.specs.declared.op.Op.TheVariants as Ops
-use Rattle.ftp_mode.specs.declared.mode.Mode.TheVariants as Modes
+use Rattle.ftp_framer.specs.declared.mode.Mode.TheVariants as Modes
 use Rattle.ftp_nvt.specs.Lines.{written_line}
 use Rattle.ftp_repr.specs.declared.form.Kind.TheVariants as Kinds
 use Rattle.ftp_repr.specs.declared.form.Structure.TheVariants as Structures

@@ -8,7 +8,7 @@ use Rattle.std.specs.Str.Parse.{digits_value}
 use Rattle.ftp_endpoint.specs.Number.{front_digits, behind_digits}
 use Rattle.ftp_endpoint.specs.declared.endpoint.Endpoint.{Endpoint}
 use Rattle.ftp_endpoint.specs.declared.host.Host.TheVariants.{V4}
-use Rattle.ftp_mode.specs.Marker.{is_marker_octet}
+use Rattle.ftp_framer.specs.Marker.{is_marker_octet}
 
 -- a value where a condition holds
 abbrev pub given : {X : Type 0} → Bool → X → Option X

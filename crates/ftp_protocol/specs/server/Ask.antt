@@ -7,7 +7,7 @@ use Rattle.ftp_direct.specs.Direct.{refusal, named_or_here, size_in}
 use Rattle.ftp_direct.specs.declared.op.Op.TheVariants as Ops
 use Rattle.ftp_protocol.specs.Settings.{same_structure, same_mode}
 use Rattle.ftp_repr.specs.declared.form.Structure.TheVariants as Structures
-use Rattle.ftp_mode.specs.declared.mode.Mode.TheVariants as Modes
+use Rattle.ftp_framer.specs.declared.mode.Mode.TheVariants as Modes
 use Rattle.ftp_protocol.specs.server.View.{Session, direct_of, how_of}
 use Rattle.ftp_protocol.specs.server.Replies.{Turn, tells}
 use Rattle.ftp_protocol.specs.server.Walk.{unless, path_of}

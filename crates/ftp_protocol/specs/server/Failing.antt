@@ -6,7 +6,7 @@ use Rattle.ftp_nvt.specs.Lines.{NvtEvent, line, too_long, owed}
 use Rattle.ftp_command.specs.declared.command.Command.{Command}
 use Rattle.ftp_command.specs.declared.command.Command.TheVariants as command
 use Rattle.ftp_command.specs.declared.fault.CommandFault.TheVariants as Faults
-use Rattle.ftp_mode.specs.Said.{Said}
+use Rattle.ftp_framer.specs.Said.{Said}
 use Rattle.ftp_protocol.specs.Decoder.{read_on, octet_says}
 use Rattle.ftp_protocol.specs.Ear.{ear_step, ear_out}
 use Rattle.ftp_protocol.specs.server.View.{Move, Session, View, line_limit}

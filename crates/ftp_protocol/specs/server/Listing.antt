@@ -10,8 +10,8 @@ use Rattle.ftp_direct.specs.Direct.{entries_in, names_for, child}
 use Rattle.ftp_repr.specs.Signs.{Form}
 use Rattle.ftp_repr.specs.declared.form.Kind.TheVariants as Kinds
 use Rattle.ftp_repr.specs.declared.form.Structure.TheVariants as Structures
-use Rattle.ftp_mode.specs.Laws.{wire}
-use Rattle.ftp_mode.specs.declared.mode.Mode.{Mode}
+use Rattle.ftp_framer.specs.Wire.{wire}
+use Rattle.ftp_framer.specs.declared.mode.Mode.{Mode}
 use Rattle.ftp_protocol.specs.server.Entries.{listed_line}
 use Rattle.ftp_protocol.specs.declared.session.Facts.{Facts}
 

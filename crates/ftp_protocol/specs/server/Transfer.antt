@@ -4,8 +4,8 @@ use Rattle.ftp_path.specs.Path.{Names}
 use Rattle.ftp_tree.specs.Tree.{octets_or_none, room_refusal}
 use Rattle.ftp_direct.specs.Direct.{refusal, refused_room, limited, or_code, past_refusal, front_code, offset_refusal, named_or_here}
 use Rattle.ftp_direct.specs.declared.op.Op.TheVariants as Ops
-use Rattle.ftp_mode.specs.Block.{marked_text}
-use Rattle.ftp_mode.specs.Laws.{wire}
+use Rattle.ftp_framer.specs.Block.{marked_text}
+use Rattle.ftp_framer.specs.Wire.{wire}
 use Rattle.ftp_protocol.specs.Settings.{form_of, has_markers}
 use Rattle.ftp_protocol.specs.Decoder.{no_octets}
 use Rattle.ftp_protocol.specs.server.View.{Move, Session, direct_of, how_of}

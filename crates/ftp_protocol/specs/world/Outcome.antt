@@ -9,7 +9,7 @@ use Rattle.ftp_direct.specs.declared.op.How.{How}
 use Rattle.ftp_direct.specs.declared.op.Op.{Op}
 use Rattle.ftp_direct.specs.declared.op.Op.TheVariants as Ops
 use Rattle.ftp_mode.specs.Laws.{settled_content}
-use Rattle.ftp_mode.specs.Said.{Said as WireSaid, says, marker}
+use Rattle.ftp_framer.specs.Said.{Said as WireSaid, says, marker}
 use Rattle.ftp_repr.specs.Machine.{IsFront}
 use Rattle.ftp_path.specs.Path.{Names}
 use Rattle.ftp_tree.specs.Tree.{installed, octets_or_none, octets_refusal}

@@ -1,5 +1,5 @@
 use Rattle.std.proofs.Common.{◌∙◌, ap, sym}
-use Rattle.ftp_mode.specs.Said.{file_signs}
+use Rattle.ftp_framer.specs.Said.{file_signs}
 use Rattle.ftp_mode.specs.Deframing.{part_said}
 use Rattle.ftp_programs.proofs.Hearing.{file-octets}
 use Rattle.ftp_programs.proofs.receiving.item_of.Goals as goal

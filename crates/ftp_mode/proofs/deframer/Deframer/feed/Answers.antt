@@ -1,7 +1,7 @@
 use Rattle.std.proofs.Common.{◌≡◌, ◌++◌, ◌+◌, ◌<◌, List, ℕ, [], length, take, get_or, sym, ap, subst, ◌∙◌, arith, inl, append-nil}
 use Rattle.std.proofs.lemmas.List.{length-take-le}
 use Rattle.ftp_mode.specs.declared.step.Part.TheVariants.{Data, Marker}
-use Rattle.ftp_mode.specs.Said.{Said, octets_said}
+use Rattle.ftp_framer.specs.Said.{Said, octets_said}
 use Rattle.ftp_mode.specs.Deframing.{reading, owed, last_marker, part_said, gave_said, Moves, Refuses}
 use Rattle.ftp_mode.proofs.BiteLemmas.{next_bite, next_within, heard, said_some, same_going, owes_some, refused_at}
 use Rattle.ftp_mode.proofs.deframer.Deframer.feed.Goals as goal

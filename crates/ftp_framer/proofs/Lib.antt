@@ -1,0 +1,4 @@
+pub mod FramingLemmas
+pub mod WriterLemmas
+pub mod MarkLemmas
+pub mod LawLemmas

@@ -1,0 +1,24 @@
+-- The one text of a file, in each mode, type and structure.
+use Rattle.std.specs.Prelude.{ℕ, List, []}
+use Rattle.ftp_repr.specs.Signs.{Sign, Form, signs_of}
+use Rattle.ftp_repr.specs.declared.form.Kind.TheVariants.{Image}
+use Rattle.ftp_repr.specs.declared.form.Structure.{Structure}
+use Rattle.ftp_repr.specs.declared.form.Structure.TheVariants.{File, Record}
+use Rattle.ftp_framer.specs.declared.mode.Mode.{Mode}
+use Rattle.ftp_framer.specs.declared.mode.Mode.TheVariants.{Stream, Block as Blocks}
+use Rattle.ftp_framer.specs.Stream.{plain_text, record_text}
+use Rattle.ftp_framer.specs.Block.{rows_text}
+
+-- the one text of a row of signs without own markers
+abbrev pub wire_text : Mode → Structure → List Sign → List ℕ
+wire_text Stream File ss = plain_text ss
+wire_text Stream Record ss = record_text ss
+wire_text Blocks s ss = rows_text [] ss
+
+-- the wire of a file
+abbrev pub wire : Mode → Form → List ℕ → List ℕ
+wire m f b = wire_text m f.structure (signs_of f b)
+
+-- type I and file structure
+abbrev pub image_file : Form
+image_file = record { kind = Image; structure = File }

@@ -1,0 +1,114 @@
+-- The writer of a wire, sign by sign. The laws tie it to the texts of whole files.
+use Rattle.std.specs.Prelude.{ℕ, ◌%◌, List, [], ◌∷◌, ◌++◌, length, Bool, false, if◌then◌else◌, ◌&&◌, ◌==◌, nat_lt}
+use Rattle.ftp_repr.specs.Machine.{Machine}
+use Rattle.ftp_repr.specs.Signs.{Sign, octet, end_record, end_file}
+use Rattle.ftp_repr.specs.declared.form.Structure.{Structure}
+use Rattle.ftp_repr.specs.declared.form.Structure.TheVariants.{File, Record}
+use Rattle.ftp_framer.specs.declared.mode.Mode.{Mode}
+use Rattle.ftp_framer.specs.declared.mode.Mode.TheVariants.{Stream, Block as Blocks}
+use Rattle.ftp_framer.specs.Stream.{escaped_octet}
+use Rattle.ftp_framer.specs.Block.{block_text, marker_text}
+use Rattle.ftp_framer.specs.Count.{next}
+
+-- own markers: never with records, none asked for, or the octets of the file are counted, and the last marker or
+-- the start stands at `since`
+pub data Counting : Type 0 where
+  never unmarked : Counting
+  counted : (since count : ℕ) → Counting
+
+-- a marker stands before the next octet
+abbrev pub is_due : Counting → Bool
+is_due never = false
+is_due unmarked = false
+is_due (counted since count) = nat_lt since count && (count % 65536 == 0)
+
+abbrev pub due_text : Counting → List ℕ
+due_text never = []
+due_text unmarked = []
+due_text (counted since count) = marker_text count
+
+abbrev pub marked : Counting → Counting
+marked never = never
+marked unmarked = unmarked
+marked (counted since count) = counted count count
+
+-- one more octet of the file
+abbrev pub counted_on : Counting → Counting
+counted_on never = never
+counted_on unmarked = unmarked
+counted_on (counted since count) = counted since (next count)
+
+-- an end of record, or a block, is held until the next sign says what it goes with
+pub data Writing : Type 0 where
+  copying : Writing
+  free held : Writing
+  filling at_record : (xs : List ℕ) (n : Counting) → Writing
+  closed : Writing
+
+abbrev pub filled_step : List ℕ → Counting → ℕ → Writing
+filled_step xs n c =
+    if is_due n then filling (c ∷ []) (counted_on (marked n))
+    else (if length xs == 8192 then filling (c ∷ []) (counted_on n) else filling (xs ++ c ∷ []) (counted_on n))
+
+abbrev pub filled_out : List ℕ → Counting → List ℕ
+filled_out xs n = if is_due n then block_text 0 xs ++ due_text n else (if length xs == 8192 then block_text 0 xs else [])
+
+abbrev pub write_step : Writing → Sign → Writing
+write_step copying (octet c) = copying
+write_step copying end_record = copying
+write_step copying end_file = closed
+write_step free (octet c) = free
+write_step free end_record = held
+write_step free end_file = closed
+write_step held (octet c) = free
+write_step held end_record = held
+write_step held end_file = closed
+write_step (filling xs n) (octet c) = filled_step xs n c
+write_step (filling xs n) end_record = at_record xs n
+write_step (filling xs n) end_file = closed
+write_step (at_record xs n) (octet c) = filled_step [] n c
+write_step (at_record xs n) end_record = at_record [] n
+write_step (at_record xs n) end_file = closed
+write_step closed x = closed
+
+abbrev pub write_out : Writing → Sign → List ℕ
+write_out copying (octet c) = c ∷ []
+write_out copying end_record = []
+write_out copying end_file = []
+write_out free (octet c) = escaped_octet c
+write_out free end_record = []
+write_out free end_file = 255 ∷ 2 ∷ []
+write_out held (octet c) = 255 ∷ 1 ∷ escaped_octet c
+write_out held end_record = 255 ∷ 1 ∷ []
+write_out held end_file = 255 ∷ 3 ∷ []
+write_out (filling xs n) (octet c) = filled_out xs n
+write_out (filling xs n) end_record = []
+write_out (filling xs n) end_file = block_text 64 xs
+write_out (at_record xs n) (octet c) = block_text 128 xs ++ filled_out [] n
+write_out (at_record xs n) end_record = block_text 128 xs
+write_out (at_record xs n) end_file = block_text 192 xs
+write_out closed x = []
+
+abbrev pub writer : Machine Writing Sign ℕ
+writer = record { step = write_step; out = write_out }
+
+-- nothing was taken
+abbrev pub blank : Mode → Structure → Writing
+blank Stream File = copying
+blank Stream Record = free
+blank Blocks File = filling [] unmarked
+blank Blocks Record = filling [] never
+
+abbrev pub count_from : ℕ → Counting → Counting
+count_from start never = never
+count_from start unmarked = counted start start
+count_from start (counted since count) = counted start start
+
+-- own markers from here on, at a start; without effect but in block mode and file structure
+abbrev pub with_marks : ℕ → Writing → Writing
+with_marks start copying = copying
+with_marks start free = free
+with_marks start held = held
+with_marks start (filling xs n) = filling xs (count_from start n)
+with_marks start (at_record xs n) = at_record xs (count_from start n)
+with_marks start closed = closed

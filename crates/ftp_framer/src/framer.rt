@@ -1,0 +1,499 @@
+ghost use Rattle.std.specs.Prelude.{◌≡◌, ◌≢◌, ◌+◌, ◌/◌, ◌%◌, ◌<◌, ◌≤◌, ◌⊎◌, ◌↔◌, ◌++◌, ℕ, List, [], ◌∷◌, length, take, drop, map, slice_index, ◌-◌, IsTrue, IsFalse, true, false};
+ghost use Rattle.ftp_repr.specs.Signs.{Sign, octet as sign, end_record, end_file};
+ghost use Rattle.ftp_repr.specs.Items.{signs};
+ghost use Rattle.ftp_framer.specs.Block.{block_text, marker_text};
+ghost use Rattle.ftp_framer.specs.Writing.{blank, with_marks, is_due, due_text, marked, counted_on, writer, write_step, closed};
+ghost use Rattle.ftp_framer.specs.Framing.{writing, counting, owed_block, owed_octets, still_to_write, is_open, IsClear, Takes, Waits, AreRun};
+
+use crate::mode::Mode;
+use arrayvec::ArrayVec;
+use ftp_repr::{Item, Structure, first_ff};
+use itoa::Buffer;
+
+/// How much of an item was taken, and how many octets of the room were made.
+#[derive(Clone, Copy, Debug, PartialEq, Eq)]
+pub struct Moved {
+    pub taken: usize,
+    pub made: usize,
+}
+
+/// Where in its text a framer stands.
+#[derive(Clone, Copy, Debug, PartialEq, Eq)]
+enum Stage {
+    /// Stream mode, file structure: octets go as they are.
+    Copying,
+    /// Stream mode with records: between two items.
+    Free,
+    /// The same, behind an end of record that is not yet written.
+    Held,
+    /// Block mode: data may follow in the block.
+    Filling,
+    /// A record ends with the block, and perhaps the file.
+    AtRecord,
+    /// The block is written with this descriptor, so many of its octets are out, and then the next is filled.
+    Leaving(u8, usize),
+    /// The same, and it is the last.
+    Last(u8, usize),
+    /// The end of file was taken.
+    Closed,
+}
+
+/// Own restart markers.
+#[derive(Clone, Copy, Debug, PartialEq, Eq)]
+enum Marks {
+    /// Not in this mode and structure.
+    Never,
+    /// None are asked for.
+    Unmarked,
+    /// The place of the last marker, or the start, and that of the next octet, in octets of the file.
+    Counted(u64, u64),
+}
+
+/// File octets between two own markers.
+const MARKED: u64 = 65_536;
+
+/// Writes items as the octets of a data connection, into rooms of any size (RFC 959, sections 3.4.1 and 3.4.2).
+///
+/// It takes no memory: it holds one block.
+#[derive(Drop)]
+pub struct Framer {
+    stage: Stage,
+    marks: Marks,
+    owed: ArrayVec<u8, 23>,
+    block: ArrayVec<u8, 8192>,
+}
+
+impl Framer {
+    /// A writer of one file in this mode and structure.
+    pub fn new(mode: Mode, structure: Structure) -> Framer
+        ensures state { writing result ≡ blank mode structure }
+        ensures owes { owed_octets result ≡ [] }
+    {
+        let stage = match mode {
+            Mode::Block => Stage::Filling,
+            Mode::Stream => match structure {
+                Structure::File => Stage::Copying,
+                Structure::Record => Stage::Free,
+            },
+        };
+        let marks = match structure {
+            Structure::File => Marks::Unmarked,
+            Structure::Record => Marks::Never,
+        };
+        Framer {
+            stage,
+            marks,
+            owed: ArrayVec::new(),
+            block: ArrayVec::new(),
+        }
+    }
+
+    /// Writes an item, or the front of it, into the room. The item's rest is to be put again.
+    ///
+    /// `taken` counts octets of the item; of an end it is 1 once the end needs no further call. `made` counts the
+    /// octets of the room that were written. Behind the end of file items are taken and nothing is written.
+    pub fn put(&mut self, item: Item<'_>, room: &mut [u8]) -> Moved
+        ensures within { (result.taken ≤ length (signs item.entry)) × (result.made ≤ length room.old) }
+        ensures text { (more : List Sign) → still_to_write self.old (signs item.entry ++ more)
+            ≡ take result.made room.new ++ still_to_write self.new (drop result.taken (signs item.entry) ++ more) }
+        ensures some { 0 < length room.old → 0 < length (signs item.entry) → 0 < result.taken + result.made }
+
+        // The end of file is taken once all is out.
+        ensures out { item.entry ≡ Item.EndFile → result.taken ≡ 1 → owed_octets self.new ≡ [] }
+    {
+        let first = self.pour(room, 0);
+        if !self.is_clear() {
+            return Moved {
+                taken: 0,
+                made: first,
+            };
+        }
+        match item {
+            Item::Octets(piece) => self.put_octets(piece, room, first),
+            Item::EndRecord => {
+                let taken = usize::from(self.end_record());
+                let made = self.pour(room, first);
+                Moved { taken, made }
+            }
+            Item::EndFile => {
+                self.end_file();
+                let made = self.pour(room, first);
+                Moved {
+                    taken: usize::from(self.is_clear()),
+                    made,
+                }
+            }
+        }
+    }
+
+    /// Asks for own restart markers, which count the octets of the file from `start` at the next one.
+    ///
+    /// A marker stands at each multiple of 65,536 above the start and before the end of the file. It is for type I
+    /// and the start of a file; without effect but in block mode and file structure.
+    pub fn mark(&mut self, start: u64)
+        ensures state { writing self.new ≡ with_marks start (writing self.old) }
+        ensures owes { owed_octets self.new ≡ owed_octets self.old }
+    {
+        self.marks = match self.marks {
+            Marks::Never => Marks::Never,
+            Marks::Unmarked | Marks::Counted(_, _) => Marks::Counted(start, start),
+        };
+    }
+
+    fn is_open(&self) -> bool
+        ensures { result ≡ is_open self.now.stage }
+    {
+        !matches!(self.stage, Stage::Leaving(_, _) | Stage::Last(_, _))
+    }
+
+    /// Whether all that was decided is out.
+    fn is_clear(&self) -> bool
+        ensures { IsTrue result ↔ IsClear self.now }
+    {
+        self.is_open() && self.owed.is_empty()
+    }
+
+    /// The octet of the written block at a place.
+    fn octet_at(&self, descriptor: u8, place: usize) -> u8
+        requires { place < length self.now.block.items + 3 }
+        ensures { result ≡ slice_index (block_text descriptor self.now.block.items) place }
+    {
+        let len = self.block.len();
+        match place {
+            0 => descriptor,
+            1 => (len / 256) as u8,
+            2 => (len % 256) as u8,
+            _ => self.block[place - 3],
+        }
+    }
+
+    /// Copies the written block from a place on into the room, and says how far it came in both.
+    fn copy(&self, descriptor: u8, place: usize, room: &mut [u8], at: usize) -> (usize, usize)
+        requires { at ≤ length room.old }
+        ensures within { (at ≤ result.0) × (result.0 ≤ length room.old) }
+        ensures copied { take result.0 room.new ++ drop result.1 (block_text descriptor self.now.block.items)
+            ≡ take at room.old ++ drop place (block_text descriptor self.now.block.items) }
+        ensures all { (length self.now.block.items + 3 ≤ result.1) ⊎ (result.0 ≡ length room.old) }
+    {
+        let len = self.block.len() + 3;
+        let mut made = at;
+        let mut next = place;
+        while made < room.len() && next < len {
+            room[made] = self.octet_at(descriptor, next);
+            made += 1;
+            next += 1;
+        }
+        (made, next)
+    }
+
+    /// Moves a decided block to the room from `at` on.
+    fn pour_block(&mut self, room: &mut [u8], at: usize) -> usize
+        requires { at ≤ length room.old }
+        ensures within { (at ≤ result) × (result ≤ length room.old) }
+        ensures text { take result room.new ++ owed_block self.new.stage self.new.block.items
+            ≡ take at room.old ++ owed_block self.old.stage self.old.block.items }
+        ensures state { writing self.new ≡ writing self.old }
+        ensures owes { self.new.owed.items ≡ self.old.owed.items }
+        ensures all { (is_open self.new.stage ≡ true) ⊎ (result ≡ length room.old) }
+    {
+        match self.stage {
+            Stage::Leaving(descriptor, place) => {
+                let (made, next) = self.copy(descriptor, place, room, at);
+                if next >= self.block.len() + 3 {
+                    self.block.clear();
+                    self.stage = Stage::Filling;
+                } else {
+                    self.stage = Stage::Leaving(descriptor, next);
+                }
+                made
+            }
+            Stage::Last(descriptor, place) => {
+                let (made, next) = self.copy(descriptor, place, room, at);
+                if next >= self.block.len() + 3 {
+                    self.stage = Stage::Closed;
+                } else {
+                    self.stage = Stage::Last(descriptor, next);
+                }
+                made
+            }
+            _ => at,
+        }
+    }
+
+    /// Moves the octets that are decided beside a block to the room from `at` on.
+    fn pour_owed(&mut self, room: &mut [u8], at: usize) -> usize
+        requires { at ≤ length room.old }
+        ensures within { (at ≤ result) × (result ≤ length room.old) }
+        ensures text { take result room.new ++ self.new.owed.items ≡ take at room.old ++ self.old.owed.items }
+        ensures all { (self.new.owed.items ≡ []) ⊎ (result ≡ length room.old) }
+        ensures stage { self.new.stage ≡ self.old.stage }
+        ensures block { self.new.block.items ≡ self.old.block.items }
+        ensures marks { self.new.marks ≡ self.old.marks }
+    {
+        let mut made = at;
+        while made < room.len() && !self.owed.is_empty() {
+            room[made] = self.owed.remove(0);
+            made += 1;
+        }
+        made
+    }
+
+    /// Moves what is decided to the room from `at` on.
+    fn pour(&mut self, room: &mut [u8], at: usize) -> usize
+        requires { at ≤ length room.old }
+        ensures within { (at ≤ result) × (result ≤ length room.old) }
+        ensures text { take result room.new ++ owed_octets self.new ≡ take at room.old ++ owed_octets self.old }
+        ensures state { writing self.new ≡ writing self.old }
+        ensures all { IsClear self.new ⊎ (result ≡ length room.old) }
+        ensures some { at < length room.old → 0 < length (owed_octets self.old) → at < result }
+    {
+        let made = self.pour_block(room, at);
+        if !self.is_open() {
+            return made;
+        }
+        self.pour_owed(room, made)
+    }
+
+    /// Takes an octet, or decides what goes before it.
+    fn octet(&mut self, octet: u8) -> bool
+        requires { IsClear self.old }
+        ensures yes { IsTrue result → Takes self.old (sign octet) self.new }
+        ensures no { IsFalse result → Waits self.old (sign octet) self.new }
+    {
+        match self.stage {
+            Stage::Copying => {
+                self.owed.push(octet);
+                true
+            }
+            Stage::Free | Stage::Held => {
+                self.escaped(octet);
+                true
+            }
+            Stage::Filling => self.fill(octet),
+            Stage::AtRecord => {
+                self.stage = Stage::Leaving(128, 0);
+                false
+            }
+            Stage::Leaving(_, _) | Stage::Last(_, _) | Stage::Closed => true,
+        }
+    }
+
+    /// An octet between records.
+    fn escaped(&mut self, octet: u8)
+        requires clear { IsClear self.old }
+        requires stage { (self.old.stage ≡ Stage.Free) ⊎ (self.old.stage ≡ Stage.Held) }
+        ensures { Takes self.old (sign octet) self.new }
+    {
+        if self.stage == Stage::Held {
+            self.owed.push(255);
+            self.owed.push(1);
+        }
+        self.stage = Stage::Free;
+        if octet == 255 {
+            self.owed.push(255);
+        }
+        self.owed.push(octet);
+    }
+
+    /// An octet in a block.
+    fn fill(&mut self, octet: u8) -> bool
+        requires clear { IsClear self.old }
+        requires stage { self.old.stage ≡ Stage.Filling }
+        ensures yes { IsTrue result → Takes self.old (sign octet) self.new }
+        ensures no { IsFalse result → Waits self.old (sign octet) self.new }
+    {
+        if self.is_due() {
+            self.due();
+            return false;
+        }
+        if self.block.len() == 8192 {
+            self.stage = Stage::Leaving(0, 0);
+            return false;
+        }
+        self.block.push(octet);
+        if let Marks::Counted(since, count) = self.marks {
+            self.marks = Marks::Counted(since, count.saturating_add(1));
+        }
+        true
+    }
+
+    /// Whether a marker stands before the next octet.
+    fn is_due(&self) -> bool
+        ensures { result ≡ is_due (counting self.now.marks) }
+    {
+        match self.marks {
+            Marks::Never | Marks::Unmarked => false,
+            Marks::Counted(since, count) => since < count && count % MARKED == 0,
+        }
+    }
+
+    /// Decides the block, and the marker behind it.
+    fn due(&mut self)
+        requires clear { IsClear self.old }
+        requires due { is_due (counting self.old.marks) ≡ true }
+        ensures stage { self.new.stage ≡ Stage.Leaving 0 0 }
+        ensures block { self.new.block.items ≡ self.old.block.items }
+        ensures owes { self.new.owed.items ≡ due_text (counting self.old.marks) }
+        ensures marks { counting self.new.marks ≡ marked (counting self.old.marks) }
+    {
+        self.stage = Stage::Leaving(0, 0);
+        if let Marks::Counted(_, count) = self.marks {
+            self.marks = Marks::Counted(count, count);
+            self.put_marker(count);
+        }
+    }
+
+    /// The block of a marker.
+    fn put_marker(&mut self, count: u64)
+        requires { self.old.owed.items ≡ [] }
+        ensures owes { self.new.owed.items ≡ marker_text count }
+        ensures stage { self.new.stage ≡ self.old.stage }
+        ensures block { self.new.block.items ≡ self.old.block.items }
+        ensures marks { self.new.marks ≡ self.old.marks }
+    {
+        let mut buffer = Buffer::new();
+        let text = buffer.format(count).as_bytes();
+        self.owed.push(16);
+        self.owed.push(0);
+        self.owed.push(text.len() as u8);
+        let _ = self.owed.try_extend_from_slice(text);
+    }
+
+    /// Takes an end of record, or decides what goes before it.
+    fn end_record(&mut self) -> bool
+        requires { IsClear self.old }
+        ensures yes { IsTrue result → Takes self.old end_record self.new }
+        ensures no { IsFalse result → Waits self.old end_record self.new }
+    {
+        match self.stage {
+            Stage::Free => self.stage = Stage::Held,
+            Stage::Held => {
+                self.owed.push(255);
+                self.owed.push(1);
+            }
+            Stage::Filling => self.stage = Stage::AtRecord,
+            Stage::AtRecord => {
+                self.stage = Stage::Leaving(128, 0);
+                return false;
+            }
+            Stage::Copying | Stage::Leaving(_, _) | Stage::Last(_, _) | Stage::Closed => {}
+        }
+        true
+    }
+
+    /// Takes the end of file. Given once more it changes nothing.
+    fn end_file(&mut self)
+        requires { IsClear self.old }
+        ensures text { Takes self.old end_file self.new }
+        ensures closed { writing self.new ≡ closed }
+    {
+        match self.stage {
+            Stage::Copying => self.stage = Stage::Closed,
+            Stage::Free => self.close(2),
+            Stage::Held => self.close(3),
+            Stage::Filling => self.stage = Stage::Last(64, 0),
+            Stage::AtRecord => self.stage = Stage::Last(192, 0),
+            Stage::Leaving(_, _) | Stage::Last(_, _) | Stage::Closed => {}
+        }
+    }
+
+    fn close(&mut self, code: u8)
+        requires { self.old.owed.items ≡ [] }
+        ensures stage { self.new.stage ≡ Stage.Closed }
+        ensures owes { self.new.owed.items ≡ 255 ∷ code ∷ [] }
+    {
+        self.stage = Stage::Closed;
+        self.owed.push(255);
+        self.owed.push(code);
+    }
+
+    /// Takes octets that go as they are or, where none stands in front, octets until something before them waits for
+    /// room.
+    fn put_octets(&mut self, piece: &[u8], room: &mut [u8], at: usize) -> Moved
+        requires clear { IsClear self.old }
+        requires within { at ≤ length room.old }
+        ensures within { (result.taken ≤ length piece.now) × (at ≤ result.made) × (result.made ≤ length room.old) }
+        ensures text { (more : List Sign) → take at room.old ++ still_to_write self.old (map sign piece.now ++ more)
+            ≡ take result.made room.new ++ still_to_write self.new (drop result.taken (map sign piece.now) ++ more) }
+        ensures some { at < length room.old → 0 < length piece.now → at < result.taken + result.made }
+    {
+        let run = self.copy_run(piece, room, at);
+        if run > 0 {
+            return Moved {
+                taken: run,
+                made: at + run,
+            };
+        }
+        let few = match self.stage {
+            Stage::Free | Stage::Held => piece.len().min(1),
+            _ => piece.len(),
+        };
+        let (front, _) = piece.split_at(few);
+        self.put_each(front, room, at)
+    }
+
+    /// Copies the octets in front that go as they are, as far as there is room, and says how many.
+    fn copy_run(&self, piece: &[u8], room: &mut [u8], at: usize) -> usize
+        requires clear { IsClear self.now }
+        requires within { at ≤ length room.old }
+        ensures within { (result ≤ length piece.now) × (at + result ≤ length room.old) }
+        ensures text { (more : List Sign) → take at room.old ++ still_to_write self.now (map sign piece.now ++ more)
+            ≡ take (at + result) room.new ++ still_to_write self.now (drop result (map sign piece.now) ++ more) }
+    {
+        let (front, _) = piece.split_at(piece.len().min(room.len() - at));
+        let run = self.run_len(front);
+        let (octets, _) = front.split_at(run);
+        copy_to(room, at, octets);
+        run
+    }
+
+    /// How many octets in front go as they are.
+    fn run_len(&self, piece: &[u8]) -> usize
+        ensures within { result ≤ length piece.now }
+        ensures run { AreRun (writing self.now) (take result piece.now) }
+    {
+        match self.stage {
+            Stage::Copying => piece.len(),
+            Stage::Free => first_ff(piece),
+            Stage::Held
+            | Stage::Filling
+            | Stage::AtRecord
+            | Stage::Leaving(_, _)
+            | Stage::Last(_, _)
+            | Stage::Closed => 0,
+        }
+    }
+
+    /// Takes octets until something before them waits for room.
+    fn put_each(&mut self, piece: &[u8], room: &mut [u8], at: usize) -> Moved
+        requires clear { IsClear self.old }
+        requires within { at ≤ length room.old }
+        ensures within { (result.taken ≤ length piece.now) × (at ≤ result.made) × (result.made ≤ length room.old) }
+        ensures text { (more : List Sign) → take at room.old ++ still_to_write self.old (map sign piece.now ++ more)
+            ≡ take result.made room.new ++ still_to_write self.new (drop result.taken (map sign piece.now) ++ more) }
+        ensures some { at < length room.old → 0 < length piece.now → at < result.taken + result.made }
+    {
+        let mut taken = 0;
+        let mut made = at;
+        while taken < piece.len() {
+            if !self.octet(piece[taken]) {
+                let made = self.pour(room, made);
+                return Moved { taken, made };
+            }
+            taken += 1;
+            made = self.pour(room, made);
+            if !self.is_clear() {
+                return Moved { taken, made };
+            }
+        }
+        Moved { taken, made }
+    }
+}
+
+/// Copies octets to the room from `at` on.
+fn copy_to(room: &mut [u8], at: usize, octets: &[u8])
+    requires { at + length octets.now ≤ length room.old }
+    ensures { take (at + length octets.now) room.new ≡ take at room.old ++ octets.now }
+{
+    room[at..at + octets.len()].copy_from_slice(octets);
+}

@@ -1,0 +1,239 @@
+use crate::tests::helpers::{
+    ASCII_BLOCK, ASCII_RECORD_BLOCK, ASCII_RECORD_STREAM, ASCII_STREAM, FILE_BLOCK, FILE_STREAM,
+    How, RECORD_BLOCK, RECORD_STREAM, goes_as,
+};
+use crate::{Framer, Mode, Moved};
+use ftp_repr::{Item, Structure};
+use std::alloc::Global;
+use std::test::Fail;
+
+/// A file and its wire, by hand from RFC 959, sections 3.4.1 and 3.4.2.
+type Row<'a> = (How, &'a [u8], &'a [u8]);
+
+const WIRES: [Row<'static>; 20] = [
+    (FILE_STREAM, &[], &[]),
+    (RECORD_STREAM, &[], &[0xFF, 0x02]),
+    (FILE_BLOCK, &[], &[0x40, 0x00, 0x00]),
+    (RECORD_BLOCK, &[], &[0x40, 0x00, 0x00]),
+    // A record and a tail, a record alone, an octet 255.
+    (
+        RECORD_STREAM,
+        &[0x61, 0x0A, 0x62],
+        &[0x61, 0xFF, 0x01, 0x62, 0xFF, 0x02],
+    ),
+    (RECORD_STREAM, &[0x61, 0x0A], &[0x61, 0xFF, 0x03]),
+    (RECORD_STREAM, &[0xFF], &[0xFF, 0xFF, 0xFF, 0x02]),
+    (
+        RECORD_BLOCK,
+        &[0x61, 0x0A, 0x62],
+        &[0x80, 0x00, 0x01, 0x61, 0x40, 0x00, 0x01, 0x62],
+    ),
+    (RECORD_BLOCK, &[0x61, 0x0A], &[0xC0, 0x00, 0x01, 0x61]),
+    // Empty records.
+    (RECORD_BLOCK, &[0x0A], &[0xC0, 0x00, 0x00]),
+    (
+        RECORD_BLOCK,
+        &[0x0A, 0x61],
+        &[0x80, 0x00, 0x00, 0x40, 0x00, 0x01, 0x61],
+    ),
+    (
+        RECORD_BLOCK,
+        &[0x0A, 0x0A],
+        &[0x80, 0x00, 0x00, 0xC0, 0x00, 0x00],
+    ),
+    (
+        RECORD_STREAM,
+        &[0x0A, 0x0A, 0x61],
+        &[0xFF, 0x01, 0xFF, 0x01, 0x61, 0xFF, 0x02],
+    ),
+    // File structure keeps LF and 255.
+    (FILE_STREAM, &[0xFF, 0x0A], &[0xFF, 0x0A]),
+    (FILE_BLOCK, &[0xFF, 0x0A], &[0x40, 0x00, 0x02, 0xFF, 0x0A]),
+    (
+        ASCII_STREAM,
+        &[0x61, 0x0D, 0x0A],
+        &[0x61, 0x0D, 0x00, 0x0D, 0x0A],
+    ),
+    // Files rich in CR, LF, NUL and 255.
+    (
+        RECORD_STREAM,
+        &[0x0D, 0x00, 0xFF, 0x02, 0x0A, 0xFF, 0x03, 0x00, 0x0D],
+        &[
+            0x0D, 0x00, 0xFF, 0xFF, 0x02, 0xFF, 0x01, 0xFF, 0xFF, 0x03, 0x00, 0x0D, 0xFF, 0x02,
+        ],
+    ),
+    (
+        ASCII_RECORD_STREAM,
+        &[0x0D, 0x0A, 0xFF, 0x00],
+        &[0x0D, 0x00, 0xFF, 0x01, 0xFF, 0xFF, 0x00, 0xFF, 0x02],
+    ),
+    (
+        ASCII_BLOCK,
+        &[0x0A, 0x0A, 0x61],
+        &[0x40, 0x00, 0x05, 0x0D, 0x0A, 0x0D, 0x0A, 0x61],
+    ),
+    (
+        ASCII_RECORD_BLOCK,
+        &[0x00, 0x0A, 0x0D, 0x0A, 0xFF, 0x0A],
+        &[
+            0x80, 0x00, 0x01, 0x00, 0x80, 0x00, 0x02, 0x0D, 0x00, 0xC0, 0x00, 0x01, 0xFF,
+        ],
+    ),
+];
+
+/// Whether a row holds, by pieces and rooms of several sizes.
+fn row_holds(alloc: Global, row: Row<'_>) -> Result<bool, Fail> {
+    let (how, file, wire) = row;
+    for piece in [1, 2, 64] {
+        for room in [1, 2, 64] {
+            if !goes_as(alloc, how, file, wire, piece, room)? {
+                return Ok(false);
+            }
+        }
+    }
+    Ok(true)
+}
+
+#[test]
+fn wires_of_small_files(rt: HostRuntime) -> Result<(), Fail> {
+    for (at, row) in WIRES.into_iter().enumerate() {
+        assert!(&rt; row_holds(rt.alloc(), row)?, "row {at}");
+    }
+    Ok(())
+}
+
+/// Appends a header and so many octets of the letter x.
+fn add_block(wire: &mut Vec<u8>, header: &[u8], count: usize) -> Result<(), Fail> {
+    wire.extend_from_slice(header)?;
+    for _ in 0..count {
+        wire.push(b'x')?;
+    }
+    Ok(())
+}
+
+/// Eight blocks of 8,192 octets, a marker, and a block of 4,464.
+fn wire_of_70_000(alloc: Global) -> Result<Vec<u8>, Fail> {
+    let mut wire = Vec::new(alloc);
+    for _ in 0..8 {
+        add_block(&mut wire, &[0x00, 0x20, 0x00], 8192)?;
+    }
+    add_block(
+        &mut wire,
+        &[0x10, 0x00, 0x05, 0x36, 0x35, 0x35, 0x33, 0x36],
+        0,
+    )?;
+    add_block(&mut wire, &[0x40, 0x11, 0x70], 4464)?;
+    Ok(wire)
+}
+
+#[test]
+fn seventy_thousand_octets_with_a_marker(rt: HostRuntime) -> Result<(), Fail> {
+    let file = vec![in rt.alloc(); b'x'; 70_000]?;
+    let wire = wire_of_70_000(rt.alloc())?;
+    let marked = How {
+        start: Some(0),
+        ..FILE_BLOCK
+    };
+    assert_eq!(&rt; wire.len(), 70_035);
+    for piece in [1, 4096, 70_000] {
+        assert!(&rt;
+            goes_as(
+                rt.alloc(),
+                marked,
+                file.as_slice(),
+                wire.as_slice(),
+                piece,
+                piece
+            )?,
+            "by {piece}"
+        );
+    }
+    Ok(())
+}
+
+/// A start and the wire of four octets behind it.
+const STARTS: [(u64, &'static [u8]); 5] = [
+    // None at the start, none at the end of the file.
+    (0, b"\x40\x00\x04xxxx"),
+    (65_536, b"\x40\x00\x04xxxx"),
+    (65_532, b"\x40\x00\x04xxxx"),
+    (65_533, b"\x00\x00\x03xxx\x10\x00\x0565536\x40\x00\x01x"),
+    (131_071, b"\x00\x00\x01x\x10\x00\x06131072\x40\x00\x03xxx"),
+];
+
+#[test]
+fn markers_count_from_a_start(rt: HostRuntime) -> Result<(), Fail> {
+    for (start, wire) in STARTS {
+        let marked = How {
+            start: Some(start),
+            ..FILE_BLOCK
+        };
+        for piece in [1, 64] {
+            assert!(&rt;
+                goes_as(rt.alloc(), marked, b"xxxx", wire, piece, piece)?,
+                "from {start} by {piece}"
+            );
+        }
+    }
+    Ok(())
+}
+
+/// Four octets in which a marker would stand, where none is written.
+const UNMARKED: [(How, &'static [u8]); 3] = [
+    (FILE_STREAM, b"xxxx"),
+    (RECORD_STREAM, b"xxxx\xFF\x02"),
+    (RECORD_BLOCK, b"\x40\x00\x04xxxx"),
+];
+
+#[test]
+fn markers_are_for_blocks_in_file_structure(rt: HostRuntime) -> Result<(), Fail> {
+    for (how, wire) in UNMARKED {
+        let asked = How {
+            start: Some(65_533),
+            ..how
+        };
+        assert!(&rt; goes_as(rt.alloc(), asked, b"xxxx", wire, 64, 64)?);
+    }
+    Ok(())
+}
+
+#[test]
+fn a_record_of_8192_octets_is_one_block(rt: HostRuntime) -> Result<(), Fail> {
+    let mut file = vec![in rt.alloc(); b'x'; 8192]?;
+    file.push(0x0A)?;
+    let mut wire = Vec::new(rt.alloc());
+    add_block(&mut wire, &[0xC0, 0x20, 0x00], 8192)?;
+    for piece in [1, 4096, 8193] {
+        assert!(&rt;
+            goes_as(
+                rt.alloc(),
+                RECORD_BLOCK,
+                file.as_slice(),
+                wire.as_slice(),
+                piece,
+                piece
+            )?,
+            "by {piece}"
+        );
+    }
+    Ok(())
+}
+
+#[test]
+fn an_end_is_taken_once_it_is_out(rt: HostRuntime) {
+    let mut framer = Framer::new(Mode::Stream, Structure::Record);
+    let mut room = [0; 2];
+    let (none, some) = room.split_at_mut(0);
+    assert_eq!(&rt;
+        framer.put(Item::EndFile, none),
+        Moved { taken: 0, made: 0 }
+    );
+    assert_eq!(&rt;
+        framer.put(Item::EndFile, some),
+        Moved { taken: 1, made: 2 }
+    );
+    assert_eq!(&rt;
+        framer.put(Item::Octets(b"x"), some),
+        Moved { taken: 1, made: 0 }
+    );
+}
