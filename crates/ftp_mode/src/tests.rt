@@ -1,17 +1,24 @@
 mod helpers;
 mod reading;
 
-use crate::tests::helpers::{FILE_BLOCK, How, comes_back};
-use crate::{FrameFault, Framer, Mode};
-use ftp_repr::{Kind, Structure};
+use crate::FrameFault;
+use crate::tests::helpers::{
+    ASCII_FILE, ASCII_RECORD, ASCII_RECORD_STREAM, ASCII_STREAM, FILE_BLOCK, FILE_STREAM, How,
+    RECORD_BLOCK, RECORD_STREAM, comes_back,
+};
 use std::alloc::Global;
 use std::test::Fail;
 
-const KINDS: [Kind; 2] = [Kind::Ascii, Kind::Image];
-
-const STRUCTURES: [Structure; 2] = [Structure::File, Structure::Record];
-
-const MODES: [Mode; 2] = [Mode::Stream, Mode::Block];
+const REPRESENTATIONS: [How; 8] = [
+    FILE_STREAM,
+    RECORD_STREAM,
+    FILE_BLOCK,
+    RECORD_BLOCK,
+    ASCII_STREAM,
+    ASCII_RECORD_STREAM,
+    ASCII_FILE,
+    ASCII_RECORD,
+];
 
 /// Files rich in CR, LF, NUL and 255.
 const FILES: [&'static [u8]; 8] = [
@@ -27,14 +34,11 @@ const FILES: [&'static [u8]; 8] = [
     &[0x00, 0x0A, 0x0D, 0x0A, 0xFF, 0x0A],
 ];
 
-/// Whether each file comes back, by rooms and pieces of several sizes.
+/// Whether each file comes back.
 fn all_come_back(alloc: Global, how: How) -> Result<bool, Fail> {
     for file in FILES {
-        for size in [1, 3, 64] {
-            let mut framer = Framer::new(how.mode, how.structure);
-            if !comes_back(alloc, &mut framer, how, file, size)? {
-                return Ok(false);
-            }
+        if !comes_back(alloc, how, None, file, &[1, 3, 64])? {
+            return Ok(false);
         }
     }
     Ok(true)
@@ -42,20 +46,8 @@ fn all_come_back(alloc: Global, how: How) -> Result<bool, Fail> {
 
 #[test]
 fn each_representation_there_and_back(rt: HostRuntime) -> Result<(), Fail> {
-    for kind in KINDS {
-        for structure in STRUCTURES {
-            for mode in MODES {
-                let how = How {
-                    kind,
-                    structure,
-                    mode,
-                };
-                assert!(&rt;
-                    all_come_back(rt.alloc(), how)?,
-                    "{kind:?} {structure:?} {mode:?}"
-                );
-            }
-        }
+    for (at, how) in REPRESENTATIONS.into_iter().enumerate() {
+        assert!(&rt; all_come_back(rt.alloc(), how)?, "representation {at}");
     }
     Ok(())
 }
@@ -63,14 +55,8 @@ fn each_representation_there_and_back(rt: HostRuntime) -> Result<(), Fail> {
 #[test]
 fn seventy_thousand_octets_with_a_marker_come_back(rt: HostRuntime) -> Result<(), Fail> {
     let file = vec![in rt.alloc(); b'x'; 70_000]?;
-    for size in [1, 4096, 70_000] {
-        let mut framer = Framer::new(Mode::Block, Structure::File);
-        framer.mark(0);
-        assert!(&rt;
-            comes_back(rt.alloc(), &mut framer, FILE_BLOCK, file.as_slice(), size)?,
-            "by {size}"
-        );
-    }
+    let sizes = [1, 4096, 70_000];
+    assert!(&rt; comes_back(rt.alloc(), FILE_BLOCK, Some(0), file.as_slice(), &sizes)?);
     Ok(())
 }
 

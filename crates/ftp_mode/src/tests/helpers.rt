@@ -13,6 +13,12 @@ pub struct How {
     pub mode: Mode,
 }
 
+pub const FILE_STREAM: How = How {
+    kind: Kind::Image,
+    structure: Structure::File,
+    mode: Mode::Stream,
+};
+
 pub const RECORD_STREAM: How = How {
     kind: Kind::Image,
     structure: Structure::Record,
@@ -34,6 +40,12 @@ pub const RECORD_BLOCK: How = How {
 pub const ASCII_STREAM: How = How {
     kind: Kind::Ascii,
     structure: Structure::File,
+    mode: Mode::Stream,
+};
+
+pub const ASCII_RECORD_STREAM: How = How {
+    kind: Kind::Ascii,
+    structure: Structure::Record,
     mode: Mode::Stream,
 };
 
@@ -139,22 +151,26 @@ fn put_signs(
     Ok(())
 }
 
-/// Writes a file by rooms of this size.
+/// Writes a file by rooms of this size, with own markers from a start where one is given.
 fn write(
-    framer: &mut Framer,
     how: How,
+    start: Option<u64>,
     file: &[u8],
     size: usize,
     wire: &mut Vec<u8>,
 ) -> Result<(), AllocError> {
     let mut sender = Sender::new(how.kind, how.structure);
+    let mut framer = Framer::new(how.mode, how.structure);
+    if let Some(start) = start {
+        framer.mark(start);
+    }
     let mut space = [0; 4096];
     let (room, _) = space.split_at_mut(size.min(4096));
     let mut rest = file;
     for _ in 0..500_000 {
         let (taken, item) = sender.next(rest, true);
         match item {
-            Some(item) => put_signs(framer, item, room, wire)?,
+            Some(item) => put_signs(&mut framer, item, room, wire)?,
             None => return Ok(()),
         }
         let (_, left) = rest.split_at(taken);
@@ -163,15 +179,20 @@ fn write(
     Ok(())
 }
 
-/// Whether a file is read again from its wire, by rooms and pieces of one size.
+/// Whether a file is read again from its wire, by rooms and pieces of each of these sizes.
 pub fn comes_back(
     alloc: Global,
-    framer: &mut Framer,
     how: How,
+    start: Option<u64>,
     file: &[u8],
-    size: usize,
+    sizes: &[usize],
 ) -> Result<bool, Fail> {
-    let mut wire = Vec::new(alloc);
-    write(framer, how, file, size, &mut wire)?;
-    reads_as(alloc, how, wire.as_slice(), file, None, size)
+    for size in sizes {
+        let mut wire = Vec::new(alloc);
+        write(how, start, file, *size, &mut wire)?;
+        if !reads_as(alloc, how, wire.as_slice(), file, None, *size)? {
+            return Ok(false);
+        }
+    }
+    Ok(true)
 }
