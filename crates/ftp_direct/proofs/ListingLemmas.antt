@@ -14,8 +14,8 @@ use mathlib.Core.Bool.{false≢true, true≢false}
 use Rattle.ftp_path.specs.Path.{is_slash, is_path_octet, is_name_octet, is_here, is_above, is_component, is_name, is_rooted, followed, resolved, fits, text_of, Names}
 use Rattle.ftp_tree.specs.Tree.{Node, Dir, File, Table, node_at, octets_of, moment_of, of_node, octets_at, size_at, stamp_at, children}
 use Rattle.ftp_path.proofs.PathLemmas.{component-octets, name_octet-slash, followed-name}
-use Rattle.ftp_direct.specs.Answer.{Listed}
-use Rattle.ftp_direct.specs.Operation.{is_path_text}
+use Rattle.ftp_operation.specs.Answer.{Listed}
+use Rattle.ftp_operation.specs.Operation.{is_path_text}
 use Rattle.ftp_direct.specs.Direct.{behind, child, entry_at, entry_in, file_in, is_file, listed, names_for, perm_of, place, size_fact}
 use Rattle.ftp_direct.proofs.ResolveLemmas.{dot_here}
 

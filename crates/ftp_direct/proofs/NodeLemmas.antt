@@ -10,8 +10,8 @@ use Rattle.ftp_tree.specs.declared.fault.TreeFault.{TreeFault}
 use Rattle.ftp_tree.specs.declared.fault.TreeFault.TheVariants.{Absent, WrongKind, Busy, TooBig}
 use Rattle.ftp_tree.specs.declared.tree.NodeKind.{NodeKind}
 use Rattle.ftp_tree.specs.declared.tree.NodeKind.TheVariants as Kinds
-use Rattle.ftp_direct.specs.declared.op.Op.TheVariants as Ops
-use Rattle.ftp_direct.specs.Answer.{Refused, Stamp}
+use Rattle.ftp_operation.specs.declared.op.Op.TheVariants as Ops
+use Rattle.ftp_operation.specs.Answer.{Refused, Stamp}
 use Rattle.ftp_direct.specs.Direct.{absent_refusal, busy_refusal, due, here, is_file}
 use Rattle.ftp_direct.specs.Run.{Gives}
 use Rattle.ftp_direct.proofs.RefusalLemmas.{gives_refused, gives_done, there_some, there_none}

@@ -6,7 +6,7 @@ use Rattle.ftp_path.specs.Path.{fits, Names}
 use Rattle.ftp_tree.specs.Tree.{Table, or_else, whenever, installed, room_refusal, room_at, octets_refusal, install_refusal}
 use Rattle.ftp_tree.specs.declared.fault.TreeFault.{TreeFault}
 use Rattle.ftp_tree.specs.declared.fault.TreeFault.TheVariants.{TooBig, Full}
-use Rattle.ftp_direct.specs.Answer.{Done}
+use Rattle.ftp_operation.specs.Answer.{Done}
 use Rattle.ftp_direct.specs.Direct.{chosen, here, or_code, put, put_refusal, refused_octets, refused_room}
 use Rattle.ftp_direct.specs.Run.{Gives}
 

@@ -7,9 +7,9 @@ use Rattle.ftp_path.specs.Path.{Names}
 use Rattle.ftp_tree.specs.Tree.{Table, Node, Dir, File, or_else, whenever, directory_refusal, empty_refusal, remove_answer, file_refusal, source_answer, make_refusal, remove_refusal, delete_refusal, source_refusal, target_refusal, rename_refusal, room_refusal, octets_refusal, install_refusal}
 use Rattle.ftp_tree.specs.declared.fault.TreeFault.{TreeFault}
 use Rattle.ftp_tree.specs.declared.fault.TreeFault.TheVariants.{Absent, Exists, NotEmpty, WrongKind, TooBig, Full, Busy, BadOffset, Device, Memory}
-use Rattle.ftp_direct.specs.declared.answer.Answer.{Answer}
-use Rattle.ftp_direct.specs.Answer.{Said, Refused, said_of}
-use Rattle.ftp_direct.specs.declared.op.Op.{Op}
+use Rattle.ftp_operation.specs.declared.answer.Answer.{Answer}
+use Rattle.ftp_operation.specs.Answer.{Said, Refused, said_of}
+use Rattle.ftp_operation.specs.declared.op.Op.{Op}
 use Rattle.ftp_direct.specs.Direct.{State, chosen, done, due, here, refusal, refused_there}
 use Rattle.ftp_direct.specs.Run.{Gives, IsAnswer, told}
 

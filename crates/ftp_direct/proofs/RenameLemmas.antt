@@ -4,8 +4,8 @@ use Rattle.ftp_path.specs.Path.{fits, resolved, Names}
 use Rattle.ftp_tree.specs.Tree.{Table, moved, or_else, source_refusal, target_refusal, rename_refusal}
 use Rattle.ftp_tree.specs.declared.fault.TreeFault.{TreeFault}
 use Rattle.ftp_tree.specs.declared.fault.TreeFault.TheVariants.{TooBig}
-use Rattle.ftp_direct.specs.declared.op.Op.TheVariants as Ops
-use Rattle.ftp_direct.specs.Answer.{Done, Refused}
+use Rattle.ftp_operation.specs.declared.op.Op.TheVariants as Ops
+use Rattle.ftp_operation.specs.Answer.{Done, Refused}
 use Rattle.ftp_direct.specs.Direct.{busy_refusal, due, here, limited, or_code, refusal, refused_name, refused_there}
 use Rattle.ftp_direct.specs.Run.{Gives}
 use Rattle.ftp_direct.proofs.NodeLemmas.{rename_free}

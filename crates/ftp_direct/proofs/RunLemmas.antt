@@ -5,10 +5,10 @@ use Rattle.std.proofs.lemmas.List.{map-append, take_all}
 use Rattle.ftp_facts.specs.declared.moment.Moment.{Moment}
 use Rattle.ftp_path.specs.Path.{Names}
 use Rattle.ftp_tree.specs.Tree.{Table}
-use Rattle.ftp_direct.specs.declared.op.Op.{Op}
-use Rattle.ftp_direct.specs.declared.answer.Answer.{Answer}
-use Rattle.ftp_direct.specs.Answer.{Said, BadOperation, Refused, said_of}
-use Rattle.ftp_direct.specs.Operation.{can_be_sent}
+use Rattle.ftp_operation.specs.declared.op.Op.{Op}
+use Rattle.ftp_operation.specs.declared.answer.Answer.{Answer}
+use Rattle.ftp_operation.specs.Answer.{Said, BadOperation, Refused, said_of}
+use Rattle.ftp_operation.specs.Operation.{can_be_sent}
 use Rattle.ftp_direct.specs.Direct.{State, answer, answers, chosen, code_of, done, due, here, refusal, standing, start}
 use Rattle.ftp_direct.specs.Run.{AreSteady, Gives, IsAnswer, Ran, Runs, Turn, order_of, orders_of, said_in}
 use Rattle.ftp_direct.proofs.RefusalLemmas.{still}

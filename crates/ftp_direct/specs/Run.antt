@@ -4,8 +4,8 @@ use Rattle.ftp_facts.specs.declared.moment.Moment.{Moment}
 use Rattle.ftp_tree.specs.Tree.{Table}
 use Rattle.ftp_tree.specs.declared.fault.TreeFault.{TreeFault}
 use Rattle.ftp_tree.specs.declared.fault.TreeFault.TheVariants as Faults
-use Rattle.ftp_direct.specs.declared.op.Op.{Op}
-use Rattle.ftp_direct.specs.Answer.{Said, Refused}
+use Rattle.ftp_operation.specs.declared.op.Op.{Op}
+use Rattle.ftp_operation.specs.Answer.{Said, Refused}
 use Rattle.ftp_direct.specs.Direct.{State, answer}
 
 -- an answer and a state, as they are due

@@ -2,22 +2,19 @@
 ghost use Rattle.std.specs.Prelude.{◌≡◌, ℕ, IsTrue, IfOk, IfErr, List, OnErr, map, take};
 ghost use Rattle.std.specs.List.{list_all};
 ghost use Rattle.ftp_path.specs.Path.{is_component};
-ghost use Rattle.ftp_direct.specs.Account.{is_known};
-ghost use Rattle.ftp_direct.specs.Answer.{Said, said_of};
+ghost use Rattle.ftp_operation.specs.Account.{is_known};
+ghost use Rattle.ftp_operation.specs.Answer.{Said, said_of};
 ghost use Rattle.ftp_direct.specs.Direct.{answer, due, here, standing, start};
-ghost use Rattle.ftp_direct.specs.Operation.{can_be_sent};
+ghost use Rattle.ftp_operation.specs.Operation.{can_be_sent};
 ghost use Rattle.ftp_direct.specs.Run.{IsAnswer, Ran, orders_of};
 
-use crate::account::{Accounts, Login};
-use crate::answer::Answer;
 use crate::files::{append, get, get_from, modified, put, put_from};
 use crate::listings::{facts, list, names};
-use crate::op::Op;
 use crate::places::{change_dir, delete, go_up, make_dir, remove_dir, rename, say_where};
 use crate::refusal::NOT_LOGGED_IN;
-use crate::sendable::can_be_sent;
 use crate::sizes::size;
 use ftp_facts::{Moment, Text};
+use ftp_operation::{Accounts, Answer, Login, Op, can_be_sent};
 use ftp_tree::{Path, Tree};
 use std::alloc::{AllocError, Allocator};
 

@@ -2,16 +2,15 @@
 ghost use Rattle.std.specs.Prelude.{◌≡◌, ◌+◌, ◌<◌, ◌≤◌, IsTrue, IfOk, OnErr, MatchOption, None, Some, drop, length, nat_le, take, true, if◌then◌else◌};
 ghost use Rattle.ftp_path.specs.Path.{fits, resolved, Names};
 ghost use Rattle.ftp_tree.specs.Tree.{octets_or_none};
-ghost use Rattle.ftp_direct.specs.Answer.{said_of};
+ghost use Rattle.ftp_operation.specs.Answer.{said_of};
 ghost use Rattle.ftp_direct.specs.Direct.{chosen, due, front_code, here, is_as_it_is, offset_refusal, put, put_refusal, putting_code, size_in};
-ghost use Rattle.ftp_direct.specs.Operation.{is_path_text};
+ghost use Rattle.ftp_operation.specs.Operation.{is_path_text};
 ghost use Rattle.ftp_direct.specs.Run.{Gives, IsAnswer};
 
-use crate::answer::Answer;
 use crate::nodes::{has_front, len_at};
-use crate::op::{How, Op};
 use crate::refusal::{BAD_NAME, BAD_PARAMETER, NO_ROOM, TOO_MUCH, UNAVAILABLE, find, refused};
 use ftp_facts::{Moment, Text};
+use ftp_operation::{Answer, How, Op};
 use ftp_repr::{Kind, Structure};
 use ftp_tree::{Content, Path, Tree, TreeFault};
 use std::alloc::{AllocError, Allocator};

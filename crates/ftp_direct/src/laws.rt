@@ -1,6 +1,6 @@
 // What holds of runs.
 ghost use Rattle.std.specs.Prelude.{◌≡◌, ℕ, List, map};
-ghost use Rattle.ftp_direct.specs.Answer.{Said};
+ghost use Rattle.ftp_operation.specs.Answer.{Said};
 ghost use Rattle.ftp_direct.specs.Direct.{State, answers};
 ghost use Rattle.ftp_direct.specs.Run.{AreSteady, Runs, Turn, order_of, said_in};
 

@@ -5,18 +5,16 @@ ghost use Rattle.std.specs.Option.{ForSome, option_to_list};
 ghost use Rattle.ftp_facts.specs.Fact.{IsValue};
 ghost use Rattle.ftp_path.specs.Path.{fits, is_component, is_name};
 ghost use Rattle.ftp_tree.specs.Tree.{Dir, children, size_at};
-ghost use Rattle.ftp_direct.specs.Answer.{listed_of, said_of};
+ghost use Rattle.ftp_operation.specs.Answer.{listed_of, said_of};
 ghost use Rattle.ftp_direct.specs.Direct.{behind, due, entries_in, entry_at, entry_in, file_in, here, listing_code, names_for, perm_of, place, size_fact};
-ghost use Rattle.ftp_direct.specs.Operation.{is_optional_text};
+ghost use Rattle.ftp_operation.specs.Operation.{is_optional_text};
 ghost use Rattle.ftp_direct.specs.Run.{Gives};
 
-use crate::answer::Answer;
 use crate::busy::is_root;
 use crate::nodes::{absent_fault, directory_fault, is_file};
-use crate::op::{How, Op};
 use crate::refusal::{BAD_ARGUMENT, UNAVAILABLE, find};
-use crate::sendable::is_number;
 use ftp_facts::{Entry, Kind, Text};
+use ftp_operation::{Answer, How, Op, is_number};
 use ftp_tree::{Path, Tree, TreeFault};
 use std::alloc::{AllocError, Allocator};
 

@@ -2,18 +2,17 @@
 ghost use Rattle.std.specs.Prelude.{◌≡◌, IsTrue, IfOk, OnErr, is_some};
 ghost use Rattle.std.specs.List.{list_all};
 ghost use Rattle.ftp_path.specs.Path.{is_component};
-ghost use Rattle.ftp_direct.specs.Answer.{said_of};
+ghost use Rattle.ftp_operation.specs.Answer.{said_of};
 ghost use Rattle.ftp_tree.specs.Tree.{or_else, source_refusal};
 ghost use Rattle.ftp_direct.specs.Direct.{busy_refusal, due, here};
-ghost use Rattle.ftp_direct.specs.Operation.{is_path_text};
+ghost use Rattle.ftp_operation.specs.Operation.{is_path_text};
 ghost use Rattle.ftp_direct.specs.Run.{Gives, IsAnswer};
 
-use crate::answer::Answer;
 use crate::busy::is_busy;
 use crate::nodes::{absent_fault, directory_fault};
-use crate::op::Op;
 use crate::refusal::{BAD_NAME, UNAVAILABLE, find, refused};
 use ftp_facts::Text;
+use ftp_operation::{Answer, Op};
 use ftp_tree::{Path, Tree};
 use std::alloc::{AllocError, Allocator};
 

@@ -2,12 +2,12 @@
 ghost use Rattle.std.specs.Prelude.{◌≡◌, ◌≢◌, IsTrue, IfOk, IfErr, OnOk, OnErr, IfSome, MatchOption, true, false};
 ghost use Rattle.std.specs.List.{list_all};
 ghost use Rattle.ftp_path.specs.Path.{fits, is_component, resolved};
-ghost use Rattle.ftp_direct.specs.Answer.{Refused, said_of};
-ghost use Rattle.ftp_direct.specs.Operation.{is_path_text};
+ghost use Rattle.ftp_operation.specs.Answer.{Refused, said_of};
+ghost use Rattle.ftp_operation.specs.Operation.{is_path_text};
 ghost use Rattle.ftp_direct.specs.Run.{told};
 
-use crate::answer::Answer;
 use ftp_facts::Text;
+use ftp_operation::Answer;
 use ftp_tree::{Path, PathFault, TreeFault};
 use std::alloc::{AllocError, Allocator};
 

@@ -1,18 +1,16 @@
 // How many octets a file would have on the wire.
 ghost use Rattle.std.specs.Prelude.{◌≡◌, ◌-◌, ◌^◌, IsTrue, IfOk, length, min};
 ghost use Rattle.ftp_tree.specs.Tree.{octets_or_none};
-ghost use Rattle.ftp_direct.specs.Answer.{said_of};
+ghost use Rattle.ftp_operation.specs.Answer.{said_of};
 ghost use Rattle.ftp_direct.specs.Direct.{due, here, size_in};
-ghost use Rattle.ftp_direct.specs.Operation.{is_path_text};
+ghost use Rattle.ftp_operation.specs.Operation.{is_path_text};
 ghost use Rattle.ftp_direct.specs.Run.{Gives};
 
-use crate::answer::Answer;
 use crate::files::{PIECE, find_front};
 use crate::nodes::len_at;
-use crate::op::{How, Op};
 use crate::refusal::UNAVAILABLE;
-use crate::sendable::is_number;
 use ftp_facts::Text;
+use ftp_operation::{Answer, How, Op, is_number};
 use ftp_repr::{Kind, wire_size};
 use ftp_tree::{Path, Tree};
 use std::alloc::{AllocError, Allocator};

@@ -2,10 +2,10 @@
 use Rattle.std.proofs.Common.{◌≡◌, ℕ, ◌+◌, ◌<◌, ◌≤◌, ◌⊎◌, inl, inr, List, Bool, true, false, ◌||◌, Option, Some, None, refl, ap, arith}
 use Rattle.std.specs.Prelude.{if◌then◌else◌}
 use Rattle.ftp_command.specs.declared.command.Command.{Command}
-use Rattle.ftp_direct.specs.Answer.{Said}
-use Rattle.ftp_direct.specs.declared.op.How.{How}
-use Rattle.ftp_direct.specs.declared.op.Op.{Op}
-use Rattle.ftp_direct.specs.declared.op.Op.TheVariants as Ops
+use Rattle.ftp_operation.specs.Answer.{Said}
+use Rattle.ftp_operation.specs.declared.op.How.{How}
+use Rattle.ftp_operation.specs.declared.op.Op.{Op}
+use Rattle.ftp_operation.specs.declared.op.Op.TheVariants as Ops
 use Rattle.ftp_protocol.specs.Settings.{same_kind, same_structure, same_mode}
 use Rattle.ftp_protocol.specs.client.Bounds.{login_left, steps_left, job_left, to_begin, upload_left, still_to_give, Lowers}
 use Rattle.ftp_protocol.specs.client.Dialogue.{sends_if, last_job, placed, begins, goes_on}

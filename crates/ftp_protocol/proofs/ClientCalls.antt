@@ -7,8 +7,8 @@ use Rattle.ftp_nvt.specs.Telnet.{TelnetUnit, data_octet, option, subnegotiation,
 use Rattle.ftp_nvt.specs.declared.line.Stage.{Stage}
 use Rattle.ftp_nvt.specs.declared.line.Stage.TheVariants as Lined
 use Rattle.ftp_nvt.proofs.CutLemmas.{decided}
-use Rattle.ftp_direct.specs.Answer.{Refused, Foreign, Unopened}
-use Rattle.ftp_direct.specs.declared.op.Op.{Op}
+use Rattle.ftp_operation.specs.Answer.{Refused, Foreign, Unopened}
+use Rattle.ftp_operation.specs.declared.op.Op.{Op}
 use Rattle.ftp_endpoint.specs.declared.endpoint.Endpoint.{Endpoint}
 use Rattle.ftp_endpoint.specs.declared.host.Host.{Host}
 use Rattle.ftp_reply.specs.Lines.{Text}

@@ -1,6 +1,6 @@
 -- On honest connections no operation has a mark, and the headline follows from agreement.
 use Rattle.std.proofs.Common.{◌≡◌, ℕ, Bool, true, false, List, [], ◌∷◌, ◌++◌, Option, Some, None, refl, sym, subst}
-use Rattle.ftp_direct.specs.Answer.{Said}
+use Rattle.ftp_operation.specs.Answer.{Said}
 use Rattle.ftp_protocol.specs.client.Calls as near
 use Rattle.ftp_protocol.specs.server.Calls as far
 use Rattle.ftp_protocol.specs.server.Machine.{Reading}

@@ -2,8 +2,8 @@
 use Rattle.std.proofs.Common.{ℕ, Bool, true, false, ◌&&◌, ◌==◌, List, Option, Some, None, refl}
 use Rattle.std.specs.Prelude.{if◌then◌else◌}
 use Rattle.ftp_command.specs.declared.command.Command.{Command}
-use Rattle.ftp_direct.specs.Answer.{Said, Refused, Foreign}
-use Rattle.ftp_direct.specs.declared.op.Op.{Op}
+use Rattle.ftp_operation.specs.Answer.{Said, Refused, Foreign}
+use Rattle.ftp_operation.specs.declared.op.Op.{Op}
 use Rattle.ftp_endpoint.specs.declared.endpoint.Endpoint.{Endpoint}
 use Rattle.ftp_reply.specs.Lines.{Text}
 use Rattle.ftp_protocol.specs.Link.{same_host}

@@ -4,9 +4,9 @@ use Rattle.std.specs.Prelude.{codes, decimal, drop, filter_map, nat_le, unwrap_o
 use Rattle.ftp_command.specs.declared.command.Command.TheVariants as command
 use Rattle.ftp_command.specs.declared.command.Kind.TheVariants as Kinds
 use Rattle.ftp_command.specs.declared.command.Passive.TheVariants as Families
-use Rattle.ftp_direct.specs.Account.{is_known}
+use Rattle.ftp_operation.specs.Account.{is_known}
 use Rattle.ftp_direct.specs.Direct.{refusal, front_code}
-use Rattle.ftp_direct.specs.declared.op.Op.TheVariants as Ops
+use Rattle.ftp_operation.specs.declared.op.Op.TheVariants as Ops
 use Rattle.ftp_path.specs.Path.{resolved, fits, parent, text_of, is_within}
 use Rattle.ftp_tree.specs.Tree.{source_refusal, target_refusal, rename_refusal, front_refusal, octets_at, octets_or_none, node_at, children, Table, Dir, File}
 use Rattle.ftp_protocol.specs.server.View.{Move, Session, View, direct_of, how_of}

@@ -4,7 +4,7 @@ use Rattle.std.specs.Prelude.{codes, decimal, length, nat_le, if◌then◌else�
 use Rattle.ftp_command.specs.declared.command.Command.TheVariants as command
 use Rattle.ftp_command.specs.declared.command.Kind.TheVariants as Kinds
 use Rattle.ftp_command.specs.declared.command.Mode.TheVariants as Modes
-use Rattle.ftp_direct.specs.Account.{is_known}
+use Rattle.ftp_operation.specs.Account.{is_known}
 use Rattle.ftp_direct.specs.Direct.{or_code, past_refusal}
 use Rattle.ftp_path.specs.Path.{resolved, fits, text_of, Names}
 use Rattle.ftp_tree.specs.Tree.{Table, File, node_at, octets_at, octets_or_none, room_refusal, room_at}

@@ -1,6 +1,6 @@
 -- The worked rows of a world, computed.
 use Rattle.std.proofs.Common.{refl}
-use Rattle.ftp_direct.specs.Account.{is_known}
+use Rattle.ftp_operation.specs.Account.{is_known}
 use Rattle.ftp_repr.specs.Ascii.{settled}
 use Rattle.ftp_protocol.specs.client.Dialogue.{answered}
 use Rattle.ftp_protocol.specs.client.Replies.{line_heard}

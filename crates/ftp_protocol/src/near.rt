@@ -1,6 +1,6 @@
 // The client's end of a session, as a world of both sees it: each call is the function of the view that `specs` has for it.
 ghost use Rattle.std.specs.Prelude.{◌≡◌, ◌≢◌, ◌<◌, ◌≤◌, ◌↔◌, ℕ, IsTrue, IfErr, OnOk, OnErr, IsErr, length, take};
-ghost use Rattle.ftp_direct.specs.Answer.{said_of};
+ghost use Rattle.ftp_operation.specs.Answer.{said_of};
 ghost use Rattle.ftp_protocol.specs.client.Calls.{starts, is_busy, report_of, reports, gives_control, may_hear, control_end, listening, listen_refused, data_opened, data_refused, data_end, data_fault, data_closed, gives_data, to_give, may_receive, wants};
 ghost use Rattle.ftp_protocol.specs.client.Failing.{Acts, Heard, Received, starts_short, listening_short, data_opened_short, data_end_short};
 ghost use Rattle.ftp_protocol.specs.client.View.{View};

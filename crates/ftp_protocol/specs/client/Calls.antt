@@ -1,9 +1,9 @@
 -- Each call of a client as a function of what it holds, and when an octet may be taken (RFC 959, sections 2.3 and 5.4).
 use Rattle.std.specs.Prelude.{ℕ, ◌<◌, ◌&&◌, Bool, true, false, nat_le, List, [], ◌∷◌, ◌++◌, length, take, drop, Option, Some, None, IsTrue, if◌then◌else◌}
 use Rattle.ftp_endpoint.specs.declared.host.Host.{Host}
-use Rattle.ftp_direct.specs.Answer.{Said, BadOperation, Unopened}
-use Rattle.ftp_direct.specs.Operation.{can_be_sent}
-use Rattle.ftp_direct.specs.declared.op.Op.{Op}
+use Rattle.ftp_operation.specs.Answer.{Said, BadOperation, Unopened}
+use Rattle.ftp_operation.specs.Operation.{can_be_sent}
+use Rattle.ftp_operation.specs.declared.op.Op.{Op}
 use Rattle.ftp_nvt.specs.Lines.{NvtEvent, line, too_long, owed}
 use Rattle.ftp_protocol.specs.Ear.{ear}
 use Rattle.ftp_protocol.specs.Link.{same_host}

@@ -6,9 +6,9 @@ use Rattle.ftp_command.specs.Line.{line_of}
 use Rattle.ftp_command.specs.declared.command.Command.{Command}
 use Rattle.ftp_command.specs.declared.command.Command.TheVariants as Commands
 use Rattle.ftp_endpoint.specs.declared.endpoint.Endpoint.{Endpoint}
-use Rattle.ftp_direct.specs.Answer.{Said, Done, Path, Number, Stamp, Entry, Refused, Unopened, Foreign}
-use Rattle.ftp_direct.specs.declared.op.Op.{Op}
-use Rattle.ftp_direct.specs.declared.op.Op.TheVariants as Ops
+use Rattle.ftp_operation.specs.Answer.{Said, Done, Path, Number, Stamp, Entry, Refused, Unopened, Foreign}
+use Rattle.ftp_operation.specs.declared.op.Op.{Op}
+use Rattle.ftp_operation.specs.declared.op.Op.TheVariants as Ops
 use Rattle.ftp_nvt.specs.Lines.{written_line}
 use Rattle.ftp_reply.specs.Lines.{Text, joined}
 use Rattle.ftp_protocol.specs.Decoder.{is_whole, ended}

@@ -2,8 +2,8 @@
 -- Each relation holds in the place of the call's function where the count of refused growths changed in the call (the count moves
 -- on by wrapping). After that every later call is the call's function again.
 use Rattle.std.specs.Prelude.{◌≡◌, ◌≢◌, ◌&&◌, ℕ, ◌+◌, ◌≤◌, List, take, if◌then◌else◌}
-use Rattle.ftp_direct.specs.Operation.{can_be_sent}
-use Rattle.ftp_direct.specs.declared.op.Op.{Op}
+use Rattle.ftp_operation.specs.Operation.{can_be_sent}
+use Rattle.ftp_operation.specs.declared.op.Op.{Op}
 use Rattle.ftp_protocol.specs.client.Calls.{hears, receives, starts, is_sound, unless_closing, MayHear, MayReceive}
 use Rattle.ftp_protocol.specs.client.View.{View, Waiting, fails}
 use Rattle.ftp_protocol.specs.declared.client.Ending.TheVariants as Endings

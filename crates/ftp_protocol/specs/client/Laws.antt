@@ -2,7 +2,7 @@
 -- what the relation says, and nothing where it says nothing.
 use Rattle.std.specs.Prelude.{◌≡◌, ◌≢◌, ◌↔◌, ◌⊎◌, ℕ, List, [], Option, Some, option_map}
 use Rattle.ftp_endpoint.specs.Number.{SaysNumber}
-use Rattle.ftp_direct.specs.Answer.{Listed}
+use Rattle.ftp_operation.specs.Answer.{Listed}
 use Rattle.ftp_facts.specs.Entry.{HasParts, SaysFact}
 use Rattle.ftp_facts.specs.Fact.{SaysSize}
 use Rattle.ftp_facts.specs.Moment.{SaysMoment}

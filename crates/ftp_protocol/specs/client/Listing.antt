@@ -7,7 +7,7 @@ use Rattle.std.specs.Char.{is_ascii_digit}
 use Rattle.std.specs.Str.Parse.{digits_value}
 use Rattle.ftp_facts.specs.Calendar.{days_in_month, day_number, second_of_day}
 use Rattle.ftp_facts.specs.Fact.{Fact, first_value, is_word, file_word, dir_word, current_word, parent_word}
-use Rattle.ftp_direct.specs.Answer.{Listed}
+use Rattle.ftp_operation.specs.Answer.{Listed}
 use Rattle.ftp_protocol.specs.client.Values.{given, and_then, is_space, number_value}
 
 -- ---- moments

@@ -1,10 +1,10 @@
 -- The octets of a client's transfer: the text of an upload, and what a download has brought (RFC 959, sections 3.1 to 3.5).
 use Rattle.std.specs.Prelude.{ℕ, ◌&&◌, Bool, true, false, List, [], ◌∷◌, Option, Some, None}
 use Rattle.std.specs.Option.{option_map, option_or}
-use Rattle.ftp_direct.specs.Answer.{Said, Octets, Entries, Names, Broken}
-use Rattle.ftp_direct.specs.declared.op.How.{How}
-use Rattle.ftp_direct.specs.declared.op.Op.{Op}
-use Rattle.ftp_direct.specs.declared.op.Op.TheVariants as Ops
+use Rattle.ftp_operation.specs.Answer.{Said, Octets, Entries, Names, Broken}
+use Rattle.ftp_operation.specs.declared.op.How.{How}
+use Rattle.ftp_operation.specs.declared.op.Op.{Op}
+use Rattle.ftp_operation.specs.declared.op.Op.TheVariants as Ops
 use Rattle.ftp_framer.specs.Block.{marked_text}
 use Rattle.ftp_framer.specs.Wire.{wire}
 use Rattle.ftp_framer.specs.Said.{Said as WireSaid, says, marker}

@@ -6,9 +6,9 @@ use Rattle.ftp_command.specs.declared.command.Passive.TheVariants as Passives
 use Rattle.ftp_endpoint.specs.declared.endpoint.Endpoint.{Endpoint}
 use Rattle.ftp_endpoint.specs.declared.host.Host.{Host}
 use Rattle.ftp_endpoint.specs.declared.host.Host.TheVariants.{V4, V6}
-use Rattle.ftp_direct.specs.declared.op.How.{How}
-use Rattle.ftp_direct.specs.declared.op.Op.{Op}
-use Rattle.ftp_direct.specs.declared.op.Op.TheVariants as Ops
+use Rattle.ftp_operation.specs.declared.op.How.{How}
+use Rattle.ftp_operation.specs.declared.op.Op.{Op}
+use Rattle.ftp_operation.specs.declared.op.Op.TheVariants as Ops
 use Rattle.ftp_framer.specs.declared.mode.Mode.{Mode}
 use Rattle.ftp_framer.specs.declared.mode.Mode.TheVariants as Modes
 use Rattle.ftp_repr.specs.declared.form.Kind.TheVariants as Kinds

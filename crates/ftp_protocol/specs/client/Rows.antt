@@ -6,10 +6,10 @@ use Rattle.ftp_command.specs.declared.command.Command.TheVariants as Commands
 use Rattle.ftp_endpoint.specs.declared.endpoint.Endpoint.{Endpoint}
 use Rattle.ftp_endpoint.specs.declared.host.Host.{Host}
 use Rattle.ftp_endpoint.specs.declared.host.Host.TheVariants.{V4}
-use Rattle.ftp_direct.specs.Answer.{Said, Done, Path, Octets, Stamp, Refused, BadOperation, Broken, Unopened, Foreign, Lost, Strange}
-use Rattle.ftp_direct.specs.declared.op.How.{How}
-use Rattle.ftp_direct.specs.declared.op.Op.{Op}
-use Rattle.ftp_direct.specs.declared.op.Op.TheVariants as Ops
+use Rattle.ftp_operation.specs.Answer.{Said, Done, Path, Octets, Stamp, Refused, BadOperation, Broken, Unopened, Foreign, Lost, Strange}
+use Rattle.ftp_operation.specs.declared.op.How.{How}
+use Rattle.ftp_operation.specs.declared.op.Op.{Op}
+use Rattle.ftp_operation.specs.declared.op.Op.TheVariants as Ops
 use Rattle.ftp_framer.specs.declared.mode.Mode.TheVariants as Modes
 use Rattle.ftp_nvt.specs.Lines.{written_line}
 use Rattle.ftp_repr.specs.declared.form.Kind.TheVariants as Kinds

@@ -2,8 +2,8 @@
 -- server accepted, the data connection, the reply being heard, and the octets owed (RFC 959, sections 2.3 and 5.4).
 use Rattle.std.specs.Prelude.{ℕ, Bool, true, false, ◌||◌, List, [], Option, Some, None}
 use Rattle.ftp_endpoint.specs.declared.host.Host.{Host}
-use Rattle.ftp_direct.specs.Answer.{Said, Lost, Strange, Memory}
-use Rattle.ftp_direct.specs.declared.op.Op.{Op}
+use Rattle.ftp_operation.specs.Answer.{Said, Lost, Strange, Memory}
+use Rattle.ftp_operation.specs.declared.op.Op.{Op}
 use Rattle.ftp_protocol.specs.Decoder.{Decoder}
 use Rattle.ftp_protocol.specs.Ear.{Ear, quiet}
 use Rattle.ftp_protocol.specs.Settings.{first_settings}

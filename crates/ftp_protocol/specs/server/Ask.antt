@@ -4,7 +4,7 @@ use Rattle.std.specs.Option.{unwrap_or}
 use Rattle.ftp_tree.specs.Tree.{octets_or_none, stamp_at}
 use Rattle.ftp_facts.specs.Moment.{moment_digits}
 use Rattle.ftp_direct.specs.Direct.{refusal, named_or_here, size_in}
-use Rattle.ftp_direct.specs.declared.op.Op.TheVariants as Ops
+use Rattle.ftp_operation.specs.declared.op.Op.TheVariants as Ops
 use Rattle.ftp_protocol.specs.Settings.{same_structure, same_mode}
 use Rattle.ftp_repr.specs.declared.form.Structure.TheVariants as Structures
 use Rattle.ftp_framer.specs.declared.mode.Mode.TheVariants as Modes

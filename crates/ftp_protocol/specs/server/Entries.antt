@@ -8,7 +8,7 @@ use Rattle.ftp_command.specs.Argument.{word, argument}
 use Rattle.ftp_facts.specs.Entry.{facts_of}
 use Rattle.ftp_facts.specs.Fact.{facts_text, space, semicolon}
 use Rattle.ftp_facts.specs.Moment.{moment_digits}
-use Rattle.ftp_direct.specs.Answer.{Listed}
+use Rattle.ftp_operation.specs.Answer.{Listed}
 use Rattle.ftp_protocol.specs.declared.session.Facts.{Facts}
 
 -- a fact, where it is in force

@@ -1,7 +1,7 @@
 -- Who is logged in: USER, PASS, REIN, QUIT (RFC 959, sections 4.1.1 and 5.4).
 use Rattle.std.specs.Prelude.{ℕ, Bool, true, false, ◌&&◌, List, [], is_none, if◌then◌else◌}
 use Rattle.std.specs.List.{list_any}
-use Rattle.ftp_direct.specs.Account.{has_user, is_known}
+use Rattle.ftp_operation.specs.Account.{has_user, is_known}
 use Rattle.ftp_protocol.specs.Settings.{first_settings}
 use Rattle.ftp_protocol.specs.server.View.{Accounts, Session, all_facts}
 use Rattle.ftp_protocol.specs.server.Replies.{Turn, tells}

@@ -3,7 +3,7 @@ use Rattle.std.specs.Prelude.{ℕ, List, drop, length, Option, Some, None, if◌
 use Rattle.ftp_path.specs.Path.{Names}
 use Rattle.ftp_tree.specs.Tree.{octets_or_none, room_refusal}
 use Rattle.ftp_direct.specs.Direct.{refusal, refused_room, limited, or_code, past_refusal, front_code, offset_refusal, named_or_here}
-use Rattle.ftp_direct.specs.declared.op.Op.TheVariants as Ops
+use Rattle.ftp_operation.specs.declared.op.Op.TheVariants as Ops
 use Rattle.ftp_framer.specs.Block.{marked_text}
 use Rattle.ftp_framer.specs.Wire.{wire}
 use Rattle.ftp_protocol.specs.Settings.{form_of, has_markers}

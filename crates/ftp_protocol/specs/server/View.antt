@@ -5,8 +5,8 @@ use Rattle.ftp_endpoint.specs.declared.host.Host.{Host}
 use Rattle.ftp_path.specs.Path.{Names}
 use Rattle.ftp_tree.specs.Tree.{Table}
 use Rattle.ftp_direct.specs.Direct.{State}
-use Rattle.ftp_direct.specs.declared.account.Account.{Account}
-use Rattle.ftp_direct.specs.declared.op.How.{How}
+use Rattle.ftp_operation.specs.declared.account.Account.{Account}
+use Rattle.ftp_operation.specs.declared.op.How.{How}
 use Rattle.ftp_protocol.specs.Settings.{first_settings}
 use Rattle.ftp_protocol.specs.Ear.{Ear}
 use Rattle.ftp_protocol.specs.Decoder.{Decoder}

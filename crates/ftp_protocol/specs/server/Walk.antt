@@ -4,7 +4,7 @@ use Rattle.std.specs.Prelude.{ℕ, ◌==◌, List, Option, Some, None, if◌then
 use Rattle.ftp_path.specs.Path.{parent, resolved, Names}
 use Rattle.ftp_tree.specs.Tree.{or_else, made, removed, moved, source_refusal, rename_refusal}
 use Rattle.ftp_direct.specs.Direct.{refusal, refused_there, refused_name, limited, busy_refusal}
-use Rattle.ftp_direct.specs.declared.op.Op.TheVariants as Ops
+use Rattle.ftp_operation.specs.declared.op.Op.TheVariants as Ops
 use Rattle.ftp_protocol.specs.server.View.{Session, direct_of}
 use Rattle.ftp_protocol.specs.server.Replies.{Turn, tells}
 use Rattle.ftp_protocol.specs.declared.said.Text.{Text}

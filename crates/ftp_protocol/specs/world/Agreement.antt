@@ -2,10 +2,10 @@
 -- outcome that the marks and the cutoff allow. Without marks and without a cutoff that is the direct run.
 use Rattle.std.specs.Prelude.{◌≡◌, ◌⊎◌, ℕ, suc, ◌+◌, ◌<◌, ◌≤◌, Bool, true, List, [], ◌∷◌, ◌++◌, length, take, Option, Some, None}
 use Rattle.std.specs.List.{Contains}
-use Rattle.ftp_direct.specs.Account.{is_known}
-use Rattle.ftp_direct.specs.Answer.{Said}
+use Rattle.ftp_operation.specs.Account.{is_known}
+use Rattle.ftp_operation.specs.Answer.{Said}
 use Rattle.ftp_direct.specs.Direct.{State, start, answers}
-use Rattle.ftp_direct.specs.declared.op.Op.{Op}
+use Rattle.ftp_operation.specs.declared.op.Op.{Op}
 use Rattle.ftp_tree.specs.Tree.{Table}
 use Rattle.ftp_protocol.specs.client.View.{View as Near}
 use Rattle.ftp_protocol.specs.server.Machine.{Reading}

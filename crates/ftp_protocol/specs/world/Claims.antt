@@ -6,8 +6,8 @@ use Rattle.std.specs.Prelude.{◌≡◌, ℕ, ◌≤◌, ◌&&◌, Bool, true, n
 use Rattle.ftp_endpoint.specs.declared.host.Host.{Host}
 use Rattle.ftp_endpoint.specs.declared.host.Host.TheVariants.{V4, V6}
 use Rattle.ftp_endpoint.specs.Written.{IsTypedHost}
-use Rattle.ftp_direct.specs.Account.{is_known, is_user, is_password}
-use Rattle.ftp_direct.specs.Answer.{Said}
+use Rattle.ftp_operation.specs.Account.{is_known, is_user, is_password}
+use Rattle.ftp_operation.specs.Answer.{Said}
 use Rattle.ftp_direct.specs.Direct.{State, start as direct_start, answers}
 use Rattle.std.specs.List.{list_all}
 use Rattle.std.specs.FinMap as fin

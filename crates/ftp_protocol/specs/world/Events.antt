@@ -1,6 +1,6 @@
 -- The events of a world: when each is possible, and what it does, as a function of the counts of octets that really move.
 use Rattle.std.specs.Prelude.{◌≡◌, ℕ, ◌+◌, ◌-◌, ◌<◌, ◌≤◌, ◌==◌, ◌&&◌, ◌||◌, Bool, true, false, not, nat_lt, min, List, [], ◌∷◌, ◌++◌, length, take, drop, Some, IsTrue}
-use Rattle.ftp_direct.specs.declared.op.Op.{Op}
+use Rattle.ftp_operation.specs.declared.op.Op.{Op}
 use Rattle.ftp_protocol.specs.Link.{is_wanted, is_connecting}
 use Rattle.ftp_protocol.specs.client.Calls as near
 use Rattle.ftp_protocol.specs.server.Calls as far

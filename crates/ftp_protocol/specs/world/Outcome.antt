@@ -2,12 +2,12 @@
 -- as the control connection ended. No command, reply or connection stands here but the wire that was cut.
 use Rattle.std.specs.Prelude.{◌≡◌, ◌⊎◌, ℕ, ◌+◌, List, [], ◌∷◌, ◌++◌, length, take, drop, flat_map, Option, Some, None, IsTrue}
 use Rattle.std.specs.Option.{is_some}
-use Rattle.ftp_direct.specs.Answer.{Said, Broken as BrokenOff, Unopened as NotOpened, Lost as LostOff}
+use Rattle.ftp_operation.specs.Answer.{Said, Broken as BrokenOff, Unopened as NotOpened, Lost as LostOff}
 use Rattle.ftp_direct.specs.Direct.{State, answer, code_of, named, named_or_here, entries_in, names_for}
-use Rattle.ftp_direct.specs.Operation.{can_be_sent}
-use Rattle.ftp_direct.specs.declared.op.How.{How}
-use Rattle.ftp_direct.specs.declared.op.Op.{Op}
-use Rattle.ftp_direct.specs.declared.op.Op.TheVariants as Ops
+use Rattle.ftp_operation.specs.Operation.{can_be_sent}
+use Rattle.ftp_operation.specs.declared.op.How.{How}
+use Rattle.ftp_operation.specs.declared.op.Op.{Op}
+use Rattle.ftp_operation.specs.declared.op.Op.TheVariants as Ops
 use Rattle.ftp_mode.specs.Laws.{settled_content}
 use Rattle.ftp_framer.specs.Said.{Said as WireSaid, says, marker}
 use Rattle.ftp_repr.specs.Machine.{IsFront}

@@ -5,9 +5,9 @@ use Rattle.std.specs.Cmp.Lexicographic.{pointwise}
 use Rattle.ftp_command.specs.declared.command.Command.{Command}
 use Rattle.ftp_command.specs.declared.command.Command.TheVariants as command
 use Rattle.ftp_command.specs.declared.fault.CommandFault.TheVariants as Faults
-use Rattle.ftp_direct.specs.Answer.{Octets, Broken as BrokenOff}
-use Rattle.ftp_direct.specs.declared.op.Op.{Op}
-use Rattle.ftp_direct.specs.declared.op.Op.TheVariants as Ops
+use Rattle.ftp_operation.specs.Answer.{Octets, Broken as BrokenOff}
+use Rattle.ftp_operation.specs.declared.op.Op.{Op}
+use Rattle.ftp_operation.specs.declared.op.Op.TheVariants as Ops
 use Rattle.ftp_tree.specs.Tree.{Table, installed}
 use Rattle.ftp_direct.specs.Direct.{State, named}
 use Rattle.ftp_protocol.specs.client.Moving.{download}

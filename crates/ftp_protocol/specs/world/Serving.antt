@@ -1,7 +1,7 @@
 -- What a world does for its ends after each event: wanted closes are done, a wanted listen gets its port, and the client's report
 -- is taken.
 use Rattle.std.specs.Prelude.{◌+◌, [], ◌∷◌, ◌++◌, Option, Some, None}
-use Rattle.ftp_direct.specs.Answer.{Said}
+use Rattle.ftp_operation.specs.Answer.{Said}
 use Rattle.ftp_protocol.specs.client.Calls as near
 use Rattle.ftp_protocol.specs.server.Calls as far
 use Rattle.ftp_protocol.specs.declared.link.Wants.{Wants}

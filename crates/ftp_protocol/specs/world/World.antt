@@ -2,7 +2,7 @@
 -- two connections stand (RFC 959, section 2.3). `near` is the client, `far` the server. Here is all that a world keeps; the map
 -- that it began with and the operations that were begun are kept nowhere.
 use Rattle.std.specs.Prelude.{ℕ, ◌+◌, ◌%◌, List, [], ◌∷◌, ◌++◌, Option, None}
-use Rattle.ftp_direct.specs.Answer.{Said}
+use Rattle.ftp_operation.specs.Answer.{Said}
 use Rattle.ftp_protocol.specs.client.View.{View as Near}
 use Rattle.ftp_protocol.specs.server.View.{View as Far}
 

@@ -2,7 +2,7 @@ use Rattle.std.proofs.Common.{IsTrue, take}
 use Rattle.std.specs.Prelude.{map}
 use Rattle.std.specs.List.{list_all}
 use Rattle.ftp_path.specs.Path.{is_component}
-use Rattle.ftp_direct.specs.Answer.{said_of}
+use Rattle.ftp_operation.specs.Answer.{said_of}
 use Rattle.ftp_direct.specs.Direct.{standing, start}
 use Rattle.ftp_direct.specs.Run.{orders_of}
 use Rattle.ftp_direct.proofs.RunLemmas.{RunsTo}

@@ -5,7 +5,7 @@ use Rattle.std.specs.List.{filter_map, list_all}
 use Rattle.std.specs.Option.{option_map}
 use Rattle.std.proofs.lemmas.List.Sums.{AllPass-from_list_all}
 use Rattle.ftp_path.specs.Path.{is_name}
-use Rattle.ftp_direct.specs.Answer.{listed_of}
+use Rattle.ftp_operation.specs.Answer.{listed_of}
 use Rattle.ftp_direct.specs.Direct.{entries_in, entry_in}
 use Rattle.ftp_direct.proofs.ListingLemmas.{listed_more}
 use Rattle.ftp_direct.proofs.listings.entries.Goals as goal

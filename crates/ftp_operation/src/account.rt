@@ -1,7 +1,7 @@
 // Who may log in (RFC 959, section 4.1.1).
 ghost use Rattle.std.specs.Prelude.{◌≡◌, ◌&&◌, ◌↔◌, false, true, drop, IfOk, IfErr, IfSome, IsSome, IsTrue, not};
 ghost use Rattle.std.specs.List.{list_all, list_any};
-ghost use Rattle.ftp_direct.specs.Account.{are_distinct, has_user, is_known, is_login_octet, is_password, is_user, knows, passes};
+ghost use Rattle.ftp_operation.specs.Account.{are_distinct, has_user, is_known, is_login_octet, is_password, is_user, knows, passes};
 
 use ftp_facts::Text;
 use std::alloc::Allocator;
@@ -85,7 +85,7 @@ pub struct Accounts<A: Allocator> {
 
 impl<A: Allocator> Model for Accounts<A> {
     ghost use Rattle.std.specs.Prelude.{ℕ, List};
-    ghost use Rattle.ftp_direct.specs.declared.account.Account.{Account};
+    ghost use Rattle.ftp_operation.specs.declared.account.Account.{Account};
 
     ghost Value = { List (Account (List ℕ)) };
 

@@ -2,8 +2,8 @@
 use Rattle.std.specs.Prelude.{ℕ, List, Option, map, option_map}
 use Rattle.ftp_facts.specs.Entry.{word_of}
 use Rattle.ftp_facts.specs.declared.entry.Entry.{Entry as FactEntry}
-use Rattle.ftp_direct.specs.declared.answer.Answer.{Answer}
-use Rattle.ftp_direct.specs.declared.answer.Answer.TheVariants as Answers
+use Rattle.ftp_operation.specs.declared.answer.Answer.{Answer}
+use Rattle.ftp_operation.specs.declared.answer.Answer.TheVariants as Answers
 
 -- an entry of a listing: its name, and the facts that are given (RFC 3659, section 7)
 pub record Listed : Type 0 where

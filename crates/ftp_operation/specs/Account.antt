@@ -2,7 +2,7 @@
 use Rattle.std.specs.Prelude.{ℕ, ◌&&◌, ◌==◌, Bool, true, false, not, nat_le, nat_eq, List, [], ◌∷◌, length, Option, Some, None}
 use Rattle.std.specs.List.{list_all, list_any}
 use Rattle.std.specs.Cmp.Lexicographic.{pointwise}
-use Rattle.ftp_direct.specs.declared.account.Account.{Account}
+use Rattle.ftp_operation.specs.declared.account.Account.{Account}
 
 -- an octet of a user name or a password: neither CR nor LF nor NUL
 abbrev pub is_login_octet : ℕ → Bool

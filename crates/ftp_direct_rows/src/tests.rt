@@ -1,4 +1,5 @@
-mod accounts;
+mod device;
 mod limits;
 mod operations;
 mod rows;
+mod said;

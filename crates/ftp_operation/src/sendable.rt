@@ -1,6 +1,6 @@
 // Which operations can be sent at all.
 ghost use Rattle.std.specs.Prelude.{◌≡◌, ◌↔◌, IsTrue};
-ghost use Rattle.ftp_direct.specs.Operation.{can_be_sent, is_number, is_option, is_optional_text, is_path_text};
+ghost use Rattle.ftp_operation.specs.Operation.{can_be_sent, is_number, is_option, is_optional_text, is_path_text};
 
 use crate::op::Op;
 use ftp_facts::Text;
@@ -8,7 +8,7 @@ use std::alloc::Allocator;
 
 /// Whether an operation can be sent: its path texts have 1 to 900 octets, each 32 to 126 (where one may be left out, none too),
 /// its offset at most 18 digits, and the text of names does not begin with `-`.
-pub(crate) fn can_be_sent<A: Allocator>(op: &Op<Text<A>>) -> bool
+pub fn can_be_sent<A: Allocator>(op: &Op<Text<A>>) -> bool
     ensures { result ≡ can_be_sent op.now }
 {
     match op {
@@ -48,7 +48,7 @@ fn is_option(text: &[u8]) -> bool
 }
 
 /// Whether a number has at most 18 digits.
-pub(crate) fn is_number(number: u64) -> bool
+pub fn is_number(number: u64) -> bool
     ensures { result ≡ is_number number }
 {
     number <= 999_999_999_999_999_999

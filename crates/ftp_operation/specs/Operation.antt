@@ -2,8 +2,8 @@
 use Rattle.std.specs.Prelude.{ℕ, ◌&&◌, ◌||◌, ◌==◌, Bool, true, false, not, nat_le, nat_eq, List, [], ◌∷◌, length}
 use Rattle.std.specs.List.{list_all, starts_with}
 use Rattle.ftp_path.specs.Path.{is_path_octet}
-use Rattle.ftp_direct.specs.declared.op.Op.{Op}
-use Rattle.ftp_direct.specs.declared.op.Op.TheVariants as Ops
+use Rattle.ftp_operation.specs.declared.op.Op.{Op}
+use Rattle.ftp_operation.specs.declared.op.Op.TheVariants as Ops
 
 -- a path text that can be sent: 1 to 900 octets, each 32 to 126
 abbrev pub is_path_text : List ℕ → Bool

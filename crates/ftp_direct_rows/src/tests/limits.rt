@@ -1,21 +1,11 @@
 //! The limits of octets and of nodes, by single operations on one tree.
-use super::rows::{accounts, login, text};
-use crate::{Accounts, Answer, How, Login, Op, direct};
+use super::rows::{IMAGE, accounts, login, text};
+use super::said::number_of;
+use ftp_direct::{Accounts, Login, Op, direct};
 use ftp_facts::{Moment, Text};
-use ftp_mode::Mode;
-use ftp_repr::{Kind, Structure};
 use ftp_tree::MemTree;
 use std::alloc::Global;
 use std::test::Fail;
-
-const IMAGE: How = How {
-    kind: Kind::Image,
-    structure: Structure::File,
-    mode: Mode::Stream,
-    marks: false,
-    active: false,
-    extended: false,
-};
 
 /// A tree, and who works on it.
 #[derive(Drop)]
@@ -44,11 +34,8 @@ fn code_of(alloc: Global, work: &mut Session, op: Op<Text<Global>>) -> Result<u6
         &work.login,
         list.as_slice(),
     )?;
-    match answers.as_slice().first().ok_or("answer")? {
-        Answer::Refused(code) => Ok(u64::from(*code)),
-        Answer::Number(number) => Ok(*number),
-        _ => Ok(0),
-    }
+    let answer = answers.as_slice().first().ok_or("answer")?;
+    Ok(number_of(answer).unwrap_or(0))
 }
 
 fn put(alloc: Global, work: &mut Session, path: &[u8], count: usize) -> Result<u64, Fail> {

@@ -1,0 +1,166 @@
+use super::rows::{IMAGE, Row, answers};
+use ftp_direct::{How, Op};
+use ftp_mode::Mode;
+use ftp_repr::{Kind, Structure};
+use std::test::Fail;
+
+const ASCII: How = How {
+    kind: Kind::Ascii,
+    structure: Structure::File,
+    mode: Mode::Stream,
+    marks: false,
+    active: false,
+    extended: false,
+};
+
+const RECORDS: How = How {
+    kind: Kind::Image,
+    structure: Structure::Record,
+    mode: Mode::Stream,
+    marks: false,
+    active: false,
+    extended: false,
+};
+
+const DIRECTORIES: [Row; 22] = [
+    (Op::Where, b"/"),
+    (Op::MakeDir(b"d"), b"/d"),
+    (Op::MakeDir(b"/d"), b"550"),
+    (Op::MakeDir(b"no/d"), b"550"),
+    (Op::ChangeDir(b"d"), b"done"),
+    (Op::Where, b"/d"),
+    (Op::RemoveDir(b"/d"), b"550"),
+    (Op::Rename(b"/d", b"/e"), b"550"),
+    (Op::ChangeDir(b"/../.."), b"done"),
+    (Op::Where, b"/"),
+    (Op::Rename(b"/d", b"/d/e"), b"553"),
+    (Op::Rename(b"/no", b"/e"), b"550"),
+    (Op::Rename(b"/", b"/e"), b"550"),
+    (Op::MakeDir(b"/d/x"), b"/d/x"),
+    (Op::RemoveDir(b"/d"), b"550"),
+    (Op::Rename(b"/d", b"/e"), b"done"),
+    (Op::ChangeDir(b"/e/x"), b"done"),
+    (Op::Up, b"done"),
+    (Op::Where, b"/e"),
+    (Op::RemoveDir(b"x"), b"done"),
+    (Op::RemoveDir(b"x"), b"550"),
+    (Op::RemoveDir(b"/"), b"550"),
+];
+
+#[test]
+fn directories_answer_as_their_rows(rt: HostRuntime) -> Result<(), Fail> {
+    assert_eq!(&rt;
+        answers(rt.alloc(), b"guest", b"secret", &DIRECTORIES)?,
+        None
+    );
+    Ok(())
+}
+
+const FILES: [Row; 24] = [
+    (Op::Put(b"f", b"0123456789", IMAGE), b"done"),
+    (Op::Get(b"f", IMAGE), b"0123456789"),
+    (Op::Modified(b"f"), b"1000"),
+    (Op::GetFrom(b"f", 5, IMAGE), b"56789"),
+    (Op::GetFrom(b"f", 10, IMAGE), b""),
+    (Op::GetFrom(b"f", 11, IMAGE), b"550"),
+    (Op::GetFrom(b"f", 1, ASCII), b"504"),
+    (Op::GetFrom(b"no", 1, RECORDS), b"504"),
+    (Op::GetFrom(b"f", 0, ASCII), b"0123456789"),
+    (Op::PutFrom(b"f", 11, b"x", IMAGE), b"553"),
+    (Op::PutFrom(b"f", 10, b"ab", IMAGE), b"done"),
+    (Op::PutFrom(b"f", 3, b"x", IMAGE), b"done"),
+    (Op::Get(b"f", ASCII), b"012x"),
+    (Op::PutFrom(b"/no/f", 1, b"x", ASCII), b"504"),
+    (Op::PutFrom(b"new", 1, b"x", IMAGE), b"553"),
+    (Op::Append(b"f", b"yz", ASCII), b"done"),
+    (Op::Get(b"f", IMAGE), b"012xyz"),
+    (Op::Append(b"g", b"a\r\n", IMAGE), b"done"),
+    (Op::Size(b"g", ASCII), b"5"),
+    (Op::Size(b"g", IMAGE), b"3"),
+    (Op::Put(b"/no/f", b"x", IMAGE), b"553"),
+    (Op::Delete(b"f"), b"done"),
+    (Op::Get(b"f", IMAGE), b"550"),
+    (Op::Delete(b"/"), b"550"),
+];
+
+#[test]
+fn files_answer_as_their_rows(rt: HostRuntime) -> Result<(), Fail> {
+    assert_eq!(&rt; answers(rt.alloc(), b"anonymous", b"", &FILES)?, None);
+    Ok(())
+}
+
+const LISTINGS: [Row; 16] = [
+    (Op::Put(b"x", b"abc", IMAGE), b"done"),
+    (Op::MakeDir(b"d"), b"/d"),
+    (Op::Put(b"d/y", b"", IMAGE), b"done"),
+    (Op::Names(b"", IMAGE), b"x\n"),
+    (Op::Names(b"/", IMAGE), b"/x\n"),
+    (Op::Names(b".", IMAGE), b"./x\n"),
+    (Op::Names(b"d", IMAGE), b"d/y\n"),
+    (Op::Names(b"d/y", IMAGE), b"d/y\n"),
+    (Op::Names(b"no", IMAGE), b"550"),
+    (Op::Names(b"-a", IMAGE), b"bad"),
+    (
+        Op::List(b"", IMAGE),
+        b"Type=dir;Perm=cdeflmp; d\nType=file;Size=3;Modify=19700101001640;Perm=adfrw; x\n",
+    ),
+    (Op::List(b"x", IMAGE), b"501"),
+    (Op::List(b"no", IMAGE), b"550"),
+    (Op::Facts(b""), b"Type=dir;Perm=celmp; /"),
+    (
+        Op::Facts(b"d/y"),
+        b"Type=file;Size=0;Modify=19700101001642;Perm=adfrw; /d/y",
+    ),
+    (Op::Facts(b"no"), b"550"),
+];
+
+#[test]
+fn listings_answer_as_their_rows(rt: HostRuntime) -> Result<(), Fail> {
+    assert_eq!(&rt; answers(rt.alloc(), b"guest", b"secret", &LISTINGS)?, None);
+    Ok(())
+}
+
+const LONG_PATH: &'static [u8] = &[b'a'; 901];
+
+const UNSENT: [Row; 8] = [
+    (Op::Where, b"530"),
+    (Op::Up, b"530"),
+    (Op::ChangeDir(b""), b"bad"),
+    (Op::MakeDir(LONG_PATH), b"bad"),
+    (Op::Delete(b"a\nb"), b"bad"),
+    (Op::GetFrom(b"f", 1, ASCII), b"530"),
+    (Op::GetFrom(b"f", 1_000_000_000_000_000_000, ASCII), b"bad"),
+    (Op::Facts(b""), b"530"),
+];
+
+#[test]
+fn what_cannot_be_sent_is_told_before_the_login(rt: HostRuntime) -> Result<(), Fail> {
+    assert_eq!(&rt; answers(rt.alloc(), b"guest", b"wrong", &UNSENT)?, None);
+    assert_eq!(&rt; answers(rt.alloc(), b"nobody", b"secret", &UNSENT)?, None);
+    Ok(())
+}
+
+const LONG_NAME: &'static [u8] = &[b'a'; 256];
+
+const NAME: &'static [u8] = &[b'a'; 255];
+
+const LONG_NAMES: [Row; 9] = [
+    (Op::ChangeDir(LONG_NAME), b"550"),
+    (Op::MakeDir(LONG_NAME), b"550"),
+    (Op::Get(LONG_NAME, IMAGE), b"550"),
+    (Op::List(LONG_NAME, IMAGE), b"550"),
+    (Op::Put(LONG_NAME, b"", IMAGE), b"553"),
+    (Op::Append(LONG_NAME, b"", IMAGE), b"553"),
+    (Op::Put(NAME, b"x", IMAGE), b"done"),
+    (Op::Rename(NAME, LONG_NAME), b"553"),
+    (Op::Get(NAME, IMAGE), b"x"),
+];
+
+#[test]
+fn a_component_of_256_octets_acts_as_absent(rt: HostRuntime) -> Result<(), Fail> {
+    assert_eq!(&rt;
+        answers(rt.alloc(), b"guest", b"secret", &LONG_NAMES)?,
+        None
+    );
+    Ok(())
+}

@@ -1,0 +1,152 @@
+//! Rows of operations and what they answer, over a tree in memory.
+use super::said::says;
+use ftp_direct::{Account, Accounts, Answer, How, Login, Op, direct};
+use ftp_facts::{Moment, Text};
+use ftp_mode::Mode;
+use ftp_repr::{Kind, Structure};
+use ftp_tree::{MemTree, Tree};
+use std::alloc::{AllocError, Global};
+use std::test::Fail;
+
+/// An operation, and what it answers.
+pub(crate) type Row = (Op<&'static [u8]>, &'static [u8]);
+
+pub(crate) const IMAGE: How = How {
+    kind: Kind::Image,
+    structure: Structure::File,
+    mode: Mode::Stream,
+    marks: false,
+    active: false,
+    extended: false,
+};
+
+pub(crate) fn text(alloc: Global, octets: &[u8]) -> Result<Text<Global>, AllocError> {
+    Text::copy_of(alloc, octets)
+}
+
+/// The texts of an operation; an empty one for each that it lacks.
+fn texts(op: &Op<&'static [u8]>) -> (&'static [u8], &'static [u8]) {
+    match op {
+        Op::Where | Op::Up => (b"", b""),
+        Op::ChangeDir(path)
+        | Op::MakeDir(path)
+        | Op::RemoveDir(path)
+        | Op::Delete(path)
+        | Op::Get(path, _)
+        | Op::GetFrom(path, _, _)
+        | Op::Size(path, _)
+        | Op::Modified(path)
+        | Op::Facts(path)
+        | Op::List(path, _)
+        | Op::Names(path, _) => (*path, b""),
+        Op::Rename(path, other)
+        | Op::Put(path, other, _)
+        | Op::Append(path, other, _)
+        | Op::PutFrom(path, _, other, _) => (*path, *other),
+    }
+}
+
+/// The operation with texts of its own.
+fn owned(alloc: Global, op: &Op<&'static [u8]>) -> Result<Op<Text<Global>>, AllocError> {
+    let (path, other) = texts(op);
+    let path = text(alloc, path)?;
+    let other = text(alloc, other)?;
+    Ok(match op {
+        Op::Where => Op::Where,
+        Op::ChangeDir(_) => Op::ChangeDir(path),
+        Op::Up => Op::Up,
+        Op::MakeDir(_) => Op::MakeDir(path),
+        Op::RemoveDir(_) => Op::RemoveDir(path),
+        Op::Delete(_) => Op::Delete(path),
+        Op::Rename(_, _) => Op::Rename(path, other),
+        Op::Put(_, _, how) => Op::Put(path, other, *how),
+        Op::Append(_, _, how) => Op::Append(path, other, *how),
+        Op::PutFrom(_, offset, _, how) => Op::PutFrom(path, *offset, other, *how),
+        Op::Get(_, how) => Op::Get(path, *how),
+        Op::GetFrom(_, offset, how) => Op::GetFrom(path, *offset, *how),
+        Op::Size(_, how) => Op::Size(path, *how),
+        Op::Modified(_) => Op::Modified(path),
+        Op::Facts(_) => Op::Facts(path),
+        Op::List(_, how) => Op::List(path, *how),
+        Op::Names(_, how) => Op::Names(path, *how),
+    })
+}
+
+/// `guest` with the password `secret`, and `anonymous` without one.
+pub(crate) fn accounts(alloc: Global) -> Result<Option<Accounts<Global>>, AllocError> {
+    let mut list = Vec::new(alloc);
+    list.push(Account {
+        user: text(alloc, b"guest")?,
+        pass: Some(text(alloc, b"secret")?),
+    })?;
+    list.push(Account {
+        user: text(alloc, b"anonymous")?,
+        pass: None,
+    })?;
+    Ok(Accounts::new(list).ok())
+}
+
+pub(crate) fn login(
+    alloc: Global,
+    user: &[u8],
+    pass: &[u8],
+) -> Result<Option<Login<Global>>, AllocError> {
+    Ok(Login::new(text(alloc, user)?, text(alloc, pass)?))
+}
+
+/// The operations, the first at second 1,000 and each later one a second on.
+fn list_of(alloc: Global, rows: &[Row]) -> Result<Vec<(Op<Text<Global>>, Moment)>, Fail> {
+    let mut list = Vec::new(alloc);
+    let mut second = 1000u64;
+    for (op, _) in rows {
+        list.push((owned(alloc, op)?, Moment::new(second).ok_or("moment")?))?;
+        second = second.saturating_add(1);
+    }
+    Ok(list)
+}
+
+/// The first row that is not answered as it says.
+fn first_other(
+    alloc: Global,
+    answers: &[Answer<Global>],
+    rows: &[Row],
+) -> Result<Option<usize>, Fail> {
+    let mut at = 0usize;
+    for (answer, (_, expected)) in answers.iter().zip(rows) {
+        if !says(alloc, answer, *expected)? {
+            return Ok(Some(at));
+        }
+        at = at.saturating_add(1);
+    }
+    if at == rows.len() {
+        Ok(None)
+    } else {
+        Ok(Some(at))
+    }
+}
+
+/// The first row that is not answered as it says, on a tree, by a user with a password.
+pub(crate) fn answers_on<T: Tree<Global>>(
+    alloc: Global,
+    tree: &mut T,
+    user: &[u8],
+    pass: &[u8],
+    rows: &[Row],
+) -> Result<Option<usize>, Fail> {
+    let accounts = accounts(alloc)?.ok_or("accounts")?;
+    let login = login(alloc, user, pass)?.ok_or("login")?;
+    let list = list_of(alloc, rows)?;
+    let answers = direct(&alloc, tree, &accounts, &login, list.as_slice())?;
+    first_other(alloc, answers.as_slice(), rows)
+}
+
+/// The same on an empty tree in memory.
+pub(crate) fn answers(
+    alloc: Global,
+    user: &[u8],
+    pass: &[u8],
+    rows: &[Row],
+) -> Result<Option<usize>, Fail> {
+    let mut tree = MemTree::new(alloc);
+    answers_on(alloc, &mut tree, user, pass, rows)
+}

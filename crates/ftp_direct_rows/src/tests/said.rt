@@ -1,0 +1,63 @@
+//! What an answer says, in one line or a line for each item.
+use ftp_direct::Answer;
+use ftp_facts::write_entry;
+use std::alloc::Global;
+use std::test::Fail;
+
+/// Whether an answer says this.
+pub(crate) fn says(alloc: Global, answer: &Answer<Global>, expected: &[u8]) -> Result<bool, Fail> {
+    if let Some(octets) = octets_of(answer) {
+        return Ok(octets == expected);
+    }
+    let text = match number_of(answer) {
+        Some(number) => decimal(alloc, number)?,
+        None => lines_of(alloc, answer)?,
+    };
+    Ok(text.as_slice() == expected)
+}
+
+fn octets_of(answer: &Answer<Global>) -> Option<&[u8]> {
+    match answer {
+        Answer::Done => Some(b"done".as_slice()),
+        Answer::BadOperation => Some(b"bad".as_slice()),
+        Answer::Path(octets) | Answer::Octets(octets) => Some(octets.as_slice()),
+        _ => None,
+    }
+}
+
+/// The number that it says, or the code of its refusal.
+pub(crate) fn number_of(answer: &Answer<Global>) -> Option<u64> {
+    match answer {
+        Answer::Number(number) => Some(*number),
+        Answer::Stamp(moment) => Some(moment.seconds),
+        Answer::Refused(code) => Some(u64::from(*code)),
+        _ => None,
+    }
+}
+
+fn decimal(alloc: Global, number: u64) -> Result<Vec<u8>, Fail> {
+    let text = format!(in alloc; "{number}")?;
+    Ok(Vec::from_slice(alloc, text.as_bytes())?)
+}
+
+/// The line of an entry, or a line for each entry or name.
+fn lines_of(alloc: Global, answer: &Answer<Global>) -> Result<Vec<u8>, Fail> {
+    let mut out = Vec::new(alloc);
+    match answer {
+        Answer::Entry(entry) => write_entry(entry, &mut out)?,
+        Answer::Entries(entries) => {
+            for entry in entries {
+                write_entry(entry, &mut out)?;
+                out.push(b'\n')?;
+            }
+        }
+        Answer::Names(names) => {
+            for name in names {
+                out.extend_from_slice(name.as_slice())?;
+                out.push(b'\n')?;
+            }
+        }
+        _ => out.extend_from_slice(b"other")?,
+    }
+    Ok(out)
+}

@@ -1,0 +1,3 @@
+pub mod Account
+pub mod Answer
+pub mod Operation

@@ -1,0 +1,16 @@
+//! The operations of a user as values: what is asked of a server, what it answers, who may log in, and which operations can
+//! be sent at all; no IO (RFC 959, section 4.1; RFC 3659).
+#![tactic(auto)]
+
+mod account;
+mod answer;
+mod op;
+mod sendable;
+
+pub use account::{Account, Accounts, Login, SameUser};
+pub use answer::Answer;
+pub use op::{How, Op};
+pub use sendable::{can_be_sent, is_number};
+
+#[cfg(test)]
+mod tests;
