@@ -8,7 +8,7 @@ use Rattle.std.proofs.KnownBytes.{Consumes-nil, Consumes-trans, Consumes-kept, A
 use Rattle.ftp_programs.specs.FactLines.{AnswersFront, TellsFront, TellsTo}
 use Rattle.ftp_programs.specs.FactHearing.{LacksFeed, Told, StandsAfter}
 use Rattle.ftp_programs.specs.declared.fact_lines.FactLines.{FactLines}
-use Rattle.ftp_programs.specs.declared.pieces.Failed.{Failed}
+use Rattle.ftp_pieces.specs.declared.pieces.Failed.{Failed}
 use Rattle.ftp_programs.proofs.FactAnswering.{stands_front}
 
 -- some octets were read, and their ended lines are answered

@@ -10,7 +10,7 @@ use Rattle.ftp_framer.specs.declared.mode.Mode.{Mode}
 use Rattle.ftp_framer.specs.declared.mode.Mode.TheVariants.{Stream, Block}
 use Rattle.ftp_framer.specs.Block.{marked_text}
 use Rattle.ftp_framer.specs.Wire.{wire}
-use Rattle.ftp_programs.specs.Beginning.{AppendsFront}
+use Rattle.ftp_pieces.specs.Beginning.{AppendsFront}
 use Rattle.ftp_programs.specs.declared.frames.Representation.{Representation}
 
 -- type and structure

@@ -1,11 +1,3 @@
-pub mod Beginning
-pub mod Converses
-pub mod Dialogue
-pub mod Hearing
-pub mod Login
-pub mod Replies
-pub mod Session
-pub mod Turns
 pub mod FactHearing
 pub mod FactLines
 pub mod Frame

@@ -11,10 +11,10 @@ use Rattle.ftp_framer.specs.Said.{Said, file_signs}
 use Rattle.ftp_mode.specs.Units.{Reads}
 use Rattle.ftp_mode.specs.Fault.{IsFault}
 use Rattle.ftp_mode.specs.Front.{Front}
-use Rattle.ftp_programs.specs.Beginning.{AppendsFront}
+use Rattle.ftp_pieces.specs.Beginning.{AppendsFront}
 use Rattle.ftp_programs.specs.Frame.{form_of}
 use Rattle.ftp_programs.specs.declared.frames.Representation.{Representation}
-use Rattle.ftp_programs.specs.declared.pieces.Failed.{Failed}
+use Rattle.ftp_pieces.specs.declared.pieces.Failed.{Failed}
 
 -- a wire that has ended reads as this file
 abbrev pub ReadsAs : Representation → List ℕ → List ℕ → Type 0

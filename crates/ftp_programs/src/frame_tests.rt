@@ -1,13 +1,13 @@
-// Files to wires, whole and octet by octet, and readers and writers that fail.
+// Files to wires, whole and octet by octet, and readers, writers and allocators that fail.
 use crate::frames::{Direction, Representation, frame};
-use crate::test_streams::{
+use crate::test_forms::{
     ASCII_FILE_BLOCK, ASCII_FILE_STREAM, IMAGE_FILE_BLOCK, IMAGE_FILE_STREAM, IMAGE_RECORD_BLOCK,
-    IMAGE_RECORD_STREAM, failing_at, in_pieces,
+    IMAGE_RECORD_STREAM,
 };
+use ftp_failing::{FailingReader, FailingWriter};
 use ftp_refusing::Refusing;
 use std::alloc::Global;
 use std::io::{Read, Write};
-use std::process::Abort;
 use std::test::Fail;
 
 /// A file and its wire, by hand from RFC 959, sections 3.1.1, 3.4.1 and 3.4.2.
@@ -43,48 +43,64 @@ pub const ROWS: [Row<'static>; 12] = [
 /// Writes a file as its wire, with a second writer that refuses all.
 fn to_wire<R: Read, W: Write>(
     alloc: Global,
-    form: Representation,
     marks: bool,
+    form: Representation,
     reader: &mut R,
     writer: &mut W,
 ) -> u8 {
+    let mut faults = FailingWriter::new(alloc, 0, 0);
     frame(
         alloc,
         form,
         Direction::ToWire { marks },
         reader,
         writer,
-        &mut failing_at(alloc, 0),
+        &mut faults,
     )
 }
 
-/// A file goes as this wire, whatever the pieces are.
-fn goes_as<R: Abort + Print>(
-    rt: &R,
-    alloc: Global,
-    form: Representation,
-    marks: bool,
-    file: &[u8],
-    wire: &[u8],
-) {
-    for most in [1usize, 2, 4095, 4096] {
-        let mut reader = in_pieces(file, most, u32::MAX);
-        let mut writer = Vec::new(alloc);
-        assert_eq!(rt;
-            to_wire(alloc, form, marks, &mut reader, &mut writer),
-            0,
-            "{form:?} {most}"
-        );
-        assert!(rt; writer.as_slice() == wire, "{form:?} {most}");
+/// Whether a file goes as its wire where a read gives this many octets.
+fn goes(alloc: Global, marks: bool, most: usize, row: Row<'_>) -> bool {
+    let mut reader = FailingReader::new(row.1, most, u32::MAX);
+    let mut writer = Vec::new(alloc);
+    let status = to_wire(alloc, marks, row.0, &mut reader, &mut writer);
+    status == 0 && writer.as_slice() == row.2
+}
+
+const PIECES: &[usize] = &[1, 2, 4095, 4096];
+
+/// Whether a file goes as its wire, whatever the pieces are.
+fn goes_as(alloc: Global, marks: bool, row: Row<'_>) -> bool {
+    for most in PIECES {
+        if !goes(alloc, marks, *most, row) {
+            return false;
+        }
     }
+    true
+}
+
+/// The number of the first row whose file goes otherwise.
+fn wrong_row(alloc: Global, marks: bool, rows: &[Row<'static>]) -> Option<usize> {
+    for (i, row) in rows.iter().enumerate() {
+        if !goes_as(alloc, marks, *row) {
+            return Some(i);
+        }
+    }
+    None
 }
 
 #[test]
 fn worked_rows(rt: HostRuntime) {
-    for (form, file, wire) in ROWS {
-        goes_as(&rt, rt.alloc(), form, false, file, wire);
-        goes_as(&rt, rt.alloc(), form, true, file, wire);
+    assert_eq!(rt; wrong_row(rt.alloc(), false, &ROWS), None);
+    assert_eq!(rt; wrong_row(rt.alloc(), true, &ROWS), None);
+}
+
+/// Puts so many octets behind a text, 251 values that begin with `first`, again and again.
+fn count_up(out: &mut Vec<u8>, octets: u32, first: u8) -> Result<(), Fail> {
+    for at in 0..octets {
+        out.push(first.wrapping_add((at % 251) as u8))?;
     }
+    Ok(())
 }
 
 /// Eight blocks of 8,192 octets, a marker, and a block of the rest.
@@ -92,29 +108,17 @@ fn worked_rows(rt: HostRuntime) {
 fn a_marker_at_65536(rt: HostRuntime) -> Result<(), Fail> {
     let mut file = Vec::new(rt.alloc());
     let mut wire = Vec::new(rt.alloc());
-    for _ in 0..8 {
+    for block in 0..8u8 {
         wire.extend_from_slice(&[0x00, 0x20, 0x00])?;
-        for at in 0..8192u32 {
-            file.push((at % 251) as u8)?;
-            wire.push((at % 251) as u8)?;
-        }
+        count_up(&mut wire, 8192, block)?;
+        count_up(&mut file, 8192, block)?;
     }
-    wire.extend_from_slice(&[0x10, 0x00, 0x05, 0x36, 0x35, 0x35, 0x33, 0x36])?;
-    wire.extend_from_slice(&[0x40, 0x11, 0x70])?;
-    for at in 0..4464u32 {
-        file.push((at % 253) as u8)?;
-        wire.push((at % 253) as u8)?;
-    }
-    assert_eq!(&rt; file.len(), 70_000);
-    assert_eq!(&rt; wire.len(), 70_035);
-    goes_as(
-        &rt,
-        rt.alloc(),
-        IMAGE_FILE_BLOCK,
-        true,
-        file.as_slice(),
-        wire.as_slice(),
-    );
+    wire.extend_from_slice(b"\x10\x00\x0565536\x40\x11\x70")?;
+    count_up(&mut wire, 4464, 8)?;
+    count_up(&mut file, 4464, 8)?;
+    assert!(rt; file.len() == 70_000 && wire.len() == 70_035);
+    let row = (IMAGE_FILE_BLOCK, file.as_slice(), wire.as_slice());
+    assert!(rt; goes_as(rt.alloc(), true, row));
     Ok(())
 }
 
@@ -122,82 +126,70 @@ const FILE: &[u8] = b"one\ntwo\n\xFFthree";
 
 const WIRE: &[u8] = b"one\xFF\x01two\xFF\x01\xFF\xFFthree\xFF\x02";
 
+/// Whether the file was broken off behind a beginning of its wire, or else written whole.
+fn is_left(breaks: bool, status: u8, written: &[u8]) -> bool {
+    if breaks {
+        return status == 3 && written.len() < WIRE.len() && WIRE.starts_with(written);
+    }
+    status == 0 && written == WIRE
+}
+
+/// Five reads of three octets give the file, and one more its end.
+fn read_failed(alloc: Global, fails_at: u32) -> bool {
+    let mut reader = FailingReader::new(FILE, 3, fails_at);
+    let mut writer = Vec::new(alloc);
+    let status = to_wire(alloc, false, IMAGE_RECORD_STREAM, &mut reader, &mut writer);
+    is_left(fails_at < 6, status, writer.as_slice())
+}
+
 #[test]
 fn each_read_failed(rt: HostRuntime) {
-    let mut done = false;
     for fails_at in 0..20u32 {
-        let mut reader = in_pieces(FILE, 3, fails_at);
-        let mut writer = Vec::new(rt.alloc());
-        let status = to_wire(
-            rt.alloc(),
-            IMAGE_RECORD_STREAM,
-            false,
-            &mut reader,
-            &mut writer,
-        );
-        assert!(&rt; WIRE.starts_with(writer.as_slice()), "read {fails_at}");
-        done = status == 0;
-        assert!(&rt; done || status == 3, "read {fails_at}");
-        assert_eq!(&rt; done, writer.len() == WIRE.len(), "read {fails_at}");
+        assert!(&rt; read_failed(rt.alloc(), fails_at), "read {fails_at}");
     }
-    assert!(&rt; done);
+}
+
+/// The wire goes in ten writes of two octets, with an interrupted one between two.
+fn write_failed(alloc: Global, fails_at: u32) -> bool {
+    let mut reader = FILE;
+    let mut writer = FailingWriter::new(alloc, 2, fails_at);
+    let status = to_wire(alloc, false, IMAGE_RECORD_STREAM, &mut reader, &mut writer);
+    is_left(fails_at < 19, status, writer.taken())
 }
 
 #[test]
 fn each_write_failed(rt: HostRuntime) {
-    let mut done = false;
     for fails_at in 0..60u32 {
-        let mut reader = FILE;
-        let mut writer = failing_at(rt.alloc(), fails_at);
-        let status = to_wire(
-            rt.alloc(),
-            IMAGE_RECORD_STREAM,
-            false,
-            &mut reader,
-            &mut writer,
-        );
-        assert!(&rt;
-            WIRE.starts_with(writer.taken.as_slice()),
-            "write {fails_at}"
-        );
-        done = status == 0;
-        assert!(&rt; done || status == 3, "write {fails_at}");
-        assert_eq!(&rt; done, writer.taken.len() == WIRE.len(), "write {fails_at}");
+        assert!(&rt; write_failed(rt.alloc(), fails_at), "write {fails_at}");
     }
-    assert!(&rt; done);
 }
 
-#[test]
-fn each_growth_refused(rt: HostRuntime) {
-    let heap = Refusing::new(rt.alloc(), 0);
-    let direction = Direction::ToWire { marks: false };
-    let mut reader = in_pieces(FILE, 3, u32::MAX);
-    let mut writer = Vec::new(rt.alloc());
-    let mut faults = failing_at(rt.alloc(), 0);
+/// Whether a refused growth, if it is not 0, breaks the file off; and how many growths are left.
+fn growth(alloc: Global, refused: u64) -> (bool, u64) {
+    let heap = Refusing::new(alloc, refused);
+    let mut reader = FailingReader::new(FILE, 3, u32::MAX);
+    let mut writer = Vec::new(alloc);
+    let mut faults = FailingWriter::new(alloc, 0, 0);
     let status = frame(
         &heap,
         IMAGE_RECORD_STREAM,
-        direction,
+        Direction::ToWire { marks: false },
         &mut reader,
         &mut writer,
         &mut faults,
     );
-    assert_eq!(&rt; status, 0);
-    let growths = 0u64.wrapping_sub(heap.left());
-    assert!(&rt; growths > 0);
-    for refused in 1..=growths {
-        let heap = Refusing::new(rt.alloc(), refused);
-        let mut reader = in_pieces(FILE, 3, u32::MAX);
-        let mut writer = Vec::new(rt.alloc());
-        let status = frame(
-            &heap,
-            IMAGE_RECORD_STREAM,
-            direction,
-            &mut reader,
-            &mut writer,
-            &mut faults,
-        );
-        assert_eq!(&rt; status, 3, "growth {refused}");
-        assert!(&rt; WIRE.starts_with(writer.as_slice()), "growth {refused}");
+    (
+        is_left(refused != 0, status, writer.as_slice()),
+        heap.left(),
+    )
+}
+
+#[test]
+fn each_growth_refused(rt: HostRuntime) {
+    let (is_whole, left) = growth(rt.alloc(), 0);
+    assert!(&rt; is_whole && left != 0);
+    for refused in 1..=0u64.wrapping_sub(left) {
+        let (breaks_off, _) = growth(rt.alloc(), refused);
+        assert!(&rt; breaks_off, "growth {refused}");
     }
 }

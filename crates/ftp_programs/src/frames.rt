@@ -8,14 +8,13 @@ ghost use Rattle.ftp_repr.specs.Machine.{gives};
 ghost use Rattle.ftp_repr.specs.Signs.{signs_of};
 ghost use Rattle.ftp_framer.specs.Framing.{owed_octets, writing};
 ghost use Rattle.ftp_framer.specs.Writing.{writer};
-ghost use Rattle.ftp_programs.specs.Beginning.{AppendsFront};
+ghost use Rattle.ftp_pieces.specs.Beginning.{AppendsFront};
 ghost use Rattle.ftp_programs.specs.Direction.{Goes, GoesFront};
 ghost use Rattle.ftp_programs.specs.Frame.{Frames, FramesFront, form_of, frame_text};
 
-use crate::pieces;
-use crate::pieces::{Failed, TURNS};
 use crate::receiving::to_file;
 use ftp_mode::{Framer, Mode};
+use ftp_pieces::{Failed, TURNS};
 use ftp_repr::{Item, Kind, Sender, Structure};
 use std::alloc::Allocator;
 use std::io::{Read, Write};
@@ -122,7 +121,7 @@ impl<A: Allocator> Sending<A> {
         ensures sender { self.new.sender ≡ self.old.sender }
         ensures framer { self.new.framer ≡ self.old.framer }
     {
-        pieces::put(writer, self.made.as_slice())?;
+        ftp_pieces::put(writer, self.made.as_slice())?;
         self.made.clear();
         Ok(())
     }
@@ -241,7 +240,7 @@ where
     let mut buffer = [0u8; PIECE_LIMIT];
     for _turn in 0..TURNS {
         let (room, _) = buffer.split_at_mut(PIECE_LIMIT);
-        let count = pieces::get(reader, room)?;
+        let count = ftp_pieces::get(reader, room)?;
         if count == 0 {
             sending.end()?;
             sending.write(writer)?;

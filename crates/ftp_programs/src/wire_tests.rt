@@ -1,13 +1,14 @@
 // Wires to files, whole and octet by octet, and readers, writers and allocators that fail.
-use crate::frame_tests::ROWS;
+use crate::frame_tests::{ROWS, Row as FileRow};
 use crate::frames::{Direction, Representation, frame};
-use crate::test_streams::{
+use crate::test_forms::{
     ASCII_FILE_BLOCK, ASCII_FILE_STREAM, ASCII_RECORD_BLOCK, ASCII_RECORD_STREAM, IMAGE_FILE_BLOCK,
-    IMAGE_RECORD_STREAM, failing_at, in_pieces,
+    IMAGE_RECORD_STREAM,
 };
+use ftp_failing::{FailingReader, FailingWriter};
 use ftp_refusing::Refusing;
-use std::alloc::Global;
-use std::process::Abort;
+use std::alloc::{Allocator, Global};
+use std::io::{Read, Write};
 
 /// A wire, the file that it says or settles, and its fault, by hand from RFC 959, sections 3.1.1, 3.4.1, 3.4.2 and 3.5.
 type Row<'a> = (Representation, &'a [u8], &'a [u8], &'a [u8]);
@@ -65,64 +66,101 @@ const FAULTS: [Row<'static>; 10] = [
     (ASCII_RECORD_STREAM, &[0x61, 0x0D], b"a", b"M4 EndedEarly\n"),
 ];
 
-const FILES: [(Representation, &'static [u8], &'static [u8]); 6] = [
-    (IMAGE_FILE_BLOCK, &[0xC0, 0x00, 0x00], &[]),
+const FILES: [Row<'static>; 6] = [
+    (IMAGE_FILE_BLOCK, &[0xC0, 0x00, 0x00], &[], b""),
     (
         ASCII_FILE_BLOCK,
         &[0x80, 0x00, 0x01, 0x0D, 0x40, 0x00, 0x01, 0x0A],
         &[0x0A],
+        b"",
     ),
     (
         ASCII_RECORD_BLOCK,
         &[0x80, 0x00, 0x01, 0x0D, 0x40, 0x00, 0x01, 0x0A],
         &[0x0D, 0x0A, 0x0A],
+        b"",
     ),
-    (ASCII_FILE_STREAM, &[0x61, 0x0D], &[0x61, 0x0D]),
+    (ASCII_FILE_STREAM, &[0x61, 0x0D], &[0x61, 0x0D], b""),
     (
         IMAGE_FILE_BLOCK,
         &[0x10, 0x00, 0x01, 0x35, 0x40, 0x00, 0x01, 0x61, 0x20],
         b"a",
+        b"",
     ),
-    (IMAGE_RECORD_STREAM, &[0x61, 0xFF, 0x02, 0xFF, 0x04], b"a"),
+    (
+        IMAGE_RECORD_STREAM,
+        &[0x61, 0xFF, 0x02, 0xFF, 0x04],
+        b"a",
+        b"",
+    ),
 ];
 
-/// A wire is read as this file with this fault, whatever the pieces are.
-fn reads_as<R: Abort + Print>(rt: &R, alloc: Global, row: Row<'_>) {
-    let (form, wire, file, fault) = row;
-    for most in [1usize, 2, 4096] {
-        let mut reader = in_pieces(wire, most, u32::MAX);
-        let mut writer = Vec::new(alloc);
-        let mut faults = Vec::new(alloc);
-        let status = frame(
-            alloc,
-            form,
-            Direction::ToFile,
-            &mut reader,
-            &mut writer,
-            &mut faults,
-        );
-        assert_eq!(rt; status == 0, fault.is_empty(), "{form:?} {most}");
-        assert!(rt; status == 0 || status == 1, "{form:?} {most}");
-        assert!(rt; writer.as_slice() == file, "{form:?} {most}");
-        assert!(rt; faults.as_slice() == fault, "{form:?} {most}");
+/// Writes the file of a wire.
+fn to_file<A: Allocator + Copy, R: Read, W: Write, F: Write>(
+    alloc: A,
+    form: Representation,
+    reader: &mut R,
+    writer: &mut W,
+    faults: &mut F,
+) -> u8 {
+    frame(alloc, form, Direction::ToFile, reader, writer, faults)
+}
+
+/// Whether a wire is read as this file with this fault where a read gives this many octets.
+fn reads(alloc: Global, most: usize, row: Row<'_>) -> bool {
+    let mut reader = FailingReader::new(row.1, most, u32::MAX);
+    let mut writer = Vec::new(alloc);
+    let mut faults = Vec::new(alloc);
+    let status = to_file(alloc, row.0, &mut reader, &mut writer, &mut faults);
+    let expected = if row.3.is_empty() { 0 } else { 1 };
+    status == expected && writer.as_slice() == row.2 && faults.as_slice() == row.3
+}
+
+const PIECES: &[usize] = &[1, 2, 4096];
+
+/// Whether a wire is read as this file with this fault, whatever the pieces are.
+fn reads_as(alloc: Global, row: Row<'_>) -> bool {
+    for most in PIECES {
+        if !reads(alloc, *most, row) {
+            return false;
+        }
     }
+    true
+}
+
+/// The number of the first wire that is read otherwise.
+fn wrong_row(alloc: Global, rows: &[Row<'static>]) -> Option<usize> {
+    for (i, row) in rows.iter().enumerate() {
+        if !reads_as(alloc, *row) {
+            return Some(i);
+        }
+    }
+    None
 }
 
 #[test]
 fn faults(rt: HostRuntime) {
-    for row in FAULTS {
-        reads_as(&rt, rt.alloc(), row);
-    }
+    assert_eq!(rt; wrong_row(rt.alloc(), &FAULTS), None);
 }
 
 #[test]
 fn files(rt: HostRuntime) {
-    for (form, wire, file) in FILES {
-        reads_as(&rt, rt.alloc(), (form, wire, file, b""));
+    assert_eq!(rt; wrong_row(rt.alloc(), &FILES), None);
+}
+
+/// The number of the first file whose wire is read otherwise.
+fn wrong_wire(alloc: Global, rows: &[FileRow<'static>]) -> Option<usize> {
+    for (i, row) in rows.iter().enumerate() {
+        if !reads_as(alloc, (row.0, row.2, row.1, b"")) {
+            return Some(i);
+        }
     }
-    for (form, file, wire) in ROWS {
-        reads_as(&rt, rt.alloc(), (form, wire, file, b""));
-    }
+    None
+}
+
+#[test]
+fn wires_of_files(rt: HostRuntime) {
+    assert_eq!(rt; wrong_wire(rt.alloc(), &ROWS), None);
 }
 
 const WIRE: &[u8] = b"one\xFF\x01two\xFF\x01\xFF\xFFthree\xFF\x04";
@@ -131,116 +169,109 @@ const FILE: &[u8] = b"one\ntwo\n\xFFthree";
 
 const FAULT: &[u8] = b"M1 BadEscape(18)\n";
 
-#[test]
-fn each_read_failed(rt: HostRuntime) {
-    let mut done = false;
-    for fails_at in 0..20u32 {
-        let mut reader = in_pieces(WIRE, 3, fails_at);
-        let mut writer = Vec::new(rt.alloc());
-        let mut faults = Vec::new(rt.alloc());
-        let status = frame(
-            rt.alloc(),
-            IMAGE_RECORD_STREAM,
-            Direction::ToFile,
-            &mut reader,
-            &mut writer,
-            &mut faults,
-        );
-        assert!(&rt; FILE.starts_with(writer.as_slice()), "read {fails_at}");
-        done = status == 1;
-        assert!(&rt; done || status == 3, "read {fails_at}");
-        assert!(&rt; done || faults.is_empty(), "read {fails_at}");
-        assert!(&rt; !done || faults.as_slice() == FAULT, "read {fails_at}");
+/// Whether the wire was broken off behind a beginning of its file with nothing told, or else read up to its fault.
+fn is_left(breaks: bool, status: u8, written: &[u8], told: &[u8]) -> bool {
+    if breaks {
+        return status == 3 && FILE.starts_with(written) && told.is_empty();
     }
-    assert!(&rt; done);
+    status == 1 && written == FILE && told == FAULT
 }
 
-#[test]
-fn each_write_failed(rt: HostRuntime) {
-    let mut done = false;
-    for fails_at in 0..60u32 {
-        let mut reader = WIRE;
-        let mut writer = failing_at(rt.alloc(), fails_at);
-        let mut faults = Vec::new(rt.alloc());
-        let status = frame(
-            rt.alloc(),
-            IMAGE_RECORD_STREAM,
-            Direction::ToFile,
-            &mut reader,
-            &mut writer,
-            &mut faults,
-        );
-        assert!(&rt;
-            FILE.starts_with(writer.taken.as_slice()),
-            "write {fails_at}"
-        );
-        done = status == 1;
-        assert!(&rt; done || status == 3, "write {fails_at}");
-        assert_eq!(&rt; done, writer.taken.len() == FILE.len(), "write {fails_at}");
-        assert_eq!(&rt; done, faults.as_slice() == FAULT, "write {fails_at}");
-    }
-    assert!(&rt; done);
-}
-
-#[test]
-fn each_telling_failed(rt: HostRuntime) {
-    let mut done = false;
-    for fails_at in 0..60u32 {
-        let mut reader = WIRE;
-        let mut writer = Vec::new(rt.alloc());
-        let mut faults = failing_at(rt.alloc(), fails_at);
-        let status = frame(
-            rt.alloc(),
-            IMAGE_RECORD_STREAM,
-            Direction::ToFile,
-            &mut reader,
-            &mut writer,
-            &mut faults,
-        );
-        assert!(&rt; writer.as_slice() == FILE, "write {fails_at}");
-        assert!(&rt;
-            FAULT.starts_with(faults.taken.as_slice()),
-            "write {fails_at}"
-        );
-        done = status == 1;
-        assert!(&rt; done || status == 3, "write {fails_at}");
-        assert_eq!(&rt; done, faults.taken.len() == FAULT.len(), "write {fails_at}");
-    }
-    assert!(&rt; done);
-}
-
-#[test]
-fn each_growth_refused(rt: HostRuntime) {
-    let heap = Refusing::new(rt.alloc(), 0);
-    let mut reader = in_pieces(WIRE, 3, u32::MAX);
-    let mut writer = Vec::new(rt.alloc());
-    let mut faults = Vec::new(rt.alloc());
-    let status = frame(
-        &heap,
+/// Seven reads of three octets give the wire up to its fault.
+fn read_failed(alloc: Global, fails_at: u32) -> bool {
+    let mut reader = FailingReader::new(WIRE, 3, fails_at);
+    let mut writer = Vec::new(alloc);
+    let mut faults = Vec::new(alloc);
+    let status = to_file(
+        alloc,
         IMAGE_RECORD_STREAM,
-        Direction::ToFile,
         &mut reader,
         &mut writer,
         &mut faults,
     );
-    assert_eq!(&rt; status, 1);
-    let growths = 0u64.wrapping_sub(heap.left());
-    assert!(&rt; growths > 0);
-    for refused in 1..=growths {
-        let heap = Refusing::new(rt.alloc(), refused);
-        let mut reader = in_pieces(WIRE, 3, u32::MAX);
-        let mut writer = Vec::new(rt.alloc());
-        let mut faults = Vec::new(rt.alloc());
-        let status = frame(
-            &heap,
-            IMAGE_RECORD_STREAM,
-            Direction::ToFile,
-            &mut reader,
-            &mut writer,
-            &mut faults,
-        );
-        assert_eq!(&rt; status, 3, "growth {refused}");
-        assert!(&rt; FILE.starts_with(writer.as_slice()), "growth {refused}");
-        assert!(&rt; faults.is_empty(), "growth {refused}");
+    is_left(fails_at < 7, status, writer.as_slice(), faults.as_slice())
+}
+
+#[test]
+fn each_read_failed(rt: HostRuntime) {
+    for fails_at in 0..20u32 {
+        assert!(&rt; read_failed(rt.alloc(), fails_at), "read {fails_at}");
+    }
+}
+
+/// The file goes in seven writes of two octets, with an interrupted one between two.
+fn write_failed(alloc: Global, fails_at: u32) -> bool {
+    let mut reader = WIRE;
+    let mut writer = FailingWriter::new(alloc, 2, fails_at);
+    let mut faults = Vec::new(alloc);
+    let status = to_file(
+        alloc,
+        IMAGE_RECORD_STREAM,
+        &mut reader,
+        &mut writer,
+        &mut faults,
+    );
+    let breaks = fails_at < 13;
+    breaks == (writer.taken().len() < FILE.len())
+        && is_left(breaks, status, writer.taken(), faults.as_slice())
+}
+
+#[test]
+fn each_write_failed(rt: HostRuntime) {
+    for fails_at in 0..60u32 {
+        assert!(&rt; write_failed(rt.alloc(), fails_at), "write {fails_at}");
+    }
+}
+
+/// The fault's line goes in nine writes of two octets, with an interrupted one between two.
+fn telling_failed(alloc: Global, fails_at: u32) -> bool {
+    let mut reader = WIRE;
+    let mut writer = Vec::new(alloc);
+    let mut faults = FailingWriter::new(alloc, 2, fails_at);
+    let status = to_file(
+        alloc,
+        IMAGE_RECORD_STREAM,
+        &mut reader,
+        &mut writer,
+        &mut faults,
+    );
+    if fails_at < 17 {
+        let is_front = faults.taken().len() < FAULT.len() && FAULT.starts_with(faults.taken());
+        return status == 3 && writer.as_slice() == FILE && is_front;
+    }
+    is_left(false, status, writer.as_slice(), faults.taken())
+}
+
+#[test]
+fn each_telling_failed(rt: HostRuntime) {
+    for fails_at in 0..60u32 {
+        assert!(&rt; telling_failed(rt.alloc(), fails_at), "write {fails_at}");
+    }
+}
+
+/// Whether a refused growth, if it is not 0, breaks the wire off; and how many growths are left.
+fn growth(alloc: Global, refused: u64) -> (bool, u64) {
+    let heap = Refusing::new(alloc, refused);
+    let mut reader = FailingReader::new(WIRE, 3, u32::MAX);
+    let mut writer = Vec::new(alloc);
+    let mut faults = Vec::new(alloc);
+    let status = to_file(
+        &heap,
+        IMAGE_RECORD_STREAM,
+        &mut reader,
+        &mut writer,
+        &mut faults,
+    );
+    let is_so = is_left(refused != 0, status, writer.as_slice(), faults.as_slice());
+    (is_so, heap.left())
+}
+
+#[test]
+fn each_growth_refused(rt: HostRuntime) {
+    let (is_whole, left) = growth(rt.alloc(), 0);
+    assert!(&rt; is_whole && left != 0);
+    for refused in 1..=0u64.wrapping_sub(left) {
+        let (breaks_off, _) = growth(rt.alloc(), refused);
+        assert!(&rt; breaks_off, "growth {refused}");
     }
 }

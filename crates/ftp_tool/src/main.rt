@@ -7,7 +7,8 @@ mod word_tests;
 
 use anyhow::Result;
 use command_line::Task;
-use ftp_programs::{dialogue, facts, frame};
+use ftp_dialogue::dialogue;
+use ftp_programs::{facts, frame};
 use std::env;
 use std::env::Env;
 use std::io::{Eprint, Read, Write};

@@ -1,0 +1,4 @@
+pub mod Conversing
+pub mod Replying
+pub mod Stepping
+pub mod Texts

@@ -1,0 +1,7 @@
+pub mod Converses
+pub mod Dialogue
+pub mod Hearing
+pub mod Login
+pub mod Replies
+pub mod Session
+pub mod Turns

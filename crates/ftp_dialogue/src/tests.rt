@@ -1,0 +1,263 @@
+// The rows of docs/PROTOCOL.md, and readers, writers and allocators that fail.
+use crate::dialogues::dialogue;
+use ftp_failing::{FailingReader, FailingWriter};
+use ftp_refusing::Refusing;
+use std::alloc::Global;
+use std::io::Write;
+use std::test::Fail;
+
+/// What is read, the exit status, and what is written.
+type Row<'a> = (&'a [u8], u8, &'a [u8]);
+
+/// Whether it is answered so in pieces of this many octets.
+fn answers(alloc: Global, piece: u32, row: Row<'_>) -> bool {
+    let mut reader = row.0;
+    let mut writer = Vec::new(alloc);
+    let status = dialogue(alloc, &mut reader, &mut writer, piece);
+    status == row.1 && writer.as_slice() == row.2
+}
+
+const PIECES: &[u32] = &[0, 1, 2, 7, 4096, 4_294_967_295];
+
+/// Whether it is answered so, whatever the pieces are.
+fn is_answered(alloc: Global, row: Row<'_>) -> bool {
+    for piece in PIECES {
+        if !answers(alloc, *piece, row) {
+            return false;
+        }
+    }
+    true
+}
+
+/// The number of the first row that is answered otherwise.
+fn wrong_row(alloc: Global, rows: &[Row<'static>]) -> Option<usize> {
+    for (i, row) in rows.iter().enumerate() {
+        if !is_answered(alloc, *row) {
+            return Some(i);
+        }
+    }
+    None
+}
+
+const WORKED: [Row<'static>; 5] = [
+    (b"", 0, b"220 Ready\r\n"),
+    (
+        b"USER guest\r\n",
+        0,
+        b"220 Ready\r\n331 Password needed\r\n",
+    ),
+    (
+        b"NO\xFF\xFD\x01OP\r\n",
+        0,
+        b"220 Ready\r\n\xFF\xFC\x01200 Ok\r\n",
+    ),
+    (
+        b"USER guest\r\nPASS secret\r\nMKD d\r\nPWD\r\nNOOP\r\nQUIT\r\nNOOP\r\n",
+        0,
+        b"220 Ready\r\n331 Password needed\r\n230 Logged in\r\n257 \"/d\" created\r\n257 \"/\" is the current directory\r\n200 Ok\r\n221 Goodbye\r\n",
+    ),
+    (
+        b"user anonymous\nxmkd a\"b\r\nXPWD  \r\nNOOP",
+        0,
+        b"220 Ready\r\n230 Logged in\r\n257 \"/a\"\"b\" created\r\n257 \"/\" is the current directory\r\n",
+    ),
+];
+
+#[test]
+fn worked_rows(rt: HostRuntime) {
+    assert_eq!(rt; wrong_row(rt.alloc(), &WORKED), None);
+}
+
+const REFUSED: [Row<'static>; 5] = [
+    (
+        b"\r\n NOOP\r\nXYZ f\r\n",
+        1,
+        b"220 Ready\r\n500 Unknown command\r\n500 Unknown command\r\n500 Unknown command\r\n",
+    ),
+    (
+        b"USER\r\nNOOP x\r\nMKD a\x01\r\n",
+        1,
+        b"220 Ready\r\n501 Bad argument\r\n501 Bad argument\r\n501 Bad argument\r\n",
+    ),
+    (
+        b"PWD\r\nMKD d\r\nPASS\r\n",
+        1,
+        b"220 Ready\r\n530 Not logged in\r\n530 Not logged in\r\n503 Bad sequence\r\n",
+    ),
+    (
+        b"TYPE I\r\nUSER anonymous\r\nTYPE I\r\nTYPE L 16\r\nEPRT |3|x|1930|\r\nSTOU\r\nFEAT\r\n",
+        1,
+        b"220 Ready\r\n530 Not logged in\r\n230 Logged in\r\n502 Not implemented\r\n504 Parameter not implemented\r\n522 Network protocol not supported, use (1,2)\r\n502 Not implemented\r\n502 Not implemented\r\n",
+    ),
+    (
+        b"USER guest\r\nPASS wrong\r\nPASS secret\r\nUSER nobody\r\nPASS secret\r\n",
+        1,
+        b"220 Ready\r\n331 Password needed\r\n530 Login refused\r\n503 Bad sequence\r\n331 Password needed\r\n530 Login refused\r\n",
+    ),
+];
+
+#[test]
+fn refused_lines(rt: HostRuntime) {
+    assert_eq!(rt; wrong_row(rt.alloc(), &REFUSED), None);
+}
+
+const DIRECTORIES: [Row<'static>; 2] = [
+    (
+        b"USER anonymous\r\nMKD d\r\nMKD /d/\r\n",
+        1,
+        b"220 Ready\r\n230 Logged in\r\n257 \"/d\" created\r\n550 Refused\r\n",
+    ),
+    (
+        b"USER anonymous\r\nMKD a/b\r\n",
+        1,
+        b"220 Ready\r\n230 Logged in\r\n550 Refused\r\n",
+    ),
+];
+
+#[test]
+fn refused_directories(rt: HostRuntime) {
+    assert_eq!(rt; wrong_row(rt.alloc(), &DIRECTORIES), None);
+}
+
+/// So many of one octet between two texts.
+fn stretched(
+    alloc: Global,
+    front: &[u8],
+    octet: u8,
+    count: u32,
+    back: &[u8],
+) -> Result<Vec<u8>, Fail> {
+    let mut text = front.to_vec(alloc)?;
+    for _ in 0..count {
+        text.push(octet)?;
+    }
+    text.extend_from_slice(back)?;
+    Ok(text)
+}
+
+#[test]
+fn a_name_too_long(rt: HostRuntime) -> Result<(), Fail> {
+    let input = stretched(rt.alloc(), b"USER anonymous\r\nMKD ", b'n', 256, b"\r\n")?;
+    let output = b"220 Ready\r\n230 Logged in\r\n550 Refused\r\n".as_slice();
+    assert!(rt; is_answered(rt.alloc(), (input.as_slice(), 1, output)));
+    Ok(())
+}
+
+#[test]
+fn the_longest_line(rt: HostRuntime) -> Result<(), Fail> {
+    let input = stretched(rt.alloc(), b"NOOP", b' ', 1018, b"\r\n")?;
+    let output = b"220 Ready\r\n200 Ok\r\n".as_slice();
+    assert!(rt; is_answered(rt.alloc(), (input.as_slice(), 0, output)));
+    Ok(())
+}
+
+#[test]
+fn a_line_too_long(rt: HostRuntime) -> Result<(), Fail> {
+    let input = stretched(rt.alloc(), b"NOOP", b' ', 1019, b"\r\nNOOP\r\n")?;
+    let output = b"220 Ready\r\n500 Line too long\r\n200 Ok\r\n".as_slice();
+    assert!(rt; is_answered(rt.alloc(), (input.as_slice(), 1, output)));
+    Ok(())
+}
+
+/// A text, then each number below 4,096 between two others, and then a last one.
+fn numbered(
+    alloc: Global,
+    first: &[u8],
+    front: &str,
+    back: &str,
+    last: &[u8],
+) -> Result<Vec<u8>, Fail> {
+    let mut text = first.to_vec(alloc)?;
+    for count in 0..4096u32 {
+        write!(&mut text, "{front}{count}{back}")?;
+    }
+    text.extend_from_slice(last)?;
+    Ok(text)
+}
+
+#[test]
+fn a_full_tree(rt: HostRuntime) -> Result<(), Fail> {
+    let alloc = rt.alloc();
+    let first = b"220 Ready\r\n230 Logged in\r\n";
+    let input = numbered(
+        alloc,
+        b"USER anonymous\r\n",
+        "MKD ",
+        "\r\n",
+        b"MKD more\r\n",
+    )?;
+    let output = numbered(
+        alloc,
+        first,
+        "257 \"/",
+        "\" created\r\n",
+        b"550 Refused\r\n",
+    )?;
+    assert!(rt; answers(alloc, 0, (input.as_slice(), 1, output.as_slice())));
+    Ok(())
+}
+
+const TALK: &[u8] = b"USER anonymous\r\nMKD a\"b\r\nPWD\r\nQUIT\r\n";
+
+const ANSWER: &[u8] =
+    b"220 Ready\r\n230 Logged in\r\n257 \"/a\"\"b\" created\r\n257 \"/\" is the current directory\r\n221 Goodbye\r\n";
+
+/// Whether the talk was broken off behind a beginning of its answer, or else answered whole.
+fn is_left(breaks: bool, status: u8, written: &[u8]) -> bool {
+    if breaks {
+        return status == 3 && written.len() < ANSWER.len() && ANSWER.starts_with(written);
+    }
+    status == 0 && written == ANSWER
+}
+
+/// Whether a refused growth, if it is not 0, breaks the talk off; and how many growths are left.
+fn growth(alloc: Global, refused: u64) -> (bool, u64) {
+    let heap = Refusing::new(alloc, refused);
+    let mut reader = TALK;
+    let mut writer = Vec::new(alloc);
+    let status = dialogue(&heap, &mut reader, &mut writer, 0);
+    (
+        is_left(refused != 0, status, writer.as_slice()),
+        heap.left(),
+    )
+}
+
+#[test]
+fn each_growth_refused(rt: HostRuntime) {
+    let (is_whole, left) = growth(rt.alloc(), 0);
+    assert!(&rt; is_whole && left != 0);
+    for refused in 1..=0u64.wrapping_sub(left) {
+        let (breaks_off, _) = growth(rt.alloc(), refused);
+        assert!(&rt; breaks_off, "growth {refused}");
+    }
+}
+
+/// Twelve reads of three octets give the whole talk.
+fn read_failed(alloc: Global, fails_at: u32) -> bool {
+    let mut reader = FailingReader::new(TALK, 3, fails_at);
+    let mut writer = Vec::new(alloc);
+    let status = dialogue(alloc, &mut reader, &mut writer, 0);
+    is_left(fails_at < 12, status, writer.as_slice())
+}
+
+#[test]
+fn each_read_failed(rt: HostRuntime) {
+    for fails_at in 0..20u32 {
+        assert!(&rt; read_failed(rt.alloc(), fails_at), "read {fails_at}");
+    }
+}
+
+/// Each reply goes in writes of five octets, 21 in all, with an interrupted one between two.
+fn write_failed(alloc: Global, fails_at: u32) -> bool {
+    let mut reader = TALK;
+    let mut writer = FailingWriter::new(alloc, 5, fails_at);
+    let status = dialogue(alloc, &mut reader, &mut writer, 0);
+    is_left(fails_at < 41, status, writer.taken())
+}
+
+#[test]
+fn each_write_failed(rt: HostRuntime) {
+    for fails_at in 0..60u32 {
+        assert!(&rt; write_failed(rt.alloc(), fails_at), "write {fails_at}");
+    }
+}

@@ -1,0 +1,8 @@
+//! Reading and writing call by call, so that a failure leaves a beginning and every loop has a bound on its turns.
+#![tactic(auto)]
+
+mod pieces;
+#[cfg(test)]
+mod tests;
+
+pub use pieces::{Failed, TURNS, get, put};
