@@ -366,14 +366,10 @@ fn written_as_rfc_959_section_4_2(rt: HostRuntime) {
     }
 }
 
-/// Whether the reply names this endpoint, or none.
-fn names(reply: &Reply<Global>, expected: Option<Endpoint>) -> bool {
-    passive_of(reply) == expected.ok_or(ReplyFault::NoEndpoint)
-}
-
-fn line_names(alloc: Global, line: &[u8], expected: Option<Endpoint>) -> bool {
-    match reply_of(alloc, line) {
-        Some(reply) => names(&reply, expected),
+/// Whether there is a reply, and it names this endpoint, or none.
+fn names(reply: Option<Reply<Global>>, expected: Option<Endpoint>) -> bool {
+    match reply {
+        Some(reply) => passive_of(&reply) == expected.ok_or(ReplyFault::NoEndpoint),
         None => false,
     }
 }
@@ -381,27 +377,16 @@ fn line_names(alloc: Global, line: &[u8], expected: Option<Endpoint>) -> bool {
 #[test]
 fn endpoints_of_227(rt: HostRuntime) {
     for (line, expected) in PASSIVE {
-        assert!(rt; line_names(rt.alloc(), line, expected));
-    }
-}
-
-fn lines_name(alloc: Global, texts: &[&[u8]], expected: Option<Endpoint>) -> bool {
-    match reply_with(alloc, 227, texts) {
-        Some(reply) => names(&reply, expected),
-        None => false,
+        assert!(rt; names(reply_of(rt.alloc(), line), expected));
     }
 }
 
 #[test]
 fn endpoints_of_227_in_several_lines(rt: HostRuntime) {
-    assert!(rt;
-        lines_name(
-            rt.alloc(),
-            &[b"Here", b"1,2,3,4,5,6", b"end"],
-            Some(FIRST_SIX)
-        )
-    );
-    assert!(rt; lines_name(rt.alloc(), &[b"1,2,3", b",4,5,6"], None));
+    let several = reply_with(rt.alloc(), 227, &[b"Here", b"1,2,3,4,5,6", b"end"]);
+    assert!(rt; names(several, Some(FIRST_SIX)));
+    let parted = reply_with(rt.alloc(), 227, &[b"1,2,3", b",4,5,6"]);
+    assert!(rt; names(parted, None));
 }
 
 /// Whether the line names this port, or none.
@@ -553,17 +538,14 @@ fn each_growth_of_a_path_refused_in_turn(rt: HostRuntime) -> Result<(), Fail> {
         b"257 \"/a-path-of-more-than-eight-octets\" created",
     )
     .ok_or("no reply")?;
+    let memory = Err(ReplyFault::Memory);
     let heap = Refusing::new(rt.alloc(), 0);
     assert!(rt; path_len(&heap, &reply) == Ok(33));
     let growths = 0u64.wrapping_sub(heap.left());
     assert!(rt; 1 <= growths && growths < 20);
     for refused in 1..20u64 {
         let heap = Refusing::new(rt.alloc(), refused);
-        let expected = if refused <= growths {
-            Err(ReplyFault::Memory)
-        } else {
-            Ok(33)
-        };
+        let expected = if refused <= growths { memory } else { Ok(33) };
         assert!(rt; path_len(&heap, &reply) == expected);
     }
     Ok(())
@@ -600,12 +582,8 @@ fn each_growth_of_a_written_reply_refused_in_turn(rt: HostRuntime) -> Result<(),
     assert!(rt; 1 <= growths && growths < 20);
     for refused in 1..20u64 {
         let heap = Refusing::new(rt.alloc(), refused);
-        let expected = if refused <= growths {
-            (false, 0)
-        } else {
-            (true, 56)
-        };
-        assert!(rt; put(&heap, &reply) == expected);
+        let wrote = refused > growths;
+        assert!(rt; put(&heap, &reply) == (wrote, if wrote { 56 } else { 0 }));
     }
     Ok(())
 }
