@@ -81,36 +81,21 @@ fn put_tail<A: Allocator>(command: &Command<Text<A>>, line: &mut Line)
         Command::Pass(text) => put_spaced(text.octets(), line),
         Command::Acct(text) => put_spaced(text.octets(), line),
         Command::Cwd(text) => put_spaced(text.octets(), line),
-        Command::Cdup => {}
-        Command::Rein => {}
-        Command::Quit => {}
-        Command::Pasv => {}
         Command::Retr(text) => put_spaced(text.octets(), line),
         Command::Stor(text) => put_spaced(text.octets(), line),
         Command::Appe(text) => put_spaced(text.octets(), line),
         Command::Rnfr(text) => put_spaced(text.octets(), line),
         Command::Rnto(text) => put_spaced(text.octets(), line),
-        Command::Abor => {}
         Command::Dele(text) => put_spaced(text.octets(), line),
         Command::Rmd(text) => put_spaced(text.octets(), line),
         Command::Mkd(text) => put_spaced(text.octets(), line),
-        Command::Pwd => {}
         Command::List(Some(text)) => put_spaced(text.octets(), line),
-        Command::List(None) => {}
         Command::Nlst(Some(text)) => put_spaced(text.octets(), line),
-        Command::Nlst(None) => {}
         Command::Mlst(Some(text)) => put_spaced(text.octets(), line),
-        Command::Mlst(None) => {}
         Command::Mlsd(Some(text)) => put_spaced(text.octets(), line),
-        Command::Mlsd(None) => {}
         Command::Size(text) => put_spaced(text.octets(), line),
         Command::Mdtm(text) => put_spaced(text.octets(), line),
-        Command::Syst => {}
-        Command::Stat => {}
         Command::Help(Some(text)) => put_spaced(text.octets(), line),
-        Command::Help(None) => {}
-        Command::Noop => {}
-        Command::Feat => {}
         Command::Opts(text) => put_spaced(text.octets(), line),
         Command::Port(endpoint) => put_six(*endpoint, line),
         Command::Eprt(endpoint) => put_extended(*endpoint, line),
@@ -126,6 +111,10 @@ fn put_tail<A: Allocator>(command: &Command<Text<A>>, line: &mut Line)
             put_decimal(*place, line);
         }
         Command::Allo(octets, longest) => put_sizes(*octets, *longest, line),
+        Command::Cdup | Command::Rein | Command::Quit | Command::Pasv | Command::Abor => {}
+        Command::Pwd | Command::Syst | Command::Stat | Command::Noop | Command::Feat => {}
+        Command::List(None) | Command::Nlst(None) | Command::Mlst(None) => {}
+        Command::Mlsd(None) | Command::Help(None) => {}
     }
 }
 

@@ -71,42 +71,15 @@ fn read_argument<A: Allocator>(
         Verb::Mkd => Ok(Command::Mkd(path(alloc, argument)?)),
         Verb::Size => Ok(Command::Size(path(alloc, argument)?)),
         Verb::Mdtm => Ok(Command::Mdtm(path(alloc, argument)?)),
-        Verb::Cdup => {
-            blank(argument)?;
-            Ok(Command::Cdup)
-        }
-        Verb::Rein => {
-            blank(argument)?;
-            Ok(Command::Rein)
-        }
-        Verb::Quit => {
-            blank(argument)?;
-            Ok(Command::Quit)
-        }
-        Verb::Pasv => {
-            blank(argument)?;
-            Ok(Command::Pasv)
-        }
-        Verb::Abor => {
-            blank(argument)?;
-            Ok(Command::Abor)
-        }
-        Verb::Pwd => {
-            blank(argument)?;
-            Ok(Command::Pwd)
-        }
-        Verb::Syst => {
-            blank(argument)?;
-            Ok(Command::Syst)
-        }
-        Verb::Noop => {
-            blank(argument)?;
-            Ok(Command::Noop)
-        }
-        Verb::Feat => {
-            blank(argument)?;
-            Ok(Command::Feat)
-        }
+        Verb::Cdup => blank(argument).and(Ok(Command::Cdup)),
+        Verb::Rein => blank(argument).and(Ok(Command::Rein)),
+        Verb::Quit => blank(argument).and(Ok(Command::Quit)),
+        Verb::Pasv => blank(argument).and(Ok(Command::Pasv)),
+        Verb::Abor => blank(argument).and(Ok(Command::Abor)),
+        Verb::Pwd => blank(argument).and(Ok(Command::Pwd)),
+        Verb::Syst => blank(argument).and(Ok(Command::Syst)),
+        Verb::Noop => blank(argument).and(Ok(Command::Noop)),
+        Verb::Feat => blank(argument).and(Ok(Command::Feat)),
         Verb::Stat if is_blank(argument) => Ok(Command::Stat),
         Verb::Stat | Verb::Smnt | Verb::Stou | Verb::Site => Err(CommandFault::NotDone),
         Verb::Port => Ok(Command::Port(six(trim(argument))?)),

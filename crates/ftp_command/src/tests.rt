@@ -166,18 +166,16 @@ fn names(alloc: Global, line: &[u8], expected: Endpoint) -> bool {
     }
 }
 
+fn at(host: Host, port: u16) -> Endpoint {
+    Endpoint { host, port }
+}
+
 #[test]
 fn endpoints_of_both_families(rt: HostRuntime) {
-    let local = Endpoint {
-        host: Host::V4([127, 0, 0, 1]),
-        port: 1930,
-    };
-    let last = Endpoint {
-        host: Host::V6([0, 0, 0, 0, 0, 0, 0, 0, 0, 0, 0, 0, 0, 0, 0, 1]),
-        port: 1930,
-    };
-    assert!(rt; names(rt.alloc(), b"PORT 127,0,0,1,007,138", local));
-    assert!(rt; names(rt.alloc(), b"EPRT |2|::1|1930|", last));
+    let local = Host::V4([127, 0, 0, 1]);
+    let last = Host::V6([0, 0, 0, 0, 0, 0, 0, 0, 0, 0, 0, 0, 0, 0, 0, 1]);
+    assert!(rt; names(rt.alloc(), b"PORT 127,0,0,1,007,138", at(local, 1930)));
+    assert!(rt; names(rt.alloc(), b"EPRT |2|::1|1930|", at(last, 1930)));
 }
 
 /// Whether `write` says that no line stands for the command, and leaves the vector as it was.
@@ -209,14 +207,8 @@ fn texts_that_no_line_stands_for(rt: HostRuntime) {
 
 #[test]
 fn values_that_no_line_stands_for(rt: HostRuntime) {
-    let v6 = Endpoint {
-        host: Host::V6([0; 16]),
-        port: 1,
-    };
-    let none = Endpoint {
-        host: Host::V4([1, 2, 3, 4]),
-        port: 0,
-    };
+    let v6 = at(Host::V6([0; 16]), 1);
+    let none = at(Host::V4([1, 2, 3, 4]), 0);
     let most = 1_000_000_000_000_000_000;
     assert!(rt; has_no_line(rt.alloc(), Command::Port(v6)));
     assert!(rt; has_no_line(rt.alloc(), Command::Eprt(none)));
