@@ -32,7 +32,7 @@ pub fn can_be_sent<A: Allocator>(op: &Op<Text<A>>) -> bool
 fn is_path_text(text: &[u8]) -> bool
     ensures { result ≡ is_path_text text.now }
 {
-    ftp_tree::is_path_text(text)
+    ftp_path::is_path_text(text)
 }
 
 fn is_optional_text(text: &[u8]) -> bool
