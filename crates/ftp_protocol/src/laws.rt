@@ -3,7 +3,7 @@ ghost use Rattle.ftp_protocol.specs.Ear.{AnswerIsDropped, EarGivesEvents, LineIs
 ghost use Rattle.ftp_protocol.specs.Decoder.{DecodesWhatIsSettled, WireGivesFile, MarkedWireGivesFile, FrontGivesFront, MarkedFrontGivesFront};
 ghost use Rattle.ftp_protocol.specs.client.InFlight as client;
 ghost use Rattle.ftp_protocol.specs.server.InFlight as server;
-ghost use Rattle.ftp_protocol.specs.server.Machine.{OneReading, ReadsStated};
+ghost use Rattle.ftp_protocol.specs.server.Machine.{OneReading, ReadingExists, ReadsStated};
 
 use ftp_nvt::Ear;
 use std::alloc::Allocator;
@@ -27,8 +27,9 @@ pub fn decoder()
     ensures marked_front { MarkedFrontGivesFront }
 {}
 
-/// Lines are read in one way, and the line of a command as that command.
+/// Lines are read, in one way, and the line of a command as that command.
 pub fn reading()
+    ensures exists { ReadingExists }
     ensures one { OneReading }
     ensures stated { ReadsStated }
 {}

@@ -173,6 +173,10 @@ Reading = List ℕ → Heard (List ℕ)
 abbrev pub IsReading : Reading → Type 0
 IsReading read = (text : List ℕ) → IsRead text (read text)
 
+-- there is one: each text says a command, or is refused
+abbrev pub ReadingExists : Type 0
+ReadingExists = (read : Reading) × IsReading read
+
 -- two of them read alike, and each reads the line of a command as that command
 abbrev pub OneReading : Type 0
 OneReading = (read other : Reading) (text : List ℕ) → IsReading read → IsReading other → read text ≡ other text

@@ -1,5 +1,9 @@
+use Rattle.ftp_protocol.proofs.LinesDecided.{reading_exists}
 use Rattle.ftp_protocol.proofs.ReadingLemmas.{one_reading, reads_stated}
 use Rattle.ftp_protocol.proofs.laws.reading.Goals as goal
+
+pub returns-clause-exists : goal.returns-clause-exists
+returns-clause-exists c = reading_exists
 
 pub returns-clause-one : goal.returns-clause-one
 returns-clause-one c = one_reading
