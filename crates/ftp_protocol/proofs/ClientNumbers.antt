@@ -20,7 +20,7 @@ given_is false x y is = absurd (let e : false ≡ true = ap is_some is in cc)
 pub is_given : {X : Type 0} (holds : Bool) (x : X) → holds ≡ true → given holds x ≡ Some x
 is_given holds x is = rw is refl
 
-both : (a b : Bool) → (a && b) ≡ true → (a ≡ true) × (b ≡ true)
+pub both : (a b : Bool) → (a && b) ≡ true → (a ≡ true) × (b ≡ true)
 both true b is = (refl, is)
 both false b is = absurd (let e : false ≡ true = is in cc)
 
@@ -40,7 +40,7 @@ pub digits_all : (text : List ℕ) → AllDigits 10 text → list_all is_ascii_d
 digits_all [] all = refl
 digits_all (c ∷ text) all = and_both _ _ (is_digit c all.0) (digits_all text all.1)
 
-at_most : (n m : ℕ) → nat_le n m ≡ true → n ≤ m
+pub at_most : (n m : ℕ) → nat_le n m ≡ true → n ≤ m
 at_most n m is = grind (arith, nat_tests)
 
 pub is_at_most : (n m : ℕ) → n ≤ m → nat_le n m ≡ true

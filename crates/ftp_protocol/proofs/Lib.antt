@@ -4,6 +4,7 @@ pub mod ClientCalls
 pub mod ClientGiving
 pub mod ClientNumbers
 pub mod ClientRows
+pub mod ClientTexts
 pub mod CommandsInFlight
 pub mod DecoderLemmas
 pub mod Deciding
@@ -20,5 +21,6 @@ pub mod RowNumbers
 pub mod ServerBounds
 pub mod ServerRows
 pub mod ServerUploads
+pub mod ValueLemmas
 pub mod WireLemmas
 pub mod WorldRows

@@ -1,7 +1,13 @@
 //! Laws of the functions by which a client reads replies: functions that do nothing, whose contracts are laws of `specs/client`.
-ghost use Rattle.ftp_protocol.specs.client.Laws.{NumberIsRead};
+ghost use Rattle.ftp_protocol.specs.client.Laws.{MarkIsRead, NumberIsRead, QuotedIsRead};
 
 /// A number is read just where the text says one.
 pub fn number()
     ensures { NumberIsRead }
+{}
+
+/// A marker's number, and a path in double quotes, are read just where the text says one.
+pub fn texts()
+    ensures mark { MarkIsRead }
+    ensures path { QuotedIsRead }
 {}

@@ -1,0 +1,8 @@
+use Rattle.ftp_protocol.proofs.ClientTexts.{mark_is_read, quoted_is_read}
+use Rattle.ftp_protocol.proofs.client_laws.texts.Goals as goal
+
+pub returns-clause-mark : goal.returns-clause-mark
+returns-clause-mark c = mark_is_read
+
+pub returns-clause-path : goal.returns-clause-path
+returns-clause-path c = quoted_is_read
