@@ -1,8 +1,10 @@
 pub mod AgreementLemmas
 pub mod ClientBounds
 pub mod ClientCalls
+pub mod ClientEndpoints
 pub mod ClientGiving
 pub mod ClientNumbers
+pub mod ClientPassive
 pub mod ClientRows
 pub mod ClientTexts
 pub mod CommandsInFlight

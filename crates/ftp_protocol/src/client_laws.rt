@@ -1,5 +1,5 @@
 //! Laws of the functions by which a client reads replies: functions that do nothing, whose contracts are laws of `specs/client`.
-ghost use Rattle.ftp_protocol.specs.client.Laws.{MarkIsRead, NumberIsRead, QuotedIsRead};
+ghost use Rattle.ftp_protocol.specs.client.Laws.{ExtendedIsRead, MarkIsRead, NumberIsRead, PassiveIsRead, QuotedIsRead};
 
 /// A number is read just where the text says one.
 pub fn number()
@@ -10,4 +10,10 @@ pub fn number()
 pub fn texts()
     ensures mark { MarkIsRead }
     ensures path { QuotedIsRead }
+{}
+
+/// The endpoint of a 227 and the port of a 229 are read just where the text names one.
+pub fn endpoints()
+    ensures six { PassiveIsRead }
+    ensures port { ExtendedIsRead }
 {}
