@@ -18,6 +18,7 @@ pub mod LinesDecided
 pub mod ReaderLemmas
 pub mod ReadingLemmas
 pub mod RepliesInFlight
+pub mod ReplyLines
 pub mod RestLemmas
 pub mod RowNumbers
 pub mod ServerBounds

@@ -141,7 +141,7 @@ code_value code is =
     let c = digit (code % 10) (omega arith) in
     rw (a, b, c) (omega arith)
 
-code_is_read : (code : ℕ) → IsCode code → number_within 3 100 599 (code_text code) ≡ Some code
+pub code_is_read : (code : ℕ) → IsCode code → number_within 3 100 599 (code_text code) ≡ Some code
 code_is_read code is =
     let value = code_value code is in
     let a = digit (code / 100) (omega (arith, is.high)) in
@@ -156,7 +156,7 @@ code_is_read code is =
     } in
     is_given _ (digits_value 10 (code_text code)) (says_within 3 100 599 (code_text code) w) ∙ ap Some value
 
-test_within : (texts : List Text) → AreWithin texts → are_within texts ≡ true
+pub test_within : (texts : List Text) → AreWithin texts → are_within texts ≡ true
 test_within texts is = and_both _ _ (is_at_most (length texts) 64 is.count) (is_at_most _ 8192 is.octets)
 
 front_within : (xs ys : List Text) → AreWithin (xs ++ ys) → AreWithin xs
@@ -170,7 +170,7 @@ opening : (code : ℕ) (text : Text) → IsCode code → AreWithin (text ∷ [])
 unfolding line_heard
 opening code text is within = rw (code_is_read code is, test_within (text ∷ []) within) refl
 
-begins_last : (code : ℕ) (text : Text) → is_last code (last_line code text) ≡ true
+pub begins_last : (code : ℕ) (text : Text) → is_last code (last_line code text) ≡ true
 begins_last code text =
     (starts_is Decides-eqb (last_line code text) (code_text code ++ 32 ∷ []) (is_last code (last_line code text)) refl).1 text refl
 

@@ -1,5 +1,5 @@
 //! Laws of the functions by which a client reads replies: functions that do nothing, whose contracts are laws of `specs/client`.
-ghost use Rattle.ftp_protocol.specs.client.Laws.{ExtendedIsRead, MarkIsRead, NumberIsRead, PassiveIsRead, QuotedIsRead};
+ghost use Rattle.ftp_protocol.specs.client.Laws.{ExtendedIsRead, LineIsHeard, MarkIsRead, NumberIsRead, PassiveIsRead, QuotedIsRead};
 
 /// A number is read just where the text says one.
 pub fn number()
@@ -16,4 +16,9 @@ pub fn texts()
 pub fn endpoints()
     ensures six { PassiveIsRead }
     ensures port { ExtendedIsRead }
+{}
+
+/// What a line gives is what it is: a part of a reply, its end, or neither, or that a limit is passed.
+pub fn lines()
+    ensures { LineIsHeard }
 {}
