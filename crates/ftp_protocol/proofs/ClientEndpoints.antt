@@ -1,9 +1,9 @@
 -- The endpoint and the port that a reply's text names, as the client reads them.
-use Rattle.std.proofs.Common.{◌≡◌, ◌≢◌, ℕ, zero, suc, ◌+◌, ◌-◌, ◌*◌, ◌<◌, ◌≤◌, ◌⊎◌, inl, inr, List, [], ◌∷◌, ◌++◌, Bool, true, false, not, ◌==◌, ◌&&◌, Option, Some, None, refl, sym, ap, subst, ◌∙◌, arith, length, take, drop, eqb-true, eq-eqb}
-use Rattle.std.specs.Prelude.{nat_eq, IsTrue}
+use Rattle.std.proofs.Common.{◌≡◌, ℕ, zero, suc, ◌<◌, List, [], ◌∷◌, ◌++◌, Bool, true, false, not, ◌==◌, ◌&&◌, Option, Some, None, refl, sym, ap, subst, ◌∙◌, arith, length, take, drop, eqb-true, eq-eqb}
+use Rattle.std.specs.Prelude.{nat_eq}
 use Rattle.std.specs.Char.{is_ascii_digit}
 use Rattle.std.specs.List.{starts_with, prefix_len}
-use Rattle.std.specs.Option.{option_or, is_some, unwrap_or}
+use Rattle.std.specs.Option.{option_or, is_some}
 use Rattle.std.specs.Str.Parse.{digits_value}
 use Rattle.std.proofs.Math.Seq.{take-append_seam}
 use Rattle.std.proofs.lemmas.Bool.Decides.{Decides-eqb}
@@ -12,10 +12,9 @@ use Rattle.ftp_endpoint.specs.Endpoint.{IsDelimiter, ClosesWithPort, BeginsWithP
 use Rattle.ftp_endpoint.specs.Number.{IsPort, SaysPort, front_digits, behind_digits}
 use Rattle.ftp_endpoint.proofs.EndpointLemmas.{closes}
 use Rattle.ftp_endpoint.proofs.NumberLemmas.{run_before}
-use Rattle.ftp_framer.specs.Marker.{is_marker_octet}
 use Rattle.ftp_reply.specs.Values.{HasPortAt, NamesPort}
 use Rattle.ftp_protocol.specs.client.Laws.{ExtendedIsRead}
-use Rattle.ftp_protocol.specs.client.Values.{given, and_then, number_within, is_delimiter, port_closed, port_in_front, extended_value}
+use Rattle.ftp_protocol.specs.client.Values.{given, number_within, is_delimiter, port_closed, port_in_front, extended_value}
 use Rattle.ftp_protocol.proofs.ClientNumbers.{Within, given_is, is_given, both, and_both, at_most, is_at_most, within_says, says_within}
 use Rattle.ftp_protocol.proofs.ValueLemmas.{then_is, is_then}
 

@@ -1,9 +1,8 @@
 -- What a reply's text says of markers and paths, as the client reads it.
-use Rattle.std.proofs.Common.{◌≡◌, ◌≢◌, ℕ, ◌+◌, ◌<◌, ◌≤◌, ◌⊎◌, inl, inr, List, [], ◌∷◌, ◌++◌, Bool, true, false, not, ◌==◌, ◌&&◌, Option, Some, None, All, refl, sym, ap, subst, ◌∙◌, arith, length, append_assoc, eqb-true, ne_eqb}
-use Rattle.std.specs.Prelude.{codes, nat_le}
+use Rattle.std.proofs.Common.{◌≡◌, ◌≢◌, ℕ, ◌≤◌, ◌⊎◌, inl, inr, List, [], ◌∷◌, ◌++◌, Bool, true, false, Option, Some, None, All, refl, sym, ap, subst, ◌∙◌, arith, length, eqb-true, ne_eqb}
+use Rattle.std.specs.Prelude.{codes}
 use Rattle.std.specs.List.{before_first, after_first, list_all, list_any}
 use Rattle.std.specs.Option.{option_map, is_some, unwrap_or}
-use Rattle.std.proofs.lemmas.Bool.Decides.{nat_tests}
 use Rattle.std.proofs.lemmas.List.Elements.{All-nil, All-cons, All-head, All-tail}
 use Rattle.ftp_endpoint.specs.Number.{SaysNumber}
 use Rattle.ftp_framer.specs.Marker.{is_marker_octet}

@@ -1,11 +1,11 @@
 -- A reading of lines exists: of each line it is decided whether it says a command, and which, and if none, how it is refused.
-use Rattle.std.proofs.Common.{◌≡◌, ◌≢◌, ℕ, ◌≤◌, ◌⊎◌, inl, inr, List, [], ◌∷◌, Bool, true, Option, Some, None, refl, sym, ap, subst, ◌∙◌, length, map}
+use Rattle.std.proofs.Common.{◌≡◌, ◌≢◌, ℕ, ◌≤◌, ◌⊎◌, inl, inr, List, [], ◌∷◌, true, Option, Some, None, refl, sym, ap, subst, ◌∙◌, length, map}
 use Rattle.std.specs.Prelude.{codes}
 use Rattle.std.specs.Char.{to_ascii_lowercase, is_ascii_alphabetic}
 use Rattle.std.specs.List.{list_all}
 use Rattle.std.specs.Str.Parse.{digits_value}
-use Rattle.ftp_command.specs.Argument.{IsBlank, is_space, IsName, IsPassword, is_name_octet, IsPath, is_path_octet, SaysPathOrNone, SaysTextOrNone, SaysPassive, IsOtherFamily, SaysLocal, SaysKind, SaysEbcdic, IsOtherName, IsOtherKind, SaysStructure, IsOtherStructure, SaysMode, IsOtherMode, SaysLongest, SaysSizes, argument, trimmed, without_options, word}
-use Rattle.ftp_command.specs.Command.{verb_of, Argues, Says, IsNotDone, IsOtherParameter, IsOtherNetwork, Declined, Refuses}
+use Rattle.ftp_command.specs.Argument.{IsBlank, is_space, IsName, IsPassword, is_name_octet, IsPath, is_path_octet, SaysPathOrNone, SaysTextOrNone, SaysPassive, IsOtherFamily, SaysLocal, SaysKind, SaysEbcdic, IsOtherKind, SaysStructure, SaysMode, SaysLongest, SaysSizes, argument, trimmed, without_options, word}
+use Rattle.ftp_command.specs.Command.{verb_of, Argues, IsNotDone, IsOtherParameter, IsOtherNetwork}
 use Rattle.ftp_command.specs.Verb.{letters, old_letters, SameLetters, Names}
 use Rattle.ftp_command.specs.declared.command.Command.{Command}
 use Rattle.ftp_command.specs.declared.command.Command.TheVariants as command
@@ -17,7 +17,6 @@ use Rattle.ftp_command.specs.declared.command.Passive.{Passive}
 use Rattle.ftp_command.specs.declared.command.Passive.TheVariants.{Any, Ipv4, Ipv6, Only}
 use Rattle.ftp_command.specs.declared.command.Structure.{Structure}
 use Rattle.ftp_command.specs.declared.command.Structure.TheVariants.{File, Record}
-use Rattle.ftp_command.specs.declared.fault.CommandFault.{CommandFault}
 use Rattle.ftp_command.specs.declared.fault.CommandFault.TheVariants as fault
 use Rattle.ftp_command.specs.declared.verb.Verb.{Verb}
 use Rattle.ftp_command.specs.declared.verb.Verb.TheVariants as verb
@@ -25,9 +24,9 @@ use Rattle.ftp_endpoint.specs.Endpoint.{SaysSix}
 use Rattle.ftp_endpoint.specs.Host.{SaysExtended}
 use Rattle.ftp_endpoint.specs.Number.{SaysNumber, front_digits, behind_digits}
 use Rattle.ftp_endpoint.specs.declared.endpoint.Endpoint.{Endpoint}
-use Rattle.ftp_protocol.specs.server.Machine.{IsRead, Reading, IsReading, ReadingExists}
+use Rattle.ftp_protocol.specs.server.Machine.{IsRead, ReadingExists}
 use Rattle.ftp_protocol.specs.declared.heard.Heard.{Heard}
-use Rattle.ftp_protocol.specs.declared.heard.Heard.TheVariants.{TooLong, Bad, Asks}
+use Rattle.ftp_protocol.specs.declared.heard.Heard.TheVariants.{Bad, Asks}
 use Rattle.ftp_protocol.proofs.Deciding.{Decided, yes_if, and_then, and_both, or_else, unless, never, is_true, at_most, same_number, same_text}
 use Rattle.ftp_protocol.proofs.EndpointsDecided.{six, extended, other_protocol, some_value, this_value}
 

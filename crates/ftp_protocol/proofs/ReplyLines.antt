@@ -1,9 +1,8 @@
 -- The lines of replies, as the client gathers them.
-use Rattle.std.proofs.Common.{◌≡◌, ◌≢◌, ℕ, ◌+◌, ◌*◌, ◌-◌, ◌/◌, ◌%◌, ◌<◌, ◌≤◌, ◌⊎◌, inl, inr, List, [], ◌∷◌, ◌++◌, Bool, true, false, ◌==◌, ◌&&◌, Option, Some, None, All, refl, sym, ap, subst, ◌∙◌, arith, length, take, drop, eqb-true, ne_eqb}
-use Rattle.std.specs.Prelude.{nat_eq, if◌then◌else◌}
+use Rattle.std.proofs.Common.{◌≡◌, ℕ, ◌+◌, ◌/◌, ◌%◌, ◌<◌, ◌⊎◌, inl, inr, List, [], ◌∷◌, ◌++◌, Bool, true, false, ◌==◌, Option, Some, None, refl, sym, ap, ◌∙◌, arith, length, take, drop, eqb-true}
+use Rattle.std.specs.Prelude.{if◌then◌else◌}
 use Rattle.std.specs.Char.{digit_value}
-use Rattle.std.specs.List.{starts_with}
-use Rattle.std.specs.Option.{is_some, unwrap_or}
+use Rattle.std.specs.Option.{is_some}
 use Rattle.std.specs.Str.Parse.{AllDigits, digits_value}
 use Rattle.std.proofs.lemmas.Bool.Decides.{Decides-eqb}
 use Rattle.std.proofs.lemmas.List.Elements.{All-nil}
@@ -11,13 +10,12 @@ use Rattle.std.proofs.lemmas.Slice.Eq.{starts_is}
 use Rattle.std.proofs.lemmas.Str.{digit_value_digit}
 use Rattle.ftp_endpoint.proofs.NumberLemmas.{is_digit, digit_bounds}
 use Rattle.ftp_reply.specs.Lines.{Text, AreWithin}
-use Rattle.ftp_reply.specs.Reader.{Standing, Reading, GoesOn as ReaderGoesOn, Ends, BeginsNone, PassesLimits, lines_as_heard}
-use Rattle.ftp_reply.specs.Reply.{IsCode, code_text, last_line, opening_line, IsLast, IsOneLine, Begins, IsSeveral, IsWhole, Fits}
+use Rattle.ftp_reply.specs.Reader.{Reading, lines_as_heard}
+use Rattle.ftp_reply.specs.Reply.{IsCode, code_text, last_line, opening_line, IsLast, Begins, IsSeveral, IsWhole, Fits}
 use Rattle.ftp_reply.proofs.ReaderLemmas.{last_ends, other_goes_on, begun_as_heard}
 use Rattle.ftp_reply.proofs.ReplyLemmas.{code_once}
-use Rattle.ftp_protocol.specs.client.Laws.{standing_of, IsGathered, GivesRightly, LineIsHeard}
-use Rattle.ftp_protocol.specs.client.Replies.{Gathered, Between, Begun, Heard, GoesOn, Says, Faulty, are_within, if_within, code_in_front, first_heard, opened, is_last, next_heard, line_heard}
-use Rattle.ftp_protocol.specs.client.Values.{number_within}
+use Rattle.ftp_protocol.specs.client.Laws.{IsGathered, GivesRightly, LineIsHeard}
+use Rattle.ftp_protocol.specs.client.Replies.{Between, Begun, GoesOn, Says, Faulty, are_within, code_in_front, first_heard, opened, is_last, next_heard, line_heard}
 use Rattle.ftp_protocol.proofs.ClientNumbers.{Within, given_is, both, at_most, within_says}
 use Rattle.ftp_protocol.proofs.RepliesInFlight.{code_is_read, test_within, begins_last}
 
