@@ -3,6 +3,7 @@ pub mod ClientBounds
 pub mod ClientCalls
 pub mod ClientEndpoints
 pub mod ClientGiving
+pub mod ClientMoments
 pub mod ClientNumbers
 pub mod ClientPassive
 pub mod ClientRows

@@ -1,5 +1,5 @@
 //! Laws of the functions by which a client reads replies: functions that do nothing, whose contracts are laws of `specs/client`.
-ghost use Rattle.ftp_protocol.specs.client.Laws.{ExtendedIsRead, LineIsHeard, MarkIsRead, NumberIsRead, PassiveIsRead, QuotedIsRead};
+ghost use Rattle.ftp_protocol.specs.client.Laws.{ExtendedIsRead, LineIsHeard, MarkIsRead, MomentIsRead, NumberIsRead, PassiveIsRead, QuotedIsRead};
 
 /// A number is read just where the text says one.
 pub fn number()
@@ -21,4 +21,9 @@ pub fn endpoints()
 /// What a line gives is what it is: a part of a reply, its end, or neither, or that a limit is passed.
 pub fn lines()
     ensures { LineIsHeard }
+{}
+
+/// A moment is read just where the text says one.
+pub fn moment()
+    ensures { MomentIsRead }
 {}
