@@ -27,7 +27,7 @@ octet_read digits n says =
     let w : Within 3 0 255 digits = record { some = is.0.0; short = is.1; all = is.0.1; least = omega arith; greatest = is.2 } in
     is_given _ (digits_value 10 digits) (says_within 3 0 255 digits w) ∙ ap Some (sym says.1)
 
-map_is : {X Y : Type 0} (f : X → Y) (o : Option X) (y : Y) → option_map f o ≡ Some y → (x : X) × (o ≡ Some x) × (f x ≡ y)
+pub map_is : {X Y : Type 0} (f : X → Y) (o : Option X) (y : Y) → option_map f o ≡ Some y → (x : X) × (o ≡ Some x) × (f x ≡ y)
 map_is f None y e = absurd (let b : false ≡ true = ap is_some e in cc)
 map_is f (Some x) y e = (x, refl, ap (λ o. unwrap_or o (f x)) e)
 

@@ -2,6 +2,7 @@ pub mod AgreementLemmas
 pub mod ClientBounds
 pub mod ClientCalls
 pub mod ClientEndpoints
+pub mod ClientEntries
 pub mod ClientGiving
 pub mod ClientMoments
 pub mod ClientNumbers

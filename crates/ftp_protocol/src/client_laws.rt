@@ -1,5 +1,5 @@
 //! Laws of the functions by which a client reads replies: functions that do nothing, whose contracts are laws of `specs/client`.
-ghost use Rattle.ftp_protocol.specs.client.Laws.{ExtendedIsRead, LineIsHeard, MarkIsRead, MomentIsRead, NumberIsRead, PassiveIsRead, QuotedIsRead};
+ghost use Rattle.ftp_protocol.specs.client.Laws.{EntryIsRead, ExtendedIsRead, LineIsHeard, MarkIsRead, MomentIsRead, NumberIsRead, PassiveIsRead, QuotedIsRead};
 
 /// A number is read just where the text says one.
 pub fn number()
@@ -26,4 +26,9 @@ pub fn lines()
 /// A moment is read just where the text says one.
 pub fn moment()
     ensures { MomentIsRead }
+{}
+
+/// An entry is read just where a line says one.
+pub fn entry()
+    ensures { EntryIsRead }
 {}
