@@ -15,6 +15,7 @@ use Rattle.ftp_protocol.specs.declared.session.Link.TheVariants as At
 use Rattle.ftp_protocol.specs.declared.session.Transfer.TheVariants as Moves
 use Rattle.ftp_protocol.proofs.LineInFlight.{Closes, unended, line_closes, written_is, front_of_front, front_says, answer_is_dropped}
 use Rattle.ftp_protocol.proofs.ReadingLemmas.{reads_stated}
+use Rattle.ftp_protocol.proofs.StatedLines.{stated_is_line}
 
 -- ---- octets of which nothing is said
 
@@ -104,8 +105,8 @@ pub line_is_heard : LineIsHeard
 line_is_heard read text v is rest = hears_line read text v is rest
 
 pub command_is_heard : CommandIsHeard
-command_is_heard read command v reads typed stated is rest =
-    (hears_line read (line_of command) v is rest).whole ∙ ap (λ heard. heard_line heard v) (reads_stated read command reads typed stated)
+command_is_heard read command v reads typed stated rest =
+    (hears_line read (line_of command) v (stated_is_line command typed stated) rest).whole ∙ ap (λ heard. heard_line heard v) (reads_stated read command reads typed stated)
 
 answer_dropped : (read : Reading) (v : View) (octets : List ℕ) → v.ear ≡ quiet → gives (ear line_limit) quiet octets ≡ []
     → after (ear line_limit) quiet octets ≡ quiet → hears read v octets ≡ v

@@ -45,6 +45,7 @@ pub fn in_flight()
 pub fn commands_in_flight()
     ensures pieces { server.HeardInPieces }
     ensures line { server.LineIsHeard }
+    ensures stated { server.StatedIsLine }
     ensures command { server.CommandIsHeard }
     ensures answer { server.AnswerIsDropped }
     ensures ear { server.LineLeavesEar }

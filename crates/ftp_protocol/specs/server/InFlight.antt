@@ -30,11 +30,15 @@ pub record HearsLine (read : Reading) (text : List ℕ) (v : View) : Type 0 wher
 abbrev pub LineIsHeard : Type 0
 LineIsHeard = (read : Reading) (text : List ℕ) (v : View) → IsLine text → v.ear ≡ quiet → HearsLine read text v
 
+-- each command that has a line has one that a control connection can carry
+abbrev pub StatedIsLine : Type 0
+StatedIsLine = (command : Command (List ℕ)) → IsTyped command → IsStated command → IsLine (line_of command)
+
 -- so the line of a command is heard as that command
 abbrev pub CommandIsHeard : Type 0
 CommandIsHeard =
-    (read : Reading) (command : Command (List ℕ)) (v : View) → IsReading read → IsTyped command → IsStated command → IsLine (line_of command)
-    → v.ear ≡ quiet → hears read v (written_line (line_of command)) ≡ heard_line (Asks command) v
+    (read : Reading) (command : Command (List ℕ)) (v : View) → IsReading read → IsTyped command → IsStated command → v.ear ≡ quiet
+    → hears read v (written_line (line_of command)) ≡ heard_line (Asks command) v
 
 -- an answer to a Telnet octet changes nothing
 abbrev pub AnswerIsDropped : Type 0
