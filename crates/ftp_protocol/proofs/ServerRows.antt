@@ -16,8 +16,8 @@ use Rattle.ftp_protocol.specs.server.Listing.{listing_wire, list_lines, list_lin
 use Rattle.ftp_facts.specs.Calendar.{year_and_place, month_and_place}
 use Rattle.ftp_facts.specs.Moment.{four_digits}
 use Rattle.ftp_protocol.specs.server.Machine.{obeyed, completed, turned, owes, with_session}
-use Rattle.ftp_protocol.specs.server.Calls.{listening, listen_refused, data_opened, data_refused, gives_data, to_give, wants}
-use Rattle.ftp_protocol.specs.server.Rows.{Event, behind, member, here, elsewhere, at, of, asks, opened, refused, Login, WrongPassword, Order, OnlyExtended, ForeignEndpoint, RefusedOpening, RefusedListen, ForeignOpener, Rename, LateRename, ActiveDownload, Restart, LateRestart, Listing, EarlyAbort, WaitingLine}
+use Rattle.ftp_protocol.specs.server.Calls.{gives_control, listening, listen_refused, data_opened, data_refused, gives_data, to_give, wants}
+use Rattle.ftp_protocol.specs.server.Rows.{Event, behind, member, here, elsewhere, at, of, asks, opened, refused, Login, WrongPassword, Order, OnlyExtended, Reinitialized, Quit, ByFamily, ForeignEndpoint, RefusedOpening, RefusedListen, ForeignOpener, Rename, LateRename, ActiveDownload, Restart, LateRestart, Listing, EarlyAbort, WaitingLine}
 use Rattle.ftp_protocol.specs.declared.session.Once.TheVariants as Onces
 use Rattle.ftp_protocol.specs.declared.session.Link.TheVariants as At
 use Rattle.ftp_protocol.specs.declared.session.Transfer.TheVariants as Moves
@@ -38,6 +38,18 @@ order table = refl
 pub only_extended : OnlyExtended
 unfolding obeyed is_known
 only_extended table = refl
+
+pub reinitialized : Reinitialized
+unfolding obeyed is_known
+reinitialized table = refl
+
+pub quit : Quit
+unfolding obeyed is_known gives_control
+quit table = (refl, refl, refl, refl)
+
+pub by_family : ByFamily
+unfolding obeyed is_known
+by_family table = (refl, refl, refl)
 
 pub refused_listen : RefusedListen
 unfolding obeyed is_known listen_refused

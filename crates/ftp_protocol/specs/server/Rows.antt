@@ -1,6 +1,6 @@
 -- Worked rows: what a server says, does to its map and sends, line by line and event by event. Each is a theorem that
 -- computes. The accounts are `guest` with password `secret`, and `anonymous` without one; both hosts are 127.0.0.1.
-use Rattle.std.specs.Prelude.{◌≡◌, ℕ, true, List, [], ◌∷◌, ◌++◌, Some, None, codes}
+use Rattle.std.specs.Prelude.{◌≡◌, ℕ, true, false, length, List, [], ◌∷◌, ◌++◌, Some, None, codes}
 use Rattle.std.specs.List.{flat_map}
 use Rattle.ftp_nvt.specs.Lines.{written_line}
 use Rattle.ftp_command.specs.declared.command.Command.{Command}
@@ -15,8 +15,8 @@ use Rattle.ftp_endpoint.specs.declared.host.Host.TheVariants.{V4}
 use Rattle.ftp_path.specs.Path.{Names}
 use Rattle.ftp_tree.specs.Tree.{Dir, File, Table, node_at, children, installed, moved, moves_fit, room_at}
 use Rattle.ftp_protocol.specs.server.View.{Accounts, View}
-use Rattle.ftp_protocol.specs.server.Machine.{heard_line}
-use Rattle.ftp_protocol.specs.server.Calls.{start, listening, listen_refused, data_opened, data_refused, receives, gives_data, data_end, data_fault, data_closed, to_give, wants}
+use Rattle.ftp_protocol.specs.server.Machine.{heard_line, may_hear}
+use Rattle.ftp_protocol.specs.server.Calls.{start, gives_control, listening, listen_refused, data_opened, data_refused, receives, gives_data, data_end, data_fault, data_closed, to_give, wants}
 use Rattle.ftp_protocol.specs.declared.link.Wants.TheVariants as Want
 use Rattle.ftp_protocol.specs.declared.heard.Heard.{Heard}
 use Rattle.ftp_protocol.specs.declared.heard.Heard.TheVariants.{TooLong, Bad, Asks}
@@ -114,6 +114,18 @@ OnlyExtended =
     ≡ greeted (codes "200 Only EPSV from now on" ∷ codes "503 Bad sequence" ∷ codes "503 Bad sequence"
     ∷ codes "522 Network protocol not supported, use (1,2)" ∷ [])
 
+-- REIN: nobody is logged in any more (RFC 959, section 4.1.1)
+abbrev pub Reinitialized : Type 0
+Reinitialized =
+    (table : Table) → (member table (asks command.Rein ∷ asks command.Pwd ∷ [])).owed ≡ greeted (codes "220 Ready" ∷ codes "530 Not logged in" ∷ [])
+
+-- QUIT: nothing is heard behind it, and the connection is closed once the reply is out
+abbrev pub Quit : Type 0
+Quit =
+    (table : Table)
+    → let v = member table (asks command.Quit ∷ []) in
+    (v.owed ≡ greeted (codes "221 Goodbye" ∷ [])) × (may_hear v ≡ false) × (wants v ≡ Want.Nothing) × (wants (gives_control (length v.owed) v) ≡ Want.CloseAll)
+
 -- ---- endpoints
 
 -- one on another host is refused, and the one that stood is forgotten
@@ -122,6 +134,14 @@ ForeignEndpoint =
     (table : Table) → node_at table [] ≡ Some Dir
     → (member table (asks (command.Port (at here)) ∷ asks (command.Port (at elsewhere)) ∷ asks (command.List None) ∷ [])).owed
     ≡ greeted (codes "200 Endpoint taken" ∷ codes "504 Parameter not implemented" ∷ codes "425 No data connection" ∷ [])
+
+-- EPSV by the number of a family: only that of the control connection (RFC 2428, section 3)
+abbrev pub ByFamily : Type 0
+ByFamily =
+    (table : Table)
+    → ((member table (asks (command.Epsv Families.Ipv6) ∷ [])).owed ≡ greeted (codes "522 Network protocol not supported, use (1)" ∷ []))
+    × (wants (member table (asks (command.Epsv Families.Ipv6) ∷ [])) ≡ Want.Nothing)
+    × (wants (member table (asks (command.Epsv Families.Ipv4) ∷ [])) ≡ Want.Listen)
 
 -- 425: no port to listen at
 abbrev pub RefusedListen : Type 0
