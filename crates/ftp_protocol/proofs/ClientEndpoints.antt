@@ -16,7 +16,7 @@ use Rattle.ftp_reply.specs.Values.{HasPortAt, NamesPort}
 use Rattle.ftp_protocol.specs.client.Laws.{ExtendedIsRead}
 use Rattle.ftp_protocol.specs.client.Values.{given, number_within, is_delimiter, port_closed, port_in_front, extended_value}
 use Rattle.ftp_protocol.proofs.ClientNumbers.{Within, given_is, is_given, both, and_both, at_most, is_at_most, within_says, says_within}
-use Rattle.ftp_protocol.proofs.ValueLemmas.{then_is, is_then}
+use Rattle.ftp_protocol.proofs.ValueLemmas.{drop_front, then_is, is_then}
 
 -- ---- ports
 
@@ -52,10 +52,6 @@ closed_says d text port e =
     let starts = (starts_is Decides-eqb (behind_digits text) (d ∷ 41 ∷ []) (starts_with nat_eq (behind_digits text) (d ∷ 41 ∷ [])) refl).0 first.0 in
     let P : List ℕ → Type 0 = λ l. SaysPort l port in
     closes d text port (drop 2 (behind_digits text)) starts (subst P (sym first.1) (says_port step.0 port step.2))
-
-drop_front : (front rest : List ℕ) → drop (length front) (front ++ rest) ≡ rest
-drop_front [] rest = refl
-drop_front (c ∷ front) rest = drop_front front rest
 
 says_closed : (d : ℕ) (text : List ℕ) (port : ℕ) → is_ascii_digit d ≡ false → ClosesWithPort d text port → port_closed d text ≡ Some port
 says_closed d text port other c =

@@ -13,7 +13,7 @@ use Rattle.ftp_protocol.specs.declared.heard.Heard.{Heard}
 use Rattle.ftp_protocol.specs.declared.session.Link.{Link}
 use Rattle.ftp_protocol.specs.declared.session.Link.TheVariants as At
 use Rattle.ftp_protocol.specs.declared.session.Transfer.TheVariants as Moves
-use Rattle.ftp_protocol.proofs.LineInFlight.{Closes, unended, line_closes, written_is, front_of_front, front_says, answer_is_dropped}
+use Rattle.ftp_protocol.proofs.LineInFlight.{no_more, Closes, unended, line_closes, written_is, front_of_front, front_says, answer_is_dropped}
 use Rattle.ftp_protocol.proofs.ReadingLemmas.{reads_stated}
 use Rattle.ftp_protocol.proofs.StatedLines.{stated_is_line}
 
@@ -25,10 +25,6 @@ in_pieces read v (octet ∷ front) back = in_pieces read (hears_octet read v oct
 
 abbrev with_ear : Ear → View → View
 with_ear e v = record v { ear = e }
-
-no_more : {X : Type 0} (xs ys : List X) → xs ++ ys ≡ [] → (xs ≡ []) × (ys ≡ [])
-no_more [] ys e = (refl, e)
-no_more (x ∷ xs) ys e = absurd (let f : x ∷ (xs ++ ys) ≡ [] = e in cc)
 
 -- they change the ear alone
 silence : (read : Reading) (v : View) (octets : List ℕ) → gives (ear line_limit) v.ear octets ≡ []

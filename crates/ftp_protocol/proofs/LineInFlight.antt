@@ -7,10 +7,10 @@ use Rattle.std.proofs.lemmas.List.Sums.{sum_by-cons}
 use Rattle.ftp_nvt.specs.Lines.{NvtEvent, line, Lacks, written_octet, written_line}
 use Rattle.ftp_nvt.specs.Telnet.{data_octet, unit_ended, place_behind, bare_of}
 use Rattle.ftp_nvt.specs.declared.line.Stage.TheVariants.{Inside, AfterReturn}
-use Rattle.ftp_nvt.specs.declared.telnet.Place.{Place}
 use Rattle.ftp_nvt.specs.declared.telnet.Place.TheVariants as At
 use Rattle.ftp_nvt.proofs.CutLemmas.{decided}
 use Rattle.ftp_repr.specs.Machine.{IsFront, after, gives}
+use Rattle.ftp_protocol.proofs.ReaderLemmas.{same_ear}
 use Rattle.ftp_repr.proofs.MachineLemmas.{after-append, gives-append, gives-front}
 use Rattle.ftp_protocol.specs.Ear.{Ear, Unfinished, quiet, no_line, within_step, within_out, line_step, line_out, liner, unit_says, ear, ear_step, ear_out, line_len, LineIsHeard, AnswerIsDropped}
 
@@ -39,9 +39,6 @@ keeps_both limit e f g xs ys one other = record {
   says = gives-append (ear limit) e xs ys ∙ ap (λ l. l ++ gives (ear limit) (after (ear limit) e xs) ys) one.says
       ∙ ap (λ s. gives (ear limit) s ys) one.leads ∙ other.says;
 }
-
-same_ear : (p q : Place) (u v : Unfinished) → p ≡ q → u ≡ v → (let a : Ear = record { place = p; line = u } in let b : Ear = record { place = q; line = v } in a ≡ b)
-same_ear p q u v e f i = record { place = e i; line = f i }
 
 -- an octet that is a unit by itself
 data_keeps : (limit c : ℕ) (u new : Unfinished) → (c == 255) ≡ false → line_step limit u.stage u c ≡ new → line_out limit u.stage u c ≡ []
@@ -212,6 +209,10 @@ front_of_front (c ∷ front) back (d ∷ row) octet last e =
     let head : c ≡ d = cc in
     let rest = front_of_front front back row octet last (cc) in
     (rest.0, ap (λ l. c ∷ l) rest.1 ∙ ap (λ o. o ∷ row) head)
+
+pub no_more : {X : Type 0} (xs ys : List X) → xs ++ ys ≡ [] → (xs ≡ []) × (ys ≡ [])
+no_more [] ys e = (refl, e)
+no_more (x ∷ xs) ys e = absurd (let f : x ∷ (xs ++ ys) ≡ [] = e in cc)
 
 front_of_none : {X : Type 0} (xs : List X) → IsFront xs [] → xs ≡ []
 front_of_none [] front = refl

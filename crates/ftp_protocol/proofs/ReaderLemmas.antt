@@ -62,7 +62,7 @@ leads limit at u before (c ∷ cs) h =
     let P : List ℕ → Type 0 = λ l. StandsBehind limit (after (ear limit) (record { place = at; line = u }) (c ∷ cs)).line l in
     record { place = rest.place; stands = subst P same rest.stands }
 
-same_ear : (p q : Place) (u v : Unfinished) → p ≡ q → u ≡ v → (let a : Ear = record { place = p; line = u } in let b : Ear = record { place = q; line = v } in a ≡ b)
+pub same_ear : (p q : Place) (u v : Unfinished) → p ≡ q → u ≡ v → (let a : Ear = record { place = p; line = u } in let b : Ear = record { place = q; line = v } in a ≡ b)
 same_ear p q u v e f i = record { place = e i; line = f i }
 
 pub reader_is_ear : {A : Type 0} (reader : Reader A) → ReaderIsEar reader

@@ -21,7 +21,7 @@ use Rattle.ftp_protocol.specs.client.Values.{number_within}
 use Rattle.ftp_protocol.specs.client.View.{View}
 use Rattle.ftp_protocol.proofs.ClientNumbers.{Within, is_given, and_both, is_at_most, says_within}
 use Rattle.ftp_protocol.proofs.RestLemmas.{answered_at_rest}
-use Rattle.ftp_protocol.proofs.LineInFlight.{Closes, unended, line_closes, written_is, front_of_front, front_says, answer_is_dropped}
+use Rattle.ftp_protocol.proofs.LineInFlight.{no_more, Closes, unended, line_closes, written_is, front_of_front, front_says, answer_is_dropped}
 
 -- ---- octets of which nothing is said
 
@@ -34,10 +34,6 @@ with_ear e v = record v { ear = e }
 
 abbrev with_lines : Gathered → View → View
 with_lines gathered v = record v { gathered = gathered }
-
-no_more : {X : Type 0} (xs ys : List X) → xs ++ ys ≡ [] → (xs ≡ []) × (ys ≡ [])
-no_more [] ys e = (refl, e)
-no_more (x ∷ xs) ys e = absurd (let f : x ∷ (xs ++ ys) ≡ [] = e in cc)
 
 silence : (v : View) (octets : List ℕ) → gives (ear reply_limit) v.ear octets ≡ [] → hears v octets ≡ with_ear (after (ear reply_limit) v.ear octets) v
 silence v [] none = refl

@@ -1,5 +1,5 @@
 -- No call of the server that takes no octets makes more to do.
-use Rattle.std.proofs.Common.{◌≡◌, ℕ, ◌+◌, ◌<◌, ◌≤◌, ◌⊎◌, inl, inr, List, [], ◌∷◌, ◌++◌, Bool, true, false, ◌||◌, Option, Some, None, refl, sym, ap, subst, ◌∙◌, append-nil, arith, length}
+use Rattle.std.proofs.Common.{◌≡◌, ℕ, ◌+◌, ◌<◌, ◌≤◌, ◌⊎◌, inl, inr, List, [], ◌∷◌, ◌++◌, Bool, true, false, Option, Some, None, refl, sym, ap, subst, ◌∙◌, append-nil, arith, length}
 use Rattle.std.specs.Prelude.{if◌then◌else◌}
 use Rattle.std.proofs.lemmas.List.{length-drop}
 use Rattle.ftp_protocol.specs.Link.{same_host}
@@ -17,6 +17,7 @@ use Rattle.ftp_protocol.specs.declared.session.Link.{Link}
 use Rattle.ftp_protocol.specs.declared.session.Link.TheVariants as At
 use Rattle.ftp_protocol.specs.declared.session.Transfer.TheVariants as Moves
 use Rattle.ftp_protocol.specs.declared.session.Way.TheVariants as Ways
+use Rattle.ftp_protocol.proofs.ClientBounds.{one_if, one_close}
 
 -- ---- steps one after another
 
@@ -240,9 +241,6 @@ ended_lowers step v w one (inr late) = late_lowers 0 v step w one late
 none_given : (count : ℕ) (v : View) → count ≤ 0 → Lowers count v v
 none_given count v none = record { begins = omega arith; gives = inr (omega (arith, none)) }
 
-abbrev one_if : Bool → ℕ
-one_if holds = if holds then 1 else 0
-
 -- a part of the octets of a link was given, and it still moves
 given_lowers : (count : ℕ) (v new : View) (link : Link Move) → v.session.link ≡ link → count ≤ length (given_by link) → is_standing link ≡ true → stages_left link ≡ 1
     → new.waiting ≡ v.waiting → new.owed ≡ v.owed → new.session.closing ≡ v.session.closing
@@ -325,12 +323,6 @@ gave_lowers count v w few (inl fails) = by_case (finds v)
     by_case (that e) = listing_falls count v.session.link v w refl (let P : Link Move → Type 0 = λ link. ListingFails link count v w in subst P e fails)
 
 -- ---- all calls
-
-one_close : (closing standing : Bool) → (if closing || standing then 1 else 0) ≤ (if closing then 1 else 0) + (if standing then 1 else 0)
-one_close true true = omega arith
-one_close true false = omega arith
-one_close false true = omega arith
-one_close false false = omega arith
 
 control_lowers : (count : ℕ) (v : View) → count ≤ length v.owed → Lowers count v (control_step count v)
 control_lowers count v few = record { begins = omega arith; gives = inr (omega (arith, length-drop count v.owed, few)) }

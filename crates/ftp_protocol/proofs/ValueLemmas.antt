@@ -24,7 +24,7 @@ behind_is front text rest e =
     let g = given_is (starts_with nat_eq text front) (drop (length front) text) rest e in
     (starts_is Decides-eqb text front (starts_with nat_eq text front) refl).0 g.0 ∙ ap (λ l. front ++ l) g.1
 
-drop_front : (front rest : List ℕ) → drop (length front) (front ++ rest) ≡ rest
+pub drop_front : (front rest : List ℕ) → drop (length front) (front ++ rest) ≡ rest
 drop_front [] rest = refl
 drop_front (c ∷ front) rest = drop_front front rest
 

@@ -2,7 +2,7 @@
 -- as nothing else, wherever its octets are cut (RFC 854; RFC 959, section 4.2).
 use Rattle.std.specs.Prelude.{◌≡◌, ◌≤◌, ◌<◌, ◌+◌, ℕ, List, [], ◌∷◌, ◌++◌, length}
 use Rattle.std.specs.List.{flat_map, AllByRecursion}
-use Rattle.ftp_nvt.specs.Lines.{Lacks, written_line}
+use Rattle.ftp_nvt.specs.Lines.{Lacks}
 use Rattle.ftp_nvt.specs.declared.line.TheConstants.{LF}
 use Rattle.ftp_nvt.specs.declared.telnet.TheConstants.{WONT, DONT}
 use Rattle.ftp_reply.specs.Lines.{Text, AreWithin}
@@ -12,6 +12,7 @@ use Rattle.ftp_protocol.specs.client.Calls.{reply_limit, hears, may_hear}
 use Rattle.ftp_protocol.specs.client.Dialogue.{answered}
 use Rattle.ftp_protocol.specs.client.Replies.{Gathered, Between}
 use Rattle.ftp_protocol.specs.client.View.{View}
+use Rattle.ftp_protocol.specs.server.Replies.{reply_octets}
 
 -- octets are heard alike in any pieces
 abbrev pub HeardInPieces : Type 0
@@ -40,9 +41,9 @@ pub record IsWritten (code : ℕ) (texts : List Text) : Type 0 where
   pub plain : HasPlainLines texts
   pub carried : AllByRecursion IsCarried (written code texts)
 
--- the octets that it is written as
+-- the octets that a server writes it as
 abbrev pub octets_of : ℕ → List Text → List ℕ
-octets_of code texts = flat_map written_line (written code texts)
+octets_of code texts = reply_octets (record { code = code; lines = texts })
 
 -- a reply heard between two: of a front of it nothing is answered; the whole is answered as this reply; where its first octet may
 -- be taken, all may
