@@ -6,8 +6,6 @@ mod dialogues;
 mod login;
 mod reply;
 mod session;
-#[cfg(test)]
-mod tests;
 mod text;
 
 pub use dialogues::dialogue;

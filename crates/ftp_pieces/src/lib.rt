@@ -2,7 +2,5 @@
 #![tactic(auto)]
 
 mod pieces;
-#[cfg(test)]
-mod tests;
 
 pub use pieces::{Failed, TURNS, get, put};

@@ -1,6 +1,6 @@
 // For tests: the representations.
-use crate::frames::Representation;
 use ftp_mode::Mode;
+use ftp_programs::Representation;
 use ftp_repr::{Kind, Structure};
 
 pub const IMAGE_FILE_STREAM: Representation = Representation {

@@ -1,11 +1,11 @@
 // Wires to files, whole and octet by octet, and readers, writers and allocators that fail.
-use crate::frame_tests::{ROWS, Row as FileRow};
-use crate::frames::{Direction, Representation, frame};
-use crate::test_forms::{
+use super::forms::{
     ASCII_FILE_BLOCK, ASCII_FILE_STREAM, ASCII_RECORD_BLOCK, ASCII_RECORD_STREAM, IMAGE_FILE_BLOCK,
     IMAGE_RECORD_STREAM,
 };
+use super::frames::{ROWS, Row as FileRow};
 use ftp_failing::{FailingReader, FailingWriter};
+use ftp_programs::{Direction, Representation, frame};
 use ftp_refusing::Refusing;
 use std::alloc::{Allocator, Global};
 use std::io::{Read, Write};
@@ -13,7 +13,7 @@ use std::io::{Read, Write};
 /// A wire, the file that it says or settles, and its fault, by hand from RFC 959, sections 3.1.1, 3.4.1, 3.4.2 and 3.5.
 type Row<'a> = (Representation, &'a [u8], &'a [u8], &'a [u8]);
 
-const FAULTS: [Row<'static>; 10] = [
+const FAULTS: &[Row<'static>] = &[
     (
         IMAGE_FILE_BLOCK,
         &[0x10, 0x00, 0x00],
@@ -66,7 +66,7 @@ const FAULTS: [Row<'static>; 10] = [
     (ASCII_RECORD_STREAM, &[0x61, 0x0D], b"a", b"M4 EndedEarly\n"),
 ];
 
-const FILES: [Row<'static>; 6] = [
+const FILES: &[Row<'static>] = &[
     (IMAGE_FILE_BLOCK, &[0xC0, 0x00, 0x00], &[], b""),
     (
         ASCII_FILE_BLOCK,
@@ -120,47 +120,33 @@ const PIECES: &[usize] = &[1, 2, 4096];
 
 /// Whether a wire is read as this file with this fault, whatever the pieces are.
 fn reads_as(alloc: Global, row: Row<'_>) -> bool {
-    for most in PIECES {
-        if !reads(alloc, *most, row) {
-            return false;
-        }
-    }
-    true
+    PIECES.iter().all(|most| reads(alloc, *most, row))
 }
 
 /// The number of the first wire that is read otherwise.
 fn wrong_row(alloc: Global, rows: &[Row<'static>]) -> Option<usize> {
-    for (i, row) in rows.iter().enumerate() {
-        if !reads_as(alloc, *row) {
-            return Some(i);
-        }
-    }
-    None
+    rows.iter().position(|row| !reads_as(alloc, *row))
 }
 
 #[test]
 fn faults(rt: HostRuntime) {
-    assert_eq!(rt; wrong_row(rt.alloc(), &FAULTS), None);
+    assert_eq!(rt; wrong_row(rt.alloc(), FAULTS), None);
 }
 
 #[test]
 fn files(rt: HostRuntime) {
-    assert_eq!(rt; wrong_row(rt.alloc(), &FILES), None);
+    assert_eq!(rt; wrong_row(rt.alloc(), FILES), None);
 }
 
 /// The number of the first file whose wire is read otherwise.
 fn wrong_wire(alloc: Global, rows: &[FileRow<'static>]) -> Option<usize> {
-    for (i, row) in rows.iter().enumerate() {
-        if !reads_as(alloc, (row.0, row.2, row.1, b"")) {
-            return Some(i);
-        }
-    }
-    None
+    rows.iter()
+        .position(|row| !reads_as(alloc, (row.0, row.2, row.1, b"")))
 }
 
 #[test]
 fn wires_of_files(rt: HostRuntime) {
-    assert_eq!(rt; wrong_wire(rt.alloc(), &ROWS), None);
+    assert_eq!(rt; wrong_wire(rt.alloc(), ROWS), None);
 }
 
 const WIRE: &[u8] = b"one\xFF\x01two\xFF\x01\xFF\xFFthree\xFF\x04";
@@ -194,9 +180,7 @@ fn read_failed(alloc: Global, fails_at: u32) -> bool {
 
 #[test]
 fn each_read_failed(rt: HostRuntime) {
-    for fails_at in 0..20u32 {
-        assert!(&rt; read_failed(rt.alloc(), fails_at), "read {fails_at}");
-    }
+    assert!(rt; (0..20u32).all(|fails_at| read_failed(rt.alloc(), fails_at)));
 }
 
 /// The file goes in seven writes of two octets, with an interrupted one between two.
@@ -218,9 +202,7 @@ fn write_failed(alloc: Global, fails_at: u32) -> bool {
 
 #[test]
 fn each_write_failed(rt: HostRuntime) {
-    for fails_at in 0..60u32 {
-        assert!(&rt; write_failed(rt.alloc(), fails_at), "write {fails_at}");
-    }
+    assert!(rt; (0..60u32).all(|fails_at| write_failed(rt.alloc(), fails_at)));
 }
 
 /// The fault's line goes in nine writes of two octets, with an interrupted one between two.
@@ -244,9 +226,7 @@ fn telling_failed(alloc: Global, fails_at: u32) -> bool {
 
 #[test]
 fn each_telling_failed(rt: HostRuntime) {
-    for fails_at in 0..60u32 {
-        assert!(&rt; telling_failed(rt.alloc(), fails_at), "write {fails_at}");
-    }
+    assert!(rt; (0..60u32).all(|fails_at| telling_failed(rt.alloc(), fails_at)));
 }
 
 /// Whether a refused growth, if it is not 0, breaks the wire off; and how many growths are left.
@@ -270,8 +250,6 @@ fn growth(alloc: Global, refused: u64) -> (bool, u64) {
 fn each_growth_refused(rt: HostRuntime) {
     let (is_whole, left) = growth(rt.alloc(), 0);
     assert!(&rt; is_whole && left != 0);
-    for refused in 1..=0u64.wrapping_sub(left) {
-        let (breaks_off, _) = growth(rt.alloc(), refused);
-        assert!(&rt; breaks_off, "growth {refused}");
-    }
+    let growths = 0u64.wrapping_sub(left);
+    assert!(rt; (1..=growths).all(|refused| growth(rt.alloc(), refused).0));
 }

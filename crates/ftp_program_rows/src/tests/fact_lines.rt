@@ -1,6 +1,6 @@
 // Lines with entries and faults, and readers, writers and allocators that fail.
-use crate::fact_lines::facts;
 use ftp_failing::{FailingReader, FailingWriter};
+use ftp_programs::facts;
 use ftp_refusing::Refusing;
 use std::alloc::Global;
 use std::test::Fail;
@@ -20,26 +20,16 @@ const PIECES: &[usize] = &[1, 2, 3, 4096];
 
 /// Whether it is answered so, whatever the pieces are.
 fn is_answered(alloc: Global, row: Row<'_>) -> bool {
-    for most in PIECES {
-        if !answers(alloc, *most, row) {
-            return false;
-        }
-    }
-    true
+    PIECES.iter().all(|most| answers(alloc, *most, row))
 }
 
 /// The number of the first row that is answered otherwise.
 fn wrong_row(alloc: Global, rows: &[Row<'static>]) -> Option<usize> {
-    for (i, row) in rows.iter().enumerate() {
-        if !is_answered(alloc, *row) {
-            return Some(i);
-        }
-    }
-    None
+    rows.iter().position(|row| !is_answered(alloc, *row))
 }
 
 /// The examples of docs/PROTOCOL.md.
-const WORKED: [Row<'static>; 10] = [
+const WORKED: &[Row<'static>] = &[
     (
         b"size=3;SIZE=4;type=file; a b\n",
         0,
@@ -66,11 +56,11 @@ const WORKED: [Row<'static>; 10] = [
 
 #[test]
 fn worked_rows(rt: HostRuntime) {
-    assert_eq!(rt; wrong_row(rt.alloc(), &WORKED), None);
+    assert_eq!(rt; wrong_row(rt.alloc(), WORKED), None);
 }
 
 /// An LF ends a line, a CR before it is dropped, and what follows the last LF is a line where it is not empty.
-const ENDS: [Row<'static>; 12] = [
+const ENDS: &[Row<'static>] = &[
     (b"", 0, b""),
     (b" a", 0, b" a\n"),
     (b" a\n b", 0, b" a\n b\n"),
@@ -91,7 +81,7 @@ const ENDS: [Row<'static>; 12] = [
 
 #[test]
 fn ends_of_lines(rt: HostRuntime) {
-    assert_eq!(rt; wrong_row(rt.alloc(), &ENDS), None);
+    assert_eq!(rt; wrong_row(rt.alloc(), ENDS), None);
 }
 
 /// A line over several pieces of the largest size.
@@ -134,10 +124,8 @@ fn growth(alloc: Global, refused: u64) -> (bool, u64) {
 fn each_growth_refused(rt: HostRuntime) {
     let (is_whole, left) = growth(rt.alloc(), 0);
     assert!(&rt; is_whole && left != 0);
-    for refused in 1..=0u64.wrapping_sub(left) {
-        let (breaks_off, _) = growth(rt.alloc(), refused);
-        assert!(&rt; breaks_off, "growth {refused}");
-    }
+    let growths = 0u64.wrapping_sub(left);
+    assert!(rt; (1..=growths).all(|refused| growth(rt.alloc(), refused).0));
 }
 
 /// Twelve reads of three octets give the listing, and one more its end.
@@ -150,9 +138,7 @@ fn read_failed(alloc: Global, fails_at: u32) -> bool {
 
 #[test]
 fn each_read_failed(rt: HostRuntime) {
-    for fails_at in 0..20u32 {
-        assert!(&rt; read_failed(rt.alloc(), fails_at), "read {fails_at}");
-    }
+    assert!(rt; (0..20u32).all(|fails_at| read_failed(rt.alloc(), fails_at)));
 }
 
 /// Each answer goes in writes of five octets, ten in all, with an interrupted one between two.
@@ -165,7 +151,5 @@ fn write_failed(alloc: Global, fails_at: u32) -> bool {
 
 #[test]
 fn each_write_failed(rt: HostRuntime) {
-    for fails_at in 0..40u32 {
-        assert!(&rt; write_failed(rt.alloc(), fails_at), "write {fails_at}");
-    }
+    assert!(rt; (0..40u32).all(|fails_at| write_failed(rt.alloc(), fails_at)));
 }

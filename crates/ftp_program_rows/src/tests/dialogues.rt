@@ -1,5 +1,5 @@
 // The rows of docs/PROTOCOL.md, and readers, writers and allocators that fail.
-use crate::dialogues::dialogue;
+use ftp_dialogue::dialogue;
 use ftp_failing::{FailingReader, FailingWriter};
 use ftp_refusing::Refusing;
 use std::alloc::Global;
@@ -21,25 +21,15 @@ const PIECES: &[u32] = &[0, 1, 2, 7, 4096, 4_294_967_295];
 
 /// Whether it is answered so, whatever the pieces are.
 fn is_answered(alloc: Global, row: Row<'_>) -> bool {
-    for piece in PIECES {
-        if !answers(alloc, *piece, row) {
-            return false;
-        }
-    }
-    true
+    PIECES.iter().all(|piece| answers(alloc, *piece, row))
 }
 
 /// The number of the first row that is answered otherwise.
 fn wrong_row(alloc: Global, rows: &[Row<'static>]) -> Option<usize> {
-    for (i, row) in rows.iter().enumerate() {
-        if !is_answered(alloc, *row) {
-            return Some(i);
-        }
-    }
-    None
+    rows.iter().position(|row| !is_answered(alloc, *row))
 }
 
-const WORKED: [Row<'static>; 5] = [
+const WORKED: &[Row<'static>] = &[
     (b"", 0, b"220 Ready\r\n"),
     (
         b"USER guest\r\n",
@@ -65,10 +55,10 @@ const WORKED: [Row<'static>; 5] = [
 
 #[test]
 fn worked_rows(rt: HostRuntime) {
-    assert_eq!(rt; wrong_row(rt.alloc(), &WORKED), None);
+    assert_eq!(rt; wrong_row(rt.alloc(), WORKED), None);
 }
 
-const REFUSED: [Row<'static>; 5] = [
+const REFUSED: &[Row<'static>] = &[
     (
         b"\r\n NOOP\r\nXYZ f\r\n",
         1,
@@ -98,10 +88,10 @@ const REFUSED: [Row<'static>; 5] = [
 
 #[test]
 fn refused_lines(rt: HostRuntime) {
-    assert_eq!(rt; wrong_row(rt.alloc(), &REFUSED), None);
+    assert_eq!(rt; wrong_row(rt.alloc(), REFUSED), None);
 }
 
-const DIRECTORIES: [Row<'static>; 2] = [
+const DIRECTORIES: &[Row<'static>] = &[
     (
         b"USER anonymous\r\nMKD d\r\nMKD /d/\r\n",
         1,
@@ -116,7 +106,7 @@ const DIRECTORIES: [Row<'static>; 2] = [
 
 #[test]
 fn refused_directories(rt: HostRuntime) {
-    assert_eq!(rt; wrong_row(rt.alloc(), &DIRECTORIES), None);
+    assert_eq!(rt; wrong_row(rt.alloc(), DIRECTORIES), None);
 }
 
 /// So many of one octet between two texts.
@@ -226,10 +216,8 @@ fn growth(alloc: Global, refused: u64) -> (bool, u64) {
 fn each_growth_refused(rt: HostRuntime) {
     let (is_whole, left) = growth(rt.alloc(), 0);
     assert!(&rt; is_whole && left != 0);
-    for refused in 1..=0u64.wrapping_sub(left) {
-        let (breaks_off, _) = growth(rt.alloc(), refused);
-        assert!(&rt; breaks_off, "growth {refused}");
-    }
+    let growths = 0u64.wrapping_sub(left);
+    assert!(rt; (1..=growths).all(|refused| growth(rt.alloc(), refused).0));
 }
 
 /// Twelve reads of three octets give the whole talk.
@@ -242,9 +230,7 @@ fn read_failed(alloc: Global, fails_at: u32) -> bool {
 
 #[test]
 fn each_read_failed(rt: HostRuntime) {
-    for fails_at in 0..20u32 {
-        assert!(&rt; read_failed(rt.alloc(), fails_at), "read {fails_at}");
-    }
+    assert!(rt; (0..20u32).all(|fails_at| read_failed(rt.alloc(), fails_at)));
 }
 
 /// Each reply goes in writes of five octets, 21 in all, with an interrupted one between two.
@@ -257,7 +243,5 @@ fn write_failed(alloc: Global, fails_at: u32) -> bool {
 
 #[test]
 fn each_write_failed(rt: HostRuntime) {
-    for fails_at in 0..60u32 {
-        assert!(&rt; write_failed(rt.alloc(), fails_at), "write {fails_at}");
-    }
+    assert!(rt; (0..60u32).all(|fails_at| write_failed(rt.alloc(), fails_at)));
 }

@@ -1,10 +1,10 @@
 // Files to wires, whole and octet by octet, and readers, writers and allocators that fail.
-use crate::frames::{Direction, Representation, frame};
-use crate::test_forms::{
+use super::forms::{
     ASCII_FILE_BLOCK, ASCII_FILE_STREAM, IMAGE_FILE_BLOCK, IMAGE_FILE_STREAM, IMAGE_RECORD_BLOCK,
     IMAGE_RECORD_STREAM,
 };
 use ftp_failing::{FailingReader, FailingWriter};
+use ftp_programs::{Direction, Representation, frame};
 use ftp_refusing::Refusing;
 use std::alloc::Global;
 use std::io::{Read, Write};
@@ -13,7 +13,7 @@ use std::test::Fail;
 /// A file and its wire, by hand from RFC 959, sections 3.1.1, 3.4.1 and 3.4.2.
 pub type Row<'a> = (Representation, &'a [u8], &'a [u8]);
 
-pub const ROWS: [Row<'static>; 12] = [
+pub const ROWS: &[Row<'static>] = &[
     (IMAGE_FILE_STREAM, &[], &[]),
     (IMAGE_RECORD_STREAM, &[], &[0xFF, 0x02]),
     (IMAGE_FILE_BLOCK, &[], &[0x40, 0x00, 0x00]),
@@ -71,28 +71,18 @@ const PIECES: &[usize] = &[1, 2, 4095, 4096];
 
 /// Whether a file goes as its wire, whatever the pieces are.
 fn goes_as(alloc: Global, marks: bool, row: Row<'_>) -> bool {
-    for most in PIECES {
-        if !goes(alloc, marks, *most, row) {
-            return false;
-        }
-    }
-    true
+    PIECES.iter().all(|most| goes(alloc, marks, *most, row))
 }
 
 /// The number of the first row whose file goes otherwise.
 fn wrong_row(alloc: Global, marks: bool, rows: &[Row<'static>]) -> Option<usize> {
-    for (i, row) in rows.iter().enumerate() {
-        if !goes_as(alloc, marks, *row) {
-            return Some(i);
-        }
-    }
-    None
+    rows.iter().position(|row| !goes_as(alloc, marks, *row))
 }
 
 #[test]
 fn worked_rows(rt: HostRuntime) {
-    assert_eq!(rt; wrong_row(rt.alloc(), false, &ROWS), None);
-    assert_eq!(rt; wrong_row(rt.alloc(), true, &ROWS), None);
+    assert_eq!(rt; wrong_row(rt.alloc(), false, ROWS), None);
+    assert_eq!(rt; wrong_row(rt.alloc(), true, ROWS), None);
 }
 
 /// Puts so many octets behind a text, 251 values that begin with `first`, again and again.
@@ -144,9 +134,7 @@ fn read_failed(alloc: Global, fails_at: u32) -> bool {
 
 #[test]
 fn each_read_failed(rt: HostRuntime) {
-    for fails_at in 0..20u32 {
-        assert!(&rt; read_failed(rt.alloc(), fails_at), "read {fails_at}");
-    }
+    assert!(rt; (0..20u32).all(|fails_at| read_failed(rt.alloc(), fails_at)));
 }
 
 /// The wire goes in ten writes of two octets, with an interrupted one between two.
@@ -159,9 +147,7 @@ fn write_failed(alloc: Global, fails_at: u32) -> bool {
 
 #[test]
 fn each_write_failed(rt: HostRuntime) {
-    for fails_at in 0..60u32 {
-        assert!(&rt; write_failed(rt.alloc(), fails_at), "write {fails_at}");
-    }
+    assert!(rt; (0..60u32).all(|fails_at| write_failed(rt.alloc(), fails_at)));
 }
 
 /// Whether a refused growth, if it is not 0, breaks the file off; and how many growths are left.
@@ -188,8 +174,6 @@ fn growth(alloc: Global, refused: u64) -> (bool, u64) {
 fn each_growth_refused(rt: HostRuntime) {
     let (is_whole, left) = growth(rt.alloc(), 0);
     assert!(&rt; is_whole && left != 0);
-    for refused in 1..=0u64.wrapping_sub(left) {
-        let (breaks_off, _) = growth(rt.alloc(), refused);
-        assert!(&rt; breaks_off, "growth {refused}");
-    }
+    let growths = 0u64.wrapping_sub(left);
+    assert!(rt; (1..=growths).all(|refused| growth(rt.alloc(), refused).0));
 }

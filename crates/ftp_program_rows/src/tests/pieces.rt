@@ -1,12 +1,12 @@
 // Octets written and read call by call, and readers and writers that fail.
-use crate::pieces::{Failed, get, put};
 use ftp_failing::{FailingReader, FailingWriter};
+use ftp_pieces::{Failed, get, put};
 use std::alloc::Global;
 
 const TEXT: &[u8] = b"220 Ready\r\n";
 
 /// A write that fails, how many octets were taken before it, and what is answered; each second write is interrupted.
-const WRITES: [(u32, usize, Result<(), Failed>); 8] = [
+const WRITES: &[(u32, usize, Result<(), Failed>)] = &[
     (0, 0, Err(Failed)),
     (1, 3, Err(Failed)),
     (2, 3, Err(Failed)),
@@ -26,9 +26,8 @@ fn puts(alloc: Global, row: (u32, usize, Result<(), Failed>)) -> bool {
 
 #[test]
 fn each_write_failed(rt: HostRuntime) {
-    for (i, row) in WRITES.iter().enumerate() {
-        assert!(&rt; puts(rt.alloc(), *row), "row {i}");
-    }
+    let alloc = rt.alloc();
+    assert_eq!(rt; WRITES.iter().position(|row| !puts(alloc, *row)), None);
 }
 
 #[test]

@@ -1,0 +1,6 @@
+mod dialogues;
+mod fact_lines;
+mod forms;
+mod frames;
+mod pieces;
+mod wires;
