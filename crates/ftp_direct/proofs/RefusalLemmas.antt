@@ -3,6 +3,7 @@ use Rattle.std.proofs.Common.{◌≡◌, ◌≢◌, ℕ, ◌⊎◌, inl, inr, Li
 use mathlib.Core.Bool.{false≢true, true≢false}
 use Rattle.std.specs.Option.{option_or}
 use Rattle.ftp_tree.specs.Change.{IsRefused}
+use Rattle.ftp_tree.proofs.CountLemmas.{next_count-moves}
 use Rattle.ftp_path.specs.Path.{Names}
 use Rattle.ftp_tree.specs.Tree.{Table, Node, Dir, File, or_else, whenever, directory_refusal, empty_refusal, remove_answer, file_refusal, source_answer, make_refusal, remove_refusal, delete_refusal, source_refusal, target_refusal, rename_refusal, room_refusal, octets_refusal, install_refusal}
 use Rattle.ftp_tree.specs.declared.fault.TreeFault.{TreeFault}
@@ -97,8 +98,8 @@ answers : (refusal : Option TreeFault) (fault : TreeFault) (code before after : 
     → ((why : TreeFault) → refusal ≡ Some why → Gives due (Refused code) (here table cwd)) → said ≡ Refused (told fault code)
     → IsAnswer before after due (here table cwd) said (here new cwd)
 answers None fault code before after table new cwd due said (same, inl (memory, kept)) other never is e = absurd (other memory)
-answers None fault code before after table new cwd due said (same, inr (device, changed)) other never is e = record {
-  steady = λ kept. absurd (changed kept);
+answers None fault code before after table new cwd due said (same, inr (device, moved)) other never is e = record {
+  steady = λ kept. absurd (next_count-moves before (sym kept ∙ moved));
   failed = λ ne. (e ∙ ap (λ f. Refused (told f code)) device, ap (λ t. here t cwd) same);
 }
 answers (Some why) fault code before after table new cwd due said (same, (reason, kept)) other never is e =

@@ -1,5 +1,6 @@
 // A tree whose device fails.
-ghost use Rattle.std.specs.Prelude.{◌≡◌, ◌≢◌, None, true, false};
+ghost use Rattle.std.specs.Prelude.{◌≡◌, None, true, false};
+ghost use Rattle.ftp_tree.specs.Change.{next_count};
 ghost use Rattle.ftp_tree.specs.Tree.{delete_refusal, install_refusal, make_refusal, root_alone};
 
 use ftp_facts::Moment;
@@ -32,7 +33,7 @@ impl<A: Allocator + Copy> FailingTree<A> {
     /// Counts a change; whether the device fails at it.
     fn fails(&mut self) -> bool
         ensures tree { self.new.tree ≡ self.old.tree }
-        ensures failed { result ≡ true → self.new.failures ≢ self.old.failures }
+        ensures failed { result ≡ true → self.new.failures ≡ next_count self.old.failures }
         ensures steady { result ≡ false → self.new.failures ≡ self.old.failures }
     {
         if self.left != 1 {
@@ -80,7 +81,7 @@ impl<A: Allocator + Copy> FailingTree<A> {
 
 /// The count behind a failure.
 fn next(count: u64) -> u64
-    ensures { result ≢ count }
+    ensures { result ≡ next_count count }
 {
     if count == u64::MAX { 0 } else { count + 1 }
 }

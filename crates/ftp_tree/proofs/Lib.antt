@@ -1,4 +1,5 @@
 pub mod ContentLemmas
+pub mod CountLemmas
 pub mod EntryLemmas
 pub mod KeepLaws
 pub mod LawLemmas

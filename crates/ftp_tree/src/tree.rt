@@ -18,8 +18,8 @@ pub enum NodeKind {
 }
 
 /// A finite map from paths to directories and files (RFC 959, section 4.1.3). A refused call changes nothing; of several
-/// refusals the first of the call's own order is given, then `Memory`, then `Device`, which comes only where the count of
-/// device failures changed in the call. The calls that read take no memory, and what they lend they lend until the next change.
+/// refusals the first of the call's own order is given, then `Memory`, then `Device`, which comes just where the count of
+/// device failures moves on in the call, by one. The calls that read take no memory, and what they lend they lend until the next change.
 pub trait Tree<A: Allocator>: Drop {
     /// The map that it holds, however it is kept.
     ghost table: { Self → Table };
