@@ -5,8 +5,6 @@
 mod framer;
 mod laws;
 mod mode;
-#[cfg(test)]
-mod tests;
 
 pub use framer::{Framer, Moved};
 pub use laws::one_text;

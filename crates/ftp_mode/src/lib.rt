@@ -6,8 +6,6 @@ mod deframer;
 mod fault;
 mod laws;
 mod step;
-#[cfg(test)]
-mod tests;
 
 pub use deframer::Deframer;
 pub use fault::FrameFault;

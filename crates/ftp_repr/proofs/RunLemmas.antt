@@ -4,6 +4,7 @@ use Rattle.std.specs.List.{AllByRecursion}
 use Rattle.ftp_repr.specs.Machine.{after, gives}
 use Rattle.ftp_repr.specs.Signs.{Sign, octet, Form}
 use Rattle.ftp_repr.specs.Receiving.{Taking, receiving}
+use Rattle.ftp_repr.specs.Runs.{IsRun}
 use Rattle.ftp_repr.specs.declared.form.Kind.{Kind}
 use Rattle.ftp_repr.specs.declared.form.Kind.TheVariants.{Ascii, Image}
 use Rattle.ftp_repr.specs.declared.form.Structure.{Structure}
@@ -65,3 +66,18 @@ run_image f t w a e =
 
 pub receiving_over : (f : Form) (t : Taking) (ss : List Sign) → t.ended ≡ true → GoesAs f t ss []
 receiving_over f t ss e = let T : Bool → Type 0 = λ y. GoesAs f (at t.held y) ss [] in subst T (sym e) (over_row f t.held ss)
+
+behind_first : (p : ℕ → Bool) (c : ℕ) (w : List ℕ) (n : ℕ) → IsRun p (c ∷ w) (suc n) → IsRun p w n
+behind_first p c w n r = record { within = omega (arith, r.within); others = r.others.1; next = λ less. r.next (omega (arith, less)) }
+
+both : {A : Type 0} (b : Bool) → b ≡ true → b ≡ false → A
+both b t f = absurd (cc)
+
+-- there is one run
+pub run_once : (p : ℕ → Bool) (w : List ℕ) (n m : ℕ) → IsRun p w n → IsRun p w m → n ≡ m
+run_once p w zero zero r q = refl
+run_once p [] (suc n) m r q = absurd (omega (arith, r.within))
+run_once p [] zero (suc m) r q = absurd (omega (arith, q.within))
+run_once p (c ∷ w) zero (suc m) r q = both (p c) (r.next (omega arith)) q.others.0
+run_once p (c ∷ w) (suc n) zero r q = both (p c) (q.next (omega arith)) r.others.0
+run_once p (c ∷ w) (suc n) (suc m) r q = ap suc (run_once p w n m (behind_first p c w n r) (behind_first p c w m q))

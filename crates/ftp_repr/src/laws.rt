@@ -1,12 +1,13 @@
 //! What holds of whole files and rows, in each type and structure.
 
-ghost use Rattle.std.specs.Prelude.{◌≡◌, ◌≢◌, ◌↔◌, ◌++◌, ℕ, List, [], ◌∷◌, map};
+ghost use Rattle.std.specs.Prelude.{◌≡◌, ◌≢◌, ◌↔◌, ◌++◌, ℕ, List, [], ◌∷◌, map, Bool};
 ghost use Rattle.std.specs.List.{flat_map};
 ghost use Rattle.ftp_repr.specs.Machine.{IsFront, gives};
 ghost use Rattle.ftp_repr.specs.Ascii.{IsAscii, asc, plain, settled};
 ghost use Rattle.ftp_repr.specs.Signs.{Sign, Form, octet, end_file, signs_of, wire_row};
 ghost use Rattle.ftp_repr.specs.Records.{IsRecords, ended_record, read_records, signs_of_records};
 ghost use Rattle.ftp_repr.specs.Receiving.{receiving, fresh};
+ghost use Rattle.ftp_repr.specs.Runs.{IsRun};
 ghost use Rattle.ftp_repr.specs.Content.{HasNoEnd, content, data_of, read_record, read_cut};
 ghost use Rattle.ftp_repr.specs.declared.form.Kind.{Kind};
 ghost use Rattle.ftp_repr.specs.declared.form.Structure.TheVariants.{File, Record};
@@ -56,4 +57,9 @@ pub fn files()
         content (record { kind = k; structure = File }) (ss ++ end_file ∷ more) ≡ read_record k (data_of ss) }
     ensures cut { (k : Kind) (ss : List Sign) → HasNoEnd ss →
         content (record { kind = k; structure = File }) ss ≡ read_cut k (data_of ss) }
+{}
+
+/// There is one run in front of the first octet that stops it.
+pub fn runs()
+    ensures { (stops : ℕ → Bool) (w : List ℕ) (n m : ℕ) → IsRun stops w n → IsRun stops w m → n ≡ m }
 {}

@@ -10,13 +10,11 @@ mod receiver;
 mod run;
 mod sender;
 mod size;
-#[cfg(test)]
-mod tests;
 
 pub use fault::ReprFault;
 pub use form::{Kind, Structure};
 pub use item::Item;
-pub use laws::{files, front, line_ends, records, round_trip};
+pub use laws::{files, front, line_ends, records, round_trip, runs};
 pub use receiver::Receiver;
 pub use run::{first_ff, plain_run};
 pub use sender::Sender;

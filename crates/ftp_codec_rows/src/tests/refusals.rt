@@ -1,10 +1,10 @@
-use crate::{Item, Kind, Receiver, ReprFault, Structure};
 use ftp_refusing::Refusing;
+use ftp_repr::{Item, Kind, Receiver, ReprFault, Structure};
 use std::alloc::Allocator;
 use std::process::Abort;
 use std::test::Fail;
 
-const GROWING: [Item<'static>; 6] = [
+const GROWING: &[Item<'static>] = &[
     Item::Octets(&[0x61, 0x0D, 0x0A, 0x62, 0x0D]),
     Item::EndRecord,
     Item::Octets(&[0x0D, 0x00, 0x63, 0x64, 0x0D, 0x65, 0x66, 0x0D, 0x0A, 0x67]),
@@ -50,11 +50,11 @@ fn received_with_refusals<A: Allocator>(
     let mut receiver = Receiver::new(Kind::Ascii, Structure::Record);
     for item in GROWING {
         let before = (receiver, out.len());
-        if receiver.take(item, out) == Err(ReprFault::Memory) {
+        if receiver.take(*item, out) == Err(ReprFault::Memory) {
             assert_eq!(rt; (receiver, out.len()), before, "{item:?}");
             assert!(rt; !refused, "refused once");
             refused = true;
-            receiver.take(item, out)?;
+            receiver.take(*item, out)?;
         }
     }
     Ok(refused)

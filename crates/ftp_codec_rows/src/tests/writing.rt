@@ -1,8 +1,8 @@
-use crate::tests::helpers::{
+use super::wires::{
     ASCII_BLOCK, ASCII_RECORD_BLOCK, ASCII_RECORD_STREAM, ASCII_STREAM, FILE_BLOCK, FILE_STREAM,
     How, RECORD_BLOCK, RECORD_STREAM, goes_as,
 };
-use crate::{Framer, Mode, Moved};
+use ftp_framer::{Framer, Mode, Moved};
 use ftp_repr::{Item, Structure};
 use std::alloc::Global;
 use std::test::Fail;
@@ -10,7 +10,7 @@ use std::test::Fail;
 /// A file and its wire, by hand from RFC 959, sections 3.4.1 and 3.4.2.
 type Row<'a> = (How, &'a [u8], &'a [u8]);
 
-const WIRES: [Row<'static>; 20] = [
+const WIRES: &[Row<'static>] = &[
     (FILE_STREAM, &[], &[]),
     (RECORD_STREAM, &[], &[0xFF, 0x02]),
     (FILE_BLOCK, &[], &[0x40, 0x00, 0x00]),
@@ -82,11 +82,11 @@ const WIRES: [Row<'static>; 20] = [
 ];
 
 /// Whether a row holds, by pieces and rooms of several sizes.
-fn row_holds(alloc: Global, row: Row<'_>) -> Result<bool, Fail> {
-    let (how, file, wire) = row;
-    for piece in [1, 2, 64] {
-        for room in [1, 2, 64] {
-            if !goes_as(alloc, how, file, wire, piece, room)? {
+fn row_holds(alloc: Global, row: &Row<'_>) -> Result<bool, Fail> {
+    let (how, file, wire) = *row;
+    for piece in &[1, 2, 64] {
+        for room in &[1, 2, 64] {
+            if !goes_as(alloc, how, file, wire, *piece, *room)? {
                 return Ok(false);
             }
         }
@@ -105,11 +105,19 @@ fn row_holds_by(alloc: Global, row: Row<'_>, sizes: &[usize]) -> Result<bool, Fa
     Ok(true)
 }
 
+/// The first row that does not hold.
+fn first_wrong(alloc: Global) -> Result<Option<usize>, Fail> {
+    for (at, row) in WIRES.iter().enumerate() {
+        if !row_holds(alloc, row)? {
+            return Ok(Some(at));
+        }
+    }
+    Ok(None)
+}
+
 #[test]
 fn wires_of_small_files(rt: HostRuntime) -> Result<(), Fail> {
-    for (at, row) in WIRES.into_iter().enumerate() {
-        assert!(&rt; row_holds(rt.alloc(), row)?, "row {at}");
-    }
+    assert_eq!(&rt; first_wrong(rt.alloc())?, None);
     Ok(())
 }
 
@@ -152,7 +160,7 @@ fn seventy_thousand_octets_with_a_marker(rt: HostRuntime) -> Result<(), Fail> {
 }
 
 /// A start and the wire of four octets behind it.
-const STARTS: [(u64, &'static [u8]); 5] = [
+const STARTS: &[(u64, &'static [u8])] = &[
     // None at the start, none at the end of the file.
     (0, b"\x40\x00\x04xxxx"),
     (65_536, b"\x40\x00\x04xxxx"),
@@ -165,12 +173,12 @@ const STARTS: [(u64, &'static [u8]); 5] = [
 fn markers_count_from_a_start(rt: HostRuntime) -> Result<(), Fail> {
     for (start, wire) in STARTS {
         let marked = How {
-            start: Some(start),
+            start: Some(*start),
             ..FILE_BLOCK
         };
         let file: &[u8] = b"xxxx";
         assert!(&rt;
-            row_holds_by(rt.alloc(), (marked, file, wire), &[1, 64])?,
+            row_holds_by(rt.alloc(), (marked, file, *wire), &[1, 64])?,
             "from {start}"
         );
     }
@@ -178,7 +186,7 @@ fn markers_count_from_a_start(rt: HostRuntime) -> Result<(), Fail> {
 }
 
 /// Four octets in which a marker would stand, where none is written.
-const UNMARKED: [(How, &'static [u8]); 3] = [
+const UNMARKED: &[(How, &'static [u8])] = &[
     (FILE_STREAM, b"xxxx"),
     (RECORD_STREAM, b"xxxx\xFF\x02"),
     (RECORD_BLOCK, b"\x40\x00\x04xxxx"),
@@ -189,7 +197,7 @@ fn markers_are_for_blocks_in_file_structure(rt: HostRuntime) -> Result<(), Fail>
     for (how, wire) in UNMARKED {
         let asked = How {
             start: Some(65_533),
-            ..how
+            ..*how
         };
         assert!(&rt; goes_as(rt.alloc(), asked, b"xxxx", wire, 64, 64)?);
     }

@@ -1,65 +1,156 @@
-//! Wires to files in pieces, and files to wires sign by sign.
+//! Files to wires, in pieces and rooms, and wires to files.
 
-use crate::{Deframer, FrameFault, Framer, Mode, Part};
+use ftp_framer::{Framer, Mode};
+use ftp_mode::{Deframer, FrameFault, Part};
 use ftp_repr::{Item, Kind, Receiver, ReprFault, Sender, Structure};
 use std::alloc::{AllocError, Global};
 use std::test::Fail;
 
-/// A representation.
+/// A representation, and where own markers are counted from, if any.
 #[derive(Clone, Copy)]
 pub struct How {
     pub kind: Kind,
     pub structure: Structure,
     pub mode: Mode,
+    pub start: Option<u64>,
 }
 
 pub const FILE_STREAM: How = How {
     kind: Kind::Image,
     structure: Structure::File,
     mode: Mode::Stream,
+    start: None,
 };
 
 pub const RECORD_STREAM: How = How {
     kind: Kind::Image,
     structure: Structure::Record,
     mode: Mode::Stream,
+    start: None,
 };
 
 pub const FILE_BLOCK: How = How {
     kind: Kind::Image,
     structure: Structure::File,
     mode: Mode::Block,
+    start: None,
 };
 
 pub const RECORD_BLOCK: How = How {
     kind: Kind::Image,
     structure: Structure::Record,
     mode: Mode::Block,
+    start: None,
 };
 
 pub const ASCII_STREAM: How = How {
     kind: Kind::Ascii,
     structure: Structure::File,
     mode: Mode::Stream,
+    start: None,
 };
 
 pub const ASCII_RECORD_STREAM: How = How {
     kind: Kind::Ascii,
     structure: Structure::Record,
     mode: Mode::Stream,
+    start: None,
 };
 
-pub const ASCII_FILE: How = How {
+pub const ASCII_BLOCK: How = How {
     kind: Kind::Ascii,
     structure: Structure::File,
     mode: Mode::Block,
+    start: None,
 };
 
-pub const ASCII_RECORD: How = How {
+pub const ASCII_RECORD_BLOCK: How = How {
     kind: Kind::Ascii,
     structure: Structure::Record,
     mode: Mode::Block,
+    start: None,
 };
+
+/// What is left of an item, so many of whose signs were taken.
+fn rest_of<'a>(item: Item<'a>, taken: usize) -> Option<Item<'a>> {
+    match item {
+        Item::Octets(octets) => {
+            let (_, rest) = octets.split_at(taken.min(octets.len()));
+            if rest.is_empty() {
+                return None;
+            }
+            Some(Item::Octets(rest))
+        }
+        Item::EndRecord | Item::EndFile => {
+            if taken == 1 {
+                return None;
+            }
+            Some(item)
+        }
+    }
+}
+
+/// Puts an item until it is taken, into rooms of this size.
+fn put_item(
+    framer: &mut Framer,
+    item: Item<'_>,
+    room: usize,
+    wire: &mut Vec<u8>,
+) -> Result<(), AllocError> {
+    let mut space = [0; 4096];
+    let mut rest = item;
+    for _ in 0..100_000 {
+        let (front, _) = space.split_at_mut(room.min(4096));
+        let moved = framer.put(rest, front);
+        let (made, _) = front.split_at(moved.made);
+        wire.extend_from_slice(made)?;
+        match rest_of(rest, moved.taken) {
+            Some(left) => rest = left,
+            None => return Ok(()),
+        }
+    }
+    Ok(())
+}
+
+fn write(
+    how: How,
+    file: &[u8],
+    piece: usize,
+    room: usize,
+    wire: &mut Vec<u8>,
+) -> Result<(), AllocError> {
+    let mut sender = Sender::new(how.kind, how.structure);
+    let mut framer = Framer::new(how.mode, how.structure);
+    if let Some(start) = how.start {
+        framer.mark(start);
+    }
+    let mut rest = file;
+    for _ in 0..500_000 {
+        let (front, behind) = rest.split_at(piece.min(rest.len()));
+        let (taken, item) = sender.next(front, behind.is_empty());
+        match item {
+            Some(item) => put_item(&mut framer, item, room, wire)?,
+            None => return Ok(()),
+        }
+        let (_, left) = rest.split_at(taken);
+        rest = left;
+    }
+    Ok(())
+}
+
+/// Whether a file that comes in pieces of one size goes as this wire, by rooms of another.
+pub fn goes_as(
+    alloc: Global,
+    how: How,
+    file: &[u8],
+    wire: &[u8],
+    piece: usize,
+    room: usize,
+) -> Result<bool, Fail> {
+    let mut made = Vec::new(alloc);
+    write(how, file, piece, room, &mut made)?;
+    Ok(made.as_slice() == wire)
+}
 
 fn take_part(receiver: &mut Receiver, part: Part<'_>, file: &mut Vec<u8>) -> Result<(), ReprFault> {
     match part {
@@ -117,79 +208,11 @@ pub fn reads_as(
     Ok(first == fault && got.as_slice() == file)
 }
 
-/// Puts a sign until it is taken.
-fn put_sign(
-    framer: &mut Framer,
-    sign: Item<'_>,
-    room: &mut [u8],
-    wire: &mut Vec<u8>,
-) -> Result<(), AllocError> {
-    for _ in 0..100_000 {
-        let moved = framer.put(sign, room);
-        let (made, _) = room.split_at(moved.made);
-        wire.extend_from_slice(made)?;
-        if moved.taken > 0 {
-            return Ok(());
-        }
-    }
-    Ok(())
-}
-
-/// Puts an item sign by sign.
-fn put_signs(
-    framer: &mut Framer,
-    item: Item<'_>,
-    room: &mut [u8],
-    wire: &mut Vec<u8>,
-) -> Result<(), AllocError> {
-    let Item::Octets(octets) = item else {
-        return put_sign(framer, item, room, wire);
-    };
-    for octet in octets.chunks(1) {
-        put_sign(framer, Item::Octets(octet), room, wire)?;
-    }
-    Ok(())
-}
-
-/// Writes a file by rooms of this size, with own markers from a start where one is given.
-fn write(
-    how: How,
-    start: Option<u64>,
-    file: &[u8],
-    size: usize,
-    wire: &mut Vec<u8>,
-) -> Result<(), AllocError> {
-    let mut sender = Sender::new(how.kind, how.structure);
-    let mut framer = Framer::new(how.mode, how.structure);
-    if let Some(start) = start {
-        framer.mark(start);
-    }
-    let mut space = [0; 4096];
-    let (room, _) = space.split_at_mut(size.min(4096));
-    let mut rest = file;
-    for _ in 0..500_000 {
-        let (taken, item) = sender.next(rest, true);
-        match item {
-            Some(item) => put_signs(&mut framer, item, room, wire)?,
-            None => return Ok(()),
-        }
-        let (_, left) = rest.split_at(taken);
-        rest = left;
-    }
-    Ok(())
-}
-
-/// Whether a file is read again from its wire, by rooms and pieces of each of these sizes.
-pub fn comes_back(
-    alloc: Global,
-    how: How,
-    start: Option<u64>,
-    file: &[u8],
-    sizes: &[usize],
-) -> Result<bool, Fail> {
+/// Whether a file is read again from its wire, by pieces and rooms of each of these sizes.
+pub fn comes_back(alloc: Global, how: How, file: &[u8], sizes: &[usize]) -> Result<bool, Fail> {
     for size in sizes {
         let mut wire = Vec::new(alloc);
-        write(how, start, file, *size, &mut wire)?;
+        write(how, file, *size, *size, &mut wire)?;
         if !reads_as(alloc, how, wire.as_slice(), file, None, *size)? {
             return Ok(false);
         }

@@ -1,0 +1,10 @@
+mod both_ways;
+mod parts;
+mod reading;
+mod receiving;
+mod refusals;
+mod sending;
+mod sizes;
+mod wires;
+mod words;
+mod writing;

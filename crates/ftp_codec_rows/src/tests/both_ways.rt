@@ -1,0 +1,84 @@
+use super::wires::{
+    ASCII_BLOCK, ASCII_RECORD_BLOCK, ASCII_RECORD_STREAM, ASCII_STREAM, FILE_BLOCK, FILE_STREAM,
+    How, RECORD_BLOCK, RECORD_STREAM, comes_back,
+};
+use ftp_mode::FrameFault;
+use std::alloc::Global;
+use std::test::Fail;
+
+const REPRESENTATIONS: &[How] = &[
+    FILE_STREAM,
+    RECORD_STREAM,
+    FILE_BLOCK,
+    RECORD_BLOCK,
+    ASCII_STREAM,
+    ASCII_RECORD_STREAM,
+    ASCII_BLOCK,
+    ASCII_RECORD_BLOCK,
+];
+
+/// Files rich in CR, LF, NUL and 255.
+const FILES: &[&'static [u8]] = &[
+    &[],
+    &[0x0A],
+    &[0x0D],
+    &[0xFF],
+    &[0x0A, 0x0A, 0x61],
+    &[
+        0x0D, 0x0A, 0xFF, 0x00, 0x0D, 0x0D, 0x0A, 0x0A, 0xFF, 0xFF, 0x01,
+    ],
+    &[0x0D, 0x00, 0xFF, 0x02, 0x0A, 0xFF, 0x03, 0x00, 0x0D],
+    &[0x00, 0x0A, 0x0D, 0x0A, 0xFF, 0x0A],
+];
+
+/// Whether each file comes back.
+fn all_come_back(alloc: Global, how: How) -> Result<bool, Fail> {
+    for file in FILES {
+        if !comes_back(alloc, how, file, &[1, 3, 64])? {
+            return Ok(false);
+        }
+    }
+    Ok(true)
+}
+
+/// The first representation in which a file does not come back.
+fn first_wrong(alloc: Global) -> Result<Option<usize>, Fail> {
+    for (at, how) in REPRESENTATIONS.iter().enumerate() {
+        if !all_come_back(alloc, *how)? {
+            return Ok(Some(at));
+        }
+    }
+    Ok(None)
+}
+
+#[test]
+fn each_representation_there_and_back(rt: HostRuntime) -> Result<(), Fail> {
+    assert_eq!(&rt; first_wrong(rt.alloc())?, None);
+    Ok(())
+}
+
+#[test]
+fn seventy_thousand_octets_with_a_marker_come_back(rt: HostRuntime) -> Result<(), Fail> {
+    let file = vec![in rt.alloc(); b'x'; 70_000]?;
+    let marked = How {
+        start: Some(0),
+        ..FILE_BLOCK
+    };
+    assert!(&rt; comes_back(rt.alloc(), marked, &file, &[1, 4096, 70_000])?);
+    Ok(())
+}
+
+const FAULTS: &[(FrameFault, &'static str)] = &[
+    (FrameFault::BadEscape(2), "M1 BadEscape(2)"),
+    (FrameFault::Suspect(4), "M2 Suspect(4)"),
+    (FrameFault::BadMarker(0), "M3 BadMarker(0)"),
+    (FrameFault::EndedEarly, "M4 EndedEarly"),
+];
+
+#[test]
+fn faults_print_number_name_and_place(rt: HostRuntime) -> Result<(), Fail> {
+    for (fault, text) in FAULTS {
+        assert_eq!(&rt; format!(in rt.alloc(); "{}", *fault)?.as_str(), *text);
+    }
+    Ok(())
+}

@@ -1,0 +1,59 @@
+use super::parts::FORMS;
+use ftp_repr::{Kind, ReprFault, first_ff, plain_run, wire_size};
+use std::test::Fail;
+
+/// Octets and their sizes in type A and in type I.
+type Size<'a> = (&'a [u8], u64, u64);
+
+const SIZES: &[Size<'static>] = &[
+    (&[], 0, 0),
+    (&[0x61, 0x0D, 0x0A], 5, 3),
+    (&[0x0A; 33], 66, 33),
+    (&[0x0D; 33], 66, 33),
+    (&[0xFF, 0x00, 0x0A, 0x0B], 5, 4),
+];
+
+fn has_sizes(row: &Size<'_>) -> bool {
+    let (octets, ascii, image) = *row;
+    wire_size(Kind::Ascii, octets) == ascii && wire_size(Kind::Image, octets) == image
+}
+
+#[test]
+fn wire_sizes_of_type_a_and_i(rt: HostRuntime) {
+    assert_eq!(&rt; SIZES.iter().position(|row| !has_sizes(row)), None);
+}
+
+/// Octets, how many of them go as they are in each of `FORMS`, and how many stand before an octet 255.
+type Run<'a> = (&'a [u8], [usize; 4], usize);
+
+const RUNS: &[Run<'static>] = &[
+    (&[], [0, 0, 0, 0], 0),
+    (&[0x61, 0x62], [2, 2, 2, 2], 2),
+    (&[0x61, 0x0D, 0x0A], [1, 1, 3, 2], 3),
+    (&[0x0A, 0xFF], [0, 0, 2, 0], 1),
+    (&[0xFF, 0x00, 0x0D], [2, 2, 3, 3], 0),
+];
+
+fn has_runs(row: &Run<'_>) -> bool {
+    let (octets, plain, escape) = *row;
+    for ((kind, structure), run) in FORMS.iter().zip(&plain) {
+        if plain_run(*kind, *structure, octets) != *run {
+            return false;
+        }
+    }
+    first_ff(octets) == escape
+}
+
+#[test]
+fn runs_before_what_changes(rt: HostRuntime) {
+    assert_eq!(&rt; RUNS.iter().position(|row| !has_runs(row)), None);
+}
+
+#[test]
+fn the_refusal_prints_its_number_and_name(rt: HostRuntime) -> Result<(), Fail> {
+    assert_eq!(&rt;
+        format!(in rt.alloc(); "{}", ReprFault::Memory)?.as_str(),
+        "P1 Memory"
+    );
+    Ok(())
+}
