@@ -9,8 +9,6 @@ mod laws;
 mod line;
 mod reading;
 mod setting;
-#[cfg(test)]
-mod tests;
 mod text;
 mod verb;
 mod writing;

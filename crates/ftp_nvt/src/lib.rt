@@ -15,6 +15,3 @@ pub use ear::Ear;
 pub use event::{Event, Heard};
 pub use fault::NvtFault;
 pub use put::put_line;
-
-#[cfg(test)]
-mod tests;

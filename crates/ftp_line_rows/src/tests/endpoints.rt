@@ -1,33 +1,41 @@
 //! Rows of RFC 959 and RFC 2428, and numbers at their limits.
-use crate::*;
+use ftp_endpoint::{
+    Endpoint, EndpointFault, Host, after, extended_endpoint, is_delimiter, number, octet,
+    octet_in_front, port, port_in_front, six_in_front, six_numbers, split_digits, write_extended,
+    write_six,
+};
 
 const LOCAL: Endpoint = Endpoint {
     host: Host::V4([10, 0, 0, 9]),
     port: 1930,
 };
 
-/// Whether each text says its number, or none.
-fn are_numbers() -> bool {
-    number(b"007") == Some(7)
-        && number(b"999999999999999999") == Some(999_999_999_999_999_999)
-        && number(b"0000000000000000005").is_none()
-        && number(b"").is_none()
-        && number(b"5x").is_none()
-}
+/// Texts, and the numbers that they say.
+const NUMBERS: &[(&'static [u8], Option<u64>)] = &[
+    (b"007", Some(7)),
+    (b"999999999999999999", Some(999_999_999_999_999_999)),
+    (b"0000000000000000005", None),
+    (b"", None),
+    (b"5x", None),
+];
 
-fn are_octets() -> bool {
-    octet(b"255") == Some(255) && octet(b"256").is_none() && octet(b"0006").is_none()
-}
+const OCTETS: &[(&'static [u8], Option<u8>)] = &[
+    (b"255", Some(255)),
+    (b"256", None),
+    (b"0006", None),
+];
 
-fn are_ports() -> bool {
-    port(b"0001930") == Some(1930) && port(b"65536").is_none() && port(b"0").is_none()
-}
+const PORTS: &[(&'static [u8], Option<u16>)] = &[
+    (b"0001930", Some(1930)),
+    (b"65536", None),
+    (b"0", None),
+];
 
 #[test]
 fn numbers_at_their_limits(rt: HostRuntime) {
-    assert!(rt; are_numbers());
-    assert!(rt; are_octets());
-    assert!(rt; are_ports());
+    assert!(rt; NUMBERS.iter().all(|row| number(row.0) == row.1));
+    assert!(rt; OCTETS.iter().all(|row| octet(row.0) == row.1));
+    assert!(rt; PORTS.iter().all(|row| port(row.0) == row.1));
 }
 
 #[test]
@@ -47,15 +55,19 @@ fn begins_with(text: &[u8], endpoint: Endpoint, rest: &[u8]) -> bool {
     }
 }
 
+const SIX: &[(&'static [u8], Option<Endpoint>)] = &[
+    (b"10,0,0,9,7,138", Some(LOCAL)),
+    (b"10,0,0,9,7", None),
+    (b"10,0,0,9,7,138,", None),
+];
+
 #[test]
 fn six_numbers_of_rfc_959(rt: HostRuntime) {
     assert!(rt; begins_with(b"10,0,0,9,007,138).", LOCAL, b")."));
-    assert!(rt; six_numbers(b"10,0,0,9,7,138") == Some(LOCAL));
-    assert!(rt; six_numbers(b"10,0,0,9,7").is_none());
-    assert!(rt; six_numbers(b"10,0,0,9,7,138,").is_none());
+    assert!(rt; SIX.iter().all(|row| six_numbers(row.0) == row.1));
 }
 
-const IN_REPLIES: [(&[u8], Option<u16>); 8] = [
+const IN_REPLIES: &[(&'static [u8], Option<u16>)] = &[
     (b"(|||6446|)", Some(6446)),
     (b"(!!!1!) more", Some(1)),
     (b"(|||65536|)", None),
@@ -64,16 +76,20 @@ const IN_REPLIES: [(&[u8], Option<u16>); 8] = [
     (b"(||||1|)", None),
     (b"(1111|)", None),
     (b"|||1|)", None),
+    // delimiters are 33 to 126, and no digits
+    (b"(   6446 )", None),
+    (b"(!!!6446!)", Some(6446)),
+    (b"(~~~6446~)", Some(6446)),
+    (b"(\x7F\x7F\x7F6446\x7F)", None),
+    (b"(00064460)", None),
 ];
 
 #[test]
 fn ports_of_extended_replies(rt: HostRuntime) {
-    for (text, expected) in IN_REPLIES {
-        assert!(rt; port_in_front(text) == expected);
-    }
+    assert!(rt; IN_REPLIES.iter().all(|row| port_in_front(row.0) == row.1));
 }
 
-const REFUSED: [(&[u8], EndpointFault); 16] = [
+const REFUSED: &[(&'static [u8], EndpointFault)] = &[
     (b"|3|x|1930|", EndpointFault::Protocol),
     (b"|3||1930|", EndpointFault::Protocol),
     (b"|3|x|0|", EndpointFault::BadText),
@@ -90,29 +106,45 @@ const REFUSED: [(&[u8], EndpointFault); 16] = [
     (b"|2|1:2:3:4:5:6:7:8::|1|", EndpointFault::BadText),
     (b"|2|00001::|1|", EndpointFault::BadText),
     (b"|2|::1.2.3.4|1|", EndpointFault::BadText),
+    // delimiters are 33 to 126, and no digits
+    (b" 1 10.0.0.9 1930 ", EndpointFault::BadText),
+    (b"\x7F1\x7F10.0.0.9\x7F1930\x7F", EndpointFault::BadText),
+    (b"0101.2.3.4019300", EndpointFault::BadText),
 ];
 
 #[test]
 fn extended_addresses_that_are_refused(rt: HostRuntime) {
-    for (text, fault) in REFUSED {
-        assert!(rt; extended_endpoint(text) == Err(fault));
-    }
+    assert!(rt;
+        REFUSED
+            .iter()
+            .all(|row| extended_endpoint(row.0) == Err(row.1))
+    );
 }
+
+const LAST: Endpoint = Endpoint {
+    host: Host::V6([0, 0, 0, 0, 0, 0, 0, 0, 0, 0, 0, 0, 0, 0, 0, 1]),
+    port: 1930,
+};
+
+const EXTENDED: &[(&'static [u8], Endpoint)] = &[
+    (b"|1|010.0.0.9|0001930|", LOCAL),
+    (b"!1!10.0.0.9!1930!", LOCAL),
+    (b"~1~10.0.0.9~1930~", LOCAL),
+    (b"|2|::1|1930|", LAST),
+    (b":2:::1:1930:", LAST),
+];
 
 #[test]
 fn extended_addresses_of_rfc_2428(rt: HostRuntime) {
-    assert!(rt; extended_endpoint(b"|1|010.0.0.9|0001930|") == Ok(LOCAL));
-    let last = Host::V6([0, 0, 0, 0, 0, 0, 0, 0, 0, 0, 0, 0, 0, 0, 0, 1]);
     assert!(rt;
-        matches!(extended_endpoint(b"|2|::1|1930|"), Ok(Endpoint { host, port: 1930 }) if host == last)
-    );
-    assert!(rt;
-        matches!(extended_endpoint(b":2:::1:1930:"), Ok(Endpoint { host, port: 1930 }) if host == last)
+        EXTENDED
+            .iter()
+            .all(|row| extended_endpoint(row.0) == Ok(row.1))
     );
 }
 
 /// Extended addresses, and how each is written.
-const WRITTEN: [(&[u8], &[u8]); 8] = [
+const WRITTEN: &[(&'static [u8], &'static [u8])] = &[
     (b"|1|132.235.1.2|6275|", b"|1|132.235.1.2|6275|"),
     (b"|01|010.0.0.1|0001930|", b"|1|10.0.0.1|1930|"),
     (
@@ -135,9 +167,7 @@ fn is_written(text: &[u8], expected: &[u8]) -> bool {
 
 #[test]
 fn extended_addresses_as_they_are_written(rt: HostRuntime) {
-    for (text, expected) in WRITTEN {
-        assert!(rt; is_written(text, expected));
-    }
+    assert!(rt; WRITTEN.iter().all(|row| is_written(row.0, row.1)));
 }
 
 #[test]
@@ -145,9 +175,5 @@ fn six_numbers_as_they_are_written(rt: HostRuntime) {
     assert!(rt;
         matches!(write_six(LOCAL), Some(text) if text.as_slice() == b"10,0,0,9,7,138".as_slice())
     );
-    let v6 = Endpoint {
-        host: Host::V6([0; 16]),
-        port: 1,
-    };
-    assert!(rt; write_six(v6).is_none());
+    assert!(rt; write_six(LAST).is_none());
 }

@@ -3,7 +3,7 @@ use Rattle.ftp_nvt.specs.Ear.{event_list, line_of}
 use Rattle.ftp_nvt.specs.declared.event.Event.{Event}
 use Rattle.ftp_nvt.specs.declared.event.Event.TheVariants.{More, Line, TooLong, Owed}
 use Rattle.ftp_nvt.proofs.EarLemmas.{Hears-rest}
-use Rattle.ftp_nvt.proofs.tests.events_in.Goals as goal
+use Rattle.ftp_line_rows.proofs.caller.events_in.Goals as goal
 
 none : (event : Event) (text : List ℕ) → event ≡ More → length (event_list event text) ≡ 0
 none event text is = ap (λ e. length (event_list e text)) is

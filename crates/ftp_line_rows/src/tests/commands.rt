@@ -1,10 +1,19 @@
 //! Rows of the table of verbs, of RFC 959, RFC 2428 and RFC 3659, and refused growths.
-use crate::*;
+use ftp_command::{Command, CommandFault, Endpoint, Host, Text, read, write};
 use ftp_refusing::Refusing;
 use std::alloc::{Allocator, Global};
 use std::test::Fail;
 
+/// A line, and the line that is written for what it says, or its fault.
 type Row = (&'static [u8], Result<&'static [u8], CommandFault>);
+
+const BAD: Result<&'static [u8], CommandFault> = Err(CommandFault::BadArgument);
+
+const OTHER: Result<&'static [u8], CommandFault> = Err(CommandFault::BadParameter);
+
+const UNKNOWN: Result<&'static [u8], CommandFault> = Err(CommandFault::Unknown);
+
+const NOT_DONE: Result<&'static [u8], CommandFault> = Err(CommandFault::NotDone);
 
 /// The line that is written for what a line says.
 fn rewritten<A: Allocator + Clone>(alloc: &A, line: &[u8]) -> Result<Vec<u8, A>, CommandFault> {
@@ -27,15 +36,10 @@ fn agrees(alloc: Global, row: Row) -> bool {
 
 /// The number of the first row that is not so.
 fn wrong_row(alloc: Global, rows: &[Row]) -> Option<usize> {
-    for (i, row) in rows.iter().enumerate() {
-        if !agrees(alloc, *row) {
-            return Some(i);
-        }
-    }
-    None
+    rows.iter().position(|row| !agrees(alloc, *row))
 }
 
-const VERBS: [Row; 32] = [
+const VERBS: &[Row] = &[
     (b"USER guest", Ok(b"USER guest")),
     (b"user Guest ", Ok(b"USER Guest ")),
     (b"PASS", Ok(b"PASS")),
@@ -50,71 +54,71 @@ const VERBS: [Row; 32] = [
     (b"XRMD d", Ok(b"RMD d")),
     (b"noop", Ok(b"NOOP")),
     (b"NOOP     ", Ok(b"NOOP")),
-    (b"NOOP x", Err(CommandFault::BadArgument)),
-    (b" NOOP", Err(CommandFault::Unknown)),
-    (b"", Err(CommandFault::Unknown)),
-    (b"NOOPS", Err(CommandFault::Unknown)),
-    (b"NO", Err(CommandFault::Unknown)),
-    (b"stou", Err(CommandFault::NotDone)),
-    (b"SMNT /", Err(CommandFault::NotDone)),
-    (b"SITE", Err(CommandFault::NotDone)),
+    (b"NOOP x", BAD),
+    (b" NOOP", UNKNOWN),
+    (b"", UNKNOWN),
+    (b"NOOPS", UNKNOWN),
+    (b"NO", UNKNOWN),
+    (b"stou", NOT_DONE),
+    (b"SMNT /", NOT_DONE),
+    (b"SITE", NOT_DONE),
     (b"STAT  ", Ok(b"STAT")),
-    (b"STAT f", Err(CommandFault::NotDone)),
-    (b"RNTO", Err(CommandFault::BadArgument)),
-    (b"RNTO ", Err(CommandFault::BadArgument)),
-    (b"USER", Err(CommandFault::BadArgument)),
-    (b"USER a\rb", Err(CommandFault::BadArgument)),
-    (b"MKD a\x7f", Err(CommandFault::BadArgument)),
-    (b"ACCT   ", Err(CommandFault::BadArgument)),
+    (b"STAT f", NOT_DONE),
+    (b"RNTO", BAD),
+    (b"RNTO ", BAD),
+    (b"USER", BAD),
+    (b"USER a\rb", BAD),
+    (b"MKD a\x7f", BAD),
+    (b"ACCT   ", BAD),
     (b"HELP   ", Ok(b"HELP")),
     (b"OPTS MLST x;y; ", Ok(b"OPTS MLST x;y;")),
 ];
 
 #[test]
 fn verbs_and_their_texts(rt: HostRuntime) {
-    assert!(rt; wrong_row(rt.alloc(), &VERBS).is_none());
+    assert!(rt; wrong_row(rt.alloc(), VERBS).is_none());
 }
 
-const PARAMETERS: [Row; 44] = [
+const PARAMETERS: &[Row] = &[
     (b"PORT 127,0,0,1,007,138", Ok(b"PORT 127,0,0,1,7,138")),
     (b"PORT 10,0,0,9,0,0  ", Ok(b"PORT 10,0,0,9,0,0")),
-    (b"PORT 1,2,3,4,5", Err(CommandFault::BadArgument)),
-    (b"PORT 1,2,3,4,5,256", Err(CommandFault::BadArgument)),
-    (b"PORT 1,2,3,4,5,0006", Err(CommandFault::BadArgument)),
-    (b"PORT 1,2,3,4,5,6,", Err(CommandFault::BadArgument)),
+    (b"PORT 1,2,3,4,5", BAD),
+    (b"PORT 1,2,3,4,5,256", BAD),
+    (b"PORT 1,2,3,4,5,0006", BAD),
+    (b"PORT 1,2,3,4,5,6,", BAD),
     (b"TYPE a t", Ok(b"TYPE A")),
     (b"type A N ", Ok(b"TYPE A")),
     (b"TYPE i", Ok(b"TYPE I")),
     (b"TYPE l 08", Ok(b"TYPE I")),
-    (b"TYPE L 16", Err(CommandFault::BadParameter)),
-    (b"TYPE E", Err(CommandFault::BadParameter)),
-    (b"TYPE e x", Err(CommandFault::BadParameter)),
-    (b"TYPE A C", Err(CommandFault::BadParameter)),
-    (b"TYPE Q", Err(CommandFault::BadArgument)),
-    (b"TYPE A  N", Err(CommandFault::BadArgument)),
-    (b"TYPE L", Err(CommandFault::BadArgument)),
-    (b"TYPE E 1", Err(CommandFault::BadArgument)),
+    (b"TYPE L 16", OTHER),
+    (b"TYPE E", OTHER),
+    (b"TYPE e x", OTHER),
+    (b"TYPE A C", OTHER),
+    (b"TYPE Q", BAD),
+    (b"TYPE A  N", BAD),
+    (b"TYPE L", BAD),
+    (b"TYPE E 1", BAD),
     (b"STRU r", Ok(b"STRU R")),
-    (b"STRU P", Err(CommandFault::BadParameter)),
-    (b"STRU x", Err(CommandFault::BadArgument)),
+    (b"STRU P", OTHER),
+    (b"STRU x", BAD),
     (b"MODE b", Ok(b"MODE B")),
-    (b"mode c", Err(CommandFault::BadParameter)),
-    (b"MODE", Err(CommandFault::BadArgument)),
+    (b"mode c", OTHER),
+    (b"MODE", BAD),
     (b"EPSV", Ok(b"EPSV")),
     (b"EPSV all", Ok(b"EPSV ALL")),
     (b"EPSV 01", Ok(b"EPSV 1")),
     (b"EPSV 2", Ok(b"EPSV 2")),
     (b"EPSV 3", Err(CommandFault::Protocol)),
-    (b"EPSV x", Err(CommandFault::BadArgument)),
+    (b"EPSV x", BAD),
     (b"REST 000000000000000005", Ok(b"REST 5")),
     (b"REST 999999999999999999", Ok(b"REST 999999999999999999")),
-    (b"REST 0000000000000000005", Err(CommandFault::BadArgument)),
-    (b"REST", Err(CommandFault::BadArgument)),
-    (b"REST 5x", Err(CommandFault::BadArgument)),
+    (b"REST 0000000000000000005", BAD),
+    (b"REST", BAD),
+    (b"REST 5x", BAD),
     (b"ALLO 5", Ok(b"ALLO 5")),
     (b"ALLO 05 r 007 ", Ok(b"ALLO 5 R 7")),
-    (b"ALLO 5 R", Err(CommandFault::BadArgument)),
-    (b"ALLO 5  R 7", Err(CommandFault::BadArgument)),
+    (b"ALLO 5 R", BAD),
+    (b"ALLO 5  R 7", BAD),
     (b"LIST -a d", Ok(b"LIST d")),
     (b"NLST -a  -bc", Ok(b"NLST")),
     (b"LIST  ", Ok(b"LIST  ")),
@@ -124,10 +128,10 @@ const PARAMETERS: [Row; 44] = [
 
 #[test]
 fn parameters_by_their_verbs(rt: HostRuntime) {
-    assert!(rt; wrong_row(rt.alloc(), &PARAMETERS).is_none());
+    assert!(rt; wrong_row(rt.alloc(), PARAMETERS).is_none());
 }
 
-const EXTENDED: [Row; 10] = [
+const EXTENDED: &[Row] = &[
     (
         b"EPRT |1|132.235.1.2|6275|",
         Ok(b"EPRT |1|132.235.1.2|6275|"),
@@ -149,33 +153,37 @@ const EXTENDED: [Row; 10] = [
         Ok(b"EPRT |1|10.0.0.1|1930|"),
     ),
     (b"EPRT |3|x|1930|", Err(CommandFault::Protocol)),
-    (b"EPRT |x|x|1930|", Err(CommandFault::BadArgument)),
+    (b"EPRT |x|x|1930|", BAD),
+    (b"EPRT |1|300.0.0.1|1930|", BAD),
+    (b"EPRT |2|1::2::3|1930|", BAD),
+    // delimiters are 33 to 126, and no digits
+    (b"EPRT !1!10.0.0.1!1930!", Ok(b"EPRT |1|10.0.0.1|1930|")),
+    (b"EPRT ~1~10.0.0.1~1930~", Ok(b"EPRT |1|10.0.0.1|1930|")),
+    (b"EPRT  1 10.0.0.1 1930 ", BAD),
+    (b"EPRT \x7F1\x7F10.0.0.1\x7F1930\x7F", BAD),
+    (b"EPRT 0101.2.3.4019300", BAD),
 ];
 
 #[test]
 fn extended_addresses_of_rfc_2428(rt: HostRuntime) {
-    assert!(rt; wrong_row(rt.alloc(), &EXTENDED).is_none());
+    assert!(rt; wrong_row(rt.alloc(), EXTENDED).is_none());
 }
 
 /// Whether a line says PORT or EPRT of this endpoint.
-fn names(alloc: Global, line: &[u8], expected: Endpoint) -> bool {
+fn names(alloc: Global, line: &[u8], host: Host, port: u16) -> bool {
     match read(alloc, line) {
-        Ok(Command::Port(endpoint)) => endpoint == expected,
-        Ok(Command::Eprt(endpoint)) => endpoint == expected,
+        Ok(Command::Port(endpoint)) => endpoint == Endpoint { host, port },
+        Ok(Command::Eprt(endpoint)) => endpoint == Endpoint { host, port },
         _ => false,
     }
-}
-
-fn at(host: Host, port: u16) -> Endpoint {
-    Endpoint { host, port }
 }
 
 #[test]
 fn endpoints_of_both_families(rt: HostRuntime) {
     let local = Host::V4([127, 0, 0, 1]);
     let last = Host::V6([0, 0, 0, 0, 0, 0, 0, 0, 0, 0, 0, 0, 0, 0, 0, 1]);
-    assert!(rt; names(rt.alloc(), b"PORT 127,0,0,1,007,138", at(local, 1930)));
-    assert!(rt; names(rt.alloc(), b"EPRT |2|::1|1930|", at(last, 1930)));
+    assert!(rt; names(rt.alloc(), b"PORT 127,0,0,1,007,138", local, 1930));
+    assert!(rt; names(rt.alloc(), b"EPRT |2|::1|1930|", last, 1930));
 }
 
 /// Whether `write` says that no line stands for the command, and leaves the vector as it was.
@@ -207,8 +215,14 @@ fn texts_that_no_line_stands_for(rt: HostRuntime) {
 
 #[test]
 fn values_that_no_line_stands_for(rt: HostRuntime) {
-    let v6 = at(Host::V6([0; 16]), 1);
-    let none = at(Host::V4([1, 2, 3, 4]), 0);
+    let v6 = Endpoint {
+        host: Host::V6([0; 16]),
+        port: 1,
+    };
+    let none = Endpoint {
+        host: Host::V4([1, 2, 3, 4]),
+        port: 0,
+    };
     let most = 1_000_000_000_000_000_000;
     assert!(rt; has_no_line(rt.alloc(), Command::Port(v6)));
     assert!(rt; has_no_line(rt.alloc(), Command::Eprt(none)));
@@ -216,20 +230,28 @@ fn values_that_no_line_stands_for(rt: HostRuntime) {
     assert!(rt; has_no_line(rt.alloc(), Command::Allo(1, Some(most))));
 }
 
-#[test]
-fn the_longest_words(rt: HostRuntime) -> Result<(), Fail> {
-    let mut words = Vec::new(rt.alloc());
-    for _ in 0..1_017 {
-        words.push(b'x')?;
+/// How long the line of OPTS with so many octets is, or why it has none.
+fn line_of_words(alloc: Global, count: u64) -> Result<usize, CommandFault> {
+    let mut words = Vec::new(alloc);
+    for _ in 0..count {
+        words.push(b'x').map_err(|_| CommandFault::Memory)?;
     }
-    let fits = Command::Opts(Text::new(rt.alloc(), &words)?);
-    let mut out = Vec::new(rt.alloc());
-    assert!(rt; write(&fits, &mut out) == Ok(()));
-    assert!(rt; out.len() == 1_022);
-    words.push(b'x')?;
-    let longer = Command::Opts(Text::new(rt.alloc(), &words)?);
-    assert!(rt; write(&longer, &mut out) == Err(CommandFault::BadArgument));
-    Ok(())
+    let command = Command::Opts(Text::from_vec(words));
+    let mut out = Vec::new(alloc);
+    write(&command, &mut out)?;
+    Ok(out.len())
+}
+
+#[test]
+fn the_longest_words(rt: HostRuntime) {
+    assert!(rt; line_of_words(rt.alloc(), 1_017) == Ok(1_022));
+    assert!(rt; line_of_words(rt.alloc(), 1_018) == Err(CommandFault::BadArgument));
+}
+
+/// Whether a line is read and written but for this growth, which is Memory.
+fn fails_at(alloc: Global, line: &[u8], refused: u64) -> bool {
+    let heap = Refusing::new(alloc, refused);
+    matches!(rewritten(&&heap, line), Err(CommandFault::Memory))
 }
 
 /// Whether reading and writing the line asks for memory, and is Memory where any one growth is refused.
@@ -237,21 +259,15 @@ fn is_memory(alloc: Global, line: &[u8]) -> bool {
     let heap = Refusing::new(alloc, 0);
     let fits = rewritten(&&heap, line).is_ok();
     let growths = 0u64.wrapping_sub(heap.left());
-    for refused in 1..=growths {
-        let heap = Refusing::new(alloc, refused);
-        if !matches!(rewritten(&&heap, line), Err(CommandFault::Memory)) {
-            return false;
-        }
-    }
-    fits && growths > 0
+    fits && growths > 0 && (1..=growths).all(|refused| fails_at(alloc, line, refused))
 }
+
+const GROWING: &[&'static [u8]] = &[b"USER guest", b"LIST d", b"EPRT |2|::1|1930|", b"REST 5"];
 
 #[test]
 fn a_refused_growth_is_memory(rt: HostRuntime) {
-    assert!(rt; is_memory(rt.alloc(), b"USER guest"));
-    assert!(rt; is_memory(rt.alloc(), b"LIST d"));
-    assert!(rt; is_memory(rt.alloc(), b"EPRT |2|::1|1930|"));
-    assert!(rt; is_memory(rt.alloc(), b"REST 5"));
+    let alloc = rt.alloc();
+    assert!(rt; GROWING.iter().all(|line| is_memory(alloc, line)));
 }
 
 #[test]

@@ -1,7 +1,7 @@
 use Rattle.std.proofs.Common.{length, take, ◌-◌, ◌≤◌, ◌≡◌, List}
 use Rattle.ftp_nvt.specs.Ear.{Hears}
 use Rattle.ftp_nvt.specs.Lines.{NvtEvent}
-use Rattle.ftp_nvt.proofs.tests.events_in.Given as goal
+use Rattle.ftp_line_rows.proofs.caller.events_in.Given as goal
 
 abbrev pub invariant-loop-taken : goal.invariant-loop-taken
 invariant-loop-taken g l = record {

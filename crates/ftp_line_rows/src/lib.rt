@@ -1,0 +1,9 @@
+//! For tests alone: rows of control lines, of endpoints and of commands, and a caller's loop over an ear.
+#![tactic(auto)]
+
+mod caller;
+
+pub use caller::{events_in, leaves_octets, writes_in_room};
+
+#[cfg(test)]
+mod tests;

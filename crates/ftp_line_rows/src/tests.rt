@@ -1,0 +1,4 @@
+mod commands;
+mod ears;
+mod endpoints;
+mod written;

@@ -1,0 +1,51 @@
+//! How texts are written as lines, and what a refused growth leaves.
+use ftp_nvt::{NvtFault, put_line};
+use ftp_refusing::Refusing;
+use std::alloc::Global;
+use std::test::Fail;
+
+/// Texts, and how they are written.
+const WRITTEN: &[(&'static [u8], &'static [u8])] = &[
+    (b"", b"\r\n"),
+    (b"NOOP", b"NOOP\r\n"),
+    (b"a\rb", b"a\r\0b\r\n"),
+    (b"\r", b"\r\0\r\n"),
+    (b"\r\0", b"\r\0\0\r\n"),
+    (b"\xFF", b"\xFF\xFF\r\n"),
+    (b"STOR \xFF\xFD\x01", b"STOR \xFF\xFF\xFD\x01\r\n"),
+];
+
+fn is_written(alloc: Global, text: &[u8], expected: &[u8]) -> bool {
+    let mut out = Vec::new(alloc);
+    put_line(text, &mut out).is_ok() && out.as_slice() == expected
+}
+
+#[test]
+fn texts_are_written(rt: HostRuntime) {
+    let alloc = rt.alloc();
+    assert!(rt; WRITTEN.iter().all(|row| is_written(alloc, row.0, row.1)));
+}
+
+const TEXT: &[u8] = b"257 \"/\xFF\r\" is the current directory, and more than a growth";
+
+/// Whether the text behind a line is written where this growth is refused: Memory, with the vector as it was.
+fn is_kept(alloc: Global, refused: u64) -> bool {
+    let heap = Refusing::new(alloc, refused);
+    let Ok(mut out) = Vec::from_slice(&heap, b"220 Ready\r\n") else {
+        return false;
+    };
+    put_line(TEXT, &mut out) == Err(NvtFault::Memory)
+        && out.as_slice() == b"220 Ready\r\n".as_slice()
+}
+
+#[test]
+fn each_growth_of_a_written_line_refused(rt: HostRuntime) -> Result<(), Fail> {
+    let heap = Refusing::new(rt.alloc(), 0);
+    let mut out = Vec::from_slice(&heap, b"220 Ready\r\n")?;
+    put_line(TEXT, &mut out)?;
+    let growths = 0u64.wrapping_sub(heap.left());
+    assert!(rt; growths > 2);
+    let alloc = rt.alloc();
+    assert!(rt; (2..=growths).all(|refused| is_kept(alloc, refused)));
+    Ok(())
+}
