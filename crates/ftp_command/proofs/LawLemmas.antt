@@ -1,9 +1,8 @@
 -- No line says two commands, none is both said and refused, none is refused in two ways.
-use Rattle.std.proofs.Common.{◌≡◌, ◌≢◌, ◌⊎◌, inl, inr, ℕ, suc, ◌+◌, ◌++◌, false, List, [], ◌∷◌, length, map, replicate, refl, sym, ap, subst, ◌∙◌, Option, Some, None, arith, codes, length-append, Result, Ok, Err, IfOk, IfErr}
+use Rattle.std.proofs.Common.{◌≡◌, ◌⊎◌, inl, inr, ℕ, false, List, [], ◌∷◌, length, map, refl, sym, ap, subst, ◌∙◌, Option, Some, None, arith, codes, Result, Ok, Err, IfOk, IfErr}
 use Rattle.std.specs.Char.{to_ascii_lowercase}
 use Rattle.std.specs.Str.Parse.{digits_value}
 use Rattle.std.proofs.lemmas.Bool.Decides.{nat_tests}
-use Rattle.std.proofs.lemmas.List.{length-replicate}
 use Rattle.std.proofs.lemmas.Bool.{false≢true}
 use Rattle.std.proofs.lemmas.Slice.Eq.{bytes_eq-Decides}
 use Rattle.std.specs.Str.{bytes_eq}
@@ -11,7 +10,6 @@ use Rattle.std.proofs.lemmas.Str.Parse.{digit_from_value}
 use Rattle.std.specs.Int.{IsInRange}
 use Rattle.ftp_command.specs.Argument.{IsOtherFamily, IsOtherKind, IsOtherMode, IsOtherStructure, SaysEbcdic, SaysKind, SaysLocal, SaysLongest, SaysMode, SaysPassive, SaysPathOrNone, SaysSizes, SaysStructure, SaysTextOrNone, argument, trimmed, without_options, word}
 use Rattle.ftp_command.specs.Command.{Argues, Declined, IsNotDone, IsOtherNetwork, IsOtherParameter, Refuses, Says, verb_of}
-use Rattle.ftp_endpoint.specs.Host.{IsFilled, IsOtherProtocol, IsShortened, SaysExtended, SaysHost, SaysV4, SaysV6, Written, octets_of}
 use Rattle.ftp_endpoint.specs.Number.{SaysNumber, behind_digits}
 use Rattle.ftp_command.specs.Verb.{SameLetters}
 use Rattle.ftp_command.specs.declared.command.Command.{Command}
@@ -24,16 +22,12 @@ use Rattle.ftp_command.specs.declared.command.Passive.{Passive}
 use Rattle.ftp_command.specs.declared.command.Passive.TheVariants.{Any, Ipv4, Ipv6, Only}
 use Rattle.ftp_command.specs.declared.command.Structure.{Structure}
 use Rattle.ftp_command.specs.declared.command.Structure.TheVariants.{File, Record}
-use Rattle.ftp_endpoint.specs.declared.endpoint.Endpoint.{Endpoint}
 use Rattle.ftp_command.specs.declared.fault.CommandFault.{CommandFault}
 use Rattle.ftp_command.specs.declared.fault.CommandFault.TheVariants as fault
-use Rattle.ftp_endpoint.specs.declared.host.Host.{Host}
-use Rattle.ftp_endpoint.specs.declared.host.Host.TheVariants.{V4, V6}
 use Rattle.ftp_command.specs.declared.verb.Verb.{Verb}
 use Rattle.ftp_command.specs.declared.verb.Verb.TheVariants as verb
-use Rattle.ftp_endpoint.proofs.EndpointLemmas.{begins_same, six_same}
-use Rattle.ftp_endpoint.proofs.ExtendedLemmas.{same_shape}
-use Rattle.ftp_endpoint.proofs.HostLemmas.{same_groups}
+use Rattle.ftp_endpoint.proofs.EndpointLemmas.{six_same}
+use Rattle.ftp_endpoint.proofs.OnceLemmas.{no_other_protocol, same_extended, same_number}
 use Rattle.ftp_command.proofs.VerbLemmas.{one_verb}
 
 -- two texts that differ
@@ -41,9 +35,6 @@ differ : (xs ys : List ℕ) → xs ≡ ys → bytes_eq xs ys ≡ false → ⊥
 differ xs ys e h = false≢true (sym h ∙ (bytes_eq-Decides xs ys).1 e)
 
 -- values of one text are one value
-same_number : (text : List ℕ) (m n : ℕ) → SaysNumber text m → SaysNumber text n → m ≡ n
-same_number text m n h k = h.1 ∙ sym k.1
-
 same_path : (text : List ℕ) (v w : Option (List ℕ)) → SaysPathOrNone text v → SaysPathOrNone text w → v ≡ w
 same_path text None None h k = refl
 same_path text None (Some p) h k = let e : p ≡ [] = sym k.0 ∙ h in absurd (omega (arith, ap length e, k.1.0))
@@ -150,59 +141,6 @@ same_octets text None (Some b) m n h k = h.0.1 ∙ sym k.0.1
 same_octets text (Some a) None m n h k = h.0.1 ∙ sym k.0.1
 same_octets text (Some a) (Some b) m n h k = h.0.1 ∙ sym k.0.1
 
--- the zero groups of a "::" are as many as are missing
-same_filled : (front behind gs hs : List ℕ) → length gs ≡ 8 → length hs ≡ 8 → IsFilled front behind gs → IsFilled front behind hs → gs ≡ hs
-same_filled front behind gs hs e f h k =
-    let backs : h.back ≡ k.back = (same_groups behind h.back k.back [] [] h.after (inl refl) k.after (inl refl)).0 in
-    let first : length gs ≡ length front + (suc h.zeros + length h.back) = ap length h.groups_are ∙ (length-append front (replicate (suc h.zeros) 0 ++ h.back) ∙ ap (λ n. length front + n) (length-append (replicate (suc h.zeros) 0) h.back ∙ ap (λ n. n + length h.back) (length-replicate {A = ℕ} (suc h.zeros) 0))) in
-    let second : length hs ≡ length front + (suc k.zeros + length k.back) = ap length k.groups_are ∙ (length-append front (replicate (suc k.zeros) 0 ++ k.back) ∙ ap (λ n. length front + n) (length-append (replicate (suc k.zeros) 0) k.back ∙ ap (λ n. n + length k.back) (length-replicate {A = ℕ} (suc k.zeros) 0))) in
-    let count : h.zeros ≡ k.zeros = omega (arith, first, second, ap length backs) in
-    h.groups_are ∙ (ap (λ z. front ++ (replicate (suc z) 0 ++ h.back)) count ∙ (ap (λ x. front ++ (replicate (suc k.zeros) 0 ++ x)) backs ∙ sym k.groups_are))
-
-no_end : (text gs : List ℕ) (k : IsShortened text gs) (ns : List ℕ) → [] ≡ 58 ∷ 58 ∷ k.behind → ⊥
-no_end text gs k ns e = absurd (cc)
-
-same_written : (text gs hs : List ℕ) → length gs ≡ 8 → length hs ≡ 8 → Written text gs → Written text hs → gs ≡ hs
-same_written text gs hs e f (inl h) (inl k) = (same_groups text gs hs [] [] h (inl refl) k (inl refl)).0
-same_written text gs hs e f (inl h) (inr k) =
-    absurd (no_end text hs k gs (same_groups text gs k.front [] (58 ∷ 58 ∷ k.behind) h (inl refl) k.before (inr (k.behind, refl))).1)
-same_written text gs hs e f (inr h) (inl k) =
-    absurd (no_end text gs h hs (same_groups text hs h.front [] (58 ∷ 58 ∷ h.behind) k (inl refl) h.before (inr (h.behind, refl))).1)
-same_written text gs hs e f (inr h) (inr k) =
-    let same = same_groups text h.front k.front (58 ∷ 58 ∷ h.behind) (58 ∷ 58 ∷ k.behind) h.before (inr (h.behind, refl)) k.before (inr (k.behind, refl)) in
-    let both = same.1 in
-    let behind : k.behind ≡ h.behind = cc in
-    let P : List ℕ → Type 0 = λ x. IsFilled x k.behind hs in
-    let Q : List ℕ → Type 0 = λ x. IsFilled h.front x hs in
-    same_filled h.front h.behind gs hs e f h.filled (subst Q behind (subst P (sym same.0) k.filled))
-
-same_v4 : (text v w : List ℕ) → SaysV4 text v → SaysV4 text w → v ≡ w
-same_v4 text v w h k =
-    let hs : List ℕ = h.a ∷ h.b ∷ h.c ∷ h.d ∷ [] in
-    let ks : List ℕ = k.a ∷ k.b ∷ k.c ∷ k.d ∷ [] in
-    h.value ∙ ((begins_same 46 text hs ks [] [] refl h.numbers k.numbers).0 ∙ sym k.value)
-
-same_v6 : (text v w : List ℕ) → SaysV6 text v → SaysV6 text w → v ≡ w
-same_v6 text v w h k =
-    h.value ∙ (ap octets_of (same_written text h.groups k.groups h.eight k.eight h.written k.written) ∙ sym k.value)
-
-same_host : (proto : ℕ) (text : List ℕ) (v w : Host) → SaysHost proto text v → SaysHost proto text w → v ≡ w
-same_host proto text (V4 v) (V4 w) h k = ap V4 (same_v4 text v w h.1 k.1)
-same_host proto text (V4 v) (V6 w) h k = absurd (omega (arith, h.0, k.0))
-same_host proto text (V6 v) (V4 w) h k = absurd (omega (arith, h.0, k.0))
-same_host proto text (V6 v) (V6 w) h k = ap V6 (same_v6 text v w h.1 k.1)
-
-abbrev endpoint_of : Host → ℕ → Endpoint
-endpoint_of host port = record { host = host; port = port }
-
-same_extended : (text : List ℕ) (e f : Endpoint) → SaysExtended text e → SaysExtended text f → e ≡ f
-same_extended text e f h k =
-    let same = same_shape text h.proto k.proto h.address k.address e.port f.port h.shape k.shape in
-    let P : ℕ → Type 0 = λ x. SaysHost x k.address f.host in
-    let Q : List ℕ → Type 0 = λ x. SaysHost h.proto x f.host in
-    let hosts = same_host h.proto h.address e.host f.host h.host (subst Q (sym same.1) (subst P (sym same.0) k.host)) in
-    ap (λ x. endpoint_of x e.port) hosts ∙ ap (λ x. endpoint_of f.host x) same.2
-
 -- an argument says one value of a verb at most
 pub one_value : (a : List ℕ) (v w : Command (List ℕ)) → verb_of v ≡ verb_of w → Argues a v → Argues a w → v ≡ w
 one_value a (command.User x) (command.User y) e h k = ap command.User (sym h.0 ∙ k.0)
@@ -296,15 +234,6 @@ no_other_family text Any h k = no_number_empty text k.0 k.1 h
 no_other_family text Ipv4 h k = k.2 (same_number text k.0 1 k.1 h)
 no_other_family text Ipv6 h k = k.3 (same_number text k.0 2 k.1 h)
 no_other_family text Only h k = no_number_all text k.0 k.1 h
-
-known_host : (proto : ℕ) (address : List ℕ) (host : Host) → SaysHost proto address host → (proto ≢ 1) → (proto ≢ 2) → ⊥
-known_host proto address (V4 x) h n m = n h.0
-known_host proto address (V6 x) h n m = m h.0
-
-no_other_protocol : (text : List ℕ) (e : Endpoint) → SaysExtended text e → IsOtherProtocol text → ⊥
-no_other_protocol text e h k =
-    let same = same_shape text h.proto k.proto h.address k.address e.port k.port h.shape k.shape in
-    known_host h.proto h.address e.host h.host (λ x. k.not_v4 (sym same.0 ∙ x)) (λ x. k.not_v6 (sym same.0 ∙ x))
 
 said_network : (a : List ℕ) (v : Command (List ℕ)) → Argues a v → IsOtherNetwork a (verb_of v) → ⊥
 said_network a (command.Eprt x) h k = no_other_protocol (trimmed a) x h k

@@ -2,11 +2,14 @@
 ghost use Rattle.std.specs.Prelude.{◌≡◌, List, ℕ};
 ghost use Rattle.ftp_command.specs.Command.{Refuses, Says};
 ghost use Rattle.ftp_command.specs.Line.{IsLine, IsStated, IsTyped, line_of};
+ghost use Rattle.ftp_command.specs.Verb.{Names};
 ghost use Rattle.ftp_command.specs.declared.command.Command.{Command};
 ghost use Rattle.ftp_command.specs.declared.fault.CommandFault.{CommandFault};
+ghost use Rattle.ftp_command.specs.declared.verb.Verb.{Verb};
 
-/// No line says two commands, none is said and refused, and none is refused in two ways.
+/// No word names two verbs, no line says two commands, none is said and refused, and none is refused in two ways.
 pub fn one_meaning()
+    ensures verb { (word : List ℕ) (v w : Verb) → Names word v → Names word w → v ≡ w }
     ensures command { (line : List ℕ) (v w : Command (List ℕ)) → Says line v → Says line w → v ≡ w }
     ensures apart { (line : List ℕ) (v : Command (List ℕ)) (fault : CommandFault) → Says line v → ¬ Refuses line fault }
     ensures fault { (line : List ℕ) (f g : CommandFault) → Refuses line f → Refuses line g → f ≡ g }

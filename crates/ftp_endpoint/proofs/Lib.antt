@@ -5,3 +5,4 @@ pub mod HostLemmas
 pub mod ExtendedLemmas
 pub mod JoinLemmas
 pub mod WrittenLemmas
+pub mod OnceLemmas

@@ -7,6 +7,7 @@ mod endpoint;
 mod extended;
 mod fault;
 mod host;
+pub mod laws;
 mod writing;
 
 pub use decimal::{number, octet, octet_in_front, port, split_digits};
@@ -15,6 +16,3 @@ pub use extended::extended_endpoint;
 pub use fault::EndpointFault;
 pub use host::Host;
 pub use writing::{write_extended, write_six};
-
-#[cfg(test)]
-mod tests;

@@ -1,5 +1,9 @@
 use Rattle.ftp_command.proofs.LawLemmas.{not_refused, one_command, one_fault}
+use Rattle.ftp_command.proofs.VerbLemmas.{one_verb}
 use Rattle.ftp_command.proofs.laws.one_meaning.Goals as goal
+
+pub returns-clause-verb : goal.returns-clause-verb
+returns-clause-verb c = one_verb
 
 pub returns-clause-command : goal.returns-clause-command
 returns-clause-command c = one_command
