@@ -43,7 +43,7 @@ impl<A: Allocator> LineBuffer<A> {
     ghost use Rattle.ftp_nvt.specs.Lines.{Lacks};
 
     /// A buffer that has read nothing, with room for `limit` octets.
-    pub fn new(alloc: A, limit: usize) -> Result<LineBuffer<A>, AllocError>
+    pub(crate) fn new(alloc: A, limit: usize) -> Result<LineBuffer<A>, AllocError>
         ensures read { IfOk result (λ buffer. HasRead buffer []) }
         ensures limit { IfOk result (λ buffer. buffer.limit ≡ limit) }
     {
@@ -57,14 +57,14 @@ impl<A: Allocator> LineBuffer<A> {
     }
 
     /// The text of the line that was read last.
-    pub fn text(&self) -> &[u8]
+    pub(crate) fn text(&self) -> &[u8]
         ensures { result.now ≡ self.now.text.items }
     {
         self.text.as_slice()
     }
 
     /// Reads a run of octets in front of an IAC that adds no line, or one octet.
-    pub fn bite(&mut self, piece: &[u8]) -> Heard
+    pub(crate) fn bite(&mut self, piece: &[u8]) -> Heard
         requires some { 0 < length piece.now }
         requires bare { slice_index piece.now 0 ≢ IAC }
         ensures within { result.taken ≤ length piece.now }
@@ -85,7 +85,7 @@ impl<A: Allocator> LineBuffer<A> {
     }
 
     /// Reads an octet 255 that was doubled.
-    pub fn doubled(&mut self) -> Event
+    pub(crate) fn doubled(&mut self) -> Event
         ensures { Reads self.old (IAC ∷ []) (event_list result self.new.text.items) self.new }
     {
         match self.stage {

@@ -5,7 +5,7 @@ use crate::line::{CR, LF};
 use crate::telnet::IAC;
 
 /// How many octets stand in front of the first LF, CR or IAC, or in all.
-pub fn plain_run(piece: &[u8]) -> usize
+pub(crate) fn plain_run(piece: &[u8]) -> usize
     ensures within { result ≤ length piece.now }
     ensures plain { (k : ℕ) → k < result → is_byte3 LF CR IAC (slice_index piece.now k) ≡ false }
     ensures stops { result < length piece.now → is_byte3 LF CR IAC (slice_index piece.now result) ≡ true }
@@ -14,7 +14,7 @@ pub fn plain_run(piece: &[u8]) -> usize
 }
 
 /// How many octets stand in front of the first LF or IAC, or in all.
-pub fn skipped_run(piece: &[u8]) -> usize
+pub(crate) fn skipped_run(piece: &[u8]) -> usize
     ensures within { result ≤ length piece.now }
     ensures plain { (k : ℕ) → k < result → is_byte2 LF IAC (slice_index piece.now k) ≡ false }
     ensures stops { result < length piece.now
@@ -24,7 +24,7 @@ pub fn skipped_run(piece: &[u8]) -> usize
 }
 
 /// How many octets stand in front of the first IAC, or in all.
-pub fn run_before_command(piece: &[u8]) -> usize
+pub(crate) fn run_before_command(piece: &[u8]) -> usize
     ensures within { result ≤ length piece.now }
     ensures plain { (k : ℕ) → k < result → slice_index piece.now k ≡ IAC → ⊥ }
     ensures stops { result < length piece.now → slice_index piece.now result ≡ IAC }

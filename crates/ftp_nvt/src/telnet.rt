@@ -36,7 +36,7 @@ pub enum Place {
 
 impl Place {
     /// The place behind one more octet.
-    pub fn behind(self, octet: u8) -> Place
+    pub(crate) fn behind(self, octet: u8) -> Place
         ensures { result ≡ place_behind self octet }
     {
         match self {
@@ -56,7 +56,7 @@ impl Place {
 }
 
 /// What a verb and its option settle: no option is taken up, and DONT and WONT have no answer.
-pub fn answer(verb: u8, octet: u8) -> Event
+pub(crate) fn answer(verb: u8, octet: u8) -> Event
     ensures { (text : List ℕ) → event_list result text ≡ map owed (owed_of (option verb octet)) }
 {
     match verb {
