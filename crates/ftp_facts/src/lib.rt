@@ -10,8 +10,6 @@ mod fault;
 pub mod laws;
 mod moment;
 mod reading;
-#[cfg(test)]
-mod tests;
 mod text;
 mod writing;
 

@@ -22,6 +22,3 @@ pub use quoted::quoted_of;
 pub use reader::Reader;
 pub use reply::Reply;
 pub use writing::write;
-
-#[cfg(test)]
-mod tests;

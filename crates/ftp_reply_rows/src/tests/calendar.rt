@@ -1,9 +1,8 @@
 //! Every day from 1970 to 2199, and the last day of each century after, as Python's `datetime` counts them.
-use crate::{FactFault, Moment, moment_of_text, moment_text};
-use std::process::Abort;
+use ftp_facts::{FactFault, moment_of_text, moment_text};
 
 /// The day numbers of 1 January 1970 to 2200: `date(y, 1, 1).toordinal() - date(1970, 1, 1).toordinal()`.
-const YEARS: [u32; 231] = [
+const YEARS: &[u32] = &[
     0, 365, 730, 1096, 1461, 1826, 2191, 2557, 2922, 3287, 3652, 4018, 4383, 4748, 5113, 5479,
     5844, 6209, 6574, 6940, 7305, 7670, 8035, 8401, 8766, 9131, 9496, 9862, 10227, 10592, 10957,
     11323, 11688, 12053, 12418, 12784, 13149, 13514, 13879, 14245, 14610, 14975, 15340, 15706,
@@ -25,7 +24,7 @@ const YEARS: [u32; 231] = [
 ];
 
 /// The years that end a century, and the day numbers of their 31 December: `date(y, 12, 31)`, counted as above.
-const CENTURIES: [(u32, u32); 78] = [
+const CENTURIES: &[(u32, u32)] = &[
     (2200, 84370),
     (2300, 120894),
     (2400, 157419),
@@ -107,7 +106,7 @@ const CENTURIES: [(u32, u32); 78] = [
 ];
 
 /// The days of the months of a common year.
-const MONTHS: [u32; 12] = [31, 28, 31, 30, 31, 30, 31, 31, 30, 31, 30, 31];
+const MONTHS: &[u32] = &[31, 28, 31, 30, 31, 30, 31, 31, 30, 31, 30, 31];
 
 fn text_of(year: u32, month: u32, day: u32) -> [u8; 14] {
     let digit = |n: u32| b'0' + (n % 10) as u8;
@@ -129,37 +128,70 @@ fn text_of(year: u32, month: u32, day: u32) -> [u8; 14] {
     ]
 }
 
-/// The text of that day at 12:34:56, both ways.
-fn expect_day(rt: &impl Abort, text: [u8; 14], number: u32) {
-    let seconds = u64::from(number) * 86_400 + 45_296;
-    let moment = moment_of_text(&text).expect(rt, "a day of the calendar");
-    assert_eq!(rt; moment.seconds, seconds);
-    assert_eq!(rt; moment_text(moment), text);
+/// Whether the text of that day at 12:34:56 is the moment of that day number, both ways.
+fn is_day(text: [u8; 14], number: u32) -> bool {
+    match moment_of_text(&text) {
+        Ok(moment) => {
+            moment.seconds == u64::from(number) * 86_400 + 45_296 && moment_text(moment) == text
+        }
+        Err(_) => false,
+    }
+}
+
+/// Whether the days of that month are those from the day number on, and the day after its last is none.
+fn is_month(year: u32, month: u32, last: u32, first: u32) -> bool {
+    let mut number = first;
+    for day in 1..=last {
+        if !is_day(text_of(year, month, day), number) {
+            return false;
+        }
+        number = number.wrapping_add(1);
+    }
+    moment_of_text(&text_of(year, month, last.wrapping_add(1))) == Err(FactFault::BadMoment)
+}
+
+/// Whether the days of that year are those from the one day number to the other.
+fn is_year(year: u32, start: u32, next: u32) -> bool {
+    let leap = next.wrapping_sub(start) == 366;
+    let mut number = start;
+    let mut month = 0u32;
+    for length in MONTHS {
+        month = month.wrapping_add(1);
+        let last = if leap && month == 2 { 29 } else { *length };
+        if !is_month(year, month, last, number) {
+            return false;
+        }
+        number = number.wrapping_add(last);
+    }
+    number == next
+}
+
+/// The first year from 1970 on whose days are not those of the table.
+fn first_wrong_year() -> Option<u32> {
+    let mut year = 1970u32;
+    let mut start = None;
+    for next in YEARS {
+        if let Some(start) = start {
+            if !is_year(year, start, *next) {
+                return Some(year);
+            }
+            year = year.wrapping_add(1);
+        }
+        start = Some(*next);
+    }
+    None
 }
 
 #[test]
 fn every_day_from_1970_to_2199(rt: HostRuntime) {
-    let mut number = 0u32;
-    for index in 0..230u32 {
-        let (start, next) = (YEARS[index as usize], YEARS[index as usize + 1]);
-        assert_eq!(&rt; number, start, "year {index}");
-        for (place, length) in MONTHS.iter().enumerate() {
-            let leap = place == 1 && next.wrapping_sub(start) == 366;
-            let month = place as u32 + 1;
-            let last = if leap { 29 } else { *length };
-            for day in 1..=last {
-                expect_day(&rt, text_of(1970 + index, month, day), number);
-                number = number.wrapping_add(1);
-            }
-            let after = text_of(1970 + index, month, last.wrapping_add(1));
-            assert_eq!(&rt; moment_of_text(&after), Err(FactFault::BadMoment));
-        }
-    }
+    assert_eq!(rt; first_wrong_year(), None);
+}
+
+fn is_century((year, number): &(u32, u32)) -> bool {
+    is_day(text_of(*year, 12, 31), *number)
 }
 
 #[test]
 fn the_last_day_of_each_century(rt: HostRuntime) {
-    for (year, number) in CENTURIES {
-        expect_day(&rt, text_of(year, 12, 31), number);
-    }
+    assert!(rt; CENTURIES.iter().all(is_century));
 }

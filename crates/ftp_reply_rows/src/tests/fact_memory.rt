@@ -1,6 +1,6 @@
 //! Each growth refused in turn.
-use crate::laws::entry_comes_back;
-use crate::{FactFault, Text, read_entry, write_entry};
+use ftp_facts::laws::entry_comes_back;
+use ftp_facts::{FactFault, Text, read_entry, write_entry};
 use ftp_refusing::Refusing;
 use std::alloc::Global;
 use std::test::Fail;

@@ -1,4 +1,0 @@
-mod calendar;
-mod entries;
-mod memory;
-mod moments;

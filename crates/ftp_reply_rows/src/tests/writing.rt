@@ -1,0 +1,82 @@
+//! Replies as they are written, and the faults as they are printed.
+use super::common::reply_with;
+use ftp_reply::{Reply, ReplyFault, write};
+use std::alloc::Global;
+use std::test::Fail;
+
+const WRITTEN: &[(u16, &[&[u8]], &[u8])] = &[
+    (200, &[b"Ok"], b"200 Ok"),
+    (220, &[b""], b"220 "),
+    (
+        250,
+        &[b"Listing", b" Type=dir; /a", b"End"],
+        b"250-Listing\n Type=dir; /a\n250 End",
+    ),
+    (
+        211,
+        &[b"x", b"200 y", b"211z", b"end"],
+        b"211-x\n 200 y\n 211z\n211 end",
+    ),
+    (
+        123,
+        &[b"100 a", b"12 b", b"999", b"456 c"],
+        b"123-100 a\n12 b\n 999\n123 456 c",
+    ),
+    (211, &[b"a", b"b"], b"211-a\n211 b"),
+];
+
+const FAULTS: &[(ReplyFault, &str)] = &[
+    (ReplyFault::BadCode, "Q1 BadCode"),
+    (ReplyFault::TooMany, "Q2 TooMany"),
+    (ReplyFault::NoEndpoint, "Q3 NoEndpoint"),
+    (ReplyFault::NoPath, "Q4 NoPath"),
+    (ReplyFault::NoNumber, "Q5 NoNumber"),
+    (ReplyFault::Memory, "Q6 Memory"),
+    (ReplyFault::Failed, "Q7 Failed"),
+];
+
+/// Whether the reply is written as these octets.
+fn is_written(alloc: Global, code: u16, texts: &[&[u8]], octets: &[u8]) -> bool {
+    let mut out = Vec::new(alloc);
+    match reply_with(alloc, code, texts) {
+        Some(reply) => write(&reply, &mut out).is_ok() && out.as_slice() == octets,
+        None => false,
+    }
+}
+
+#[test]
+fn written_as_rfc_959_section_4_2(rt: HostRuntime) {
+    let alloc = rt.alloc();
+    assert!(rt;
+        WRITTEN.iter().all(|(code, texts, octets)| is_written(alloc, *code, texts, octets))
+    );
+}
+
+#[test]
+fn a_reply_by_its_parts(rt: HostRuntime) -> Result<(), Fail> {
+    let mut reply = Reply::new(rt.alloc(), 250, b"Listing")?;
+    reply.push(b" Type=dir; /a")?;
+    reply.push(b"End")?;
+    assert!(rt; reply.text() == b"Listing\n Type=dir; /a\nEnd".as_slice());
+    assert!(rt; reply.lines.octets() == 23);
+    assert!(rt; reply.lines.get(3).is_none());
+    Ok(())
+}
+
+/// Whether the fault is printed so.
+fn is_printed(alloc: Global, fault: ReplyFault, text: &str) -> bool {
+    match format!(in alloc; "{fault}") {
+        Ok(printed) => printed.as_str() == text,
+        Err(_) => false,
+    }
+}
+
+#[test]
+fn faults_are_printed_with_their_numbers(rt: HostRuntime) {
+    let alloc = rt.alloc();
+    assert!(rt;
+        FAULTS
+            .iter()
+            .all(|(fault, text)| is_printed(alloc, *fault, text))
+    );
+}
