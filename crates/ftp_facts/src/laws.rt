@@ -1,10 +1,17 @@
 //! What reading and writing are to each other. The calls do nothing that a caller needs: their contracts are the laws.
-ghost use Rattle.std.specs.Prelude.{◌≡◌, IfOk, IfErr};
+ghost use Rattle.std.specs.Prelude.{◌≡◌, ◌≤◌, ◌↔◌, IsTrue, IfOk, IfErr};
 ghost use Rattle.ftp_facts.specs.Moment.{SaysMoment, WritesMoment, moment_digits};
 ghost use Rattle.ftp_facts.specs.Entry.{SaysEntry, Refuses, entry_line};
 
 use crate::{Entry, FactFault, Moment, moment_of_text, moment_text, read_entry, write_entry};
 use std::alloc::Allocator;
+
+/// The moments are the seconds up to the last of the year 9999, and no later ones.
+pub fn moments_end(seconds: u64) -> bool
+    ensures { IsTrue result ↔ (seconds ≤ 253_402_300_799) }
+{
+    Moment::new(seconds).is_some()
+}
 
 /// No text says two moments.
 pub fn one_moment(text: &[u8], first: Moment, second: Moment)
