@@ -13,10 +13,11 @@ pub record IsCut (code : ℕ) (xs : List Text) : Type 0 where
   pub lines_are : xs ≡ but_last xs ++ last ∷ []
   pub written_are : written_after code xs ≡ but_last xs ++ last_line code last ∷ []
 
-plain_as_is : (line : Text) → begins_with_digits line ≡ false → padded line ≡ line
+-- a line that doesn't begin with three digits is written as it is
+pub plain_as_is : (line : Text) → begins_with_digits line ≡ false → padded line ≡ line
 plain_as_is line plain = ap (λ (b : Bool). if b then 32 ∷ line else line) plain
 
-cut_after : (code : ℕ) (x : Text) (xs : List Text) → All (λ line. begins_with_digits line ≡ false) (but_last (x ∷ xs)) → IsCut code (x ∷ xs)
+pub cut_after : (code : ℕ) (x : Text) (xs : List Text) → All (λ line. begins_with_digits line ≡ false) (but_last (x ∷ xs)) → IsCut code (x ∷ xs)
 cut_after code x [] plain = record { last = x; lines_are = refl; written_are = refl }
 cut_after code x (y ∷ ys) plain =
     let rest = cut_after code y ys (All-tail (λ line. begins_with_digits line ≡ false) x (but_last (y ∷ ys)) plain) in

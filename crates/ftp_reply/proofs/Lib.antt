@@ -7,3 +7,4 @@ pub mod FirstLemmas
 pub mod MarkLemmas
 pub mod LawLemmas
 pub mod ValueLemmas
+pub mod CutLemmas

@@ -1,6 +1,6 @@
 -- Texts of lines, and how they lie in one buffer.
-use Rattle.std.specs.Prelude.{◌≡◌, ℕ, ◌+◌, ◌≤◌, List, [], ◌∷◌, length, take, drop, map}
-use Rattle.std.specs.List.{join_with_byte, sum_by}
+use Rattle.std.specs.Prelude.{◌≡◌, ℕ, ◌+◌, ◌≤◌, ◌==◌, Bool, false, List, [], ◌∷◌, length, take, drop, map, All}
+use Rattle.std.specs.List.{join_with_byte, slice_split, sum_by}
 
 -- a line of the control connection without its end, or a part of one
 abbrev pub Text : Type 0
@@ -13,6 +13,18 @@ octets_of lines = sum_by length lines
 -- own choice: the text of several lines is the lines joined by LF
 abbrev pub joined : List Text → Text
 joined lines = join_with_byte 10 lines
+
+-- the octet between two lines
+abbrev pub is_lf : ℕ → Bool
+is_lf octet = octet == 10
+
+-- a text of one line: it has no LF
+abbrev pub IsLine : Text → Type 0
+IsLine text = All (λ octet. is_lf octet ≡ false) text
+
+-- the lines that octets are, cut at each LF
+abbrev pub cut_at_lf : Text → List Text
+cut_at_lf octets = slice_split is_lf octets
 
 -- the lines of these lengths that stand in a buffer, an octet between two
 abbrev pub lines_at : Text → List ℕ → List Text

@@ -1,9 +1,11 @@
 //! Laws of the definitions. Each is the contract of a function that does nothing.
-ghost use Rattle.std.specs.Prelude.{◌≡◌, ◌<◌, ◌++◌, ◌∷◌, [], ℕ, List, length};
-ghost use Rattle.ftp_reply.specs.Lines.{AreWithin};
-ghost use Rattle.ftp_reply.specs.Reply.{IsCode, HasPlainLines, Says, written};
+ghost use Rattle.std.specs.Prelude.{◌≡◌, ◌<◌, ◌++◌, ◌∷◌, [], ℕ, List, All, length};
+ghost use Rattle.ftp_reply.specs.Lines.{AreWithin, IsLine, cut_at_lf, joined};
+ghost use Rattle.ftp_reply.specs.Reply.{IsCode, HasPlainLines, Begins, Says, written};
 ghost use Rattle.ftp_reply.specs.Values.{NamesEndpoint, NamesPort, Quotes, SaysMark};
+ghost use Rattle.ftp_endpoint.specs.Number.{SaysNumber};
 ghost use Rattle.ftp_endpoint.specs.declared.endpoint.Endpoint.{Endpoint};
+ghost use Rattle.ftp_facts.specs.Moment.{SaysMoment};
 ghost use Rattle.ftp_reply.specs.Reader.{Standing, Reading, GoesOn, Ends, StandsAfter};
 
 /// What is written is read again as the same reply, where no inner line begins with three digits.
@@ -12,12 +14,20 @@ pub fn written_is_said()
         → HasPlainLines lines → Says (written code lines) code lines }
 {}
 
-/// Lines say one reply at most, and none of their beginnings says one.
+/// The octets that are written, cut at LF, are the lines that are written, where no text has an LF.
+pub fn written_is_cut()
+    ensures { (code : ℕ) (lines : List (List ℕ)) → IsCode code → 0 < length lines → All IsLine lines
+        → cut_at_lf (joined (written code lines)) ≡ written code lines }
+{}
+
+/// Lines say one reply at most, none of their beginnings says one, and they are not the beginning of another.
 pub fn one_reply()
     ensures one { (heard : List (List ℕ)) (code code' : ℕ) (lines lines' : List (List ℕ))
         → Says heard code lines → Says heard code' lines' → (code ≡ code') × (lines ≡ lines') }
     ensures ended { (heard more : List (List ℕ)) (code code' : ℕ) (lines lines' : List (List ℕ))
         → Says heard code lines → Says (heard ++ more) code' lines' → more ≡ [] }
+    ensures apart { (heard : List (List ℕ)) (code code' : ℕ) (lines lines' : List (List ℕ))
+        → Says heard code lines → Begins heard code' lines' → ⊥ }
 {}
 
 /// A reader stands after all lines that it has taken and the replies that it gave for them.
@@ -37,5 +47,7 @@ pub fn one_value()
         → NamesEndpoint text one → NamesEndpoint text other → one ≡ other }
     ensures port { (text : List ℕ) (one other : ℕ) → NamesPort text one → NamesPort text other → one ≡ other }
     ensures path { (text one other : List ℕ) → Quotes text one → Quotes text other → one ≡ other }
+    ensures size { (text : List ℕ) (one other : ℕ) → SaysNumber text one → SaysNumber text other → one ≡ other }
     ensures mark { (text : List ℕ) (one other : ℕ) → SaysMark text one → SaysMark text other → one ≡ other }
+    ensures moment { (text : List ℕ) (one other : ℕ) → SaysMoment text one → SaysMoment text other → one ≡ other }
 {}

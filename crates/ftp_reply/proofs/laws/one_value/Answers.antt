@@ -1,3 +1,4 @@
+use Rattle.ftp_facts.proofs.MomentLemmas.{SaysMoment-same}
 use Rattle.ftp_reply.proofs.ValueLemmas.{endpoint_once, port_once, path_once, mark_once}
 use Rattle.ftp_reply.proofs.laws.one_value.Goals as goal
 
@@ -12,3 +13,6 @@ returns-clause-path c = path_once
 
 pub returns-clause-mark : goal.returns-clause-mark
 returns-clause-mark c = mark_once
+
+pub returns-clause-moment : goal.returns-clause-moment
+returns-clause-moment c = SaysMoment-same
