@@ -5,6 +5,7 @@ mod receiving;
 mod refusals;
 mod sending;
 mod sizes;
+mod skipping;
 mod wires;
 mod words;
 mod writing;

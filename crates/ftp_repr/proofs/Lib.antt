@@ -9,3 +9,4 @@ pub mod RecordLemmas
 pub mod RunLemmas
 pub mod ReceivingLemmas
 pub mod RoomLemmas
+pub mod SkipLemmas

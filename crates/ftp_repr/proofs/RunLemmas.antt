@@ -67,10 +67,10 @@ run_image f t w a e =
 pub receiving_over : (f : Form) (t : Taking) (ss : List Sign) → t.ended ≡ true → GoesAs f t ss []
 receiving_over f t ss e = let T : Bool → Type 0 = λ y. GoesAs f (at t.held y) ss [] in subst T (sym e) (over_row f t.held ss)
 
-behind_first : (p : ℕ → Bool) (c : ℕ) (w : List ℕ) (n : ℕ) → IsRun p (c ∷ w) (suc n) → IsRun p w n
+pub behind_first : (p : ℕ → Bool) (c : ℕ) (w : List ℕ) (n : ℕ) → IsRun p (c ∷ w) (suc n) → IsRun p w n
 behind_first p c w n r = record { within = omega (arith, r.within); others = r.others.1; next = λ less. r.next (omega (arith, less)) }
 
-both : {A : Type 0} (b : Bool) → b ≡ true → b ≡ false → A
+pub both : {A : Type 0} (b : Bool) → b ≡ true → b ≡ false → A
 both b t f = absurd (cc)
 
 -- there is one run

@@ -20,7 +20,7 @@ pub signs_of-cons : (f : Form) (c : ℕ) (b : List ℕ) → signs_of f (c ∷ b)
 signs_of-cons f c b = append_assoc (signs_of_octet f c) (flat_map (signs_of_octet f) b) (end_file ∷ [])
 
 -- octets that go as themselves
-neither : (a b : Bool) → (a || b) ≡ false → (a ≡ false) × (b ≡ false)
+pub neither : (a b : Bool) → (a || b) ≡ false → (a ≡ false) × (b ≡ false)
 neither true b h = cc
 neither false true h = cc
 neither false false h = (refl, refl)

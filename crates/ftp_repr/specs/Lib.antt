@@ -4,6 +4,7 @@ pub mod Signs
 pub mod Items
 pub mod Records
 pub mod Runs
+pub mod Skipping
 pub mod Sending
 pub mod Receiving
 pub mod Received

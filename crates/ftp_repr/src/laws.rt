@@ -1,6 +1,6 @@
 //! What holds of whole files and rows, in each type and structure.
 
-ghost use Rattle.std.specs.Prelude.{◌≡◌, ◌≢◌, ◌↔◌, ◌++◌, ℕ, List, [], ◌∷◌, map, Bool};
+ghost use Rattle.std.specs.Prelude.{◌≡◌, ◌≢◌, ◌↔◌, ◌++◌, ℕ, List, [], ◌∷◌, map, length, Bool};
 ghost use Rattle.std.specs.List.{flat_map};
 ghost use Rattle.ftp_repr.specs.Machine.{IsFront, gives};
 ghost use Rattle.ftp_repr.specs.Ascii.{IsAscii, asc, plain, settled};
@@ -8,9 +8,12 @@ ghost use Rattle.ftp_repr.specs.Signs.{Sign, Form, octet, end_file, signs_of, wi
 ghost use Rattle.ftp_repr.specs.Records.{IsRecords, ended_record, read_records, signs_of_records};
 ghost use Rattle.ftp_repr.specs.Receiving.{receiving, fresh};
 ghost use Rattle.ftp_repr.specs.Runs.{IsRun};
+ghost use Rattle.ftp_repr.specs.Skipping.{IsPlace, Skips, further};
 ghost use Rattle.ftp_repr.specs.Content.{HasNoEnd, content, data_of, read_record, read_cut};
 ghost use Rattle.ftp_repr.specs.declared.form.Kind.{Kind};
 ghost use Rattle.ftp_repr.specs.declared.form.Structure.TheVariants.{File, Record};
+ghost use Rattle.ftp_repr.specs.declared.skipping.Skipped.{Skipped};
+ghost use Rattle.ftp_repr.specs.declared.skipping.Skipped.TheVariants.{Within, Left, Inside};
 
 /// In type A a wire that has ended is read as the octets of its units, one for each, and what a file goes as is read
 /// as the file. Of one that was cut a CR at its end is left out, and nothing else.
@@ -62,4 +65,15 @@ pub fn files()
 /// There is one run in front of the first octet that stops it.
 pub fn runs()
     ensures { (stops : ℕ → Bool) (w : List ℕ) (n m : ℕ) → IsRun stops w n → IsRun stops w m → n ≡ m }
+{}
+
+/// A count of octets of the wire leads to one place of a file at most, and `skip` has one answer. Of a piece in front
+/// the answer stays, whatever follows; where octets are left, the next piece goes on with them.
+pub fn places()
+    ensures one { (k : Kind) (b : List ℕ) (n p q : ℕ) → IsPlace k b n p → IsPlace k b n q → p ≡ q }
+    ensures answer { (k : Kind) (b : List ℕ) (n : ℕ) (r s : Skipped) → Skips k b n r → Skips k b n s → r ≡ s }
+    ensures within { (k : Kind) (b more : List ℕ) (n p : ℕ) → Skips k b n (Within p) → Skips k (b ++ more) n (Within p) }
+    ensures inside { (k : Kind) (b more : List ℕ) (n : ℕ) → Skips k b n Inside → Skips k (b ++ more) n Inside }
+    ensures left { (k : Kind) (b d : List ℕ) (n m : ℕ) (r : Skipped) →
+        Skips k b n (Left m) → Skips k d m r → Skips k (b ++ d) n (further (length b) r) }
 {}

@@ -10,12 +10,14 @@ mod receiver;
 mod run;
 mod sender;
 mod size;
+mod skipping;
 
 pub use fault::ReprFault;
 pub use form::{Kind, Structure};
 pub use item::Item;
-pub use laws::{files, front, line_ends, records, round_trip, runs};
+pub use laws::{files, front, line_ends, places, records, round_trip, runs};
 pub use receiver::Receiver;
 pub use run::{first_ff, plain_run};
 pub use sender::Sender;
 pub use size::wire_size;
+pub use skipping::{Skipped, skip};
