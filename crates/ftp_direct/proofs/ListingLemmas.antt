@@ -11,21 +11,16 @@ use Rattle.std.proofs.lemmas.List.Elements.{filter_map-append}
 use Rattle.std.proofs.lemmas.Option.{slice_get_within, slice_get-get_or, get_or_from_slice_get}
 use Rattle.std.proofs.lemmas.List.Folds.{list_all-append}
 use mathlib.Core.Bool.{false≢true, true≢false}
-use Rattle.ftp_path.specs.Path.{is_slash, is_path_octet, is_name_octet, is_here, is_above, is_component, is_name, is_rooted, followed, resolved, fits, text_of, Names}
+use Rattle.ftp_path.specs.Path.{is_slash, is_name_octet, is_part, is_here, is_above, is_component, is_name, is_rooted, followed, resolved, fits, text_of, Names}
 use Rattle.ftp_tree.specs.Tree.{Node, Dir, File, Table, node_at, octets_of, moment_of, of_node, octets_at, size_at, stamp_at, children}
 use Rattle.ftp_path.proofs.PathLemmas.{component-octets, name_octet-slash, followed-name}
+use Rattle.ftp_path.proofs.TextLemmas.{name-text}
 use Rattle.ftp_operation.specs.Answer.{Listed}
 use Rattle.ftp_operation.specs.Operation.{is_path_text}
 use Rattle.ftp_direct.specs.Direct.{behind, child, entry_at, entry_in, file_in, is_file, listed, names_for, perm_of, place, size_fact}
 use Rattle.ftp_direct.proofs.ResolveLemmas.{dot_here}
 
 -- ---- a name is a path text, and leads from a directory to the path of that name in it
-
-path_octets : (name : List ℕ) → list_all is_name_octet name ≡ true → list_all is_path_octet name ≡ true
-path_octets [] all = refl
-path_octets (octet ∷ name) all =
-    let both = and_parts (is_name_octet octet) (list_all is_name_octet name) all in
-    and_from _ _ (and_parts (is_path_octet octet) (not (is_slash octet)) both.0).0 (path_octets name both.1)
 
 pub name_component : (name : List ℕ) → is_name name ≡ true → is_component name ≡ true
 name_component name named = (and_parts (is_component name) (nat_le (length name) 255) named).0
@@ -34,17 +29,8 @@ pub name_some : (name : List ℕ) → is_name name ≡ true → name ≢ []
 name_some [] named e = false≢true (name_component [] named)
 name_some (octet ∷ name) named e = cc
 
-some_long : (name : List ℕ) → is_component name ≡ true → nat_le 1 (length name) ≡ true
-some_long [] named = absurd (false≢true named)
-some_long (octet ∷ name) named = le-leb 1 (suc (length name)) (omega arith)
-
 pub name_text : (name : List ℕ) → is_name name ≡ true → is_path_text name ≡ true
-name_text name named =
-    let both = and_parts (is_component name) (nat_le (length name) 255) named in
-    let short = leb-true (length name) 255 both.1 in
-    and_from (nat_le 1 (length name) && nat_le (length name) 900) (list_all is_path_octet name)
-    (and_from _ _ (some_long name both.0) (le-leb (length name) 900 (omega arith)))
-    (path_octets name (component-octets name both.0))
+name_text = name-text
 
 uncut : (name : List ℕ) → list_all is_name_octet name ≡ true → slice_split is_slash name ≡ name ∷ []
 uncut [] all = refl
@@ -63,9 +49,8 @@ unrooted (octet ∷ name) all =
 
 steps : (path : Names) (name : List ℕ) → is_component name ≡ true → followed path name ≡ path ++ name ∷ []
 steps path name named =
-    let outer = and_parts (list_all is_name_octet name && not (is_here name)) (not (is_above name)) named in
-    let inner = and_parts (list_all is_name_octet name) (not (is_here name)) outer.0 in
-    followed-name path name (not-true (is_here name) inner.1) (not-true (is_above name) outer.1)
+    let dots = and_parts (not (is_here name)) (not (is_above name)) (and_parts (not (is_here name) && not (is_above name)) (is_part name) named).0 in
+    followed-name path name (not-true (is_here name) dots.0) (not-true (is_above name) dots.1)
 
 pub child_is : (path : Names) (name : List ℕ) → is_name name ≡ true → resolved path name ≡ path ++ name ∷ []
 unfolding resolved

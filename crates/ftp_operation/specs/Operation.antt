@@ -1,13 +1,9 @@
 -- What a user asks of a server, as values: which operations can be sent at all. No command, reply or connection stands here.
-use Rattle.std.specs.Prelude.{ℕ, ◌&&◌, ◌||◌, ◌==◌, Bool, true, false, not, nat_le, nat_eq, List, [], ◌∷◌, length}
-use Rattle.std.specs.List.{list_all, starts_with}
-use Rattle.ftp_path.specs.Path.{is_path_octet}
+use Rattle.std.specs.Prelude.{ℕ, ◌&&◌, ◌||◌, ◌==◌, Bool, true, not, nat_le, nat_eq, List, [], ◌∷◌, length}
+use Rattle.std.specs.List.{starts_with}
+pub use Rattle.ftp_path.specs.Path.{is_path_text}
 use Rattle.ftp_operation.specs.declared.op.Op.{Op}
 use Rattle.ftp_operation.specs.declared.op.Op.TheVariants as Ops
-
--- a path text that can be sent: 1 to 900 octets, each 32 to 126
-abbrev pub is_path_text : List ℕ → Bool
-is_path_text text = nat_le 1 (length text) && nat_le (length text) 900 && list_all is_path_octet text
 
 -- a path text that may be left out
 abbrev pub is_optional_text : List ℕ → Bool

@@ -16,7 +16,7 @@ pub struct How {
     pub extended: bool,
 }
 
-/// An operation of a user; `P` is how a text is held. Path texts have 1 to 900 octets, each 32 to 126.
+/// An operation of a user; `P` is how a text is held. Path texts are those of `ftp_path`.
 #[derive(Debug, Drop)]
 pub enum Op<P> {
     /// Which directory is the current one.

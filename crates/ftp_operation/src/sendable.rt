@@ -1,13 +1,14 @@
 // Which operations can be sent at all.
 ghost use Rattle.std.specs.Prelude.{◌≡◌, ◌↔◌, IsTrue};
-ghost use Rattle.ftp_operation.specs.Operation.{can_be_sent, is_number, is_option, is_optional_text, is_path_text};
+ghost use Rattle.ftp_path.specs.Path.{is_path_text};
+ghost use Rattle.ftp_operation.specs.Operation.{can_be_sent, is_number, is_option, is_optional_text};
 
 use crate::op::Op;
 use ftp_facts::Text;
 use std::alloc::Allocator;
 
-/// Whether an operation can be sent: its path texts have 1 to 900 octets, each 32 to 126 (where one may be left out, none too),
-/// its offset at most 18 digits, and the text of names does not begin with `-`.
+/// Whether an operation can be sent: its path texts are path texts (where one may be left out, none too), its offset has at
+/// most 18 digits, and the text of names does not begin with `-`.
 pub fn can_be_sent<A: Allocator>(op: &Op<Text<A>>) -> bool
     ensures { result ≡ can_be_sent op.now }
 {

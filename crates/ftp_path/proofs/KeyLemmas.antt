@@ -40,8 +40,7 @@ ranked (name ∷ names) named =
 above_zero : (octet : ℕ) → is_name_octet octet ≡ true → 0 < octet
 above_zero octet named =
     let both = and_parts (is_path_octet octet) (not (is_slash octet)) named in
-    let printable = and_parts (nat_le 32 octet) (nat_le octet 126) both.0 in
-    let least = leb-true 32 octet printable.0 in
+    let least = leb-true 32 octet (and_parts (nat_le 32 octet) (not (eqb octet 127)) both.0).0 in
     omega arith
 
 zero-Less : (octet : ℕ) → 0 < octet → nat_cmp 0 octet ≡ Less

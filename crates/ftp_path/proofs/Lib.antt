@@ -1,2 +1,3 @@
 pub mod KeyLemmas
 pub mod PathLemmas
+pub mod TextLemmas

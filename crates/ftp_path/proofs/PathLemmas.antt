@@ -1,13 +1,15 @@
 -- Names joined and cut again, and where a step leads.
-use Rattle.std.proofs.Common.{ℕ, zero, suc, ◌+◌, ◌-◌, ◌<◌, ◌≤◌, ◌≡◌, ◌≢◌, true, false, not, ◌&&◌, List, [], ◌∷◌, ◌++◌, length, take, drop, get_or, refl, sym, ap, ◌∙◌, subst, arith, fold, nat_le}
+use Rattle.std.proofs.Common.{ℕ, zero, suc, ◌+◌, ◌-◌, ◌<◌, ◌≤◌, ◌≡◌, ◌≢◌, true, false, not, ◌&&◌, List, [], ◌∷◌, ◌++◌, length, take, drop, get_or, refl, sym, ap, ◌∙◌, subst, arith, nat_le}
 use Rattle.std.specs.List.{list_all, slice_split, onto_first, suffix_len}
-use Rattle.std.proofs.lemmas.Bool.{and_parts, and_from, not-true, not_from_false, cond-false, cond-true, cond_both, leb-true, eq-eqb, ne_eqb}
+use Rattle.std.proofs.lemmas.Bool.{and_parts, and_from, not-true, not_from_false, cond-false, cond-true, cond_both, leb-true, le-leb, eq-eqb, ne_eqb}
 use Rattle.std.proofs.lemmas.List.{append-nil, append_assoc, length-append, take_rest, drop-drop}
 use Rattle.std.proofs.Math.Seq.{get_or-append_right, get_or-append_seam, take-append_seam}
 use Rattle.std.proofs.lemmas.List.Folds.{list_all-append}
 use Rattle.std.proofs.lemmas.List.Sums.{suffix_len_is, AllPass-from_list_all, list_all-from_AllPass}
 use Rattle.std.proofs.lemmas.List.Elements.{All-take}
-use Rattle.ftp_path.specs.Path.{is_slash, is_path_octet, is_name_octet, is_here, is_above, is_component, parent, followed, resolved, is_rooted, joined, text_of, fits}
+use Rattle.std.specs.Str.{is_utf8}
+use Rattle.ftp_path.specs.Path.{is_slash, is_path_octet, is_text, is_path_text, is_name_octet, is_part, is_here, is_above, is_component, parent, followed, joined, text_of, fits}
+use Rattle.ftp_path.proofs.TextLemmas.{is_utf8-nil, is_utf8-append, slash-utf8, cut_before, cut_behind, component-part, name_octets-path}
 use Rattle.ftp_path.specs.Kept.{is_no_slash, names_of, IsJoined, IsKept}
 
 -- ---- components
@@ -16,9 +18,7 @@ pub name_octet-slash : (octet : ℕ) → is_name_octet octet ≡ true → is_sla
 name_octet-slash octet named = not-true (is_slash octet) (and_parts (is_path_octet octet) (not (is_slash octet)) named).1
 
 pub component-octets : (name : List ℕ) → is_component name ≡ true → list_all is_name_octet name ≡ true
-component-octets name named =
-    let front = and_parts (list_all is_name_octet name && not (is_here name)) (not (is_above name)) named in
-    (and_parts (list_all is_name_octet name) (not (is_here name)) front.0).0
+component-octets name named = (and_parts (is_utf8 name) (list_all is_name_octet name) (component-part name named)).1
 
 -- ---- joined, and cut again
 
@@ -120,21 +120,20 @@ components-push names name named last = list_all-append is_component names (name
 
 -- ---- the first component of a text
 
--- where the first slash stands, a text is cut: a component before it, and a text behind it
-pub record IsCut (text : List ℕ) (end : ℕ) : Type 0 where
-  pub parts : slice_split is_slash text ≡ take end text ∷ slice_split is_slash (drop (end + 1) text)
-  pub front : list_all is_name_octet (take end text) ≡ true
-  pub back : list_all is_path_octet (drop (end + 1) text) ≡ true
+record AreCut (text : List ℕ) (end : ℕ) : Type 0 where
+  parts : slice_split is_slash text ≡ take end text ∷ slice_split is_slash (drop (end + 1) text)
+  front : list_all is_name_octet (take end text) ≡ true
+  back : list_all is_path_octet (drop (end + 1) text) ≡ true
 
-pub cut-first : (text : List ℕ) (end : ℕ) → list_all is_path_octet text ≡ true → end < length text → get_or text end 0 ≡ 47
-    → ((k : ℕ) → k < end → get_or text k 0 ≢ 47) → IsCut text end
-cut-first [] end octets inside here before = absurd (omega arith)
-cut-first (x ∷ xs) zero octets inside here before =
+octets-cut-first : (text : List ℕ) (end : ℕ) → list_all is_path_octet text ≡ true → end < length text → get_or text end 0 ≡ 47
+    → ((k : ℕ) → k < end → get_or text k 0 ≢ 47) → AreCut text end
+octets-cut-first [] end octets inside here before = absurd (omega arith)
+octets-cut-first (x ∷ xs) zero octets inside here before =
     let both = and_parts (is_path_octet x) (list_all is_path_octet xs) octets in
     record { parts = cond-true (is_slash x) _ _ (eq-eqb x 47 here); front = refl; back = both.1 }
-cut-first (x ∷ xs) (suc end) octets inside here before =
+octets-cut-first (x ∷ xs) (suc end) octets inside here before =
     let both = and_parts (is_path_octet x) (list_all is_path_octet xs) octets in
-    let below = cut-first xs end both.1 (omega arith) here (λ k lt. before (suc k) (omega arith)) in
+    let below = octets-cut-first xs end both.1 (omega arith) here (λ k lt. before (suc k) (omega arith)) in
     let other : x ≢ 47 = before 0 (omega arith) in
     let deeper : drop (suc end + 1) (x ∷ xs) ≡ drop (end + 1) xs = ap (λ n. drop n (x ∷ xs)) (further end) in
     record {
@@ -146,15 +145,40 @@ cut-first (x ∷ xs) (suc end) octets inside here before =
     further : (n : ℕ) → suc n + 1 ≡ suc (n + 1)
     further n = omega arith
 
--- a text with no slash is one component
-pub cut-none : (text : List ℕ) → list_all is_path_octet text ≡ true → ((k : ℕ) → k < length text → get_or text k 0 ≢ 47)
+-- where the first slash stands, a text is cut: a part before it, and a text behind it
+pub record IsCut (text : List ℕ) (end : ℕ) : Type 0 where
+  pub parts : slice_split is_slash text ≡ take end text ∷ slice_split is_slash (drop (end + 1) text)
+  pub front : is_part (take end text) ≡ true
+  pub back : is_text (drop (end + 1) text) ≡ true
+
+pub cut-first : (text : List ℕ) (end : ℕ) → is_text text ≡ true → end < length text → get_or text end 0 ≡ 47
+    → ((k : ℕ) → k < end → get_or text k 0 ≢ 47) → IsCut text end
+cut-first text end is inside here before =
+    let both = and_parts (is_utf8 text) (list_all is_path_octet text) is in
+    let cut = octets-cut-first text end both.1 inside here before in
+    let ascii : get_or text end 0 < 128 = omega arith in
+    record {
+      parts = cut.parts;
+      front = and_from _ _ (cut_before text end both.0 inside ascii) cut.front;
+      back = and_from _ _ (cut_behind text end both.0 inside ascii) cut.back;
+    }
+
+octets-cut-none : (text : List ℕ) → list_all is_path_octet text ≡ true → ((k : ℕ) → k < length text → get_or text k 0 ≢ 47)
     → (slice_split is_slash text ≡ text ∷ []) × (list_all is_name_octet text ≡ true)
-cut-none [] octets none = (refl, refl)
-cut-none (x ∷ xs) octets none =
+octets-cut-none [] octets none = (refl, refl)
+octets-cut-none (x ∷ xs) octets none =
     let both = and_parts (is_path_octet x) (list_all is_path_octet xs) octets in
-    let below = cut-none xs both.1 (λ k lt. none (suc k) (omega arith)) in
+    let below = octets-cut-none xs both.1 (λ k lt. none (suc k) (omega arith)) in
     let other : x ≢ 47 = none 0 (omega arith) in
     (cond-false (is_slash x) _ _ (ne_eqb x 47 other) ∙ ap (onto_first x) below.0, and_from _ _ (name_octet_from x both.0 other) below.1)
+
+-- a text with no slash is one part
+pub cut-none : (text : List ℕ) → is_text text ≡ true → ((k : ℕ) → k < length text → get_or text k 0 ≢ 47)
+    → (slice_split is_slash text ≡ text ∷ []) × (is_part text ≡ true)
+cut-none text is none =
+    let both = and_parts (is_utf8 text) (list_all is_path_octet text) is in
+    let cut = octets-cut-none text both.1 none in
+    (cut.0, and_from _ _ both.0 cut.1)
 
 -- ---- steps
 
@@ -175,11 +199,10 @@ pushed text kept name last longer cut =
     let named = components-push names name kept.components last in
     (subst IsJoined (sym more) (IsJoined-joined (names ++ name ∷ []) named), ap names_of more ∙ names_of-joined (names ++ name ∷ []) named)
 
-pub component-from : (component : List ℕ) → list_all is_name_octet component ≡ true → is_here component ≡ false → is_above component ≡ false → is_component component ≡ true
-component-from component octets here above =
-    and_from (list_all is_name_octet component && not (is_here component)) (not (is_above component))
-    (and_from (list_all is_name_octet component) (not (is_here component)) octets (not_from_false (is_here component) here))
-    (not_from_false (is_above component) above)
+pub component-from : (component : List ℕ) → is_part component ≡ true → is_here component ≡ false → is_above component ≡ false → is_component component ≡ true
+component-from component component_part here above =
+    and_from (not (is_here component) && not (is_above component)) (is_part component)
+    (and_from (not (is_here component)) _ (not_from_false (is_here component) here) (not_from_false (is_above component) above)) component_part
 
 pub joined-parent-le : (names : List (List ℕ)) → length (joined (parent names)) ≤ length (joined names)
 unfolding parent
@@ -230,47 +253,7 @@ followed-name names component here above = cond-false (is_here component) _ _ he
 pub rest-behind : (text : List ℕ) (end : ℕ) → take (length (drop end text) - 1) (drop 1 (drop end text)) ≡ drop (end + 1) text
 rest-behind text end = take_rest (drop end text) 1 ∙ drop-drop 1 end text ∙ ap (λ n. drop n text) (omega arith)
 
--- ---- where texts lead
-
--- the parts of a path text between slashes have octets of names
-pub split-octets : (text : List ℕ) → list_all is_path_octet text ≡ true → list_all (list_all is_name_octet) (slice_split is_slash text) ≡ true
-split-octets [] octets = refl
-split-octets (x ∷ xs) octets =
-    let both = and_parts (is_path_octet x) (list_all is_path_octet xs) octets in
-    let P : List (List ℕ) → Type 0 = λ parts. list_all (list_all is_name_octet) parts ≡ true in
-    cond_both (is_slash x) ([] ∷ slice_split is_slash xs) (onto_first x (slice_split is_slash xs)) P
-    (λ _. split-octets xs both.1)
-    (λ other. onto x (slice_split is_slash xs) (and_from _ _ both.0 (not_from_false (is_slash x) other)) (split-octets xs both.1))
-  where
-    onto : (x : ℕ) (parts : List (List ℕ)) → is_name_octet x ≡ true → list_all (list_all is_name_octet) parts ≡ true → list_all (list_all is_name_octet) (onto_first x parts) ≡ true
-    onto x [] here all = and_from _ _ (and_from _ _ here refl) refl
-    onto x (part ∷ parts) here all =
-        let both = and_parts (list_all is_name_octet part) (list_all (list_all is_name_octet) parts) all in
-        and_from _ _ (and_from _ _ here both.0) both.1
-
-followed-components : (names : List (List ℕ)) (component : List ℕ) → list_all is_component names ≡ true → list_all is_name_octet component ≡ true
-    → list_all is_component (followed names component) ≡ true
-followed-components names component named octets =
-    let P : List (List ℕ) → Type 0 = λ path. list_all is_component path ≡ true in
-    cond_both (is_here component) names _ P (λ _. named)
-    (λ here. cond_both (is_above component) (parent names) (names ++ component ∷ []) P (λ _. parent-components names named)
-    (λ above. components-push names component named (component-from component octets here above)))
-
-fold-components : (parts names : List (List ℕ)) → list_all is_component names ≡ true → list_all (list_all is_name_octet) parts ≡ true
-    → list_all is_component (fold followed names parts) ≡ true
-fold-components [] names named octets = named
-fold-components (part ∷ parts) names named octets =
-    let both = and_parts (list_all is_name_octet part) (list_all (list_all is_name_octet) parts) octets in
-    fold-components parts (followed names part) (followed-components names part named both.0) both.1
-
--- from a path of names, a path text leads to a path of names, though some may be too long
-pub resolved-components : (here : List (List ℕ)) (text : List ℕ) → list_all is_component here ≡ true → list_all is_path_octet text ≡ true
-    → list_all is_component (resolved here text) ≡ true
-unfolding resolved
-resolved-components here text named octets =
-    let P : List (List ℕ) → Type 0 = λ start. list_all is_component (fold followed start (slice_split is_slash text)) ≡ true in
-    cond_both (is_rooted text) [] here P (λ _. fold-components (slice_split is_slash text) [] refl (split-octets text octets))
-    (λ _. fold-components (slice_split is_slash text) here named (split-octets text octets))
+-- ---- texts of paths
 
 -- the canonical text of a path that is kept joined
 pub text_of-kept : (text : List ℕ) → IsJoined text → 0 < length text → text_of (names_of text) ≡ text
@@ -294,20 +277,27 @@ pub joined-octets : (names : List (List ℕ)) → list_all is_component names �
 joined-octets [] named = refl
 joined-octets (name ∷ names) named =
     let both = and_parts (is_component name) (list_all is_component names) named in
-    list_all-append is_path_octet name (joined names) ∙ and_from _ _ (of name (component-octets name both.0)) (joined-octets names both.1)
-  where
-    of : (octets : List ℕ) → list_all is_name_octet octets ≡ true → list_all is_path_octet octets ≡ true
-    of [] all = refl
-    of (x ∷ xs) all =
-        let both = and_parts (is_name_octet x) (list_all is_name_octet xs) all in
-        and_from _ _ (and_parts (is_path_octet x) (is_no_slash x) both.0).0 (of xs both.1)
+    list_all-append is_path_octet name (joined names) ∙ and_from _ _ (name_octets-path name (component-octets name both.0)) (joined-octets names both.1)
 
 pub kept-le : (text : List ℕ) → IsKept text → length text ≤ 900
 kept-le text kept =
     leb-true (length text) 900 (and_parts (list_all (λ name. nat_le (length name) 255) (slice_split is_slash text)) (nat_le (length text) 900) (sym (fits-kept text kept.joins) ∙ kept.within)).1
 
-pub kept-octets : (text : List ℕ) → IsJoined text → list_all is_path_octet text ≡ true
-kept-octets text kept = ap (list_all is_path_octet) (sym kept.whole) ∙ joined-octets (names_of text) kept.components
+-- names joined are UTF-8, as each of them is
+joined-utf8 : (names : List (List ℕ)) → list_all is_component names ≡ true → is_utf8 (joined names) ≡ true
+joined-utf8 [] named = is_utf8-nil
+joined-utf8 (name ∷ names) named =
+    let both = and_parts (is_component name) (list_all is_component names) named in
+    let valid = (and_parts (is_utf8 name) (list_all is_name_octet name) (component-part name both.0)).0 in
+    is_utf8-append (47 ∷ []) (name ++ joined names) slash-utf8 (is_utf8-append name (joined names) valid (joined-utf8 names both.1))
+
+-- what a path is kept as is a path text, but for the root's
+pub kept-path_text : (text : List ℕ) → IsKept text → 0 < length text → is_path_text text ≡ true
+kept-path_text text kept some =
+    let whole = kept.joins.whole in
+    let valid : is_utf8 text ≡ true = ap is_utf8 (sym whole) ∙ joined-utf8 (names_of text) kept.joins.components in
+    let octets : list_all is_path_octet text ≡ true = ap (list_all is_path_octet) (sym whole) ∙ joined-octets (names_of text) kept.joins.components in
+    and_from _ _ (and_from _ _ (le-leb 1 (length text) some) (le-leb (length text) 900 (kept-le text kept))) (and_from _ _ valid octets)
 
 pub IsKept-none : IsKept []
 unfolding names_of fits text_of

@@ -1,38 +1,57 @@
--- Pathnames (RFC 959, section 5.3.2, a string of printable ASCII). That `/` stands between names, and what `.`, `..` and an
--- empty component name, are own choices, as the standard leaves them to the server.
-use Rattle.std.specs.Prelude.{ℕ, ◌-◌, ◌≤◌, Bool, not, ◌&&◌, ◌||◌, ◌==◌, nat_le, List, [], ◌∷◌, ◌++◌, length, take, drop, fold, Option, Some, None, if◌then◌else◌, IsTrue, nat_eq}
+-- Pathnames (RFC 959, section 5.3.2, a string of printable ASCII; RFC 2640, section 3.1, which has UTF-8 in its place). That `/`
+-- stands between names, and what `.`, `..` and an empty component name, are own choices, as the standards leave them to the server.
+use Rattle.std.specs.Prelude.{ℕ, ◌-◌, Bool, not, ◌&&◌, ◌||◌, ◌==◌, nat_le, List, [], ◌∷◌, ◌++◌, length, take, drop, fold, Option, Some, None, if◌then◌else◌, IsTrue, nat_eq}
 use Rattle.std.specs.Cmp.Lexicographic.{slice_cmp, pointwise}
 use Rattle.std.specs.List.{list_all, slice_split, starts_with}
 use Rattle.std.specs.Ordering.{nat_cmp}
+use Rattle.std.specs.Str.{is_utf8}
 use Rattle.std.specs.declared.cmp.Ordering.{Ordering}
 
 -- the octet between two names, `/`
-abbrev pub is_slash : ℕ → Bool
-is_slash octet = octet == 47
+abbrev pub slash : ℕ
+slash = 47
 
--- an octet of a pathname: printable ASCII or a space, 32 to 126
+abbrev pub is_slash : ℕ → Bool
+is_slash octet = octet == slash
+
+-- an octet of a pathname: no control, which 0 to 31 and 127 are
 abbrev pub is_path_octet : ℕ → Bool
-is_path_octet octet = nat_le 32 octet && nat_le octet 126
+is_path_octet octet = nat_le 32 octet && not (octet == 127)
+
+-- octets that a pathname may have: UTF-8 with no control (own choice)
+abbrev pub is_text : List ℕ → Bool
+is_text octets = is_utf8 octets && list_all is_path_octet octets
+
+-- a pathname as it comes in a command: 1 to 900 octets (own choice) of such a text
+abbrev pub is_path_text : List ℕ → Bool
+is_path_text text = nat_le 1 (length text) && nat_le (length text) 900 && is_text text
+
+abbrev pub IsPathText : List ℕ → Type 0
+IsPathText text = IsTrue (is_path_text text)
 
 -- an octet of a name: one of a pathname that is no `/`
 abbrev pub is_name_octet : ℕ → Bool
 is_name_octet octet = is_path_octet octet && not (is_slash octet)
 
--- a pathname as it comes in a command: 1 to 900 octets (own choice), each 32 to 126
-abbrev pub IsPathText : List ℕ → Type 0
-IsPathText text = (1 ≤ length text) × (length text ≤ 900) × IsTrue (list_all is_path_octet text)
+-- what may stand between two `/` of a pathname: UTF-8 of such octets
+abbrev pub is_part : List ℕ → Bool
+is_part octets = is_utf8 octets && list_all is_name_octet octets
+
+-- the octet `.`
+abbrev pub dot : ℕ
+dot = 46
 
 -- a component that stays where it is: an empty one, or `.`
 abbrev pub is_here : List ℕ → Bool
-is_here component = (length component == 0) || pointwise nat_eq component (46 ∷ [])
+is_here component = (length component == 0) || pointwise nat_eq component (dot ∷ [])
 
 -- a component that goes up to the parent: `..`
 abbrev pub is_above : List ℕ → Bool
-is_above component = pointwise nat_eq component (46 ∷ 46 ∷ [])
+is_above component = pointwise nat_eq component (dot ∷ dot ∷ [])
 
--- a component that names something: octets of a name, not empty, not `.`, not `..`
+-- a component that names something: not empty, not `.`, not `..`, else any text without a `/`
 abbrev pub is_component : List ℕ → Bool
-is_component component = list_all is_name_octet component && not (is_here component) && not (is_above component)
+is_component component = not (is_here component) && not (is_above component) && is_part component
 
 -- a name: such a component, of at most 255 octets (own choice)
 abbrev pub is_name : List ℕ → Bool
@@ -48,7 +67,7 @@ followed path component = if is_here component then path else (if is_above compo
 
 -- a text that starts at the root: one that begins with `/`
 abbrev pub is_rooted : List ℕ → Bool
-is_rooted text = starts_with nat_eq text (47 ∷ [])
+is_rooted text = starts_with nat_eq text (slash ∷ [])
 
 -- the path that a text names, read from a path: its components, followed in turn from there or from the root; no tree is looked at
 unfoldable pub resolved : List (List ℕ) → List ℕ → List (List ℕ)
@@ -57,11 +76,11 @@ resolved here text = fold followed (if is_rooted text then [] else here) (slice_
 -- each name with a `/` before it
 abbrev pub joined : List (List ℕ) → List ℕ
 joined [] = []
-joined (name ∷ names) = 47 ∷ (name ++ joined names)
+joined (name ∷ names) = slash ∷ (name ++ joined names)
 
 -- the canonical text of a path: `/` for the root, else each name with a `/` before it
 unfoldable pub text_of : List (List ℕ) → List ℕ
-text_of [] = 47 ∷ []
+text_of [] = slash ∷ []
 text_of (name ∷ names) = joined (name ∷ names)
 
 -- the limits of a path (own choice): names of at most 255 octets, a canonical text of at most 900

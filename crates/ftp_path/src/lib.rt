@@ -4,6 +4,7 @@
 
 mod fault;
 pub mod key;
+pub mod laws;
 mod name;
 mod path;
 mod walk;

@@ -1,7 +1,10 @@
 // Tests of octets: which text may be read as a path, and what a component of it is.
 ghost use Rattle.std.specs.Prelude.{◌≡◌, ◌↔◌, IsTrue, IsSome, IfSome};
 ghost use Rattle.std.specs.List.{list_all};
-ghost use Rattle.ftp_path.specs.Path.{IsPathText, is_path_octet, is_name_octet, is_here, is_above, is_component, is_name, is_rooted};
+ghost use Rattle.std.specs.Str.{is_utf8};
+ghost use Rattle.ftp_path.specs.Path.{IsPathText, is_path_octet, is_text, is_name_octet, is_part, is_here, is_above, is_component, is_name, is_rooted};
+
+use simdutf8::is_utf8_baseline;
 
 /// The most octets of a path text and of a canonical text (own choice).
 pub(crate) const TEXT_LIMIT: usize = 900;
@@ -9,15 +12,16 @@ pub(crate) const TEXT_LIMIT: usize = 900;
 /// The most octets of a name (own choice).
 pub(crate) const NAME_LIMIT: usize = 255;
 
-/// Whether a text may be resolved: 1 to 900 octets, each 32 to 126 (RFC 959, section 5.3.2; the limit is an own choice).
+/// Whether a text may be resolved: 1 to 900 octets of UTF-8 (RFC 2640, section 3.1) without the octets 0 to 31 and 127.
+/// The limits are own choices.
 pub fn is_path_text(text: &[u8]) -> bool
     ensures { IsTrue result ↔ IsPathText text.now }
 {
-    !text.is_empty() && text.len() <= TEXT_LIMIT && are_path_octets(text)
+    !text.is_empty() && text.len() <= TEXT_LIMIT && is_text(text)
 }
 
-/// What one directory calls one of its nodes: 1 to 255 octets, each 32 to 126, no `/`, and neither `.` nor `..`.
-/// The octets are lent.
+/// What one directory calls one of its nodes: 1 to 255 octets of such a text, no `/`, and neither `.` nor `..`. Names are
+/// equal, and in order, by their octets. They are lent.
 #[derive(Clone, Copy, Debug)]
 pub struct Name<'a> {
     octets: &'a [u8],
@@ -50,7 +54,7 @@ impl<'a> Name<'a> {
 fn is_component(component: &[u8]) -> bool
     ensures { result ≡ is_component component.now }
 {
-    are_name_octets(component) && !is_here(component) && !is_above(component)
+    !is_here(component) && !is_above(component) && is_part(component)
 }
 
 /// Whether a component stays where it is: an empty one, or `.`.
@@ -74,22 +78,42 @@ pub(crate) fn is_rooted(text: &[u8]) -> bool
     text.starts_with(b"/")
 }
 
-fn are_path_octets(text: &[u8]) -> bool
-    ensures { result ≡ list_all is_path_octet text.now }
+/// Whether octets are UTF-8 with no control.
+fn is_text(octets: &[u8]) -> bool
+    ensures { result ≡ is_text octets.now }
 {
-    text.iter().all(|octet| is_path_octet(*octet))
+    is_utf8(octets) && are_path_octets(octets)
 }
 
-fn are_name_octets(component: &[u8]) -> bool
-    ensures { result ≡ list_all is_name_octet component.now }
+/// Whether octets may stand between two slashes.
+fn is_part(octets: &[u8]) -> bool
+    ensures { result ≡ is_part octets.now }
 {
-    component.iter().all(|octet| is_name_octet(*octet))
+    is_utf8(octets) && are_name_octets(octets)
+}
+
+fn is_utf8(octets: &[u8]) -> bool
+    ensures { result ≡ is_utf8 octets.now }
+{
+    is_utf8_baseline(octets)
+}
+
+fn are_path_octets(octets: &[u8]) -> bool
+    ensures { result ≡ list_all is_path_octet octets.now }
+{
+    octets.iter().all(|octet| is_path_octet(*octet))
+}
+
+fn are_name_octets(octets: &[u8]) -> bool
+    ensures { result ≡ list_all is_name_octet octets.now }
+{
+    octets.iter().all(|octet| is_name_octet(*octet))
 }
 
 fn is_path_octet(octet: u8) -> bool
     ensures { result ≡ is_path_octet octet }
 {
-    32 <= octet && octet <= 126
+    32 <= octet && octet != 127
 }
 
 fn is_name_octet(octet: u8) -> bool

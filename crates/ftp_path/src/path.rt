@@ -1,8 +1,7 @@
 // A path: the names on the way from the root, kept as one text.
 ghost use Rattle.std.specs.Prelude.{◌≡◌, ◌≤◌, [], IsTrue, IfOk, IfErr, if◌then◌else◌, length};
-ghost use Rattle.std.specs.List.{list_all};
 ghost use Rattle.ftp_path.specs.Kept.{IsJoined, IsKept, names_of};
-ghost use Rattle.ftp_path.specs.Path.{IsPathText, fits, is_path_octet, is_rooted, is_within, joined, moved_path, parent, resolved, text_of};
+ghost use Rattle.ftp_path.specs.Path.{IsPathText, fits, is_rooted, is_within, joined, moved_path, parent, resolved, text_of};
 
 use crate::fault::PathFault;
 use crate::name::{TEXT_LIMIT, is_rooted};
@@ -61,7 +60,7 @@ impl<A: Allocator> Path<A> {
     /// The canonical text: `/`, or `/` before each name. Lends it, and takes no memory.
     pub fn text(&self) -> &[u8]
         ensures text { result.now ≡ text_of self.now }
-        ensures octets { IsTrue (list_all is_path_octet result.now) }
+        ensures path_text { IsPathText result.now }
         ensures bound { length result.now ≤ 900 }
     {
         if self.octets.is_empty() {

@@ -1,7 +1,7 @@
 // Where a text leads: its components, followed one by one, with no memory but a buffer that holds any two texts.
 ghost use Rattle.std.specs.Prelude.{◌≡◌, ◌+◌, ◌-◌, ◌≤◌, [], IsTrue, fold, length, nat_le};
 ghost use Rattle.std.specs.List.{list_all, slice_split, suffix_len};
-ghost use Rattle.ftp_path.specs.Path.{fits, followed, is_name_octet, is_path_octet, is_slash, joined};
+ghost use Rattle.ftp_path.specs.Path.{fits, followed, is_part, is_text, is_slash, joined};
 ghost use Rattle.ftp_path.specs.Kept.{IsJoined, is_no_slash, names_of};
 
 use crate::name::{NAME_LIMIT, TEXT_LIMIT, is_above, is_here};
@@ -49,7 +49,7 @@ impl Walk {
 
     /// Follows the components of a text.
     pub(crate) fn follow_all(&mut self, text: &[u8])
-        requires octets { IsTrue (list_all is_path_octet text.now) }
+        requires octets { IsTrue (is_text text.now) }
         requires room { length (joined self.old) + 1 + length text.now ≤ 1801 }
         ensures { self.new ≡ fold followed self.old (slice_split is_slash text.now) }
     {
@@ -64,7 +64,7 @@ impl Walk {
 
     /// Follows one component.
     fn follow(&mut self, component: &[u8])
-        requires octets { IsTrue (list_all is_name_octet component.now) }
+        requires octets { IsTrue (is_part component.now) }
         requires room { length (joined self.old) + 1 + length component.now ≤ 1801 }
         ensures { self.new ≡ followed self.old component.now }
     {

@@ -1,6 +1,7 @@
 use Rattle.std.proofs.Common.{◌≡◌, ◌∙◌, ap, sym, subst, List, ℕ, true, false, IfOk, MatchOption, ◌∷◌, [], ◌==◌, length}
-use Rattle.ftp_path.specs.Path.{fits, resolved, Names}
+use Rattle.ftp_path.specs.Path.{fits, is_path_text, resolved, Names}
 use Rattle.ftp_direct.specs.Direct.{place}
+use Rattle.ftp_path.proofs.TextLemmas.{dot-text}
 use Rattle.ftp_direct.proofs.ListingLemmas.{place_here}
 use Rattle.ftp_direct.proofs.listings.find_here.Goals as goal
 
@@ -10,3 +11,6 @@ returns-clause-found g c =
     let same : resolved c.args.cwd.now c.in_ok-here.here ≡ place c.args.cwd.now c.args.text.now =
     ap (resolved c.args.cwd.now) c.in_ok-here.ensures ∙ place_here c.args.cwd.now c.args.text.now (ap (λ t. length t == 0) (sym c.as_slice.ensures) ∙ sym c.is_empty.ensures ∙ c.if-not-is_empty.false) in
     subst P same c.find-2.ensures.found
+
+pub find-requires-2 : goal.find-requires-2
+find-requires-2 g c = ap is_path_text c.in_ok-here.ensures ∙ dot-text

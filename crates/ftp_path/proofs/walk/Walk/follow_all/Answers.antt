@@ -1,14 +1,14 @@
 use Rattle.std.proofs.Common.{◌≡◌, ◌+◌, ◌-◌, ◌<◌, length, take, drop, fold, ap, sym, ◌∙◌, arith, rules}
-use Rattle.std.specs.List.{list_all, slice_split}
+use Rattle.std.specs.List.{slice_split}
 use Rattle.std.proofs.lemmas.List.{length-drop}
-use Rattle.ftp_path.specs.Path.{is_slash, is_name_octet, followed}
+use Rattle.ftp_path.specs.Path.{is_slash, is_part, followed}
 use Rattle.ftp_path.proofs.PathLemmas.{cut-first, cut-none, followed-le, rest-behind}
 use Rattle.ftp_path.proofs.walk.Walk.follow_all.Goals as goal
 
 pub follow-requires-clause-octets : goal.follow-requires-clause-octets
 follow-requires-clause-octets c =
     let cut = cut-first c.loop-end.rest.now c.in-Some.end c.loop-end.invariant.octets (search rules) (search rules) (search rules) in
-    ap (list_all is_name_octet) c.split_at.ensures.front ∙ cut.front
+    ap is_part c.split_at.ensures.front ∙ cut.front
 
 pub loop-end-preserved : goal.loop-end-preserved
 loop-end-preserved c =

@@ -1,11 +1,11 @@
 use Rattle.std.proofs.Common.{◌≡◌, ◌+◌, ◌≤◌, IsTrue, fold, length}
-use Rattle.std.specs.List.{list_all, slice_split}
-use Rattle.ftp_path.specs.Path.{followed, is_path_octet, is_slash, joined}
+use Rattle.std.specs.List.{slice_split}
+use Rattle.ftp_path.specs.Path.{followed, is_text, is_slash, joined}
 use Rattle.ftp_path.proofs.walk.Walk.follow_all.Given as goal
 
 abbrev pub invariant-loop-end : goal.invariant-loop-end
 invariant-loop-end l = record {
-  octets : IsTrue (list_all is_path_octet l.rest);
+  octets : IsTrue (is_text l.rest);
   room : length (joined l.self) + 1 + length l.rest ≤ 1801;
   leads : fold followed l.self (slice_split is_slash l.rest) ≡ fold followed l.fn.self (slice_split is_slash l.text);
 }
