@@ -95,10 +95,6 @@ short_low v w standing job owes closing =
     by_case (inl less) login left octets length_is = inl (omega (arith, less, login, left))
     by_case (inr few) login left octets length_is = inr (omega (arith, few, octets, length_is, closing))
 
-few_if : (b : Bool) → one_if b ≤ 1
-few_if true = omega arith
-few_if false = omega arith
-
 door_short_low : (link : Link) (port : ℕ) (v : View) → Lowers 1 v (door_short link port v)
 door_short_low Links.Asked port v = short_low v (record v { link = Links.Door port }) refl refl refl (omega arith)
 door_short_low Links.Free port v = one_more v v (same v)

@@ -110,9 +110,6 @@ char_plain d = digit_plain (digit_char d) (least d)
     least : (d : ℕ) → 48 ≤ digit_char d
     least d = grind (arith, nat_tests)
 
-one_char : (d : ℕ) → Fits 1 (digit_char d ∷ [])
-one_char d = record { plain = (char_plain d, tt); short = omega arith }
-
 if_fits : (b : Bool) (n : ℕ) (xs ys : List ℕ) → Fits n xs → Fits n ys → Fits n (if b then xs else ys)
 if_fits true n xs ys one other = one
 if_fits false n xs ys one other = other

@@ -17,44 +17,14 @@ same_host (V6 a) (V6 b) = pointwise nat_eq a b
 
 -- ---- what an end wants: `CloseData` comes before all others
 
--- a port to listen at; it is told which, or that it is refused
-abbrev pub is_listening : Wants → Bool
-is_listening Want.Listen = true
-is_listening wants = false
-
 -- the link that the other end opens
 abbrev pub is_accepting : Wants → Bool
 is_accepting Want.Accept = true
 is_accepting wants = false
 
--- where it wants to open a link
-abbrev pub connecting : Wants → Option Endpoint
-connecting (Want.Connect endpoint) = Some endpoint
-connecting wants = None
-
 abbrev pub is_connecting : Wants → Bool
 is_connecting (Want.Connect endpoint) = true
 is_connecting wants = false
-
--- the octets and the end that come over the open link
-abbrev pub is_receiving : Wants → Bool
-is_receiving Want.Receive = true
-is_receiving wants = false
-
--- room for octets over the open link
-abbrev pub is_sending : Wants → Bool
-is_sending Want.Send = true
-is_sending wants = false
-
--- that its side of the link, or its port, is closed
-abbrev pub is_closing : Wants → Bool
-is_closing Want.CloseData = true
-is_closing wants = false
-
--- that the control connection is closed
-abbrev pub is_leaving : Wants → Bool
-is_leaving Want.CloseAll = true
-is_leaving wants = false
 
 -- ---- the link between two ends
 

@@ -1,5 +1,6 @@
 -- The server's other calls: the clock, the data connection, and the end of the control connection; what the server wants at
--- each moment (RFC 959, sections 3.2 to 3.5 and 4.1). Each ends by `later`.
+-- each moment (RFC 959, sections 3.2 to 3.5 and 4.1). Each call is `later` of its step: what it does before a line that waits is
+-- acted on.
 use Rattle.std.specs.Prelude.{◌≡◌, ℕ, ◌+◌, Bool, true, false, ◌&&◌, List, [], ◌∷◌, length, drop, Option, Some, None, if◌then◌else◌}
 use Rattle.ftp_endpoint.specs.declared.host.Host.{Host}
 use Rattle.ftp_framer.specs.Said.{Said, says, marker}
@@ -41,12 +42,18 @@ start table accounts here peer = record {
 -- ---- control output and the clock
 
 -- so many octets were given
+abbrev pub control_step : ℕ → View → View
+control_step count v = record v { owed = drop count v.owed }
+
 unfoldable pub gives_control : ℕ → View → View
-gives_control count v = later (record v { owed = drop count v.owed })
+gives_control count v = later (control_step count v)
 
 -- the moment in force from now on
+abbrev pub clock_step : ℕ → View → View
+clock_step moment v = record v { footing = record v.footing { moment = moment } }
+
 unfoldable pub clocked : ℕ → View → View
-clocked moment v = later (record v { footing = record v.footing { moment = moment } })
+clocked moment v = later (clock_step moment v)
 
 -- ---- which calls have a use: while a close is wanted, none of the link has
 
@@ -61,16 +68,22 @@ listening_turn (At.Asked Asking.Pasv) footing port v = (record v { link = At.Doo
 listening_turn (At.Asked Asking.Epsv) footing port v = (record v { link = At.Door }, Say.Extended port)
 listening_turn link footing port v = (v, Say.Nothing)
 
+abbrev pub listening_step : ℕ → View → View
+listening_step port v = turned (listening_turn (link_of v.session) v.footing port v.session) v
+
 unfoldable pub listening : ℕ → View → View
-listening port v = later (turned (listening_turn (link_of v.session) v.footing port v.session) v)
+listening port v = later (listening_step port v)
 
 -- none was had
 abbrev pub unheard : Link Move → View → View
 unheard (At.Asked asked) v = replied Texts.NoConnection (unlinked v.session) v
 unheard link v = v
 
+abbrev pub no_port_step : View → View
+no_port_step v = unheard (link_of v.session) v
+
 unfoldable pub listen_refused : View → View
-listen_refused v = later (unheard (link_of v.session) v)
+listen_refused v = later (no_port_step v)
 
 -- ---- the link opens, or is refused
 
@@ -90,8 +103,12 @@ opens (At.Opening move Ways.Door) is_peer v = door_opens_for is_peer move v
 opens (At.Opening move (Ways.To endpoint)) is_peer v = door_opens_for true move v
 opens link is_peer v = v
 
+-- the link is open, and this host is at its other end
+abbrev pub opened_step : Host → View → View
+opened_step host v = completed (opens (link_of v.session) (same_host host v.footing.peer) v)
+
 unfoldable pub data_opened : Host → View → View
-data_opened host v = later (completed (opens (link_of v.session) (same_host host v.footing.peer) v))
+data_opened host v = later (opened_step host v)
 
 -- a link that was not had: before a transfer command nothing is said; a port that is listened at is to be closed
 abbrev pub refuses : Link Move → View → View
@@ -99,8 +116,11 @@ refuses At.Door v = with_session (forgotten v.session) v
 refuses (At.Opening move way) v = replied Texts.NoConnection (forgotten v.session) v
 refuses link v = v
 
+abbrev pub refused_step : View → View
+refused_step v = refuses (link_of v.session) v
+
 unfoldable pub data_refused : View → View
-data_refused v = later (refuses (link_of v.session) v)
+data_refused v = later (refused_step v)
 
 -- ---- the octets of an upload
 
@@ -175,8 +195,11 @@ takes_given (At.Moving (Moves.Down rest)) count v = with_link (At.Moving (Moves.
 takes_given (At.Moving (Moves.Listing rest)) count v = with_link (At.Moving (Moves.Listing (drop count rest))) v
 takes_given link count v = v
 
+abbrev pub given_step : ℕ → View → View
+given_step count v = completed (takes_given (link_of v.session) count v)
+
 unfoldable pub gives_data : ℕ → View → View
-gives_data count v = later (completed (takes_given (link_of v.session) count v))
+gives_data count v = later (given_step count v)
 
 -- ---- the link ends, breaks, or is closed
 
@@ -186,8 +209,11 @@ ends At.Ready v = with_session (unlinked v.session) v
 ends (At.Moving move) v = ends_unlinked (at_end v.footing v.session.table move) v
 ends link v = v
 
+abbrev pub end_step : View → View
+end_step v = ends (link_of v.session) v
+
 unfoldable pub data_end : View → View
-data_end v = later (ends (link_of v.session) v)
+data_end v = later (end_step v)
 
 -- it broke
 abbrev pub breaks : Link Move → View → View
@@ -195,12 +221,18 @@ breaks At.Ready v = with_session (unlinked v.session) v
 breaks (At.Moving move) v = ends_unlinked (at_break v.footing v.session.table move) v
 breaks link v = v
 
+abbrev pub break_step : View → View
+break_step v = breaks (link_of v.session) v
+
 unfoldable pub data_fault : View → View
-data_fault v = later (breaks (link_of v.session) v)
+data_fault v = later (break_step v)
 
 -- a close that was wanted is done
+abbrev pub close_step : View → View
+close_step v = with_session (record v.session { closing = false }) v
+
 unfoldable pub data_closed : View → View
-data_closed v = later (with_session (record v.session { closing = false }) v)
+data_closed v = later (close_step v)
 
 -- ---- the control connection ends: a transfer under way is dropped, with the map as it was, and so is what waits or is owed
 

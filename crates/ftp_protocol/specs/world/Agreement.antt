@@ -128,10 +128,6 @@ pub record Agrees (from : State) (begun : List Order) (marks : List (List Mark))
 abbrev pub WorldAgrees : State → List Order → World → Type 0
 WorldAgrees from begun w = Agrees from begun w.marks w.cutoff w.reports w.far.session.table
 
--- the state from which the direct run begins: the server's map, the root, and whether the server knows the client's login
-abbrev pub from_ends : Near → Far → State
-from_ends near far = start far.session.table (is_known far.footing.accounts near.user near.pass)
-
 -- the reports and the map are those of the operations begun, run directly
 pub record IsDirect (from : State) (begun : List Order) (w : World) : Type 0 where
   pub reports : w.reports ≡ (answers from begun).0
@@ -150,11 +146,6 @@ Leads read w [] begun new = (begun ≡ []) × (new ≡ w)
 Leads read w (event ∷ events) begun new =
     (possible : Bool) × (next : World) × (later : List Order)
     × Happens read event w possible next × (begun ≡ begun_by event possible ++ later) × Leads read next events later new
-
--- the two ends know each other's hosts
-pub record AreMatched (near : Near) (far : Far) : Type 0 where
-  pub to_server : near.peer ≡ far.footing.here
-  pub to_client : near.here ≡ far.footing.peer
 
 -- no break, refusal or end of the control connection
 abbrev pub IsHonest : Event → Type 0
