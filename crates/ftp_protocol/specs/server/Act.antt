@@ -90,11 +90,13 @@ is_free (command.Opts text) = true
 is_free command.Abor = true
 is_free other = false
 
+-- somebody is logged in
 abbrev pub is_in : Access (List ℕ) → Bool
 is_in Nobody = false
 is_in (AwaitsPass name) = false
 is_in Known = true
 
+-- the commands that need a data connection (RFC 959, section 4.1.3; RFC 3659, section 7)
 abbrev pub is_transfer : Command (List ℕ) → Bool
 is_transfer (command.Retr text) = true
 is_transfer (command.Stor text) = true

@@ -19,6 +19,7 @@ use Rattle.ftp_protocol.specs.declared.said.Said.TheVariants as Say
 abbrev pub size_of : Session → List ℕ → ℕ
 size_of v text = size_in v.settings.kind (octets_or_none v.table (path_of v text))
 
+-- the settings in which a size is told
 abbrev pub has_size : Settings → Bool
 has_size settings = same_structure settings.structure Structures.File && same_mode settings.mode Modes.Stream
 
@@ -32,6 +33,7 @@ size text v =
 abbrev pub stamp_of : Session → List ℕ → ℕ
 stamp_of v text = unwrap_or (stamp_at v.table (path_of v text)) 0
 
+-- MDTM: YYYYMMDDHHMMSS in UTC (RFC 3659, section 3)
 abbrev pub mdtm : List ℕ → Session → Turn
 mdtm text v = unless (refusal (direct_of v) (Ops.Modified text)) v (v, Say.Stamp (moment_digits (stamp_of v text)))
 

@@ -57,6 +57,7 @@ clocked moment v = later (clock_step moment v)
 
 -- ---- which calls have a use: while a close is wanted, none of the link has
 
+-- the link as events see it: while its close is wanted, they see none
 abbrev pub link_of : Session → Link Move
 link_of v = if v.closing then At.Free else v.link
 
@@ -68,6 +69,7 @@ listening_turn (At.Asked Asking.Pasv) footing port v = (record v { link = At.Doo
 listening_turn (At.Asked Asking.Epsv) footing port v = (record v { link = At.Door }, Say.Extended port)
 listening_turn link footing port v = (v, Say.Nothing)
 
+-- the reply of PASV or EPSV is owed, with this port (RFC 959, section 4.1.2; RFC 2428, section 3)
 abbrev pub listening_step : ℕ → View → View
 listening_step port v = turned (listening_turn (link_of v.session) v.footing port v.session) v
 
@@ -79,6 +81,7 @@ abbrev pub unheard : Link Move → View → View
 unheard (At.Asked asked) v = replied Texts.NoConnection (unlinked v.session) v
 unheard link v = v
 
+-- what waits for a port is answered 425
 abbrev pub no_port_step : View → View
 no_port_step v = unheard (link_of v.session) v
 
@@ -93,10 +96,12 @@ abbrev pub door_opens : Bool → View → View
 door_opens true v = with_session (record v.session { link = At.Ready }) v
 door_opens false v = with_session (forgotten v.session) v
 
+-- the same behind the 150 of a transfer: it goes on, or is answered 425
 abbrev pub door_opens_for : Bool → Move → View → View
 door_opens_for true move v = with_session (record v.session { link = At.Moving move }) v
 door_opens_for false move v = replied Texts.NoConnection (forgotten v.session) v
 
+-- what an open link is for: the next transfer command, or the transfer that waits for it
 abbrev pub opens : Link Move → Bool → View → View
 opens At.Door is_peer v = door_opens is_peer v
 opens (At.Opening move Ways.Door) is_peer v = door_opens_for is_peer move v
@@ -116,6 +121,7 @@ refuses At.Door v = with_session (forgotten v.session) v
 refuses (At.Opening move way) v = replied Texts.NoConnection (forgotten v.session) v
 refuses link v = v
 
+-- the link was not had: a transfer that waits for it is answered 425
 abbrev pub refused_step : View → View
 refused_step v = refuses (link_of v.session) v
 
@@ -128,6 +134,7 @@ data_refused v = later (refused_step v)
 abbrev pub grown : Table → Names → ℕ → Decoder → Link Move
 grown table path keep d = if is_over table path keep d then At.Moving Moves.Past else At.Moving (Moves.Up path keep d)
 
+-- the data connection is in another state; all else stays
 abbrev pub with_link : Link Move → View → View
 with_link link v = with_session (record v.session { link = link }) v
 
@@ -142,6 +149,7 @@ takes_said (At.Moving (Moves.Up path keep d)) (marker text) v =
     marks text (keep + length d.content) (with_link (At.Moving (Moves.Up path keep (with_said d (marker text)))) v)
 takes_said link said v = v
 
+-- all that an octet says, in order
 abbrev pub takes_all : List Said → View → View
 takes_all [] v = v
 takes_all (said ∷ more) v = takes_all more (takes_said v.session.link said v)
@@ -157,9 +165,11 @@ takes_data (At.Moving (Moves.Up path keep d)) octet v =
     takes_octet (fault_of (read_on d octet)) path keep (read_on d octet) (octet_says d octet) v
 takes_data link octet v = v
 
+-- one octet of the data connection, and then the line that waits
 unfoldable pub receives_octet : View → ℕ → View
 receives_octet v octet = later (takes_data (link_of v.session) octet v)
 
+-- octets of the data connection, one by one
 abbrev pub receives : View → List ℕ → View
 receives v [] = v
 receives v (octet ∷ octets) = receives (receives_octet v octet) octets
@@ -170,6 +180,7 @@ is_upload (At.Moving (Moves.Up path keep d)) = true
 is_upload (At.Moving Moves.Past) = true
 is_upload link = false
 
+-- a data octet may be taken: an upload is under way, and its markers have room to be answered
 abbrev pub may_receive : View → Bool
 may_receive v = is_upload (link_of v.session) && has_room v
 
@@ -186,6 +197,7 @@ given_by (At.Moving (Moves.Down rest)) = rest
 given_by (At.Moving (Moves.Listing rest)) = rest
 given_by link = []
 
+-- the octets that the open link is still to carry
 abbrev pub to_give : View → List ℕ
 to_give v = given_by (link_of v.session)
 
@@ -195,6 +207,7 @@ takes_given (At.Moving (Moves.Down rest)) count v = with_link (At.Moving (Moves.
 takes_given (At.Moving (Moves.Listing rest)) count v = with_link (At.Moving (Moves.Listing (drop count rest))) v
 takes_given link count v = v
 
+-- those octets are out; with the last the link is to be closed, and the 226 is owed
 abbrev pub given_step : ℕ → View → View
 given_step count v = completed (takes_given (link_of v.session) count v)
 
@@ -209,6 +222,7 @@ ends At.Ready v = with_session (unlinked v.session) v
 ends (At.Moving move) v = ends_unlinked (at_end v.footing v.session.table move) v
 ends link v = v
 
+-- what the end of the link means for the transfer that it carried
 abbrev pub end_step : View → View
 end_step v = ends (link_of v.session) v
 
@@ -221,6 +235,7 @@ breaks At.Ready v = with_session (unlinked v.session) v
 breaks (At.Moving move) v = ends_unlinked (at_break v.footing v.session.table move) v
 breaks link v = v
 
+-- what the break of the link means for the transfer that it carried
 abbrev pub break_step : View → View
 break_step v = breaks (link_of v.session) v
 
@@ -236,14 +251,17 @@ data_closed v = later (close_step v)
 
 -- ---- the control connection ends: a transfer under way is dropped, with the map as it was, and so is what waits or is owed
 
+-- the session behind it: the data connection is forgotten, and nothing is heard any more
 abbrev pub cut : Session → Session
 cut v = record (forgotten v) { once = Onces.Nothing; life = Lives.Cut }
 
+-- the line that waits is dropped, so nothing comes later
 unfoldable pub control_end : View → View
 control_end v = record v { session = cut v.session; waiting = None; owed = [] }
 
 -- ---- what the server wants
 
+-- what each state of the data connection asks of who owns it
 abbrev pub wants_link : Link Move → Wants
 wants_link At.Free = Want.Nothing
 wants_link (At.Asked asked) = Want.Listen
@@ -264,6 +282,7 @@ is_done Lives.Quit [] = true
 is_done Lives.Quit (octet ∷ octets) = false
 is_done Lives.Cut owed = true
 
+-- a close comes before all else, then the end of the control connection, then the link
 abbrev pub wants : View → Wants
 wants v =
     if v.session.closing then Want.CloseData

@@ -39,6 +39,7 @@ unlinked v = record v { link = At.Free }
 abbrev pub is_taken : Host → Endpoint → Bool
 is_taken peer endpoint = same_host endpoint.host peer && nat_le 1024 endpoint.port
 
+-- an endpoint is taken in place of the one before, or refused with 504
 abbrev pub takes : Bool → Endpoint → Session → Turn
 takes true endpoint v = tells Texts.EndpointTaken (record v { link = At.Port endpoint })
 takes false endpoint v = tells Texts.BadParameter v
@@ -48,6 +49,7 @@ abbrev pub port : Footing → Endpoint → Session → Turn
 port footing endpoint v =
     if v.only_extended then tells Texts.BadSequence v else takes (is_taken footing.peer endpoint) endpoint (forgotten v)
 
+-- a host of IPv6
 abbrev pub is_v6 : Host → Bool
 is_v6 (V4 octets) = false
 is_v6 (V6 octets) = true

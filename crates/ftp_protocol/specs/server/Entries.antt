@@ -35,6 +35,7 @@ chosen_text facts =
     fact_text (codes "Type") facts.kind ++ (fact_text (codes "Size") facts.size
     ++ (fact_text (codes "Modify") facts.modify ++ fact_text (codes "Perm") facts.perm))
 
+-- some fact is in force
 abbrev pub is_any_chosen : Facts → Bool
 is_any_chosen facts = facts.kind || (facts.size || (facts.modify || facts.perm))
 
@@ -43,6 +44,7 @@ abbrev pub feature_text : List ℕ → Bool → List ℕ
 feature_text name true = name ++ codes "*;"
 feature_text name false = name ++ codes ";"
 
+-- the facts that FEAT names, each with `*` where it is in force (RFC 3659, section 7.8)
 abbrev pub features_text : Facts → List ℕ
 features_text facts =
     feature_text (codes "Type") facts.kind ++ (feature_text (codes "Size") facts.size
@@ -50,6 +52,7 @@ features_text facts =
 
 -- ---- OPTS MLST: facts, each with a semicolon; those that are not known are passed over (RFC 3659, section 7.9)
 
+-- the octet behind each fact of OPTS MLST
 abbrev pub is_semicolon : ℕ → Bool
 is_semicolon octet = octet == semicolon
 
@@ -57,6 +60,7 @@ is_semicolon octet = octet == semicolon
 abbrev pub names_fact : List (List ℕ) → List ℕ → Bool
 names_fact words name = list_any (λ word. str_eq_ignore_ascii_case word name) words
 
+-- the facts that words name, whatever their case; others are passed over (RFC 3659, section 7.9)
 abbrev pub facts_in : List (List ℕ) → Facts
 facts_in words = record {
   kind = names_fact words (codes "Type");

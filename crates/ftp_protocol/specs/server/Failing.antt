@@ -59,6 +59,7 @@ may_fail (command.Help text) = is_some text
 may_fail (command.Opts text) = true
 may_fail other = false
 
+-- a command that may fail has failed, and is answered 451
 abbrev pub LineFails : Heard (List ℕ) → View → View → Type 0
 LineFails TooLong v w = ⊥
 LineFails (Bad fault) v w = ⊥
@@ -90,6 +91,7 @@ abbrev pub InstallFails : Link Move → View → View → Type 0
 InstallFails (At.Moving (Moves.Up path keep d)) v w = Late (install_lost (unlinked v.session) v) w
 InstallFails link v w = ⊥
 
+-- the link ended or broke, and the upload that it carried could not be installed
 abbrev pub EndFails : View → View → Type 0
 EndFails v w = InstallFails (link_of v.session) v w
 
@@ -99,9 +101,11 @@ abbrev pub is_taking : Link Move → Bool
 is_taking (At.Moving (Moves.Up path keep d)) = true
 is_taking link = false
 
+-- the upload is lost while it is still under way
 abbrev pub NoRoom : View → View → Type 0
 NoRoom v w = (is_taking v.session.link ≡ true) × Late (lost v) w
 
+-- one data octet of an upload had no room
 abbrev pub UploadFails : Link Move → ℕ → View → View → Type 0
 UploadFails (At.Moving (Moves.Up path keep d)) octet v w =
     (taken : List Said) × (rest : List Said) × (octet_says d octet ≡ taken ++ rest)
@@ -125,6 +129,7 @@ HeardFails heard v w =
     ((is_abor heard && is_moving v.session.link ≡ true) × AbortFails v.session.link v w)
     ⊎ ((is_abor heard && is_moving v.session.link ≡ false) × Late (record v { waiting = Some heard }) w)
 
+-- a whole line is heard as ever, or fails
 abbrev pub LineIsHeard : Heard (List ℕ) → View → View → Type 0
 LineIsHeard heard v w = (w ≡ heard_line heard v) ⊎ HeardFails heard v w
 
@@ -147,6 +152,7 @@ EventIsHeard read (line text) v w = LineIsHeard (read text) v w ⊎ ReadingFails
 EventIsHeard read too_long v w = LineIsHeard TooLong v w
 EventIsHeard read (owed answer) v w = w ≡ owes answer v
 
+-- events in order, each of which may fail
 abbrev pub EventsAreHeard : Reading → List NvtEvent → View → View → Type 0
 EventsAreHeard read [] v w = w ≡ v
 EventsAreHeard read (event ∷ events) v w = (x : View) × EventIsHeard read event v x × EventsAreHeard read events x w
@@ -164,6 +170,7 @@ AreHeard read v (octet ∷ octets) w = (may_hear v ≡ true) × (x : View) × Oc
 abbrev pub OctetIsReceived : View → ℕ → View → Type 0
 OctetIsReceived v octet w = (w ≡ receives_octet v octet) ⊎ UploadFails (link_of v.session) octet v w
 
+-- data octets in order, each of which may be taken when its turn comes
 abbrev pub AreReceived : View → List ℕ → View → Type 0
 AreReceived v [] w = w ≡ v
 AreReceived v (octet ∷ octets) w = (may_receive v ≡ true) × (x : View) × OctetIsReceived v octet x × AreReceived x octets w

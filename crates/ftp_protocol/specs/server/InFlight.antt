@@ -27,6 +27,7 @@ pub record HearsLine (read : Reading) (text : List ℕ) (v : View) : Type 0 wher
   pub whole : hears read v (written_line text) ≡ heard_line (read text) v
   pub may : may_hear v ≡ true → MayHear read v (written_line text)
 
+-- every line that a control connection can carry, whatever else the server holds
 abbrev pub LineIsHeard : Type 0
 LineIsHeard = (read : Reading) (text : List ℕ) (v : View) → IsLine text → v.ear ≡ quiet → HearsLine read text v
 
@@ -57,6 +58,7 @@ abbrev pub heard_lines : Reading → List (List ℕ) → View → View
 heard_lines read [] v = v
 heard_lines read (text ∷ texts) v = heard_lines read texts (heard_line (read text) v)
 
+-- every row of lines is heard line by line
 abbrev pub RowIsHeard : Type 0
 RowIsHeard =
     (read : Reading) (texts : List (List ℕ)) (v : View) → AllByRecursion IsLine texts → v.ear ≡ quiet

@@ -19,6 +19,7 @@ use Rattle.ftp_protocol.specs.declared.session.Facts.{Facts}
 abbrev pub listing_form : Form
 listing_form = record { kind = Kinds.Ascii; structure = Structures.File }
 
+-- a line of a text file: LF ends it
 abbrev pub text_line : List ℕ → List ℕ
 text_line line = line ++ 10 ∷ []
 
@@ -26,14 +27,17 @@ text_line line = line ++ 10 ∷ []
 abbrev pub lines_file : List (List ℕ) → List ℕ
 lines_file lines = flat_map text_line lines
 
+-- the octets of a listing on the data connection
 abbrev pub listing_wire : Mode → List (List ℕ) → List ℕ
 listing_wire mode lines = wire mode listing_form (lines_file lines)
 
 -- ---- MLSD: the entries of a directory; NLST: pathnames that can be used as arguments
 
+-- MLSD: a line for each entry of the directory, with the facts in force
 abbrev pub entry_lines : Facts → Table → Names → List (List ℕ)
 entry_lines facts table path = map (listed_line facts) (entries_in table path)
 
+-- NLST: pathnames that begin as the argument does (RFC 1123, section 4.1.2.7)
 abbrev pub name_lines : Table → Names → List ℕ → List (List ℕ)
 name_lines table path text = names_for table path text
 
@@ -64,6 +68,7 @@ abbrev pub list_line : List ℕ → ℕ → ℕ → List ℕ → List ℕ
 list_line rights count moment name =
     rights ++ (codes " 1 ftp ftp " ++ (right_in 10 (decimal count) ++ (date_text moment ++ 32 ∷ name)))
 
+-- a file or a directory, in the columns that clients know from Unix
 abbrev pub node_line : List ℕ → Node → List ℕ
 node_line name (File octets moment) = list_line (codes "-rw-r--r--") (length octets) moment name
 node_line name Dir = list_line (codes "drwxr-xr-x") 0 0 name
@@ -84,5 +89,6 @@ list_lines_at (Some (File octets moment)) table path = node_line (last_name path
 list_lines_at (Some Dir) table path = filter_map (child_line table path) (children table path)
 list_lines_at None table path = []
 
+-- LIST: the lines of what stands at a path
 abbrev pub list_lines : Table → Names → List (List ℕ)
 list_lines table path = list_lines_at (node_at table path) table path

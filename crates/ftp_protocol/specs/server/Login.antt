@@ -22,6 +22,7 @@ user accounts name v =
     if is_open accounts name then tells Texts.LoggedIn (record v { access = Known; cwd = [] })
     else tells Texts.PasswordNeeded (record v { access = AwaitsPass name; cwd = [] })
 
+-- 230 or 530; either way the USER that waited is used up
 abbrev pub checked : Bool → Session → Turn
 checked true v = tells Texts.LoggedIn (record v { access = Known })
 checked false v = tells Texts.LoginRefused (record v { access = Nobody })

@@ -26,6 +26,7 @@ use Rattle.ftp_protocol.specs.declared.session.Link.TheVariants as At
 
 -- ---- what is said
 
+-- the session changes; lines, octets owed and footing stay
 abbrev pub with_session : Session → View → View
 with_session session v = record v { session = session }
 
@@ -49,6 +50,7 @@ given_out (At.Moving (Moves.Down [])) v = replied Texts.Complete (forgotten v.se
 given_out (At.Moving (Moves.Listing [])) v = replied Texts.Complete (forgotten v.session) v
 given_out link v = v
 
+-- a transfer that has nothing left to give ends here
 abbrev pub completed : View → View
 completed v = given_out v.session.link v
 
@@ -75,6 +77,7 @@ has_room v = nat_le (length v.owed) 4096
 abbrev pub is_idle : View → Bool
 is_idle v = not (is_busy v.session.link) && has_room v
 
+-- the line that waits is acted on where it may be, and waits on where it may not
 abbrev pub waited : Option (Heard (List ℕ)) → View → View
 waited None v = v
 waited (Some heard) v = if is_idle v then obeyed heard (record v { waiting = None }) else v
@@ -123,6 +126,7 @@ concluded outcome session v = replied outcome.1 (record session { table = outcom
 abbrev pub ends_unlinked : Outcome → View → View
 ends_unlinked outcome v = concluded outcome (unlinked v.session) v
 
+-- the server ends the transfer, and its side of the link is still to be closed
 abbrev pub ends_closing : Outcome → View → View
 ends_closing outcome v = concluded outcome (forgotten v.session) v
 
@@ -138,17 +142,21 @@ aborts (At.Moving move) v = ends_closing (at_break v.footing v.session.table mov
 aborts (At.Opening move way) v = replied Texts.NoConnection (forgotten v.session) v
 aborts link v = v
 
+-- the 226 of ABOR itself
 abbrev pub abort_said : View → View
 abort_said v = replied Texts.AbortDone v.session v
 
+-- the transfer ends first, then ABOR is answered, then the line that waits is acted on
 abbrev pub aborted : View → View
 aborted v = later (abort_said (aborts v.session.link v))
 
+-- a transfer is under way, its link open or still to come
 abbrev pub is_moving : Link Move → Bool
 is_moving (At.Opening move way) = true
 is_moving (At.Moving move) = true
 is_moving link = false
 
+-- the one command that is taken at once during a transfer (RFC 959, section 4.1.3)
 abbrev pub is_abor : Heard (List ℕ) → Bool
 is_abor (Asks command.Abor) = true
 is_abor heard = false
@@ -170,6 +178,7 @@ IsRead text TooLong = ⊥
 abbrev pub Reading : Type 0
 Reading = List ℕ → Heard (List ℕ)
 
+-- each line is read as it is to be
 abbrev pub IsReading : Reading → Type 0
 IsReading read = (text : List ℕ) → IsRead text (read text)
 
@@ -181,6 +190,7 @@ ReadingExists = (read : Reading) × IsReading read
 abbrev pub OneReading : Type 0
 OneReading = (read other : Reading) (text : List ℕ) → IsReading read → IsReading other → read text ≡ other text
 
+-- the line of a command is read as that command
 abbrev pub ReadsStated : Type 0
 ReadsStated = (read : Reading) (command : Command (List ℕ)) → IsReading read → IsTyped command → IsStated command → read (line_of command) ≡ Asks command
 
@@ -190,6 +200,7 @@ heard_event read (line text) v = heard_line (read text) v
 heard_event read too_long v = heard_line TooLong v
 heard_event read (owed answer) v = owes answer v
 
+-- events in order
 abbrev pub heard_events : Reading → List NvtEvent → View → View
 heard_events read [] v = v
 heard_events read (event ∷ events) v = heard_events read events (heard_event read event v)
@@ -203,6 +214,7 @@ abbrev pub hears : Reading → View → List ℕ → View
 hears read v [] = v
 hears read v (octet ∷ octets) = hears read (hears_octet read v octet) octets
 
+-- neither QUIT nor the end of the control connection came
 abbrev pub is_running : Life → Bool
 is_running Lives.Running = true
 is_running Lives.Quit = false

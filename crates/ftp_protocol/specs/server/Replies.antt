@@ -29,6 +29,7 @@ reply_of code text = record { code = code; lines = text ∷ [] }
 abbrev pub reply_octets : Reply → List ℕ
 reply_octets reply = flat_map written_line (written reply.code reply.lines)
 
+-- a reply of the table of texts (`Texts`)
 abbrev pub fixed_reply : Text → Reply
 fixed_reply text = reply_of (code_of text) (text_of text)
 
@@ -36,9 +37,11 @@ fixed_reply text = reply_of (code_of text) (text_of text)
 abbrev pub quoted : Names → List ℕ
 quoted path = 34 ∷ (doubled (path_text path) ++ 34 ∷ [])
 
+-- the text of 257 to PWD (RFC 959, appendix II)
 abbrev pub here_text : Names → List ℕ
 here_text path = quoted path ++ codes " is the current directory"
 
+-- the text of 257 to MKD (RFC 959, appendix II)
 abbrev pub made_text : Names → List ℕ
 made_text path = quoted path ++ codes " created"
 

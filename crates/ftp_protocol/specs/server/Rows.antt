@@ -35,6 +35,7 @@ pub data Event : Type 0 where
   given : (count : ℕ) → Event
   ended broken closed : Event
 
+-- each event is one call of the server
 abbrev pub happens : Event → View → View
 happens (asks command) v = heard_line (Asks command) v
 happens (line heard) v = heard_line heard v
@@ -48,6 +49,7 @@ happens ended v = data_end v
 happens broken v = data_fault v
 happens closed v = data_closed v
 
+-- events, one after another
 abbrev pub behind : List Event → View → View
 behind [] v = v
 behind (event ∷ events) v = behind events (happens event v)
@@ -56,15 +58,19 @@ behind (event ∷ events) v = behind events (happens event v)
 abbrev pub lines : List (List ℕ) → List ℕ
 lines texts = flat_map written_line texts
 
+-- the host of both ends
 abbrev pub here : Host
 here = V4 (127 ∷ 0 ∷ 0 ∷ 1 ∷ [])
 
+-- a third host, which is nobody's peer
 abbrev pub elsewhere : Host
 elsewhere = V4 (10 ∷ 0 ∷ 0 ∷ 9 ∷ [])
 
+-- port 1930 of a host: 7 times 256 and 138
 abbrev pub at : Host → Endpoint
 at host = record { host = host; port = 1930 }
 
+-- `guest` with a password and `anonymous` without one
 abbrev pub accounts : Accounts
 accounts = record { user = codes "guest"; pass = Some (codes "secret") } ∷ record { user = codes "anonymous"; pass = None } ∷ []
 
@@ -86,6 +92,7 @@ of name = name ∷ []
 
 -- ---- login (RFC 959, section 5.4)
 
+-- USER is asked for a password, and PASS with it logs in
 abbrev pub Login : Type 0
 Login =
     (table : Table) → (server table (asks (command.User (codes "guest")) ∷ asks (command.Pass (codes "secret")) ∷ [])).owed

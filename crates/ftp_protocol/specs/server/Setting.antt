@@ -10,12 +10,15 @@ use Rattle.ftp_protocol.specs.declared.said.Text.TheVariants as Texts
 use Rattle.ftp_protocol.specs.declared.said.Said.TheVariants as Say
 use Rattle.ftp_protocol.specs.declared.session.Facts.{Facts}
 
+-- TYPE: from the next transfer on, octets go in this type (RFC 959, section 3.1.1)
 abbrev pub set_kind : Kind → Session → Turn
 set_kind kind v = tells Texts.TypeSet (record v { settings = record v.settings { kind = kind_of kind } })
 
+-- STRU: the same of the structure (RFC 959, section 3.1.2)
 abbrev pub set_structure : Structure → Session → Turn
 set_structure structure v = tells Texts.StructureSet (record v { settings = record v.settings { structure = structure_of structure } })
 
+-- MODE: the same of the mode (RFC 959, section 3.4)
 abbrev pub set_mode : Mode → Session → Turn
 set_mode mode v = tells Texts.ModeSet (record v { settings = record v.settings { mode = mode_of mode } })
 

@@ -37,11 +37,13 @@ abbrev pub rests : Option ℕ → ℕ → Session → Turn
 rests None place v = (record v { once = Onces.Restart place }, Say.Restarting place)
 rests (Some code) place v = tells Texts.BadParameter v
 
+-- REST: a place where a transfer can begin stands for the next line only, another is 504
 abbrev pub rest : ℕ → Session → Turn
 rest place v = rests (offset_refusal place (how_of v.settings)) place v
 
 -- ---- the data connection: at an endpoint, at a port, or by the link that is open already
 
+-- 425 where there is no endpoint; else 150, and the transfer waits for its link or has it already
 abbrev pub begin : Link Move → Move → Session → Turn
 begin At.Free move v = tells Texts.NoConnection v
 begin (At.Port endpoint) move v = tells Texts.Opens (record v { link = At.Opening move (Ways.To endpoint) })
@@ -63,9 +65,11 @@ starts (Some code) move v = unless (Some code) (forgotten v) (tells Texts.Opens 
 abbrev pub file_wire : Settings → ℕ → List ℕ → List ℕ
 file_wire settings from octets = if has_markers settings then marked_text from octets else wire settings.mode (form_of settings) octets
 
+-- the wire of the file at a path, behind its first `place` octets
 abbrev pub sent_from : Session → Names → ℕ → List ℕ
 sent_from v path place = file_wire v.settings place (drop place (octets_or_none v.table path))
 
+-- RETR
 abbrev pub retr : Once Names → List ℕ → Session → Turn
 retr once text v =
     starts (front_code (direct_of v) text (place_of once)) (Moves.Down (sent_from v (path_of v text) (place_of once))) v
@@ -74,16 +78,19 @@ retr once text v =
 abbrev pub path_or_here : Session → Option (List ℕ) → Names
 path_or_here v text = named_or_here (direct_of v) (given text)
 
+-- LIST: refused as NLST is
 abbrev pub list : Option (List ℕ) → Session → Turn
 list text v =
     starts (refusal (direct_of v) (Ops.Names (given text) (how_of v.settings)))
     (Moves.Listing (listing_wire v.settings.mode (list_lines v.table (path_or_here v text)))) v
 
+-- NLST
 abbrev pub nlst : Option (List ℕ) → Session → Turn
 nlst text v =
     starts (refusal (direct_of v) (Ops.Names (given text) (how_of v.settings)))
     (Moves.Listing (listing_wire v.settings.mode (name_lines v.table (path_or_here v text) (given text)))) v
 
+-- MLSD
 abbrev pub mlsd : Option (List ℕ) → Session → Turn
 mlsd text v =
     starts (refusal (direct_of v) (Ops.List (given text) (how_of v.settings)))
@@ -101,6 +108,7 @@ abbrev pub stor_at : ℕ → Names → Session → Turn
 stor_at place path v =
     starts (or_code (past_refusal (direct_of v) path place) (room_code v path)) (Moves.Up path place (no_octets v.settings)) v
 
+-- STOR, at the place that REST named
 abbrev pub stor : Once Names → List ℕ → Session → Turn
 stor once text v = stor_at (place_of once) (path_of v text) v
 
@@ -108,5 +116,6 @@ stor once text v = stor_at (place_of once) (path_of v text) v
 abbrev pub appe_at : Names → Session → Turn
 appe_at path v = starts (room_code v path) (Moves.Up path (length (octets_or_none v.table path)) (no_octets v.settings)) v
 
+-- APPE: a REST before it is of no matter
 abbrev pub appe : List ℕ → Session → Turn
 appe text v = appe_at (path_of v text) v

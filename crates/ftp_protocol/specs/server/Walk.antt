@@ -30,18 +30,23 @@ unless (Some code) v turn = tells (refusal_text code) v
 abbrev pub path_of : Session → List ℕ → Names
 path_of v text = resolved v.cwd text
 
+-- CWD
 abbrev pub cwd : List ℕ → Session → Turn
 cwd text v = unless (refusal (direct_of v) (Ops.ChangeDir text)) v (tells Texts.Done (record v { cwd = path_of v text }))
 
+-- CDUP: the root is its own parent
 abbrev pub cdup : Session → Turn
 cdup v = tells Texts.Done (record v { cwd = parent v.cwd })
 
+-- MKD
 abbrev pub mkd : List ℕ → Session → Turn
 mkd text v = unless (refusal (direct_of v) (Ops.MakeDir text)) v (record v { table = made v.table (path_of v text) }, Say.Made (path_of v text))
 
+-- RMD
 abbrev pub rmd : List ℕ → Session → Turn
 rmd text v = unless (refusal (direct_of v) (Ops.RemoveDir text)) v (tells Texts.Done (record v { table = removed v.table (path_of v text) }))
 
+-- DELE
 abbrev pub dele : List ℕ → Session → Turn
 dele text v = unless (refusal (direct_of v) (Ops.Delete text)) v (tells Texts.Done (record v { table = removed v.table (path_of v text) }))
 
@@ -49,6 +54,7 @@ dele text v = unless (refusal (direct_of v) (Ops.Delete text)) v (tells Texts.Do
 abbrev pub source_code : Session → Names → Option ℕ
 source_code v from = refused_there (limited from (or_else (source_refusal v.table from) (busy_refusal (direct_of v) from)))
 
+-- RNFR: what it names stands for the next line only
 abbrev pub rnfr : List ℕ → Session → Turn
 rnfr text v = unless (source_code v (path_of v text)) v (tells Texts.NewName (record v { once = Onces.Rename (path_of v text) }))
 
@@ -57,6 +63,7 @@ abbrev pub renames : Names → Names → Session → Turn
 renames from to v =
     unless (refused_name (limited to (rename_refusal v.table from to))) v (tells Texts.Done (record v { table = moved v.table from to }))
 
+-- RNTO: 503 where no RNFR stood right before it
 abbrev pub rnto : Once Names → List ℕ → Session → Turn
 rnto (Onces.Rename from) text v = renames from (path_of v text) v
 rnto Onces.Nothing text v = tells Texts.BadSequence v

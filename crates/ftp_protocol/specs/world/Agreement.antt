@@ -34,6 +34,7 @@ pub record Item : Type 0 where
 abbrev pub deed_did : State → Deed → Said × State
 deed_did state deed = did deed.fate state deed.order.0 deed.order.1
 
+-- the answer and the state behind a run of deeds; the answer is that of the last
 abbrev pub run_from : Said × State → List Deed → Said × State
 run_from now [] = now
 run_from now (deed ∷ deeds) = run_from (deed_did now.1 deed) deeds
@@ -51,12 +52,14 @@ abbrev pub item_reports : State → List Item → List Said
 item_reports state [] = []
 item_reports state (item ∷ items) = (item_did state item).0 ∷ item_reports (item_did state item).1 items
 
+-- the state that items leave, one after another
 abbrev pub state_after : State → List Item → State
 state_after state [] = state
 state_after state (item ∷ items) = state_after (item_did state item).1 items
 
 -- ---- which fates marks and a cutoff allow
 
+-- such a mark was made of the operation
 abbrev pub IsAmong : Mark → List Mark → Type 0
 IsAmong mark marks = Contains marks mark
 
@@ -99,11 +102,13 @@ Allows (Lost part) marks cutoff index = AllowsPart part marks cutoff index
 abbrev pub DeedHolds : State → List Mark → Option ℕ → ℕ → Deed → Type 0
 DeedHolds state marks cutoff index deed = CanBe deed.fate state deed.order.0 × Allows deed.fate marks cutoff index
 
+-- each deed of a run can have fared so, in the state that those before it leave
 abbrev pub RunHolds : State → List Mark → Option ℕ → ℕ → List Deed → Type 0
 RunHolds state marks cutoff index [] = Unit {0}
 RunHolds state marks cutoff index (deed ∷ deeds) =
     DeedHolds state marks cutoff index deed × RunHolds (deed_did state deed).1 marks cutoff index deeds
 
+-- each deed of an item can have fared so
 abbrev pub ItemHolds : State → List Mark → Option ℕ → ℕ → Item → Type 0
 ItemHolds state marks cutoff index item = RunHolds state marks cutoff index (item.first ∷ item.more)
 
@@ -154,6 +159,7 @@ IsHonest Break = ⊥
 IsHonest EndControl = ⊥
 IsHonest event = Unit {0}
 
+-- none of the events is one of those
 abbrev pub AreHonest : List Event → Type 0
 AreHonest [] = Unit {0}
 AreHonest (event ∷ events) = IsHonest event × AreHonest events

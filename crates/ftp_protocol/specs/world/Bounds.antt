@@ -14,6 +14,7 @@ use Rattle.ftp_protocol.specs.declared.session.Link.TheVariants as At
 
 -- ---- what is begun, or is still to begin
 
+-- whether a line waits
 abbrev pub lines_left : Option (Heard (List ℕ)) → ℕ
 lines_left None = 0
 lines_left (Some heard) = 1
@@ -34,9 +35,11 @@ to_begin v = 4 * lines_left v.waiting + stages_left v.session.link
 
 -- ---- what is given
 
+-- a close that is wanted, and one that will be when what stands is over
 abbrev pub closes_left : Session → ℕ
 closes_left v = (if v.closing then 1 else 0) + (if is_standing v.link then 1 else 0)
 
+-- control octets, data octets and closes
 abbrev pub still_to_give : View → ℕ
 still_to_give v = length v.owed + (length (given_by v.session.link) + closes_left v.session)
 
@@ -61,5 +64,6 @@ pub record CallsLower (v : View) : Type 0 where
   pub closed : (w : View) → v.session.closing ≡ true → Late (close_step v) w → Lowers 1 v w
   pub control_ended : Lowers 0 v (control_end v)
 
+-- however the server stands
 abbrev pub ServerLowers : Type 0
 ServerLowers = (v : View) → CallsLower v

@@ -47,6 +47,7 @@ abbrev pub is_sound_node : Node → Bool
 is_sound_node Dir = true
 is_sound_node (File octets moment) = nat_le moment last_second
 
+-- what stands at a path is sound, and the path is one
 abbrev pub is_sound_entry : Names × Node → Bool
 is_sound_entry entry = list_all is_name entry.0 && is_sound_node entry.1
 
@@ -76,6 +77,7 @@ abbrev pub IsTimed : Event → Type 0
 IsTimed (Next op moment) = moment ≤ last_second
 IsTimed event = Unit {0}
 
+-- so is each of the events
 abbrev pub AreTimed : List Event → Type 0
 AreTimed [] = Unit {0}
 AreTimed (event ∷ events) = IsTimed event × AreTimed events
@@ -96,6 +98,7 @@ pub record IsAnswered (begun : List Order) (w : World) : Type 0 where
   pub reported : length w.reports ≡ length begun
   pub free : IsTrue (is_free w)
 
+-- after every list of events: if nothing is in flight, nothing is left open
 abbrev pub QuietIsAnswered : Type 0
 QuietIsAnswered = Always (λ read b events begun w. IsQuiet w → IsAnswered begun w)
 
@@ -106,6 +109,7 @@ IsSettling Open = Unit {0}
 IsSettling (End queue) = Unit {0}
 IsSettling event = ⊥
 
+-- so is each of the events
 abbrev pub AreSettling : List Event → Type 0
 AreSettling [] = Unit {0}
 AreSettling (event ∷ events) = IsSettling event × AreSettling events
@@ -114,6 +118,7 @@ AreSettling (event ∷ events) = IsSettling event × AreSettling events
 abbrev pub Settles : Reading → World → Type 0
 Settles read w = (events : List Event) × (new : World) × AreSettling events × Leads read w events [] new × IsQuiet new
 
+-- so it is of every world that a session can come to
 abbrev pub SettlesAlways : Type 0
 SettlesAlways = Always (λ read b events begun w. Settles read w)
 
@@ -123,6 +128,7 @@ Headline = Always (λ read b events begun w. AreHonest events → IsQuiet w → 
 
 -- ---- the headline is agreement without marks
 
+-- no operation has a mark: no link was refused or broke
 abbrev pub AreUnmarked : List (List Mark) → Type 0
 AreUnmarked [] = Unit {0}
 AreUnmarked (marks ∷ more) = (marks ≡ []) × AreUnmarked more
@@ -131,6 +137,7 @@ AreUnmarked (marks ∷ more) = (marks ≡ []) × AreUnmarked more
 abbrev pub AreAnswers : State → List Order → List Said → Table → Type 0
 AreAnswers from begun reports table = (reports ≡ (answers from begun).0) × (table ≡ (answers from begun).1.table)
 
+-- then agreement is the direct run, where each operation has its report and the control connection has not ended
 abbrev pub UnmarkedIsDirect : Type 0
 UnmarkedIsDirect =
     (from : State) (begun : List Order) (marks : List (List Mark)) (reports : List Said) (table : Table)

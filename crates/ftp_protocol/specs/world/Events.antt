@@ -27,6 +27,7 @@ pub data Event : Type 0 where
 
 -- ---- the queues
 
+-- the octets on their way
 abbrev pub in_queue : Queue → World → List ℕ
 in_queue Asked w = w.asked
 in_queue Replied w = w.replied
@@ -116,11 +117,13 @@ pub record Moves (queue : Queue) (old new : World) : Type 0 where
 abbrev pub can_move : Queue → ℕ → World → Bool
 can_move queue count w = is_some (due queue w) && ((count == 0) || nat_lt (length (in_queue queue w)) count)
 
+-- an octet that is on its way may be taken
 abbrev pub can_take : Queue → ℕ → World → Bool
 can_take queue count w = not (count == 0) && is_some (in_queue queue w) && may_take queue w
 
 -- ---- openings
 
+-- no data link stands
 abbrev pub is_gone : Link → Bool
 is_gone Gone = true
 is_gone other = false
@@ -143,23 +146,28 @@ abbrev pub refused_by : Bool → World → World
 refused_by true w = record w { near = near.data_refused w.near }
 refused_by false w = record w { far = far.data_refused w.far }
 
+-- a wanted link is refused, and marked so
 abbrev pub refuses : World → World
 refuses w = with_mark Refused (refused_by (is_connecting (near.wants w.near)) w)
 
 -- ---- ends
 
+-- the client has left the control connection, and the server was not told
 abbrev pub is_left_by_near : Control → Bool
 is_left_by_near LeftByNear = true
 is_left_by_near other = false
 
+-- the server has left it, and the client was not told
 abbrev pub is_left_by_far : Control → Bool
 is_left_by_far LeftByFar = true
 is_left_by_far other = false
 
+-- the client has closed the link, and the server was not told
 abbrev pub is_closed_by_near : Link → Bool
 is_closed_by_near ClosedByNear = true
 is_closed_by_near other = false
 
+-- the server has closed it, and the client was not told
 abbrev pub is_closed_by_far : Link → Bool
 is_closed_by_far ClosedByFar = true
 is_closed_by_far other = false
@@ -187,6 +195,7 @@ broken_by Opened w = record w { near = near.data_fault w.near; far = far.data_fa
 broken_by ClosedByNear w = record w { far = far.data_fault w.far }
 broken_by ClosedByFar w = record w { near = near.data_fault w.near }
 
+-- the link breaks: what was on its way is lost, and the mark says how much had come
 abbrev pub breaks : World → World
 breaks w = with_mark (Broken w.came) (gone (broken_by w.link w))
 
@@ -194,6 +203,7 @@ breaks w = with_mark (Broken w.came) (gone (broken_by w.link w))
 abbrev pub ends_control : World → World
 ends_control w = parted (record w { near = near.control_end w.near; far = far.control_end w.far; cutoff = Some (length w.marks) })
 
+-- neither end is on the control connection any more
 abbrev pub is_parted : Control → Bool
 is_parted Parted = true
 is_parted other = false
@@ -204,6 +214,7 @@ is_parted other = false
 abbrev pub is_free : World → Bool
 is_free w = not (near.is_busy w.near) && is_gone w.link && not (is_asked_for w)
 
+-- the server's clock is set, the client begins, and the operation has no mark yet
 abbrev pub begins : Op (List ℕ) → ℕ → World → World
 begins op moment w = record w { far = far.clocked moment w.far; near = near.starts op w.near; marks = w.marks ++ [] ∷ [] }
 
@@ -219,6 +230,7 @@ can_happen Break w = not (is_gone w.link)
 can_happen EndControl w = not (is_parted w.control)
 can_happen (Next op moment) w = is_free w
 
+-- a delivery of none moves octets, another one moves and offers them
 abbrev pub DeliversBy : Bool → Reading → Queue → ℕ → World → World → Type 0
 DeliversBy true read queue count old new = Moves queue old new
 DeliversBy false read queue count old new = Delivers read queue count old new

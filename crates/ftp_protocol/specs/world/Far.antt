@@ -22,6 +22,7 @@ Given count old new = GiveFails count old new ⊎ Late (given_step count old) ne
 
 -- ---- octets, of which so many of a piece were taken
 
+-- so many octets were taken: all as they are to be heard, or with a failure among them
 abbrev pub HeardBy : Reading → (before after : Counts) → (old : View) → List ℕ → ℕ → (new : View) → Type 0
 HeardBy read before after old piece count new =
     (after ≡ before → (new ≡ hears read old (take count piece)) × MayHear read old (take count piece))
@@ -31,6 +32,7 @@ HeardBy read before after old piece count new =
 abbrev pub Heard : (before after : Counts) → (old : View) → List ℕ → ℕ → (new : View) → Type 0
 Heard before after old piece count new = (read : Reading) → IsReading read → HeardBy read before after old piece count new
 
+-- data octets, of which so many were taken
 abbrev pub Received : (before after : Counts) → (old : View) → List ℕ → ℕ → (new : View) → Type 0
 Received before after old piece count new =
     (after ≡ before → (new ≡ receives old (take count piece)) × MayReceive old (take count piece))

@@ -43,6 +43,7 @@ pub record Upload : Type 0 where
   pub octets : List ℕ
   pub how : How
 
+-- the upload that an operation asks for, if it is one
 abbrev pub upload_of : State → Op (List ℕ) → Option Upload
 upload_of state (Ops.Put text octets how) = Some (record { path = named state text; kept = []; start = 0; octets = octets; how = how })
 upload_of state (Ops.Append text octets how) =
@@ -61,12 +62,15 @@ pub record Download : Type 0 where
 abbrev pub lines_text : List (List ℕ) → List ℕ
 lines_text lines = flat_map (λ line. line ++ 10 ∷ []) lines
 
+-- the file that MLSD would send, with all facts
 abbrev pub listing_text : State → List ℕ → List ℕ
 listing_text state text = flat_map (λ entry. listed_line all_facts entry ++ 10 ∷ []) (entries_in state.table (named_or_here state text))
 
+-- the file that NLST would send
 abbrev pub names_text : State → List ℕ → List ℕ
 names_text state text = lines_text (names_for state.table (named_or_here state text) text)
 
+-- the download or the listing that an operation asks for, if it is one
 abbrev pub download_of : State → Op (List ℕ) → Option Download
 download_of state (Ops.Get text how) = Some (record { settings = settings_of how; start = 0; octets = octets_or_none state.table (named state text) })
 download_of state (Ops.GetFrom text offset how) =
@@ -109,14 +113,17 @@ cut_upload u state moment wire = (
   record state { table = installed state.table u.path (u.kept ++ front (settings_of u.how) wire) moment },
 )
 
+-- the client has what was settled, and the last marker that came whole; the map stays
 abbrev pub cut_download : Download → State → List ℕ → Said × State
 cut_download d state wire = (BrokenOff (front d.settings wire) (mark_in (no_octets d.settings) None wire), state)
 
+-- by what the operation transfers; one without a transfer cannot be cut
 abbrev pub cut_by : Option Upload → Option Download → State → ℕ → List ℕ → Said × State
 cut_by (Some u) down state moment wire = cut_upload u state moment wire
 cut_by None (Some d) state moment wire = cut_download d state wire
 cut_by None None state moment wire = (NotOpened, state)
 
+-- the answer of an operation whose wire was cut, and the state after it
 abbrev pub cut : State → Op (List ℕ) → ℕ → List ℕ → Said × State
 cut state op moment wire = cut_by (upload_of state op) (download_of state op) state moment wire
 
@@ -153,6 +160,7 @@ IsCutOf None None state wire = ⊥
 abbrev pub CanBeCut : State → Op (List ℕ) → List ℕ → Type 0
 CanBeCut state op wire = IsTaken state op × IsCutOf (upload_of state op) (download_of state op) state wire
 
+-- a front of its wire can be what was done only where that can be cut so
 abbrev pub CanBeLost : Part → State → Op (List ℕ) → Type 0
 CanBeLost Nothing state op = Unit {0}
 CanBeLost All state op = Unit {0}

@@ -36,6 +36,7 @@ use Rattle.ftp_protocol.specs.declared.heard.Heard.TheVariants.{Bad, Asks}
 abbrev pub or_else : List ℕ → List ℕ → Command (List ℕ) → Heard (List ℕ) → Heard (List ℕ)
 or_else line text command other = if pointwise nat_eq line text then Asks command else other
 
+-- two lines say commands, and all others none
 abbrev pub reading : Reading
 reading line =
     or_else line (codes "USER guest") (command.User (codes "guest"))
@@ -51,9 +52,11 @@ pub data Act : Type 0 where
   cuts : Act
   asks : (op : Op (List ℕ)) → Act
 
+-- the sender gives so many octets, and the receiver takes as many
 abbrev pub moved : Queue → ℕ → World → World
 moved queue count w = settled (pushed reading queue count (pulled queue w count))
 
+-- each act is an event, and what the world does for its ends behind it
 abbrev pub does : Act → World → World
 does (moves queue) w = moved queue (length (due queue w)) w
 does (moves_some queue count) w = moved queue count w
@@ -62,10 +65,12 @@ does (tells queue) w = settled (told queue w)
 does cuts w = settled (breaks w)
 does (asks op) w = settled (begins op 7 w)
 
+-- acts, one after another
 abbrev pub behind : List Act → World → World
 behind [] w = w
 behind (act ∷ acts) w = behind acts (does act w)
 
+-- `guest` logs in, over a map
 abbrev pub beginning : Table → Beginning
 beginning table = record { user = codes "guest"; pass = codes "secret"; accounts = accounts; table = table; near_host = here; far_host = here }
 
@@ -79,6 +84,7 @@ session table acts = behind acts (world_of (beginning table))
 abbrev pub login_acts : List Act
 login_acts = moves Replied ∷ moves Asked ∷ moves Replied ∷ moves Asked ∷ moves Replied ∷ []
 
+-- behind it the client may send operations
 abbrev pub Login : Type 0
 Login = (table : Table) → (session table login_acts).near.standing ≡ Stands.Entered
 
@@ -91,12 +97,14 @@ near_down = record entered {
   link = Links.Open;
 }
 
+-- the server's side of that download
 abbrev pub far_down : Table → Far
 far_down table = record (member table []) {
   session = record (member table []).session { link = At.Moving (Moves.Down (97 ∷ 13 ∷ 10 ∷ [])) };
   owed = [];
 }
 
+-- both, with the link open and one operation begun
 abbrev pub down : Table → World
 down table = record (world near_down (far_down table)) { link = Open; marks = [] ∷ [] }
 
@@ -104,6 +112,7 @@ down table = record (world near_down (far_down table)) { link = Open; marks = []
 abbrev pub broken_download : Table → World
 broken_download table = behind (moves_some Falling 2 ∷ cuts ∷ moves Replied ∷ []) (down table)
 
+-- the report says that it broke, the mark says where, and the map stays
 abbrev pub BrokenDownload : Type 0
 BrokenDownload =
     (table : Table)
@@ -115,6 +124,7 @@ BrokenDownload =
 abbrev pub whole_download : Table → World
 whole_download table = behind (moves Falling ∷ tells Falling ∷ moves Replied ∷ []) (down table)
 
+-- the report has the file: 61 0A
 abbrev pub WholeDownload : Type 0
 WholeDownload = (table : Table) → (whole_download table).reports ≡ Octets (97 ∷ 10 ∷ []) ∷ []
 

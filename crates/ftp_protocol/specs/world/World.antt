@@ -68,6 +68,7 @@ marked_last mark [] = []
 marked_last mark (marks ∷ []) = (marks ++ mark ∷ []) ∷ []
 marked_last mark (marks ∷ next ∷ more) = marks ∷ marked_last mark (next ∷ more)
 
+-- the operation that was begun last has one mark more
 abbrev pub with_mark : Mark → World → World
 with_mark mark w = record w { marks = marked_last mark w.marks }
 
