@@ -78,25 +78,6 @@ pub after-append : (state : State) (xs ys : List Asked) → after state (xs ++ y
 after-append state [] ys = refl
 after-append state (x ∷ xs) ys = after-append (turn state x).0 xs ys
 
--- the replies to some events are a front of the replies to more
-pub replies-front : (state : State) (xs ys : List Asked)
-    → (rest : List (Reply (List (List ℕ)))) × (replies state (xs ++ ys) ≡ replies state xs ++ rest)
-replies-front state xs ys =
-    elim (decided (is_done state xs)) [
-      | inl done ↦ ([], replies-done state xs ys done ∙ sym (append-nil (replies state xs)))
-      | inr goes_on ↦ (replies (after state xs) ys, replies-append state xs ys goes_on)
-    ]
-
--- what is written for some is a front of what is written for more
-pub transcript-front : (xs ys : List Asked) → (rest : List ℕ) × (transcript (xs ++ ys) ≡ transcript xs ++ rest)
-transcript-front xs ys =
-    let front = replies-front start xs ys in (
-      flat_map reply_line front.0,
-      ap (λ l. text_line Ready ++ flat_map reply_line l) front.1
-          ∙ ap (λ l. text_line Ready ++ l) (flat_map-append reply_line (replies start xs) front.0)
-          ∙ sym (append_assoc (text_line Ready) (flat_map reply_line (replies start xs)) (flat_map reply_line front.0)),
-    )
-
 replies-more : (xs : List Asked) (one : Asked) → is_over xs ≡ false → replies start (xs ++ one ∷ []) ≡ replies start xs ++ (turn (after start xs) one).1 ∷ []
 replies-more xs one goes_on = replies-append start xs (one ∷ []) goes_on ∙ ap (λ l. replies start xs ++ l) (replies-one (after start xs) one)
 

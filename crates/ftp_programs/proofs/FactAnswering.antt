@@ -56,21 +56,6 @@ AnswersAll-append A (x ∷ xs) ys f g s t (answer, is_fault, more, has_fault, an
   ap (λ l. l ++ t) text ∙ append_assoc answer (line_feed ∷ more) t,
 )
 
-pub AnswersAll-one : (A : Type 0) (line : List ℕ) (faulty : Bool) (answer : List ℕ) → Answers A line faulty answer → AnswersAll A (line ∷ []) faulty (answer ++ line_feed ∷ [])
-AnswersAll-one A line faulty answer answers = (answer, faulty, [], false, answers, (refl, refl), sym (or-false faulty), refl)
-
--- nothing is a beginning
-pub front-none : (A : Type 0) (all : List (List ℕ)) (old new : Option (List ℕ)) → Appends old new [] → AnswersFront A all old new
-front-none A all old new kept = record {
-  first = [];
-  later = all;
-  cut = refl;
-  faulty = false;
-  text = [];
-  answers = (refl, refl);
-  wrote = Appends-whole old new [] kept;
-}
-
 -- a beginning for lines is one for these and more
 pub front-more : (A : Type 0) (xs ys : List (List ℕ)) (old new : Option (List ℕ)) → AnswersFront A xs old new → AnswersFront A (xs ++ ys) old new
 front-more A xs ys old new front = record {

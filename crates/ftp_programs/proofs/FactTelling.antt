@@ -17,21 +17,6 @@ pub record FactsFollow {A : Type 0} (before after old new : Option (List ℕ)) (
   pub read : Consumes before after octets
   pub stands : StandsAfter octets old new kept
 
--- nothing is read yet
-pub facts_begin : {A : Type 0} (input old : Option (List ℕ)) (kept : FactLines A) → kept.line.items ≡ [] → kept.faulty ≡ false → FactsFollow input input old old kept
-facts_begin input old kept line faulty = record {
-  octets = [];
-  read = Consumes-nil input;
-  stands = record {
-    said = [];
-    cut = λ more. ap (λ l. lines (l ++ more)) (sym line);
-    unended = subst LacksFeed (sym line) (All-nil (λ octet. (octet == 10) ≡ false));
-    text = [];
-    answers = (faulty, refl);
-    wrote = Appends-nil old;
-  };
-}
-
 pub facts_go_on : {A : Type 0} (before mid after old now later : Option (List ℕ)) (xs : List ℕ) (kept next : FactLines A)
     → (follows : FactsFollow before mid old now kept) → Consumes mid after xs → StandsAfter (follows.octets ++ xs) old later next
     → FactsFollow before after old later next

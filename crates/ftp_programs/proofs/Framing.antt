@@ -111,9 +111,6 @@ still_open old new rest left ss sent goes_on =
     open_by new.ended (sender_form old) (sender_form new) rest left ss
     (λ more. sym (ap (λ e. if e then [] else signs_of (sender_form old) (rest ++ more)) goes_on) ∙ sent more)
 
-pub gives_none : {A : Type 0} (s : Sending A) (piece : List ℕ) → has_sent_end s.sender ≡ false → Gives s piece s piece
-gives_none s piece goes_on = record { octets = []; made = sym (append-nil s.made.items); text = λ more. refl; goes_on = goes_on }
-
 pub gives_more : {A : Type 0} (old mid new : Sending A) (piece rest left : List ℕ) (ss : List Sign) (sent : Sending A)
     → Gives old piece mid rest
     → sent.framer ≡ mid.framer → sent.made.items ≡ mid.made.items → new.sender ≡ sent.sender
