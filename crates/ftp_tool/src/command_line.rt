@@ -3,27 +3,13 @@ ghost use Rattle.std.specs.Prelude.{◌<◌, ◌^◌};
 ghost use Rattle.std.specs.Option.{SomeIff};
 ghost use Rattle.std.specs.Str.Parse.{IsNumeral, digits_value};
 
+use crate::help;
+use crate::task::Task;
 use clap::{Arg, ArgAction, ArgMatches, Command};
 use ftp_mode::Mode;
 use ftp_programs::{Direction, Representation};
 use ftp_repr::{Kind, Structure};
 use std::alloc::{AllocError, Global};
-
-/// What the command line asks for.
-#[derive(Clone, Copy, Debug, PartialEq, Eq)]
-pub enum Task {
-    /// Answers the octets of a control connection, at most `piece` at a time.
-    Dialogue {
-        piece: u32,
-    },
-    /// Writes the entry of each line, or its fault.
-    Facts,
-    /// Writes a file as the octets of a data connection, or reads it from them.
-    Frame {
-        form: Representation,
-        direction: Direction,
-    },
-}
 
 /// The words that the program knows.
 pub fn command<'a>(alloc: Global) -> Result<Command<'a>, AllocError> {
@@ -35,10 +21,11 @@ pub fn command<'a>(alloc: Global) -> Result<Command<'a>, AllocError> {
         .action(ArgAction::Set);
     let dialogue = Command::new(alloc, "dialogue")
         .about("answers the octets of a control connection from standard input")
+        .after_help(help::DIALOGUE)
         .arg(piece)?;
-    let facts = Command::new(alloc, "facts").about(
-        "writes the entry of each line of standard input, or its fault",
-    );
+    let facts = Command::new(alloc, "facts")
+        .about("writes the entry of each line of standard input, or its fault")
+        .after_help(help::FACTS);
     let marks = Arg::new(alloc, "marks")
         .long("marks")
         .help("writes restart markers, in type I with file structure and block mode")
@@ -49,12 +36,14 @@ pub fn command<'a>(alloc: Global) -> Result<Command<'a>, AllocError> {
         .action(ArgAction::SetTrue);
     let frame = Command::new(alloc, "frame")
         .about("writes standard input as the octets of a data connection, or the other way round")
-        .arg(needed(alloc, "type", "A|I"))?
-        .arg(needed(alloc, "stru", "F|R"))?
-        .arg(needed(alloc, "mode", "S|B"))?
+        .after_help(help::FRAME)
+        .arg(needed(alloc, "type", "A|I").help("ASCII or image"))?
+        .arg(needed(alloc, "stru", "F|R").help("file or record structure"))?
+        .arg(needed(alloc, "mode", "S|B").help("stream or block mode"))?
         .arg(marks)?
         .arg(read)?;
     Command::new(alloc, "ftp_tool")
+        .version(help::VERSION)
         .about("FTP without a socket, over standard input and output")
         .subcommand_required(true)
         .subcommand(dialogue)?

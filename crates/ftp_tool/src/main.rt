@@ -2,17 +2,17 @@
 #![tactic(auto)]
 
 mod command_line;
+mod help;
+mod task;
 #[cfg(test)]
 mod word_tests;
 
 use anyhow::Result;
-use command_line::Task;
-use ftp_dialogue::dialogue;
-use ftp_programs::{facts, frame};
 use std::env;
 use std::env::Env;
 use std::io::{Eprint, Read, Write};
 use std::process::ExitCode;
+use task::perform;
 
 /// A bad command line.
 const BAD_COMMAND_LINE: u8 = 2;
@@ -39,17 +39,9 @@ where
         }
     };
     match command_line::task_of(&matches) {
-        Some(Task::Dialogue { piece }) => Ok(dialogue(
+        Some(task) => Ok(perform(
             rt.alloc(),
-            &mut rt.reader(),
-            &mut std::io::writer(rt),
-            piece,
-        )),
-        Some(Task::Facts) => Ok(facts(rt.alloc(), &mut rt.reader(), &mut std::io::writer(rt))),
-        Some(Task::Frame { form, direction }) => Ok(frame(
-            rt.alloc(),
-            form,
-            direction,
+            task,
             &mut rt.reader(),
             &mut std::io::writer(rt),
             faults,

@@ -1,5 +1,6 @@
 // What words on the command line ask for.
-use crate::command_line::{Task, command, task_of};
+use crate::command_line::{command, task_of};
+use crate::task::Task;
 use ftp_mode::Mode;
 use ftp_programs::{Direction, Representation};
 use ftp_repr::{Kind, Structure};

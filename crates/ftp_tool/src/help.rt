@@ -1,0 +1,31 @@
+// What `--version` and the help say.
+
+/// The version of the program.
+pub const VERSION: &str = "0.1.0";
+
+/// Behind the help of `dialogue`.
+pub const DIALOGUE: &str = "\
+Input: the octets that a client sends over a control connection, each line with CR LF at its end.
+Output: the greeting, and the reply to each line, over an empty tree of directories.
+Status: 0 done; 1 done, and a reply of 4yz or 5yz was written; 2 bad command line; 3 a read, a write or a growth failed.
+
+Example:
+  printf 'USER anonymous\\r\\nMKD d\\r\\nQUIT\\r\\n' | ftp_tool dialogue";
+
+/// Behind the help of `facts`.
+pub const FACTS: &str = "\
+Input: the lines of a machine listing (RFC 3659, section 7.2), each with LF or CR LF at its end.
+Output: for each line its entry, with the known facts in one order, or its fault, as F1 NoSpace; each with LF at its end.
+Status: 0 done; 1 done, and a line was faulty; 2 bad command line; 3 a read, a write or a growth failed.
+
+Example:
+  printf 'size=3;type=file; a b\\n' | ftp_tool facts";
+
+/// Behind the help of `frame`.
+pub const FRAME: &str = "\
+Input: a file, or with --read the octets of a data connection (RFC 959, sections 3.1, 3.4 and 3.5).
+Output: its octets on a data connection, or with --read the file. The fault of a wire goes to standard error, as M1 BadEscape(2).
+Status: 0 done; 1 a wire had a fault or ended early; 2 bad command line; 3 a read, a write or a growth failed.
+
+Example:
+  printf 'a\\nb' | ftp_tool frame --type I --stru R --mode B | od -An -tx1";

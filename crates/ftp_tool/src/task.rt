@@ -1,0 +1,49 @@
+// What the program does for a command line, between a reader and two writers.
+ghost use Rattle.std.specs.Prelude.{◌≡◌, ◌≢◌};
+ghost use Rattle.ftp_tool.specs.Task.{Does, BreaksOff};
+
+use ftp_dialogue::dialogue;
+use ftp_programs::{Direction, Representation, facts, frame};
+use std::alloc::Allocator;
+use std::io::{Read, Write};
+
+/// What a command line asks for.
+#[derive(Clone, Copy, Debug, PartialEq, Eq)]
+pub enum Task {
+    /// Answers the octets of a control connection, at most `piece` at a time.
+    Dialogue {
+        piece: u32,
+    },
+    /// Writes the entry of each line, or its fault.
+    Facts,
+    /// Writes a file as the octets of a data connection, or reads it from them.
+    Frame {
+        form: Representation,
+        direction: Direction,
+    },
+}
+
+/// Does a task and gives the exit status; `faults` is told the fault of a wire, and nothing else.
+pub fn perform<A, R, W, F>(
+    alloc: A,
+    task: Task,
+    reader: &mut R,
+    writer: &mut W,
+    faults: &mut F,
+) -> u8
+where
+    A: Allocator + Copy,
+    R: Read,
+    W: Write,
+    F: Write,
+    ensures done { result ≢ 3 → Does A task (R.remaining reader.old) (R.remaining reader.new) (W.contents writer.old) (W.contents writer.new)
+        (F.contents faults.old) (F.contents faults.new) result }
+    ensures failed { result ≡ 3 → BreaksOff A task (R.remaining reader.old) (R.remaining reader.new) (W.contents writer.old) (W.contents writer.new)
+        (F.contents faults.old) (F.contents faults.new) }
+{
+    match task {
+        Task::Dialogue { piece } => dialogue(alloc, reader, writer, piece),
+        Task::Facts => facts(alloc, reader, writer),
+        Task::Frame { form, direction } => frame(alloc, form, direction, reader, writer, faults),
+    }
+}
