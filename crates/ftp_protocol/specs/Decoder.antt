@@ -42,6 +42,7 @@ abbrev pub with_said : Decoder → Said → Decoder
 with_said d (says sign) = with_sign d sign
 with_said d (marker text) = d
 
+-- what an octet says, in order
 abbrev pub with_all : Decoder → List Said → Decoder
 with_all d [] = d
 with_all d (said ∷ more) = with_all (with_said d said) more
@@ -70,6 +71,7 @@ abbrev pub fault_in : Reading → Option FrameFault
 fault_in (going count at) = None
 fault_in (failed fault) = Some fault
 
+-- the fault that the decoder has met
 abbrev pub fault_of : Decoder → Option FrameFault
 fault_of d = fault_in d.reading
 
@@ -78,6 +80,7 @@ abbrev pub is_ended_in : Reading → Bool
 is_ended_in (going count at) = is_complete_at at
 is_ended_in (failed fault) = false
 
+-- a clean end of the connection here leaves a whole file
 abbrev pub is_whole : Decoder → Bool
 is_whole d = is_ended_in d.reading
 
@@ -108,9 +111,11 @@ pub record GivesFile (settings : Settings) (w b : List ℕ) : Type 0 where
   pub whole : IsTrue (is_whole (decoder_of settings w))
   pub content : (ended (decoder_of settings w)).content ≡ b
 
+-- in all eight representations
 abbrev pub WireGivesFile : Type 0
 WireGivesFile = (settings : Settings) (b : List ℕ) → GivesFile settings (wire settings.mode (form_of settings) b) b
 
+-- with own markers too
 abbrev pub MarkedWireGivesFile : Type 0
 MarkedWireGivesFile = (from : ℕ) (b : List ℕ) → from + length b < 2 ^ 64 → GivesFile image_blocks (marked_text from b) b
 
@@ -118,6 +123,7 @@ MarkedWireGivesFile = (from : ℕ) (b : List ℕ) → from + length b < 2 ^ 64 �
 abbrev pub FrontGivesFront : Type 0
 FrontGivesFront = (settings : Settings) (b w : List ℕ) → IsFront w (wire settings.mode (form_of settings) b) → IsFront (decoder_of settings w).content b
 
+-- with own markers too
 abbrev pub MarkedFrontGivesFront : Type 0
 MarkedFrontGivesFront =
     (from : ℕ) (b w : List ℕ) → from + length b < 2 ^ 64 → IsFront w (marked_text from b)

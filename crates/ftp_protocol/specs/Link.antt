@@ -22,6 +22,7 @@ abbrev pub is_accepting : Wants → Bool
 is_accepting Want.Accept = true
 is_accepting wants = false
 
+-- it wants to open a link
 abbrev pub is_connecting : Wants → Bool
 is_connecting (Want.Connect endpoint) = true
 is_connecting wants = false

@@ -39,6 +39,7 @@ abbrev pub transfer_left : Replied → ℕ
 transfer_left Replies.Nothing = 1
 transfer_left other = 0
 
+-- of the operation: one that waits for the login has all its steps before it
 abbrev pub job_left : Job → ℕ
 job_left Idle = 0
 job_left (Waiting op) = 9
@@ -46,22 +47,27 @@ job_left (Doing op step) = steps_left step
 job_left (Moving op transfer) = transfer_left transfer.replied
 job_left (Told answer) = 0
 
+-- what is to begin of the login and of the operation
 abbrev pub to_begin : View → ℕ
 to_begin v = login_left v.standing + job_left v.job
 
 -- ---- what is still to be given, if nothing more is taken: octets, and a close
 
+-- of what goes over the data connection, what the client has to give
 abbrev pub octets_left : Flow → ℕ
 octets_left (Up left mark) = length left
 octets_left (Down decoder mark) = 0
 
+-- the octets of the operation under way
 abbrev pub upload_left : Job → ℕ
 upload_left (Moving op transfer) = octets_left transfer.flow
 upload_left other = 0
 
+-- a close that is wanted, and one that will be when what stands is over
 abbrev pub closes_left : View → ℕ
 closes_left v = (if v.closing then 1 else 0) + (if stands v.link then 1 else 0)
 
+-- control octets, data octets and closes
 abbrev pub still_to_give : View → ℕ
 still_to_give v = length v.owed + upload_left v.job + closes_left v
 
@@ -72,9 +78,11 @@ pub record Lowers (most : ℕ) (old new : View) : Type 0 where
   pub begins : to_begin new ≤ to_begin old
   pub gives : (to_begin new < to_begin old) ⊎ (still_to_give new ≤ still_to_give old + most)
 
+-- a control octet: the answer that it may be owed has three octets
 abbrev pub HearingLowers : Type 0
 HearingLowers = (v : View) (octet : ℕ) → Lowers 3 v (hears_octet v octet)
 
+-- a data octet is owed no answer
 abbrev pub ReceivingLowers : Type 0
 ReceivingLowers = (v : View) (octet : ℕ) → Lowers 0 v (receives_octet v octet)
 
@@ -90,6 +98,7 @@ pub record EventsLower (v : View) : Type 0 where
   pub control_end_lowers : Lowers 0 v (control_end v)
   pub gives_lowers : (count : ℕ) → Lowers 0 v (gives_data count v)
 
+-- however the client stands
 abbrev pub CallsLower : Type 0
 CallsLower = (v : View) → EventsLower v
 
@@ -98,11 +107,13 @@ pub record Pays (count : ℕ) (old new : View) : Type 0 where
   pub begins : to_begin new ≤ to_begin old
   pub gives : (to_begin new < to_begin old) ⊎ (still_to_give new + count ≤ still_to_give old)
 
+-- each call that gives, and the close
 pub record PullsPay (v : View) : Type 0 where
   pub control_pays : (count : ℕ) → count ≤ length v.owed → Pays count v (gives_control count v)
   pub data_pays : (count : ℕ) → count ≤ length (to_give v) → Pays count v (gives_data count v)
   pub close_pays : v.closing ≡ true → Pays 1 v (data_closed v)
 
+-- however the client stands
 abbrev pub GivingPays : Type 0
 GivingPays = (v : View) → PullsPay v
 
@@ -113,5 +124,6 @@ pub record ShortLowers (v : View) : Type 0 where
   pub opened_lowers : Lowers 1 v (data_opened_short v)
   pub end_lowers : Lowers 0 v (data_end_short v)
 
+-- however the client stands
 abbrev pub WantLowers : Type 0
 WantLowers = (v : View) → ShortLowers v

@@ -29,6 +29,7 @@ abbrev pub is_busy_job : Job → Bool
 is_busy_job Idle = false
 is_busy_job other = true
 
+-- `start` is refused
 abbrev pub is_busy : View → Bool
 is_busy v = is_busy_job v.job
 
@@ -52,13 +53,16 @@ abbrev pub report_of_job : Job → Option Said
 report_of_job (Told answer) = Some answer
 report_of_job other = None
 
+-- the answer that `report` gives
 abbrev pub report_of : View → Option Said
 report_of v = report_of_job v.job
 
+-- an answer is given once; behind it another operation may begin
 abbrev pub reported_by : Job → View → View
 reported_by (Told answer) v = record v { job = Idle }
 reported_by other v = v
 
+-- what `report` leaves
 abbrev pub reports : View → View
 reports v = reported_by v.job v
 
@@ -80,6 +84,7 @@ event_taken (line text) v = line_taken (line_heard v.gathered text) v
 event_taken too_long v = strange v
 event_taken (owed answer) v = record v { owed = v.owed ++ answer }
 
+-- events in order
 abbrev pub events_taken : List NvtEvent → View → View
 events_taken [] v = v
 events_taken (event ∷ events) v = events_taken events (event_taken event v)
@@ -88,10 +93,12 @@ events_taken (event ∷ events) v = events_taken events (event_taken event v)
 abbrev pub hears_octet : View → ℕ → View
 hears_octet v octet = events_taken ((ear reply_limit).out v.ear octet) (record v { ear = (ear reply_limit).step v.ear octet })
 
+-- octets of the control connection, one by one
 abbrev pub hears : View → List ℕ → View
 hears v [] = v
 hears v (octet ∷ octets) = hears (hears_octet v octet) octets
 
+-- the client has not failed
 abbrev pub is_sound : Standing → Bool
 is_sound (Stands.Failed failure) = false
 is_sound other = true
@@ -110,6 +117,7 @@ gives_control count v = record v { owed = drop count v.owed }
 
 -- ---- the data connection: while a close is wanted, nothing else is told
 
+-- a call that has no use while a close is wanted
 abbrev pub unless_closing : (View → View) → View → View
 unless_closing f v = if v.closing then v else f v
 
@@ -139,6 +147,7 @@ abbrev pub accepted : Bool → View → View
 accepted true v = more (record v { link = Links.Open })
 accepted false v = more (record v { link = Links.Over Endings.Foreign; closing = true })
 
+-- an open link is the one that the client dialled, or one at its port
 abbrev pub opened_by : Link → Host → View → View
 opened_by (Links.Dialing endpoint) host v = connected v.job v
 opened_by (Links.Awaiting port) host v = accepted (same_host host v.peer) v
@@ -166,6 +175,7 @@ abbrev pub ending_of : Job → Ending
 ending_of (Moving op transfer) = if is_down transfer.flow then Endings.Clean else Endings.Broken
 ending_of other = Endings.Broken
 
+-- an open link is over, in this way
 abbrev pub over_by : Link → Ending → View → View
 over_by Links.Open ending v = more (record v { link = Links.Over ending })
 over_by link ending v = v
@@ -174,6 +184,7 @@ over_by link ending v = v
 unfoldable pub data_end : View → View
 data_end v = unless_closing (λ v. over_by v.link (ending_of v.job) v) v
 
+-- the link broke
 unfoldable pub data_fault : View → View
 data_fault v = unless_closing (λ v. over_by v.link Endings.Broken v) v
 
@@ -188,9 +199,11 @@ abbrev pub heard_by : Job → ℕ → View → View
 heard_by (Moving op transfer) octet v = record v { job = Moving op (record transfer { flow = flow_octet transfer.flow octet }) }
 heard_by job octet v = v
 
+-- one octet of the data connection
 abbrev pub receives_octet : View → ℕ → View
 receives_octet v octet = heard_by v.job octet v
 
+-- octets of the data connection, one by one
 abbrev pub receives : View → List ℕ → View
 receives v [] = v
 receives v (octet ∷ octets) = receives (receives_octet v octet) octets
@@ -200,9 +213,11 @@ abbrev pub moving_over : Link → Job → Option Transfer
 moving_over Links.Open (Moving op transfer) = Some transfer
 moving_over link job = None
 
+-- the transfer under way; none while a close is wanted
 abbrev pub moving : View → Option Transfer
 moving v = if v.closing then None else moving_over v.link v.job
 
+-- it brings octets
 abbrev pub downloads : Option Transfer → Bool
 downloads None = false
 downloads (Some transfer) = is_down transfer.flow
@@ -216,10 +231,12 @@ abbrev pub left_in : Flow → List ℕ
 left_in (Up left mark) = left
 left_in (Down decoder mark) = []
 
+-- of a transfer that has begun
 abbrev pub given_of : Option Transfer → List ℕ
 given_of None = []
 given_of (Some transfer) = if has_begun transfer.replied then left_in transfer.flow else []
 
+-- the octets that the open link is still to carry
 abbrev pub to_give : View → List ℕ
 to_give v = given_of (moving v)
 
@@ -228,19 +245,23 @@ abbrev pub went : ℕ → Flow → Flow
 went count (Up left mark) = Up (drop count left) mark
 went count (Down decoder mark) = Down decoder mark
 
+-- of the transfer under way
 abbrev pub goes_by : ℕ → Job → View → View
 goes_by count (Moving op transfer) v = more (record v { job = Moving op (record transfer { flow = went count transfer.flow }) })
 goes_by count job v = v
 
+-- `data_out` gave so many octets
 unfoldable pub gives_data : ℕ → View → View
 gives_data count v = goes_by count v.job v
 
 -- ---- what is wanted
 
+-- what an open link is wanted for
 abbrev pub data_wants : Option Transfer → Wants
 data_wants None = Want.Nothing
 data_wants (Some transfer) = if is_down transfer.flow then Want.Receive else (if has_begun transfer.replied then Want.Send else Want.Nothing)
 
+-- what each state of the data connection asks of who owns it
 abbrev pub link_wants : Link → View → Wants
 link_wants Links.Asked v = Want.Listen
 link_wants (Links.Dialing endpoint) v = Want.Connect endpoint
@@ -258,8 +279,10 @@ wants v = if v.closing then Want.CloseData else (if is_sound v.standing then lin
 abbrev pub MayTake : (View → Bool) → (View → List ℕ → View) → View → List ℕ → ℕ → Type 0
 MayTake may takes v piece count = (k : ℕ) → k < count → IsTrue (may (takes v (take k piece)))
 
+-- of `hear`
 abbrev pub MayHear : View → List ℕ → ℕ → Type 0
 MayHear v piece count = MayTake may_hear hears v piece count
 
+-- of `data_hear`
 abbrev pub MayReceive : View → List ℕ → ℕ → Type 0
 MayReceive v piece count = MayTake may_receive receives v piece count

@@ -37,6 +37,7 @@ use Rattle.ftp_protocol.specs.declared.client.Step.TheVariants as Steps
 abbrev pub sends : Command (List ℕ) → View → View
 sends command v = record v { owed = v.owed ++ written_line (line_of command) }
 
+-- a step may have no command
 abbrev pub sends_if : Option (Command (List ℕ)) → View → View
 sends_if None v = v
 sends_if (Some command) v = sends command v
@@ -73,6 +74,7 @@ abbrev pub enters_with : Job → View → View
 enters_with (Waiting op) v = begins op v
 enters_with other v = v
 
+-- operations are sent from now on
 abbrev pub enters : View → View
 enters v = enters_with v.job (record v { standing = Stands.Entered })
 
@@ -83,6 +85,7 @@ user_answered Completion v = enters v
 user_answered Negative v = enters v
 user_answered other v = strange v
 
+-- what PASS is answered with ends the login, a refusal too
 abbrev pub pass_answered : Verdict → View → View
 pass_answered Completion v = enters v
 pass_answered Negative v = enters v
@@ -121,6 +124,7 @@ abbrev pub port_named : Option ℕ → Op (List ℕ) → View → View
 port_named None op v = strange v
 port_named (Some port) op v = dials op (record { host = v.peer; port = port }) v
 
+-- what EPSV or PASV was answered with, by which of them was sent
 abbrev pub passive_named : Bool → Op (List ℕ) → Text → View → View
 passive_named true op text v = port_named (extended_value text) op v
 passive_named false op text v = named (passive_value text) op v
@@ -152,6 +156,7 @@ awaits_reply other = true
 abbrev pub refused : Step → ℕ → View → View
 refused step code v = if awaits_reply step then tells (Refused code) v else strange v
 
+-- a reply to the command of a step, by its first digit
 abbrev pub step_answered : Op (List ℕ) → Step → Verdict → ℕ → List Text → View → View
 step_answered op step Completion code texts v = completed op step texts v
 step_answered op step Intermediate code texts v = intermediate op step v
@@ -177,6 +182,7 @@ ended_answer Endings.Ours op flow = whole_answer op flow
 ended_answer Endings.Broken op flow = Some (broken_answer flow)
 ended_answer Endings.Foreign op flow = Some Foreign
 
+-- 4yz or 5yz (RFC 959, section 4.2.1)
 abbrev pub is_refusal : ℕ → Bool
 is_refusal code = nat_le 400 code
 
@@ -190,10 +196,12 @@ abbrev pub checked_by : Replied → Link → Op (List ℕ) → Flow → View →
 checked_by (Replies.Final code) (Links.Over ending) op flow v = tells_read (judged ending code op flow) v
 checked_by replied link op flow v = v
 
+-- of the transfer under way
 abbrev pub checked_job : Job → View → View
 checked_job (Moving op transfer) v = checked_by transfer.replied v.link op transfer.flow v
 checked_job job v = v
 
+-- the answer of a transfer stands as soon as both are in
 abbrev pub checked : View → View
 checked v = checked_job v.job v
 
@@ -206,15 +214,18 @@ abbrev pub has_begun : Replied → Bool
 has_begun Replies.Nothing = false
 has_begun other = true
 
+-- all octets of an upload are out; of a download there are none to give
 abbrev pub is_given : Flow → Bool
 is_given (Up [] mark) = true
 is_given (Up (octet ∷ left) mark) = false
 is_given (Down decoder mark) = false
 
+-- an upload ends by the client's close (RFC 959, section 3.4.1)
 abbrev pub more_by : Bool → Link → View → View
 more_by true Links.Open v = closes v
 more_by given link v = v
 
+-- of the transfer under way
 abbrev pub more_job : Job → View → View
 more_job (Moving op transfer) v = more_by (has_begun transfer.replied && is_given transfer.flow) v.link v
 more_job job v = v
@@ -241,6 +252,7 @@ abbrev pub marked_flow : Option ℕ → Flow → Flow
 marked_flow (Some mark) (Up left before) = Up left (Some mark)
 marked_flow read flow = flow
 
+-- a 110 during a transfer is noted, and any other 1yz is passed over
 abbrev pub noted : ℕ → Text → Op (List ℕ) → Transfer → View → View
 noted code text op transfer v =
     if code == 110 then record v { job = Moving op (record transfer { flow = marked_flow (mark_value text) transfer.flow }) } else v
@@ -278,6 +290,7 @@ job_answered (Doing op step) verdict code texts v = step_answered op step verdic
 job_answered (Moving op transfer) verdict code texts v = transfer_answered transfer.replied verdict code (text_of texts) op transfer v
 job_answered other verdict code texts v = strange v
 
+-- who is answered: the greeting, USER, PASS, or the operation under way
 abbrev pub stand_answered : Standing → Verdict → ℕ → List Text → View → View
 stand_answered Stands.Greeting verdict code texts v = greeted verdict code v
 stand_answered Stands.User verdict code texts v = user_answered verdict v

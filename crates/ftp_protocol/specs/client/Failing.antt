@@ -28,6 +28,7 @@ pub record ShortAt (May : View → List ℕ → ℕ → Type 0) (takes : View �
 abbrev pub HearsShort : View → List ℕ → ℕ → View → Type 0
 HearsShort = ShortAt MayHear hears
 
+-- of `data_hear`
 abbrev pub ReceivesShort : View → List ℕ → ℕ → View → Type 0
 ReceivesShort = ShortAt MayReceive receives
 
@@ -41,14 +42,17 @@ abbrev pub door_short : Link → ℕ → View → View
 door_short Links.Asked port v = short (record v { link = Links.Door port })
 door_short link port v = v
 
+-- of `listening`
 abbrev pub listening_short : ℕ → View → View
 listening_short port v = unless_closing (λ v. door_short v.link port v) v
 
+-- the link that was dialled or awaited is open, and the command behind it could not be made
 abbrev pub opened_short : Link → View → View
 opened_short (Links.Dialing endpoint) v = short (record v { link = Links.Open })
 opened_short (Links.Awaiting port) v = short (record v { link = Links.Open })
 opened_short link v = v
 
+-- of `data_opened`
 abbrev pub data_opened_short : View → View
 data_opened_short v = unless_closing (λ v. opened_short v.link v) v
 
@@ -57,6 +61,7 @@ abbrev pub over_short : Link → View → View
 over_short Links.Open v = short (record v { link = Links.Over Endings.Clean })
 over_short link v = v
 
+-- of `data_end`
 abbrev pub data_end_short : View → View
 data_end_short v = unless_closing (λ v. over_short v.link v) v
 
@@ -71,6 +76,7 @@ abbrev pub Heard : (before after : ℕ) → (old : View) → (piece : List ℕ) 
 Heard before after old piece count new =
     (after ≡ before → (new ≡ hears old (take count piece)) × MayHear old piece count) × (after ≢ before → HearsShort old piece count new)
 
+-- of `data_hear`
 abbrev pub Received : (before after : ℕ) → (old : View) → (piece : List ℕ) → (count : ℕ) → (new : View) → Type 0
 Received before after old piece count new =
     (after ≡ before → (new ≡ receives old (take count piece)) × MayReceive old piece count) × (after ≢ before → ReceivesShort old piece count new)

@@ -52,6 +52,7 @@ pub record HearsReply (code : ℕ) (texts : List Text) (v : View) : Type 0 where
   pub whole : hears v (octets_of code texts) ≡ answered code texts v
   pub may : (front back : List ℕ) (octet : ℕ) → front ++ octet ∷ back ≡ octets_of code texts → may_hear (hears v front) ≡ may_hear v
 
+-- every reply that can be written, whatever else the client holds
 abbrev pub ReplyIsHeard : Type 0
 ReplyIsHeard = (code : ℕ) (texts : List Text) (v : View) → IsWritten code texts → IsAtRest v → HearsReply code texts v
 
@@ -70,10 +71,12 @@ AnsweredAtRest = (code : ℕ) (texts : List Text) (v : View) → IsAtRest v → 
 abbrev pub Reply : Type 0
 Reply = ℕ × List Text
 
+-- what a row of replies does
 abbrev pub answered_all : List Reply → View → View
 answered_all [] v = v
 answered_all ((code, texts) ∷ replies) v = answered_all replies (answered code texts v)
 
+-- every row of replies is heard reply by reply
 abbrev pub RowIsHeard : Type 0
 RowIsHeard =
     (replies : List Reply) (v : View) → AllByRecursion (λ reply. IsWritten reply.0 reply.1) replies → IsAtRest v

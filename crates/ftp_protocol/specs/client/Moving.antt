@@ -27,11 +27,13 @@ written false settings start octets = wire settings.mode (form_of settings) octe
 abbrev pub upload_text : How → ℕ → List ℕ → List ℕ
 upload_text how start octets = written (how.marks && has_markers (settings_of how)) (settings_of how) start octets
 
+-- an upload at its start: all its text is to be given, and no 110 came
 abbrev pub upload : How → ℕ → List ℕ → Flow
 upload how start octets = Up (upload_text how start octets) None
 
 -- ---- a download
 
+-- a download at its start: no octet came
 abbrev pub download : Settings → Flow
 download settings = Down (no_octets settings) None
 

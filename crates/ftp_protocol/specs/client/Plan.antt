@@ -38,6 +38,7 @@ how_of other = None
 abbrev pub settings_of : How → Settings
 settings_of how = record { kind = how.kind; structure = how.structure; mode = how.mode }
 
+-- the settings of a listing, in a mode
 abbrev pub listing_settings : Mode → Settings
 listing_settings mode = record { kind = Kinds.Ascii; structure = Structures.File; mode = mode }
 
@@ -85,12 +86,15 @@ opening_of (Some how) op = opening_step how
 abbrev pub from_mode : (now wanted : Settings) → Step → Step
 from_mode now wanted behind = if same_mode now.mode wanted.mode then behind else Steps.Mode
 
+-- from STRU on
 abbrev pub from_structure : (now wanted : Settings) → Step → Step
 from_structure now wanted behind = if same_structure now.structure wanted.structure then from_mode now wanted behind else Steps.Structure
 
+-- from TYPE on
 abbrev pub from_kind : (now wanted : Settings) → Step → Step
 from_kind now wanted behind = if same_kind now.kind wanted.kind then from_structure now wanted behind else Steps.Kind
 
+-- the first of these steps that is needed, or the opening behind them
 abbrev pub step_by : (Settings → Settings → Step → Step) → Option Settings → Settings → Op (List ℕ) → Step
 step_by from None now op = opening_of (how_of op) op
 step_by from (Some wanted) now op = from now wanted (opening_of (how_of op) op)
@@ -119,6 +123,7 @@ accepted_by Steps.Structure now wanted = record now { structure = wanted.structu
 accepted_by Steps.Mode now wanted = record now { mode = wanted.mode }
 accepted_by other now wanted = now
 
+-- an operation without settings changes none
 abbrev pub accepted : Step → Settings → Option Settings → Settings
 accepted step now None = now
 accepted step now (Some wanted) = accepted_by step now wanted
@@ -130,10 +135,12 @@ abbrev pub is_v6 : Host → Bool
 is_v6 (V4 octets) = false
 is_v6 (V6 octets) = true
 
+-- a transfer may ask for EPRT and EPSV
 abbrev pub asks_extended : Option How → Bool
 asks_extended None = false
 asks_extended (Some how) = how.extended
 
+-- EPRT or EPSV is sent, and not PORT or PASV
 abbrev pub is_extended : View → Op (List ℕ) → Bool
 is_extended v op = asks_extended (how_of op) || is_v6 v.peer
 
@@ -142,12 +149,15 @@ abbrev pub door_of : Link → ℕ
 door_of (Links.Door port) = port
 door_of other = 0
 
+-- the endpoint that PORT or EPRT names
 abbrev pub door_endpoint : View → Endpoint
 door_endpoint v = record { host = v.here; port = door_of v.link }
 
+-- PORT or EPRT
 abbrev pub port_command : Bool → Endpoint → Command (List ℕ)
 port_command extended endpoint = if extended then Commands.Eprt endpoint else Commands.Port endpoint
 
+-- PASV, or EPSV of any family
 abbrev pub passive_command : Bool → Command (List ℕ)
 passive_command extended = if extended then Commands.Epsv Passives.Any else Commands.Pasv
 
@@ -176,20 +186,24 @@ own_command (Ops.Facts path) = Commands.Mlst (optional path)
 own_command (Ops.List path how) = Commands.Mlsd (optional path)
 own_command (Ops.Names path how) = Commands.Nlst (optional path)
 
+-- TYPE, STRU or MODE, of the settings wanted
 abbrev pub setting_command : Step → Settings → Option (Command (List ℕ))
 setting_command Steps.Kind wanted = Some (Commands.Repr (kind_asked wanted.kind))
 setting_command Steps.Structure wanted = Some (Commands.Stru (structure_asked wanted.structure))
 setting_command Steps.Mode wanted = Some (Commands.Mode (mode_asked wanted.mode))
 setting_command other wanted = None
 
+-- of an operation that asks for settings
 abbrev pub set_command : Step → Option Settings → Option (Command (List ℕ))
 set_command step None = None
 set_command step (Some wanted) = setting_command step wanted
 
+-- REST, where there is an offset
 abbrev pub restart_command : Option ℕ → Option (Command (List ℕ))
 restart_command None = None
 restart_command (Some offset) = Some (Commands.Rest offset)
 
+-- RNFR, of a rename
 abbrev pub source_command : Op (List ℕ) → Option (Command (List ℕ))
 source_command (Ops.Rename from to) = Some (Commands.Rnfr from)
 source_command other = None

@@ -38,6 +38,7 @@ pub data Event : Type 0 where
   given : (count : ℕ) → Event
   ended broken : Event
 
+-- each event is one call of the client
 abbrev pub happens : Event → View → View
 happens (asks op) v = starts op v
 happens (replied code text) v = answered code (text ∷ []) v
@@ -50,6 +51,7 @@ happens (given count) v = gives_data count v
 happens ended v = data_end v
 happens broken v = data_fault v
 
+-- events, one after another
 abbrev pub behind : List Event → View → View
 behind [] v = v
 behind (event ∷ events) v = behind events (happens event v)
@@ -62,6 +64,7 @@ lines texts = flat_map written_line texts
 abbrev pub here : Host
 here = V4 (127 ∷ 0 ∷ 0 ∷ 1 ∷ [])
 
+-- a third host, which is nobody's peer
 abbrev pub elsewhere : Host
 elsewhere = V4 (10 ∷ 0 ∷ 0 ∷ 9 ∷ [])
 
@@ -69,9 +72,11 @@ elsewhere = V4 (10 ∷ 0 ∷ 0 ∷ 9 ∷ [])
 abbrev pub guest : View
 guest = client (codes "guest") (codes "secret") here here
 
+-- the greeting, 331 and 230
 abbrev pub login_events : List Event
 login_events = replied 220 (codes "Ready") ∷ replied 331 (codes "Password needed") ∷ replied 230 (codes "Logged in") ∷ []
 
+-- a client that is logged in, with nothing owed
 abbrev pub entered : View
 entered = record (behind login_events guest) { owed = [] }
 
@@ -186,12 +191,15 @@ Unsendable =
 abbrev pub plain : How
 plain = record { kind = Kinds.Image; structure = Structures.File; mode = Modes.Stream; marks = false; active = false; extended = false }
 
+-- type A
 abbrev pub text : How
 text = record plain { kind = Kinds.Ascii }
 
+-- record structure
 abbrev pub records : How
 records = record plain { structure = Structures.Record }
 
+-- through a port of the client
 abbrev pub active : How
 active = record plain { active = true }
 
@@ -199,24 +207,30 @@ active = record plain { active = true }
 abbrev pub get : How → Event
 get how = asks (Ops.Get (codes "f") how)
 
+-- the octets `abc` to the file f
 abbrev pub put : How → Event
 put how = asks (Ops.Put (codes "f") (codes "abc") how)
 
+-- 200 to TYPE
 abbrev pub set : Event
 set = replied 200 (codes "Type set")
 
+-- 227: port 49152 is 192 times 256
 abbrev pub named : Event
 named = replied 227 (codes "Entering Passive Mode (127,0,0,1,192,0)")
 
 abbrev pub begins : Event
 begins = replied 150 (codes "Opening data connection")
 
+-- the final reply of a whole transfer
 abbrev pub complete : Event
 complete = replied 226 (codes "Transfer complete")
 
+-- the final reply of a broken one
 abbrev pub cut : Event
 cut = replied 426 (codes "Transfer broken")
 
+-- the final reply where no link came about
 abbrev pub unopened : Event
 unopened = replied 425 (codes "No data connection")
 
@@ -246,6 +260,7 @@ ActiveDownload =
     × (wanted (get active ∷ set ∷ port 49152 ∷ replied 200 [] ∷ []) ≡ Want.Nothing)
     × (wanted (get active ∷ set ∷ port 49152 ∷ replied 200 [] ∷ begins ∷ []) ≡ Want.Accept)
 
+-- the same octets, and the final reply before the end
 abbrev pub ActiveReport : Type 0
 ActiveReport =
     reported (get active ∷ set ∷ port 49152 ∷ replied 200 [] ∷ begins ∷ opened here ∷ octets (codes "abc") ∷ complete ∷ ended ∷ [])

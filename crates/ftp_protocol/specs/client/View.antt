@@ -116,6 +116,7 @@ fails_by (Stands.Failed before) failure v = v
 fails_by standing failure v =
     record (silent (dropped v)) { standing = Stands.Failed failure; job = failed_job (failure_said failure) v.job }
 
+-- by how far it has come
 abbrev pub fails : Failure → View → View
 fails failure v = fails_by v.standing failure v
 
