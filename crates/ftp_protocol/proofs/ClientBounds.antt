@@ -10,7 +10,7 @@ use Rattle.ftp_protocol.specs.Settings.{same_kind, same_structure, same_mode}
 use Rattle.ftp_protocol.specs.client.Bounds.{login_left, steps_left, job_left, to_begin, upload_left, still_to_give, Lowers}
 use Rattle.ftp_protocol.specs.client.Dialogue.{sends_if, last_job, placed, begins, goes_on}
 use Rattle.ftp_protocol.specs.client.Moving.{flow_of}
-use Rattle.ftp_protocol.specs.client.Plan.{asked_settings, how_of, offset_of, behind_opening as opened_step, alone_step, opening_of, from_mode, from_structure, from_kind, step_by, first_step, next_step, command_of}
+use Rattle.ftp_protocol.specs.client.Plan.{asked_settings, how_of, offset_of, step_behind_opening as opened_step, alone_step, opening_of, from_mode, from_structure, from_kind, step_by, first_step, next_step, command_of}
 use Rattle.ftp_protocol.specs.client.View.{View, Job, Idle, Waiting, Doing, Moving, Told, Flow, stands, tells, tells_read, failed_job, failure_said, fails_by, strange}
 use Rattle.ftp_protocol.specs.declared.client.Failure.{Failure}
 use Rattle.ftp_protocol.specs.declared.client.Failure.TheVariants as Failures

@@ -16,9 +16,9 @@ use Rattle.ftp_protocol.specs.Ear.{Ear, Unfinished, ended_text, within_out, line
 use Rattle.ftp_protocol.specs.Link.{same_host}
 use Rattle.ftp_protocol.specs.client.Bounds.{login_left, transfer_left, job_left, to_begin, octets_left, upload_left, closes_left, still_to_give, Lowers, HearingLowers, ReceivingLowers, EventsLower, CallsLower}
 use Rattle.ftp_protocol.specs.client.Calls.{reply_limit, line_taken, event_taken, events_taken, unless_closing, door_by, listening, doorless_by, listen_refused, connected, accepted, opened_by, data_opened, unopened_by, data_refused, ending_of, over_by, data_end, data_fault, heard_by, went, goes_by, gives_data, control_end}
-use Rattle.ftp_protocol.specs.client.Dialogue.{begins, greeted, enters_with, enters, user_answered, pass_answered, set_accepted, dials, named, port_named, passive_named, text_of, completed, intermediate, awaits_reply, step_answered, answer_in, judged, checked_by, checked_job, more_by, more_job, more, with_reply, awaited, opened, marked_flow, noted, unless_open, before_opening, behind_opening, transfer_answered, job_answered, stand_answered, judged_reply, answered, closes, has_begun, is_given}
+use Rattle.ftp_protocol.specs.client.Dialogue.{begins, greeted, enters_with, enters, user_answered, pass_answered, set_accepted, dials, named, port_named, passive_named, text_of, step_done, intermediate, awaits_reply, step_answered, answer_in, judged, answers_by, answers_job, closes_given_by, closes_given, moved_on, with_reply, awaited, transfer_opened, marked_flow, noted, unless_open, before_opening, behind_opening, transfer_answered, job_answered, stand_answered, judged_reply, answered, closes, has_begun, is_given}
 use Rattle.ftp_protocol.specs.client.Moving.{flow_octet}
-use Rattle.ftp_protocol.specs.client.Plan.{asked_settings, accepted as set_by, is_extended}
+use Rattle.ftp_protocol.specs.client.Plan.{asked_settings, settings_behind as set_by, is_extended}
 use Rattle.ftp_protocol.specs.client.Replies.{Heard, GoesOn, Says, Faulty, line_heard, Between, Verdict, Preliminary, Completion, Intermediate, Negative, Closing, Displaced, verdict_of}
 use Rattle.ftp_protocol.specs.client.Values.{passive_value, extended_value, mark_value}
 use Rattle.ftp_protocol.specs.client.View.{View, Job, Idle, Waiting, Doing, Moving, Told, Transfer, Flow, Up, Down, stands, tells, strange}
@@ -96,7 +96,7 @@ passive_low false op text v is = named_low (passive_value text) op v is
 set_low : (op : Op (List ℕ)) (step : Step) (v : View) → goes_step step ≡ true → v.job ≡ Doing op step → Low v (set_accepted op step v)
 set_low op step v goes is = goes_on_low op step v (record v { settings = set_by step v.settings (asked_settings op) }) goes is refl
 
-completed_low : (op : Op (List ℕ)) (step : Step) (texts : List Text) (v : View) → v.job ≡ Doing op step → Low v (completed op step texts v)
+completed_low : (op : Op (List ℕ)) (step : Step) (texts : List Text) (v : View) → v.job ≡ Doing op step → Low v (step_done op step texts v)
 completed_low op Steps.Port texts v is = goes_on_low op Steps.Port v v refl is refl
 completed_low op Steps.Passive texts v is = passive_low (is_extended v op) op (text_of texts) v is
 completed_low op Steps.Last texts v is = tells_read_low (answer_in op texts) v
@@ -131,7 +131,7 @@ step_low op step Displaced code texts v is = strange_low v
 
 -- ---- a transfer
 
-checked_by_low : (replied : Replied) (link : Link) (op : Op (List ℕ)) (flow : Flow) (v : View) → Low v (checked_by replied link op flow v)
+checked_by_low : (replied : Replied) (link : Link) (op : Op (List ℕ)) (flow : Flow) (v : View) → Low v (answers_by replied link op flow v)
 checked_by_low (Replies.Final code) (Links.Over ending) op flow v = tells_read_low (judged ending code op flow) v
 checked_by_low (Replies.Final code) Links.Free op flow v = same v
 checked_by_low (Replies.Final code) Links.Asked op flow v = same v
@@ -142,7 +142,7 @@ checked_by_low (Replies.Final code) Links.Open op flow v = same v
 checked_by_low Replies.Nothing link op flow v = same v
 checked_by_low Replies.Begun link op flow v = same v
 
-checked_low : (job : Job) (v : View) → Low v (checked_job job v)
+checked_low : (job : Job) (v : View) → Low v (answers_job job v)
 checked_low (Moving op transfer) v = checked_by_low transfer.replied v.link op transfer.flow v
 checked_low Idle v = same v
 checked_low (Waiting op) v = same v
@@ -152,7 +152,7 @@ checked_low (Told answer) v = same v
 closes_low : (v : View) → Low v (closes v)
 closes_low v = record { begins = omega arith; gives = inr (omega (arith, one_close v.closing (stands v.link))) }
 
-more_by_low : (given : Bool) (link : Link) (v : View) → Low v (more_by given link v)
+more_by_low : (given : Bool) (link : Link) (v : View) → Low v (closes_given_by given link v)
 more_by_low true Links.Open v = closes_low v
 more_by_low true Links.Free v = same v
 more_by_low true Links.Asked v = same v
@@ -162,18 +162,18 @@ more_by_low true (Links.Awaiting port) v = same v
 more_by_low true (Links.Over ending) v = same v
 more_by_low false link v = same v
 
-more_job_low : (job : Job) (v : View) → Low v (more_job job v)
+more_job_low : (job : Job) (v : View) → Low v (closes_given job v)
 more_job_low (Moving op transfer) v = more_by_low (has_begun transfer.replied && is_given transfer.flow) v.link v
 more_job_low Idle v = same v
 more_job_low (Waiting op) v = same v
 more_job_low (Doing op step) v = same v
 more_job_low (Told answer) v = same v
 
-pub more_low : (v : View) → Low v (more v)
-more_low v = both 0 v (more_job v.job v) (more v) (more_job_low v.job v) (checked_low (more_job v.job v).job (more_job v.job v))
+pub more_low : (v : View) → Low v (moved_on v)
+more_low v = both 0 v (closes_given v.job v) (moved_on v) (more_job_low v.job v) (checked_low (closes_given v.job v).job (closes_given v.job v))
 
-behind_more : (old v : View) → Low old v → Low old (more v)
-behind_more old v one = both 0 old v (more v) one (more_low v)
+behind_more : (old v : View) → Low old v → Low old (moved_on v)
+behind_more old v one = both 0 old v (moved_on v) one (more_low v)
 
 -- a transfer's replies change, in a view where no more is owed or stands
 reply_low : (replied : Replied) (op : Op (List ℕ)) (transfer : Transfer) (old w : View) → transfer_left replied ≡ 0 → old.job ≡ Moving op transfer
@@ -198,7 +198,7 @@ stands_awaited (Links.Awaiting port) = refl
 stands_awaited Links.Open = refl
 stands_awaited (Links.Over ending) = refl
 
-opened_low : (code : ℕ) (op : Op (List ℕ)) (transfer : Transfer) (v : View) → v.job ≡ Moving op transfer → Low v (opened code op transfer v)
+opened_low : (code : ℕ) (op : Op (List ℕ)) (transfer : Transfer) (v : View) → v.job ≡ Moving op transfer → Low v (transfer_opened code op transfer v)
 opened_low code op transfer v is =
     let w : View = record v { link = awaited v.link } in
     let stand : one_if (stands (awaited v.link)) ≡ one_if (stands v.link) = ap one_if (stands_awaited v.link) in

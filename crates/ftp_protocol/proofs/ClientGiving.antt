@@ -4,7 +4,7 @@ use Rattle.std.specs.Prelude.{if◌then◌else◌}
 use Rattle.std.proofs.lemmas.List.{length-drop}
 use Rattle.ftp_protocol.specs.client.Bounds.{login_left, transfer_left, job_left, to_begin, octets_left, upload_left, closes_left, still_to_give, Lowers, Pays, GivingPays, WantLowers}
 use Rattle.ftp_protocol.specs.client.Calls.{moving_over, left_in, given_of, to_give, went, goes_by, gives_data}
-use Rattle.ftp_protocol.specs.client.Dialogue.{has_begun, more}
+use Rattle.ftp_protocol.specs.client.Dialogue.{has_begun, moved_on}
 use Rattle.ftp_protocol.specs.client.Failing.{short, door_short, opened_short, over_short}
 use Rattle.ftp_protocol.specs.client.View.{View, Job, Idle, Waiting, Doing, Moving, Told, Flow, Up, Down}
 use Rattle.ftp_protocol.specs.declared.client.Ending.TheVariants as Endings
@@ -60,7 +60,7 @@ goes_pays count (Moving op transfer) v is few =
     let w : View = record v { job = Moving op (record transfer { flow = went count transfer.flow }) } in
     let here : job_left v.job ≡ transfer_left transfer.replied = ap job_left is in
     let octets : upload_left v.job ≡ octets_left transfer.flow = ap upload_left is in
-    pays_then count v w (more w) (record { begins = omega (arith, here); gives = inr (omega (arith, octets, went_pays count transfer.flow few)) }) (more_low w)
+    pays_then count v w (moved_on w) (record { begins = omega (arith, here); gives = inr (omega (arith, octets, went_pays count transfer.flow few)) }) (more_low w)
 goes_pays count Idle v is few = none_pays count v few
 goes_pays count (Waiting op) v is few = none_pays count v few
 goes_pays count (Doing op step) v is few = none_pays count v few

@@ -9,7 +9,7 @@ use Rattle.ftp_protocol.specs.declared.link.Wants.TheVariants as Want
 use Rattle.ftp_protocol.specs.world.Agreement.{Order, Agrees, WorldAgrees, Leads, IsHonest, AreHonest}
 use Rattle.ftp_protocol.specs.world.Claims.{AreUnmarked, HeadlineFollows, world_of, state_of}
 use Rattle.ftp_protocol.specs.world.Events.{Queue, Asked, Replied, Rising, Falling, Event, Deliver, Open, Refuse, End, Break, EndControl, Next, pulled, pushed, filled, told, DeliversBy, Does, Happens}
-use Rattle.ftp_protocol.specs.world.Serving.{link_closed_by_near, link_closed_by_far, left_by_near, left_by_far, near_served_by, far_served_by, near_served, far_served, served, collected_by, settled}
+use Rattle.ftp_protocol.specs.world.Serving.{link_closed_by_near, link_closed_by_far, left_by_near, left_by_far, near_served_by, far_served_by, near_served, far_served, served, collected_by, after_event}
 use Rattle.ftp_protocol.specs.world.World.{World, Mark, Control, Stands, LeftByNear, LeftByFar, Parted, Link, Gone, Open as Opened, ClosedByNear, ClosedByFar}
 use Rattle.ftp_protocol.proofs.AgreementLemmas.{unmarked_is_direct}
 
@@ -75,7 +75,7 @@ collected_clean : (answer : Option Said) (w : World) → Clean w → Clean (coll
 collected_clean None w c = c
 collected_clean (Some answer) w c = record { marks = c.marks; cutoff = c.cutoff }
 
-settled_clean : (w : World) → Clean w → Clean (settled w)
+settled_clean : (w : World) → Clean w → Clean (after_event w)
 settled_clean w c = collected_clean (near.report_of (served w).near) (served w) (served_clean w c)
 
 pulled_clean : (queue : Queue) (w : World) (count : ℕ) → Clean w → Clean (pulled queue w count)

@@ -7,10 +7,10 @@ use Rattle.ftp_operation.specs.declared.op.Op.{Op}
 use Rattle.ftp_endpoint.specs.declared.endpoint.Endpoint.{Endpoint}
 use Rattle.ftp_reply.specs.Lines.{Text}
 use Rattle.ftp_protocol.specs.Link.{same_host}
-use Rattle.ftp_protocol.specs.client.Dialogue.{sends_if, last_job, answer_in, awaited, marked_flow, placed, goes_on, greeted, enters_with, enters, user_answered, pass_answered, set_accepted, dials, named, port_named, passive_named, text_of, completed, intermediate, awaits_reply, step_answered, judged, checked_by, checked_job, more_by, more_job, more, with_reply, opened, noted, unless_open, before_opening, behind_opening, transfer_answered, job_answered, stand_answered, judged_reply, answered, closes, has_begun, is_given}
+use Rattle.ftp_protocol.specs.client.Dialogue.{sends_if, last_job, answer_in, awaited, marked_flow, placed, goes_on, greeted, enters_with, enters, user_answered, pass_answered, set_accepted, dials, named, port_named, passive_named, text_of, step_done, intermediate, awaits_reply, step_answered, judged, answers_by, answers_job, closes_given_by, closes_given, moved_on, with_reply, transfer_opened, noted, unless_open, before_opening, behind_opening, transfer_answered, job_answered, stand_answered, judged_reply, answered, closes, has_begun, is_given}
 use Rattle.ftp_protocol.specs.client.InFlight.{IsAtRest, AnsweredAtRest}
 use Rattle.ftp_protocol.specs.client.Moving.{flow_of}
-use Rattle.ftp_protocol.specs.client.Plan.{asked_settings, first_step, next_step, accepted, command_of, is_extended}
+use Rattle.ftp_protocol.specs.client.Plan.{asked_settings, first_step, next_step, settings_behind, command_of, is_extended}
 use Rattle.ftp_protocol.specs.client.Replies.{Verdict, Preliminary, Completion, Intermediate, Negative, Closing, Displaced, verdict_of}
 use Rattle.ftp_protocol.specs.client.Values.{passive_value, extended_value, mark_value}
 use Rattle.ftp_protocol.specs.client.View.{View, Job, Idle, Waiting, Doing, Moving, Told, Transfer, Flow, tells, tells_read, fails_by, strange}
@@ -112,7 +112,7 @@ pass_rest Displaced v r = strange_rest v r
 -- ---- a step
 
 set_rest : (op : Op (List ℕ)) (step : Step) (v : View) → Rests v (set_accepted op step)
-set_rest op step v r = goes_on_rest op step (record v { settings = accepted step v.settings (asked_settings op) }) (record { ear = r.ear; gathered = r.gathered })
+set_rest op step v r = goes_on_rest op step (record v { settings = settings_behind step v.settings (asked_settings op) }) (record { ear = r.ear; gathered = r.gathered })
 
 dials_rest : (op : Op (List ℕ)) (endpoint : Endpoint) (v : View) → Rests v (dials op endpoint)
 dials_rest op endpoint v r = goes_on_rest op Steps.Passive (record v { link = Links.Dialing endpoint }) (record { ear = r.ear; gathered = r.gathered })
@@ -130,7 +130,7 @@ passive_rest : (extended : Bool) (op : Op (List ℕ)) (text : Text) (v : View) �
 passive_rest true op text v r = port_named_rest (extended_value text) op v r
 passive_rest false op text v r = named_rest (passive_value text) op v r
 
-completed_rest : (op : Op (List ℕ)) (step : Step) (texts : List Text) (v : View) → Rests v (completed op step texts)
+completed_rest : (op : Op (List ℕ)) (step : Step) (texts : List Text) (v : View) → Rests v (step_done op step texts)
 completed_rest op Steps.Port texts v r = goes_on_rest op Steps.Port v r
 completed_rest op Steps.Passive texts v r = passive_rest (is_extended v op) op (text_of texts) v r
 completed_rest op Steps.Last texts v r = tells_read_rest (answer_in op texts) v r
@@ -164,7 +164,7 @@ step_rest op step Displaced code texts v r = strange_rest v r
 
 -- ---- a transfer
 
-checked_by_rest : (replied : Replied) (link : Link) (op : Op (List ℕ)) (flow : Flow) (v : View) → Rests v (checked_by replied link op flow)
+checked_by_rest : (replied : Replied) (link : Link) (op : Op (List ℕ)) (flow : Flow) (v : View) → Rests v (answers_by replied link op flow)
 checked_by_rest (Replies.Final code) (Links.Over ending) op flow v r = tells_read_rest (judged ending code op flow) v r
 checked_by_rest (Replies.Final code) Links.Free op flow v r = r
 checked_by_rest (Replies.Final code) Links.Asked op flow v r = r
@@ -175,7 +175,7 @@ checked_by_rest (Replies.Final code) Links.Open op flow v r = r
 checked_by_rest Replies.Nothing link op flow v r = r
 checked_by_rest Replies.Begun link op flow v r = r
 
-checked_rest : (job : Job) (v : View) → Rests v (checked_job job)
+checked_rest : (job : Job) (v : View) → Rests v (answers_job job)
 checked_rest (Moving op transfer) v r = checked_by_rest transfer.replied v.link op transfer.flow v r
 checked_rest Idle v r = r
 checked_rest (Waiting op) v r = r
@@ -185,7 +185,7 @@ checked_rest (Told answer) v r = r
 closes_rest : (v : View) → Rests v closes
 closes_rest v r = record { ear = r.ear; gathered = r.gathered }
 
-more_by_rest : (given : Bool) (link : Link) (v : View) → Rests v (more_by given link)
+more_by_rest : (given : Bool) (link : Link) (v : View) → Rests v (closes_given_by given link)
 more_by_rest true Links.Open v r = closes_rest v r
 more_by_rest true Links.Free v r = r
 more_by_rest true Links.Asked v r = r
@@ -195,20 +195,20 @@ more_by_rest true (Links.Awaiting port) v r = r
 more_by_rest true (Links.Over ending) v r = r
 more_by_rest false link v r = r
 
-more_job_rest : (job : Job) (v : View) → Rests v (more_job job)
+more_job_rest : (job : Job) (v : View) → Rests v (closes_given job)
 more_job_rest (Moving op transfer) v r = more_by_rest (has_begun transfer.replied && is_given transfer.flow) v.link v r
 more_job_rest Idle v r = r
 more_job_rest (Waiting op) v r = r
 more_job_rest (Doing op step) v r = r
 more_job_rest (Told answer) v r = r
 
-more_rest : (v : View) → Rests v more
-more_rest v r = checked_rest (more_job v.job v).job (more_job v.job v) (more_job_rest v.job v r)
+more_rest : (v : View) → Rests v moved_on
+more_rest v r = checked_rest (closes_given v.job v).job (closes_given v.job v) (more_job_rest v.job v r)
 
 with_reply_rest : (replied : Replied) (op : Op (List ℕ)) (transfer : Transfer) (v : View) → Rests v (with_reply replied op transfer)
 with_reply_rest replied op transfer v r = more_rest (record v { job = Moving op (record transfer { replied = replied }) }) (record { ear = r.ear; gathered = r.gathered })
 
-opened_rest : (code : ℕ) (op : Op (List ℕ)) (transfer : Transfer) (v : View) → Rests v (opened code op transfer)
+opened_rest : (code : ℕ) (op : Op (List ℕ)) (transfer : Transfer) (v : View) → Rests v (transfer_opened code op transfer)
 opened_rest code op transfer v r =
     let w : View = record v { link = awaited v.link } in
     if_rest (code == 110) v (with_reply Replies.Begun op transfer w) r (with_reply_rest Replies.Begun op transfer w (record { ear = r.ear; gathered = r.gathered }))

@@ -11,7 +11,7 @@ use Rattle.ftp_path.specs.Path.{resolved, fits, parent, text_of, is_within}
 use Rattle.ftp_tree.specs.Tree.{source_refusal, target_refusal, rename_refusal, front_refusal, octets_at, octets_or_none, node_at, children, Table, Dir, File}
 use Rattle.ftp_protocol.specs.server.View.{Move, Session, View, direct_of, how_of}
 use Rattle.ftp_protocol.specs.server.Replies.{reply_octets, reply_of}
-use Rattle.ftp_protocol.specs.server.Transfer.{starts, file_wire, path_or_here}
+use Rattle.ftp_protocol.specs.server.Transfer.{transfer_starts, file_wire, path_or_here}
 use Rattle.ftp_protocol.specs.server.Listing.{listing_wire, list_lines, list_lines_at, child_line, node_line, right_in, month_word}
 use Rattle.ftp_facts.specs.Calendar.{year_and_place, month_and_place}
 use Rattle.ftp_facts.specs.Moment.{four_digits}
@@ -80,7 +80,7 @@ root_code s root home = rw home (rw root refl)
 
 -- the view behind a transfer command, by its code
 abbrev pub started : View → Move → Option ℕ → View
-started v move code = completed (turned (starts code move v.session) v)
+started v move code = completed (turned (transfer_starts code move v.session) v)
 
 abbrev listed : View → Option ℕ → View
 listed v code = started v (Moves.Listing (listing_wire v.session.settings.mode (list_lines v.session.table (path_or_here v.session None)))) code

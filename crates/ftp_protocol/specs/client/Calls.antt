@@ -7,7 +7,7 @@ use Rattle.ftp_operation.specs.declared.op.Op.{Op}
 use Rattle.ftp_nvt.specs.Lines.{NvtEvent, line, too_long, owed}
 use Rattle.ftp_protocol.specs.Ear.{ear}
 use Rattle.ftp_protocol.specs.Link.{same_host}
-use Rattle.ftp_protocol.specs.client.Dialogue.{begins, goes_on, answered, more, has_begun}
+use Rattle.ftp_protocol.specs.client.Dialogue.{begins, goes_on, answered, moved_on, has_begun}
 use Rattle.ftp_protocol.specs.client.Moving.{flow_octet}
 use Rattle.ftp_protocol.specs.client.Replies.{Between, Heard, GoesOn, Says, Faulty, line_heard}
 use Rattle.ftp_protocol.specs.client.View.{View, Job, Idle, Waiting, Doing, Moving, Told, Transfer, Flow, Up, Down, tells, fails, failure_said, strange}
@@ -144,8 +144,8 @@ connected job v = v
 
 -- own choice: the link at the client's port has to come from the server's host, and another is closed
 abbrev pub accepted : Bool → View → View
-accepted true v = more (record v { link = Links.Open })
-accepted false v = more (record v { link = Links.Over Endings.Foreign; closing = true })
+accepted true v = moved_on (record v { link = Links.Open })
+accepted false v = moved_on (record v { link = Links.Over Endings.Foreign; closing = true })
 
 -- an open link is the one that the client dialled, or one at its port
 abbrev pub opened_by : Link → Host → View → View
@@ -159,7 +159,7 @@ data_opened host v = unless_closing (λ v. opened_by v.link host v) v
 -- the link can't be had: before a transfer command the operation is not opened; own choice: at the client's port it counts as broken
 abbrev pub unopened_by : Link → View → View
 unopened_by (Links.Dialing endpoint) v = tells Unopened v
-unopened_by (Links.Awaiting port) v = more (record v { link = Links.Over Endings.Broken; closing = true })
+unopened_by (Links.Awaiting port) v = moved_on (record v { link = Links.Over Endings.Broken; closing = true })
 unopened_by link v = v
 
 unfoldable pub data_refused : View → View
@@ -177,7 +177,7 @@ ending_of other = Endings.Broken
 
 -- an open link is over, in this way
 abbrev pub over_by : Link → Ending → View → View
-over_by Links.Open ending v = more (record v { link = Links.Over ending })
+over_by Links.Open ending v = moved_on (record v { link = Links.Over ending })
 over_by link ending v = v
 
 -- the server closed the open link; it broke
@@ -247,7 +247,7 @@ went count (Down decoder mark) = Down decoder mark
 
 -- of the transfer under way
 abbrev pub goes_by : ℕ → Job → View → View
-goes_by count (Moving op transfer) v = more (record v { job = Moving op (record transfer { flow = went count transfer.flow }) })
+goes_by count (Moving op transfer) v = moved_on (record v { job = Moving op (record transfer { flow = went count transfer.flow }) })
 goes_by count job v = v
 
 -- `data_out` gave so many octets

@@ -15,7 +15,7 @@ use Rattle.ftp_protocol.specs.Decoder.{is_whole, ended}
 use Rattle.ftp_protocol.specs.Link.{same_host}
 use Rattle.ftp_protocol.specs.client.Listing.{moment_value, facts_in}
 use Rattle.ftp_protocol.specs.client.Moving.{flow_of, content_answer, broken_answer}
-use Rattle.ftp_protocol.specs.client.Plan.{asked_settings, first_step, next_step, accepted, command_of, is_extended}
+use Rattle.ftp_protocol.specs.client.Plan.{asked_settings, first_step, next_step, settings_behind, command_of, is_extended}
 use Rattle.ftp_protocol.specs.client.Replies.{Verdict, Preliminary, Completion, Intermediate, Negative, Closing, Displaced, verdict_of}
 use Rattle.ftp_protocol.specs.client.Values.{passive_value, extended_value, quoted_value, number_value, mark_value}
 use Rattle.ftp_protocol.specs.client.View.{View, Job, Waiting, Doing, Moving, Transfer, Flow, Up, Down, stands, tells, tells_read, fails, strange}
@@ -108,7 +108,7 @@ answer_in other texts = Some Done
 
 -- the settings are those that the server accepted
 abbrev pub set_accepted : Op (List ℕ) → Step → View → View
-set_accepted op step v = goes_on op step (record v { settings = accepted step v.settings (asked_settings op) })
+set_accepted op step v = goes_on op step (record v { settings = settings_behind step v.settings (asked_settings op) })
 
 -- the link is to be opened to an endpoint
 abbrev pub dials : Op (List ℕ) → Endpoint → View → View
@@ -130,15 +130,15 @@ passive_named true op text v = port_named (extended_value text) op v
 passive_named false op text v = named (passive_value text) op v
 
 -- a 2yz at a step: a row a step
-abbrev pub completed : Op (List ℕ) → Step → List Text → View → View
-completed op Steps.Port texts v = goes_on op Steps.Port v
-completed op Steps.Passive texts v = passive_named (is_extended v op) op (text_of texts) v
-completed op Steps.Last texts v = tells_read (answer_in op texts) v
-completed op Steps.Listen texts v = strange v
-completed op Steps.Connect texts v = strange v
-completed op Steps.Restart texts v = strange v
-completed op Steps.Source texts v = strange v
-completed op step texts v = set_accepted op step v
+abbrev pub step_done : Op (List ℕ) → Step → List Text → View → View
+step_done op Steps.Port texts v = goes_on op Steps.Port v
+step_done op Steps.Passive texts v = passive_named (is_extended v op) op (text_of texts) v
+step_done op Steps.Last texts v = tells_read (answer_in op texts) v
+step_done op Steps.Listen texts v = strange v
+step_done op Steps.Connect texts v = strange v
+step_done op Steps.Restart texts v = strange v
+step_done op Steps.Source texts v = strange v
+step_done op step texts v = set_accepted op step v
 
 -- REST and RNFR are answered that a command follows
 abbrev pub intermediate : Op (List ℕ) → Step → View → View
@@ -158,7 +158,7 @@ refused step code v = if awaits_reply step then tells (Refused code) v else stra
 
 -- a reply to the command of a step, by its first digit
 abbrev pub step_answered : Op (List ℕ) → Step → Verdict → ℕ → List Text → View → View
-step_answered op step Completion code texts v = completed op step texts v
+step_answered op step Completion code texts v = step_done op step texts v
 step_answered op step Intermediate code texts v = intermediate op step v
 step_answered op step Negative code texts v = refused step code v
 step_answered op step other code texts v = strange v
@@ -192,18 +192,18 @@ judged Endings.Foreign code op flow = Some Foreign
 judged ending code op flow = if is_refusal code then Some (refusal_answer code flow) else ended_answer ending op flow
 
 -- it is answered when its final reply and its link's end are both in
-abbrev pub checked_by : Replied → Link → Op (List ℕ) → Flow → View → View
-checked_by (Replies.Final code) (Links.Over ending) op flow v = tells_read (judged ending code op flow) v
-checked_by replied link op flow v = v
+abbrev pub answers_by : Replied → Link → Op (List ℕ) → Flow → View → View
+answers_by (Replies.Final code) (Links.Over ending) op flow v = tells_read (judged ending code op flow) v
+answers_by replied link op flow v = v
 
 -- of the transfer under way
-abbrev pub checked_job : Job → View → View
-checked_job (Moving op transfer) v = checked_by transfer.replied v.link op transfer.flow v
-checked_job job v = v
+abbrev pub answers_job : Job → View → View
+answers_job (Moving op transfer) v = answers_by transfer.replied v.link op transfer.flow v
+answers_job job v = v
 
 -- the answer of a transfer stands as soon as both are in
-abbrev pub checked : View → View
-checked v = checked_job v.job v
+abbrev pub answers_once_over : View → View
+answers_once_over v = answers_job v.job v
 
 -- the client's own end of a link: what stands is to be closed
 abbrev pub closes : View → View
@@ -221,22 +221,22 @@ is_given (Up (octet ∷ left) mark) = false
 is_given (Down decoder mark) = false
 
 -- an upload ends by the client's close (RFC 959, section 3.4.1)
-abbrev pub more_by : Bool → Link → View → View
-more_by true Links.Open v = closes v
-more_by given link v = v
+abbrev pub closes_given_by : Bool → Link → View → View
+closes_given_by true Links.Open v = closes v
+closes_given_by given link v = v
 
 -- of the transfer under way
-abbrev pub more_job : Job → View → View
-more_job (Moving op transfer) v = more_by (has_begun transfer.replied && is_given transfer.flow) v.link v
-more_job job v = v
+abbrev pub closes_given : Job → View → View
+closes_given (Moving op transfer) v = closes_given_by (has_begun transfer.replied && is_given transfer.flow) v.link v
+closes_given job v = v
 
 -- what follows of where a transfer stands: the close of an upload, and the answer
-abbrev pub more : View → View
-more v = checked (more_job v.job v)
+abbrev pub moved_on : View → View
+moved_on v = answers_once_over (closes_given v.job v)
 
 -- a transfer's replies change
 abbrev pub with_reply : Replied → Op (List ℕ) → Transfer → View → View
-with_reply replied op transfer v = more (record v { job = Moving op (record transfer { replied = replied }) })
+with_reply replied op transfer v = moved_on (record v { job = Moving op (record transfer { replied = replied }) })
 
 -- after the 1yz the server is awaited at the port
 abbrev pub awaited : Link → Link
@@ -244,8 +244,8 @@ awaited (Links.Door port) = Links.Awaiting port
 awaited other = other
 
 -- a 1yz opens the transfer; own choice: a 110 doesn't
-abbrev pub opened : ℕ → Op (List ℕ) → Transfer → View → View
-opened code op transfer v = if code == 110 then v else with_reply Replies.Begun op transfer (record v { link = awaited v.link })
+abbrev pub transfer_opened : ℕ → Op (List ℕ) → Transfer → View → View
+transfer_opened code op transfer v = if code == 110 then v else with_reply Replies.Begun op transfer (record v { link = awaited v.link })
 
 -- a 110 of an upload tells its mmmm; one without a mark is passed over, and so is any further 1yz (own choice)
 abbrev pub marked_flow : Option ℕ → Flow → Flow
@@ -265,7 +265,7 @@ unless_open link v = closes v
 
 -- before its 1yz a transfer is refused or begins; a 2yz or 3yz has no place
 abbrev pub before_opening : Verdict → ℕ → Op (List ℕ) → Transfer → View → View
-before_opening Preliminary code op transfer v = opened code op transfer v
+before_opening Preliminary code op transfer v = transfer_opened code op transfer v
 before_opening Negative code op transfer v = with_reply (Replies.Final code) op transfer (closes v)
 before_opening other code op transfer v = strange v
 

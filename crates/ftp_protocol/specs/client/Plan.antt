@@ -64,9 +64,9 @@ offset_of other = None
 -- ---- the steps
 
 -- behind the opening: REST where there is an offset, and 0 is one (RFC 3659, section 5)
-abbrev pub behind_opening : Option ℕ → Step
-behind_opening None = Steps.Last
-behind_opening (Some offset) = Steps.Restart
+abbrev pub step_behind_opening : Option ℕ → Step
+step_behind_opening None = Steps.Last
+step_behind_opening (Some offset) = Steps.Restart
 
 -- the client listening before it sends PORT, and connects after the reply to PASV
 abbrev pub opening_step : How → Step
@@ -109,24 +109,24 @@ next_step now op Steps.Kind = step_by from_structure (asked_settings op) now op
 next_step now op Steps.Structure = step_by from_mode (asked_settings op) now op
 next_step now op Steps.Mode = opening_of (how_of op) op
 next_step now op Steps.Listen = Steps.Port
-next_step now op Steps.Port = behind_opening (offset_of op)
+next_step now op Steps.Port = step_behind_opening (offset_of op)
 next_step now op Steps.Passive = Steps.Connect
-next_step now op Steps.Connect = behind_opening (offset_of op)
+next_step now op Steps.Connect = step_behind_opening (offset_of op)
 next_step now op Steps.Restart = Steps.Last
 next_step now op Steps.Source = Steps.Last
 next_step now op Steps.Last = Steps.Last
 
 -- the settings once a step was accepted
-abbrev pub accepted_by : Step → (now wanted : Settings) → Settings
-accepted_by Steps.Kind now wanted = record now { kind = wanted.kind }
-accepted_by Steps.Structure now wanted = record now { structure = wanted.structure }
-accepted_by Steps.Mode now wanted = record now { mode = wanted.mode }
-accepted_by other now wanted = now
+abbrev pub settings_behind_by : Step → (now wanted : Settings) → Settings
+settings_behind_by Steps.Kind now wanted = record now { kind = wanted.kind }
+settings_behind_by Steps.Structure now wanted = record now { structure = wanted.structure }
+settings_behind_by Steps.Mode now wanted = record now { mode = wanted.mode }
+settings_behind_by other now wanted = now
 
 -- an operation without settings changes none
-abbrev pub accepted : Step → Settings → Option Settings → Settings
-accepted step now None = now
-accepted step now (Some wanted) = accepted_by step now wanted
+abbrev pub settings_behind : Step → Settings → Option Settings → Settings
+settings_behind step now None = now
+settings_behind step now (Some wanted) = settings_behind_by step now wanted
 
 -- ---- the command of each step
 

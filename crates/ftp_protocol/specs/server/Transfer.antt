@@ -54,9 +54,9 @@ begin (At.Opening other way) move v = tells Texts.NoConnection v
 begin (At.Moving other) move v = tells Texts.NoConnection v
 
 -- a transfer command forgets the endpoint where it is refused by path, and else uses it up (own choice)
-abbrev pub starts : Option ℕ → Move → Session → Turn
-starts None move v = begin v.link move v
-starts (Some code) move v = unless (Some code) (forgotten v) (tells Texts.Opens v)
+abbrev pub transfer_starts : Option ℕ → Move → Session → Turn
+transfer_starts None move v = begin v.link move v
+transfer_starts (Some code) move v = unless (Some code) (forgotten v) (tells Texts.Opens v)
 
 -- ---- downloads and listings: what is sent
 
@@ -72,7 +72,7 @@ sent_from v path place = file_wire v.settings place (drop place (octets_or_none 
 -- RETR
 abbrev pub retr : Once Names → List ℕ → Session → Turn
 retr once text v =
-    starts (front_code (direct_of v) text (place_of once)) (Moves.Down (sent_from v (path_of v text) (place_of once))) v
+    transfer_starts (front_code (direct_of v) text (place_of once)) (Moves.Down (sent_from v (path_of v text) (place_of once))) v
 
 -- the path that an argument names which may be left out
 abbrev pub path_or_here : Session → Option (List ℕ) → Names
@@ -81,19 +81,19 @@ path_or_here v text = named_or_here (direct_of v) (given text)
 -- LIST: refused as NLST is
 abbrev pub list : Option (List ℕ) → Session → Turn
 list text v =
-    starts (refusal (direct_of v) (Ops.Names (given text) (how_of v.settings)))
+    transfer_starts (refusal (direct_of v) (Ops.Names (given text) (how_of v.settings)))
     (Moves.Listing (listing_wire v.settings.mode (list_lines v.table (path_or_here v text)))) v
 
 -- NLST
 abbrev pub nlst : Option (List ℕ) → Session → Turn
 nlst text v =
-    starts (refusal (direct_of v) (Ops.Names (given text) (how_of v.settings)))
+    transfer_starts (refusal (direct_of v) (Ops.Names (given text) (how_of v.settings)))
     (Moves.Listing (listing_wire v.settings.mode (name_lines v.table (path_or_here v text) (given text)))) v
 
 -- MLSD
 abbrev pub mlsd : Option (List ℕ) → Session → Turn
 mlsd text v =
-    starts (refusal (direct_of v) (Ops.List (given text) (how_of v.settings)))
+    transfer_starts (refusal (direct_of v) (Ops.List (given text) (how_of v.settings)))
     (Moves.Listing (listing_wire v.settings.mode (entry_lines v.facts v.table (path_or_here v text)))) v
 
 -- ---- uploads: held apart from the map until they end (own choice). An upload over breaks will ask for nothing else: SIZE,
@@ -106,7 +106,7 @@ room_code v path = refused_room (limited path (room_refusal v.table path))
 -- STOR: behind as many octets of the file there as REST named, which has to have so many
 abbrev pub stor_at : ℕ → Names → Session → Turn
 stor_at place path v =
-    starts (or_code (past_refusal (direct_of v) path place) (room_code v path)) (Moves.Up path place (no_octets v.settings)) v
+    transfer_starts (or_code (past_refusal (direct_of v) path place) (room_code v path)) (Moves.Up path place (no_octets v.settings)) v
 
 -- STOR, at the place that REST named
 abbrev pub stor : Once Names → List ℕ → Session → Turn
@@ -114,7 +114,7 @@ stor once text v = stor_at (place_of once) (path_of v text) v
 
 -- APPE: behind all octets of the file there
 abbrev pub appe_at : Names → Session → Turn
-appe_at path v = starts (room_code v path) (Moves.Up path (length (octets_or_none v.table path)) (no_octets v.settings)) v
+appe_at path v = transfer_starts (room_code v path) (Moves.Up path (length (octets_or_none v.table path)) (no_octets v.settings)) v
 
 -- APPE: a REST before it is of no matter
 abbrev pub appe : List ℕ → Session → Turn

@@ -6,7 +6,7 @@ use Rattle.ftp_protocol.specs.client.Calls as near
 use Rattle.ftp_protocol.specs.server.Calls as far
 use Rattle.ftp_protocol.specs.server.Machine as machine
 use Rattle.ftp_protocol.specs.server.Machine.{Reading}
-use Rattle.ftp_protocol.specs.world.Serving.{settled}
+use Rattle.ftp_protocol.specs.world.Serving.{after_event}
 use Rattle.ftp_protocol.specs.world.World.{World, Control, LeftByNear, LeftByFar, Parted, Link, Gone, Open as Opened, ClosedByNear, ClosedByFar, Refused, Broken, with_mark, gone, parted}
 
 -- the four queues: to the server and to the client, over the control connection and over the data link
@@ -105,13 +105,13 @@ pub record Delivers (read : Reading) (queue : Queue) (count : ℕ) (old new : Wo
   pub taken : ℕ
   pub fills : Fills queue count old counts
   pub takes : Takes read queue count (filled queue old counts) taken
-  pub is : new ≡ settled (pushed read queue taken (taking queue taken (filled queue old counts)))
+  pub is : new ≡ after_event (pushed read queue taken (taking queue taken (filled queue old counts)))
 
 -- own choice: a delivery of none moves what one call with 4,096 octets of room gives, and offers nothing
 pub record Moves (queue : Queue) (old new : World) : Type 0 where
   pub gave : ℕ
   pub gives : Gives 4096 (due queue old) gave
-  pub is : new ≡ settled (pulled queue old gave)
+  pub is : new ≡ after_event (pulled queue old gave)
 
 -- an octet is moved or taken
 abbrev pub can_move : Queue → ℕ → World → Bool
@@ -238,12 +238,12 @@ DeliversBy false read queue count old new = Delivers read queue count old new
 -- what a possible event does
 abbrev pub Does : Reading → Event → World → World → Type 0
 Does read (Deliver queue count) old new = DeliversBy (count == 0) read queue count old new
-Does read Open old new = new ≡ settled (opens old)
-Does read Refuse old new = new ≡ settled (refuses old)
-Does read (End queue) old new = new ≡ settled (told queue old)
-Does read Break old new = new ≡ settled (breaks old)
-Does read EndControl old new = new ≡ settled (ends_control old)
-Does read (Next op moment) old new = new ≡ settled (begins op moment old)
+Does read Open old new = new ≡ after_event (opens old)
+Does read Refuse old new = new ≡ after_event (refuses old)
+Does read (End queue) old new = new ≡ after_event (told queue old)
+Does read Break old new = new ≡ after_event (breaks old)
+Does read EndControl old new = new ≡ after_event (ends_control old)
+Does read (Next op moment) old new = new ≡ after_event (begins op moment old)
 
 -- what the event before took is no longer lent
 abbrev pub lends_none : World → World

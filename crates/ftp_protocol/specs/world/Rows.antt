@@ -24,7 +24,7 @@ use Rattle.ftp_protocol.specs.server.Rows.{accounts, member}
 use Rattle.ftp_protocol.specs.server.View.{View as Far}
 use Rattle.ftp_protocol.specs.world.Claims.{Beginning, world_of}
 use Rattle.ftp_protocol.specs.world.Events.{Queue, Asked, Replied, Falling, due, pulled, pushed, opens, told, breaks, begins}
-use Rattle.ftp_protocol.specs.world.Serving.{settled}
+use Rattle.ftp_protocol.specs.world.Serving.{after_event}
 use Rattle.ftp_protocol.specs.world.World.{World, world, Open, Broken}
 use Rattle.ftp_protocol.specs.declared.client.Standing.TheVariants as Stands
 use Rattle.ftp_protocol.specs.declared.heard.Heard.{Heard}
@@ -54,16 +54,16 @@ pub data Act : Type 0 where
 
 -- the sender gives so many octets, and the receiver takes as many
 abbrev pub moved : Queue → ℕ → World → World
-moved queue count w = settled (pushed reading queue count (pulled queue w count))
+moved queue count w = after_event (pushed reading queue count (pulled queue w count))
 
 -- each act is an event, and what the world does for its ends behind it
 abbrev pub does : Act → World → World
 does (moves queue) w = moved queue (length (due queue w)) w
 does (moves_some queue count) w = moved queue count w
-does links w = settled (opens w)
-does (tells queue) w = settled (told queue w)
-does cuts w = settled (breaks w)
-does (asks op) w = settled (begins op 7 w)
+does links w = after_event (opens w)
+does (tells queue) w = after_event (told queue w)
+does cuts w = after_event (breaks w)
+does (asks op) w = after_event (begins op 7 w)
 
 -- acts, one after another
 abbrev pub behind : List Act → World → World

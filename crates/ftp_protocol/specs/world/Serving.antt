@@ -98,5 +98,5 @@ abbrev pub collected : World → World
 collected w = collected_by (near.report_of w.near) w
 
 -- after each event
-abbrev pub settled : World → World
-settled w = collected (served w)
+abbrev pub after_event : World → World
+after_event w = collected (served w)
