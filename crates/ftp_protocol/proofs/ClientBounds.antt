@@ -11,7 +11,7 @@ use Rattle.ftp_protocol.specs.client.Bounds.{login_left, steps_left, job_left, t
 use Rattle.ftp_protocol.specs.client.Dialogue.{sends_if, last_job, placed, begins, goes_on}
 use Rattle.ftp_protocol.specs.client.Moving.{flow_of}
 use Rattle.ftp_protocol.specs.client.Plan.{asked_settings, how_of, offset_of, step_behind_opening as opened_step, alone_step, opening_of, from_mode, from_structure, from_kind, step_by, first_step, next_step, command_of}
-use Rattle.ftp_protocol.specs.client.View.{View, Job, Idle, Waiting, Doing, Moving, Told, Flow, stands, tells, tells_read, failed_job, failure_said, fails_by, strange}
+use Rattle.ftp_protocol.specs.client.View.{View, Job, Idle, Waiting, Doing, Moving, Told, Flow, stands, finishes, finishes_read, failed_job, failure_said, fails_by, strange}
 use Rattle.ftp_protocol.specs.declared.client.Failure.{Failure}
 use Rattle.ftp_protocol.specs.declared.client.Failure.TheVariants as Failures
 use Rattle.ftp_protocol.specs.declared.client.Standing.{Standing}
@@ -57,7 +57,7 @@ one_close false false = omega arith
 
 -- ---- the end of an operation
 
-pub tells_low : (answer : Said) (v : View) → Low v (tells answer v)
+pub tells_low : (answer : Said) (v : View) → Low v (finishes answer v)
 tells_low answer v = record { begins = omega arith; gives = inr (omega (arith, one_close v.closing (stands v.link))) }
 
 failed_job_left : (answer : Said) (job : Job) → job_left (failed_job answer job) ≡ 0
@@ -90,7 +90,7 @@ fails_low (Stands.Failed before) failure v = same v
 pub strange_low : (v : View) → Low v (strange v)
 strange_low v = fails_low v.standing Failures.Strange v
 
-pub tells_read_low : (answer : Option Said) (v : View) → Low v (tells_read answer v)
+pub tells_read_low : (answer : Option Said) (v : View) → Low v (finishes_read answer v)
 tells_read_low None v = strange_low v
 tells_read_low (Some answer) v = tells_low answer v
 

@@ -16,12 +16,12 @@ use Rattle.ftp_protocol.specs.Ear.{Ear, Unfinished, ended_text, within_out, line
 use Rattle.ftp_protocol.specs.Link.{same_host}
 use Rattle.ftp_protocol.specs.client.Bounds.{login_left, transfer_left, job_left, to_begin, octets_left, upload_left, closes_left, still_to_give, Lowers, HearingLowers, ReceivingLowers, EventsLower, CallsLower}
 use Rattle.ftp_protocol.specs.client.Calls.{reply_limit, line_taken, event_taken, events_taken, unless_closing, door_by, listening, doorless_by, listen_refused, connected, accepted, opened_by, data_opened, unopened_by, data_refused, ending_of, over_by, data_end, data_fault, heard_by, went, goes_by, gives_data, control_end}
-use Rattle.ftp_protocol.specs.client.Dialogue.{begins, greeted, enters_with, enters, user_answered, pass_answered, set_accepted, dials, named, port_named, passive_named, text_of, step_done, intermediate, awaits_reply, step_answered, answer_in, judged, answers_by, answers_job, closes_given_by, closes_given, moved_on, with_reply, awaited, transfer_opened, marked_flow, noted, unless_open, before_opening, behind_opening, transfer_answered, job_answered, stand_answered, judged_reply, answered, closes, has_begun, is_given}
+use Rattle.ftp_protocol.specs.client.Dialogue.{begins, greeted, enters_with, enters, user_answered, pass_answered, set_accepted, dials, named, port_named, passive_named, joined_text, step_done, intermediate, awaits_reply, step_answered, answer_in, judged, answers_by, answers_job, closes_given_by, closes_given, moved_on, with_reply, awaited, transfer_opened, marked_flow, noted, unless_open, before_opening, behind_opening, transfer_answered, job_answered, stand_answered, judged_reply, answered, closes, has_begun, is_given}
 use Rattle.ftp_protocol.specs.client.Moving.{flow_octet}
 use Rattle.ftp_protocol.specs.client.Plan.{asked_settings, settings_behind as set_by, is_extended}
 use Rattle.ftp_protocol.specs.client.Replies.{Heard, GoesOn, Says, Faulty, line_heard, Between, Verdict, Preliminary, Completion, Intermediate, Negative, Closing, Displaced, verdict_of}
 use Rattle.ftp_protocol.specs.client.Values.{passive_value, extended_value, mark_value}
-use Rattle.ftp_protocol.specs.client.View.{View, Job, Idle, Waiting, Doing, Moving, Told, Transfer, Flow, Up, Down, stands, tells, strange}
+use Rattle.ftp_protocol.specs.client.View.{View, Job, Idle, Waiting, Doing, Moving, Told, Transfer, Flow, Up, Down, stands, finishes, strange}
 use Rattle.ftp_protocol.specs.declared.client.Ending.{Ending}
 use Rattle.ftp_protocol.specs.declared.client.Ending.TheVariants as Endings
 use Rattle.ftp_protocol.specs.declared.client.Failure.TheVariants as Failures
@@ -83,7 +83,7 @@ dials_low op endpoint v is = goes_on_low op Steps.Passive v (record v { link = L
 named_low : (endpoint : Option Endpoint) (op : Op (List ℕ)) (v : View) → v.job ≡ Doing op Steps.Passive → Low v (named endpoint op v)
 named_low None op v is = strange_low v
 named_low (Some endpoint) op v is =
-    if_low (same_host endpoint.host v.peer) v (dials op endpoint v) (tells Foreign v) (dials_low op endpoint v is) (tells_low Foreign v)
+    if_low (same_host endpoint.host v.peer) v (dials op endpoint v) (finishes Foreign v) (dials_low op endpoint v is) (tells_low Foreign v)
 
 port_named_low : (port : Option ℕ) (op : Op (List ℕ)) (v : View) → v.job ≡ Doing op Steps.Passive → Low v (port_named port op v)
 port_named_low None op v is = strange_low v
@@ -98,7 +98,7 @@ set_low op step v goes is = goes_on_low op step v (record v { settings = set_by 
 
 completed_low : (op : Op (List ℕ)) (step : Step) (texts : List Text) (v : View) → v.job ≡ Doing op step → Low v (step_done op step texts v)
 completed_low op Steps.Port texts v is = goes_on_low op Steps.Port v v refl is refl
-completed_low op Steps.Passive texts v is = passive_low (is_extended v op) op (text_of texts) v is
+completed_low op Steps.Passive texts v is = passive_low (is_extended v op) op (joined_text texts) v is
 completed_low op Steps.Last texts v is = tells_read_low (answer_in op texts) v
 completed_low op Steps.Listen texts v is = strange_low v
 completed_low op Steps.Connect texts v is = strange_low v
@@ -124,7 +124,7 @@ step_low : (op : Op (List ℕ)) (step : Step) (verdict : Verdict) (code : ℕ) (
     → Low v (step_answered op step verdict code texts v)
 step_low op step Completion code texts v is = completed_low op step texts v is
 step_low op step Intermediate code texts v is = intermediate_low op step v is
-step_low op step Negative code texts v is = if_low (awaits_reply step) v (tells (Refused code) v) (strange v) (tells_low (Refused code) v) (strange_low v)
+step_low op step Negative code texts v is = if_low (awaits_reply step) v (finishes (Refused code) v) (strange v) (tells_low (Refused code) v) (strange_low v)
 step_low op step Preliminary code texts v is = strange_low v
 step_low op step Closing code texts v is = strange_low v
 step_low op step Displaced code texts v is = strange_low v
@@ -268,7 +268,7 @@ transfer_low (Replies.Final before) verdict code text op transfer v is = strange
 
 job_low : (job : Job) (verdict : Verdict) (code : ℕ) (texts : List Text) (v : View) → v.job ≡ job → Low v (job_answered job verdict code texts v)
 job_low (Doing op step) verdict code texts v is = step_low op step verdict code texts v is
-job_low (Moving op transfer) verdict code texts v is = transfer_low transfer.replied verdict code (text_of texts) op transfer v is
+job_low (Moving op transfer) verdict code texts v is = transfer_low transfer.replied verdict code (joined_text texts) op transfer v is
 job_low Idle verdict code texts v is = strange_low v
 job_low (Waiting op) verdict code texts v is = strange_low v
 job_low (Told answer) verdict code texts v is = strange_low v

@@ -7,7 +7,7 @@ use Rattle.ftp_protocol.specs.client.Dialogue.{answered}
 use Rattle.ftp_protocol.specs.client.Listing.{moment_value}
 use Rattle.ftp_protocol.specs.client.Replies.{line_heard}
 use Rattle.ftp_protocol.specs.client.Values.{passive_value, extended_value, quoted_value, mark_value}
-use Rattle.ftp_protocol.specs.client.Rows.{ActiveDownload, ActiveReport, BrokenDownload, BrokenUpload, Endpoints, Judged, Login, LongGreeting, Mark, Moment, NotOpened, OtherHosts, OtherOrders, OwnCode, PassiveDownload, PassiveUpload, PassivePort, Quoted, Rename, TwoCodes, Unasked, Unsendable}
+use Rattle.ftp_protocol.specs.client.Rows.{ActiveDownload, ActiveReport, BrokenDownload, BrokenUpload, Endpoints, Judged, Login, LongGreeting, MarkRead, Moment, NotOpened, OtherHosts, OtherOrders, OwnCode, PassiveDownload, PassiveUpload, PassivePort, Quoted, Rename, TwoCodes, Unasked, Unsendable}
 
 pub login : Login
 unfolding answered
@@ -29,7 +29,7 @@ pub quoted : Quoted
 unfolding quoted_value
 quoted = refl
 
-pub mark : Mark
+pub mark : MarkRead
 unfolding mark_value
 mark = (refl, refl)
 

@@ -15,7 +15,7 @@ use Rattle.ftp_repr.specs.Machine.{after, gives}
 use Rattle.ftp_protocol.specs.Ear.{Ear, quiet, ear, ear_out, ear_step}
 use Rattle.ftp_protocol.specs.client.Calls.{reply_limit, line_taken, events_taken, hears_octet, hears, may_hear}
 use Rattle.ftp_protocol.specs.client.Dialogue.{answered}
-use Rattle.ftp_protocol.specs.client.InFlight.{HeardInPieces, OnlyHeard, IsCarried, octets_of, ReplyIsHeard, AnswerIsDropped, Reply, RowIsHeard}
+use Rattle.ftp_protocol.specs.client.InFlight.{HeardInPieces, OnlyHeard, IsCarried, octets_of, ReplyIsHeard, AnswerIsDropped, CodeAndTexts, RowIsHeard}
 use Rattle.ftp_protocol.specs.client.Replies.{Gathered, Between, Begun, GoesOn, Says, are_within, is_last, line_heard}
 use Rattle.ftp_protocol.specs.client.Values.{number_within}
 use Rattle.ftp_protocol.specs.client.View.{View}
@@ -297,7 +297,7 @@ pub row_is_heard : RowIsHeard
 row_is_heard [] v all rest = refl
 row_is_heard ((code, texts) ∷ replies) v all rest =
     let one = reply_is_heard code texts v all.0 rest in
-    let behind = flat_map (λ (reply : Reply). octets_of reply.0 reply.1) replies in
+    let behind = flat_map (λ (reply : CodeAndTexts). octets_of reply.0 reply.1) replies in
     in_pieces v (octets_of code texts) behind ∙ ap (λ u. hears u behind) one.whole
     ∙ row_is_heard replies (answered code texts v) all.1 (answered_at_rest code texts v rest)
 

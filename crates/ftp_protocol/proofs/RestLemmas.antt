@@ -7,13 +7,13 @@ use Rattle.ftp_operation.specs.declared.op.Op.{Op}
 use Rattle.ftp_endpoint.specs.declared.endpoint.Endpoint.{Endpoint}
 use Rattle.ftp_reply.specs.Lines.{Text}
 use Rattle.ftp_protocol.specs.Link.{same_host}
-use Rattle.ftp_protocol.specs.client.Dialogue.{sends_if, last_job, answer_in, awaited, marked_flow, placed, goes_on, greeted, enters_with, enters, user_answered, pass_answered, set_accepted, dials, named, port_named, passive_named, text_of, step_done, intermediate, awaits_reply, step_answered, judged, answers_by, answers_job, closes_given_by, closes_given, moved_on, with_reply, transfer_opened, noted, unless_open, before_opening, behind_opening, transfer_answered, job_answered, stand_answered, judged_reply, answered, closes, has_begun, is_given}
+use Rattle.ftp_protocol.specs.client.Dialogue.{sends_if, last_job, answer_in, awaited, marked_flow, placed, goes_on, greeted, enters_with, enters, user_answered, pass_answered, set_accepted, dials, named, port_named, passive_named, joined_text, step_done, intermediate, awaits_reply, step_answered, judged, answers_by, answers_job, closes_given_by, closes_given, moved_on, with_reply, transfer_opened, noted, unless_open, before_opening, behind_opening, transfer_answered, job_answered, stand_answered, judged_reply, answered, closes, has_begun, is_given}
 use Rattle.ftp_protocol.specs.client.InFlight.{IsAtRest, AnsweredAtRest}
 use Rattle.ftp_protocol.specs.client.Moving.{flow_of}
 use Rattle.ftp_protocol.specs.client.Plan.{asked_settings, first_step, next_step, settings_behind, command_of, is_extended}
 use Rattle.ftp_protocol.specs.client.Replies.{Verdict, Preliminary, Completion, Intermediate, Negative, Closing, Displaced, verdict_of}
 use Rattle.ftp_protocol.specs.client.Values.{passive_value, extended_value, mark_value}
-use Rattle.ftp_protocol.specs.client.View.{View, Job, Idle, Waiting, Doing, Moving, Told, Transfer, Flow, tells, tells_read, fails_by, strange}
+use Rattle.ftp_protocol.specs.client.View.{View, Job, Idle, Waiting, Doing, Moving, Told, Transfer, Flow, finishes, finishes_read, fails_by, strange}
 use Rattle.ftp_protocol.specs.declared.client.Failure.{Failure}
 use Rattle.ftp_protocol.specs.declared.client.Failure.TheVariants as Failures
 use Rattle.ftp_protocol.specs.declared.client.Link.{Link}
@@ -43,10 +43,10 @@ fails_rest (Stands.Failed before) failure v r = r
 strange_rest : (v : View) → Rests v strange
 strange_rest v r = fails_rest v.standing Failures.Strange v r
 
-tells_rest : (answer : Said) (v : View) → Rests v (tells answer)
+tells_rest : (answer : Said) (v : View) → Rests v (finishes answer)
 tells_rest answer v r = record { ear = r.ear; gathered = r.gathered }
 
-tells_read_rest : (answer : Option Said) (v : View) → Rests v (tells_read answer)
+tells_read_rest : (answer : Option Said) (v : View) → Rests v (finishes_read answer)
 tells_read_rest None v r = strange_rest v r
 tells_read_rest (Some answer) v r = tells_rest answer v r
 
@@ -120,7 +120,7 @@ dials_rest op endpoint v r = goes_on_rest op Steps.Passive (record v { link = Li
 named_rest : (endpoint : Option Endpoint) (op : Op (List ℕ)) (v : View) → Rests v (named endpoint op)
 named_rest None op v r = strange_rest v r
 named_rest (Some endpoint) op v r =
-    if_rest (same_host endpoint.host v.peer) (dials op endpoint v) (tells Foreign v) (dials_rest op endpoint v r) (tells_rest Foreign v r)
+    if_rest (same_host endpoint.host v.peer) (dials op endpoint v) (finishes Foreign v) (dials_rest op endpoint v r) (tells_rest Foreign v r)
 
 port_named_rest : (port : Option ℕ) (op : Op (List ℕ)) (v : View) → Rests v (port_named port op)
 port_named_rest None op v r = strange_rest v r
@@ -132,7 +132,7 @@ passive_rest false op text v r = named_rest (passive_value text) op v r
 
 completed_rest : (op : Op (List ℕ)) (step : Step) (texts : List Text) (v : View) → Rests v (step_done op step texts)
 completed_rest op Steps.Port texts v r = goes_on_rest op Steps.Port v r
-completed_rest op Steps.Passive texts v r = passive_rest (is_extended v op) op (text_of texts) v r
+completed_rest op Steps.Passive texts v r = passive_rest (is_extended v op) op (joined_text texts) v r
 completed_rest op Steps.Last texts v r = tells_read_rest (answer_in op texts) v r
 completed_rest op Steps.Listen texts v r = strange_rest v r
 completed_rest op Steps.Connect texts v r = strange_rest v r
@@ -157,7 +157,7 @@ intermediate_rest op Steps.Last v r = strange_rest v r
 step_rest : (op : Op (List ℕ)) (step : Step) (verdict : Verdict) (code : ℕ) (texts : List Text) (v : View) → Rests v (step_answered op step verdict code texts)
 step_rest op step Completion code texts v r = completed_rest op step texts v r
 step_rest op step Intermediate code texts v r = intermediate_rest op step v r
-step_rest op step Negative code texts v r = if_rest (awaits_reply step) (tells (Refused code) v) (strange v) (tells_rest (Refused code) v r) (strange_rest v r)
+step_rest op step Negative code texts v r = if_rest (awaits_reply step) (finishes (Refused code) v) (strange v) (tells_rest (Refused code) v r) (strange_rest v r)
 step_rest op step Preliminary code texts v r = strange_rest v r
 step_rest op step Closing code texts v r = strange_rest v r
 step_rest op step Displaced code texts v r = strange_rest v r
@@ -254,7 +254,7 @@ transfer_rest (Replies.Final before) verdict code text op transfer v r = strange
 
 job_rest : (job : Job) (verdict : Verdict) (code : ℕ) (texts : List Text) (v : View) → Rests v (job_answered job verdict code texts)
 job_rest (Doing op step) verdict code texts v r = step_rest op step verdict code texts v r
-job_rest (Moving op transfer) verdict code texts v r = transfer_rest transfer.replied verdict code (text_of texts) op transfer v r
+job_rest (Moving op transfer) verdict code texts v r = transfer_rest transfer.replied verdict code (joined_text texts) op transfer v r
 job_rest Idle verdict code texts v r = strange_rest v r
 job_rest (Waiting op) verdict code texts v r = strange_rest v r
 job_rest (Told answer) verdict code texts v r = strange_rest v r

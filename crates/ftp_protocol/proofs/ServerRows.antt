@@ -9,7 +9,7 @@ use Rattle.ftp_direct.specs.Direct.{refusal, front_code}
 use Rattle.ftp_operation.specs.declared.op.Op.TheVariants as Ops
 use Rattle.ftp_path.specs.Path.{resolved, fits, parent, text_of, is_within}
 use Rattle.ftp_tree.specs.Tree.{source_refusal, target_refusal, rename_refusal, front_refusal, octets_at, octets_or_none, node_at, children, Table, Dir, File}
-use Rattle.ftp_protocol.specs.server.View.{Move, Session, View, direct_of, how_of}
+use Rattle.ftp_protocol.specs.server.View.{Move, Session, View, direct_of, how_in_force}
 use Rattle.ftp_protocol.specs.server.Replies.{reply_octets, reply_of}
 use Rattle.ftp_protocol.specs.server.Transfer.{transfer_starts, file_wire, path_or_here}
 use Rattle.ftp_protocol.specs.server.Listing.{listing_wire, list_lines, list_lines_at, child_line, node_line, right_in, month_word}
@@ -17,7 +17,7 @@ use Rattle.ftp_facts.specs.Calendar.{year_and_place, month_and_place}
 use Rattle.ftp_facts.specs.Moment.{four_digits}
 use Rattle.ftp_protocol.specs.server.Machine.{obeyed, completed, turned, owes, with_session}
 use Rattle.ftp_protocol.specs.server.Calls.{gives_control, listening, listen_refused, data_opened, data_refused, gives_data, to_give, wants}
-use Rattle.ftp_protocol.specs.server.Rows.{Event, behind, member, here, elsewhere, at, of, asks, opened, refused, Login, WrongPassword, Order, OnlyExtended, Reinitialized, Quit, ByFamily, ForeignEndpoint, RefusedOpening, RefusedListen, ForeignOpener, Rename, LateRename, ActiveDownload, Restart, LateRestart, Listing, EarlyAbort, WaitingLine}
+use Rattle.ftp_protocol.specs.server.Rows.{Event, behind, member, here, elsewhere, at, of, asks, opened, refused, Login, WrongPassword, OrderOfDecisions, OnlyExtended, Reinitialized, Quit, ByFamily, ForeignEndpoint, RefusedOpening, RefusedListen, ForeignOpener, Rename, LateRename, ActiveDownload, Restart, LateRestart, Listing, EarlyAbort, WaitingLine}
 use Rattle.ftp_protocol.specs.declared.session.Once.TheVariants as Onces
 use Rattle.ftp_protocol.specs.declared.session.Link.TheVariants as At
 use Rattle.ftp_protocol.specs.declared.session.Transfer.TheVariants as Moves
@@ -31,7 +31,7 @@ pub wrong_password : WrongPassword
 unfolding obeyed is_known
 wrong_password table = refl
 
-pub order : Order
+pub order : OrderOfDecisions
 unfolding obeyed is_known
 order table = refl
 
@@ -74,7 +74,7 @@ active_download table moment f = (rw f refl, rw f refl, rw f refl, rw f refl, rw
 -- ---- a command that the map decides: its code first, and then the rest computes
 
 -- the root can be listed
-root_code : (s : Session) → node_at s.table [] ≡ Some Dir → s.cwd ≡ [] → refusal (direct_of s) (Ops.Names [] (how_of s.settings)) ≡ None
+root_code : (s : Session) → node_at s.table [] ≡ Some Dir → s.cwd ≡ [] → refusal (direct_of s) (Ops.Names [] (how_in_force s.settings)) ≡ None
 unfolding fits text_of
 root_code s root home = rw home (rw root refl)
 
@@ -90,7 +90,7 @@ unfolding obeyed is_known fits text_of
 early_abort table root =
     let v : View = member table (asks (command.Port (at here)) ∷ []) in
     let more : View → View = λ w. behind (asks command.Abor ∷ []) w in
-    let code : refusal (direct_of v.session) (Ops.Names [] (how_of v.session.settings)) ≡ None = root_code v.session root refl in
+    let code : refusal (direct_of v.session) (Ops.Names [] (how_in_force v.session.settings)) ≡ None = root_code v.session root refl in
     (ap (λ c. (more (listed v c)).owed) code, ap (λ c. wants (more (listed v c))) code)
 
 pub waiting_line : WaitingLine
@@ -98,7 +98,7 @@ unfolding obeyed is_known fits text_of data_refused
 waiting_line table root =
     let v : View = member table (asks (command.Port (at here)) ∷ []) in
     let more : View → View = λ w. behind (asks command.Noop ∷ refused ∷ []) w in
-    let code : refusal (direct_of v.session) (Ops.Names [] (how_of v.session.settings)) ≡ None = root_code v.session root refl in
+    let code : refusal (direct_of v.session) (Ops.Names [] (how_in_force v.session.settings)) ≡ None = root_code v.session root refl in
     ap (λ c. (more (listed v c)).owed) code
 
 -- the view behind the port that PASV, and EPSV, asked for, by the text of what is told
@@ -126,7 +126,7 @@ unfolding obeyed is_known fits text_of listening data_opened
 foreign_opener table root =
     let v : View = extended_view table (codes "1930") in
     let rest : List Event = opened elsewhere ∷ [] in
-    let code : refusal (direct_of v.session) (Ops.Names [] (how_of v.session.settings)) ≡ None = root_code v.session root refl in (
+    let code : refusal (direct_of v.session) (Ops.Names [] (how_in_force v.session.settings)) ≡ None = root_code v.session root refl in (
       ap (λ n. (behind (asks (command.List None) ∷ rest) (extended_view table n)).owed) of_1930 ∙ ap (λ c. (behind rest (listed v c)).owed) code,
       ap (λ n. wants (behind (asks (command.List None) ∷ rest) (extended_view table n))) of_1930 ∙ ap (λ c. wants (behind rest (listed v c))) code,
     )
@@ -176,7 +176,7 @@ late_restart table moment f =
 -- ---- LIST
 
 -- the directory can be listed
-dir_code : (s : Session) → node_at s.table (of (codes "d")) ≡ Some Dir → s.cwd ≡ [] → refusal (direct_of s) (Ops.Names (codes "d") (how_of s.settings)) ≡ None
+dir_code : (s : Session) → node_at s.table (of (codes "d")) ≡ Some Dir → s.cwd ≡ [] → refusal (direct_of s) (Ops.Names (codes "d") (how_in_force s.settings)) ≡ None
 unfolding fits text_of resolved
 dir_code s d home = rw home (rw d refl)
 

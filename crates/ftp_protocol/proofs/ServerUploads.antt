@@ -19,7 +19,7 @@ use Rattle.ftp_protocol.specs.server.Replies.{reply_octets, reply_of, fixed_repl
 use Rattle.ftp_protocol.specs.server.Transfer.{room_code}
 use Rattle.ftp_protocol.specs.server.Machine.{obeyed, Outcome, is_over, put_in, owes, with_session}
 use Rattle.ftp_protocol.specs.server.Calls.{listening, data_opened, receives, receives_octet, data_end, data_fault, wants}
-use Rattle.ftp_protocol.specs.server.Rows.{Event, accounts, behind, greeted, member, here, at, of, asks, opened, octets, port, ended as ends, broken as breaks, PassiveUpload, BrokenUpload, TooMuch, Marker, Abort}
+use Rattle.ftp_protocol.specs.server.Rows.{Event, accounts, behind, said_to_member, member, here, at, of, asks, opened, octets, port, ended as ends, broken as breaks, PassiveUpload, BrokenUpload, TooMuch, Marker, Abort}
 use Rattle.ftp_protocol.specs.declared.said.Text.{Text}
 use Rattle.ftp_protocol.specs.declared.said.Text.TheVariants as Texts
 use Rattle.ftp_protocol.specs.declared.settings.Settings.{Settings}
@@ -187,7 +187,7 @@ abbrev standing : Footing
 standing = record { accounts = accounts; here = here; peer = here; moment = 0 }
 
 abbrev active_said : List ℕ
-active_said = greeted (codes "200 Endpoint taken" ∷ codes "150 Opening data connection" ∷ [])
+active_said = said_to_member (codes "200 Endpoint taken" ∷ codes "150 Opening data connection" ∷ [])
 
 begun : (table : Table) → node_at table f_path ≡ Some (File [] 0)
     → member table (asks (command.Port (at here)) ∷ asks (command.Stor (codes "f")) ∷ opened here ∷ []) ≡ uploading standing table first_settings active_said (up (ascii []))
@@ -233,7 +233,7 @@ door_view table six =
 
 abbrev passive_said : List ℕ
 passive_said =
-    greeted (codes "200 Type set" ∷ codes "227 Entering Passive Mode (127,0,0,1,7,138)" ∷ codes "150 Opening data connection" ∷ [])
+    said_to_member (codes "200 Type set" ∷ codes "227 Entering Passive Mode (127,0,0,1,7,138)" ∷ codes "150 Opening data connection" ∷ [])
 
 begun_passive : (table : Table) → node_at table f_path ≡ Some (File [] 0)
     → member table (asks (command.Repr Kinds.Image) ∷ asks command.Pasv ∷ port 1930 ∷ opened here ∷ asks (command.Stor (codes "f")) ∷ [])
@@ -277,7 +277,7 @@ abbrev appended : View → Option ℕ → ℕ → View
 appended v code keep = behind (opened here ∷ []) (started v (Moves.Up f_path keep (no_octets v.session.settings)) code)
 
 abbrev block_said : List ℕ
-block_said = greeted (codes "200 Type set" ∷ codes "200 Mode set" ∷ codes "200 Endpoint taken" ∷ codes "150 Opening data connection" ∷ [])
+block_said = said_to_member (codes "200 Type set" ∷ codes "200 Mode set" ∷ codes "200 Endpoint taken" ∷ codes "150 Opening data connection" ∷ [])
 
 begun_append : (table : Table) → node_at table f_path ≡ Some (File (codes "abc") 0)
     → member table (asks (command.Repr Kinds.Image) ∷ asks (command.Mode Modes.Block) ∷ asks (command.Port (at here)) ∷ asks (command.Appe (codes "f"))

@@ -1,5 +1,5 @@
 //! Worked rows of a client: functions that do nothing, whose contracts are rows of `specs/client/Rows`.
-ghost use Rattle.ftp_protocol.specs.client.Rows.{ActiveDownload, ActiveReport, BrokenDownload, BrokenUpload, Endpoints, Judged, Login, LongGreeting, Mark, Moment, NotOpened, OtherHosts, OtherOrders, OwnCode, PassiveDownload, PassiveUpload, PassivePort, Quoted, Rename, TwoCodes, Unasked, Unsendable};
+ghost use Rattle.ftp_protocol.specs.client.Rows.{ActiveDownload, ActiveReport, BrokenDownload, BrokenUpload, Endpoints, Judged, Login, LongGreeting, MarkRead, Moment, NotOpened, OtherHosts, OtherOrders, OwnCode, PassiveDownload, PassiveUpload, PassivePort, Quoted, Rename, TwoCodes, Unasked, Unsendable};
 
 /// The greeting is answered with USER, and a 331 with PASS.
 pub fn login()
@@ -28,7 +28,7 @@ pub fn quoted()
 
 /// The server's marker stands behind the client's.
 pub fn mark()
-    ensures { Mark }
+    ensures { MarkRead }
 {}
 
 /// A reply of several lines ends at its own code alone.

@@ -1,5 +1,5 @@
 //! Worked rows of a server: functions that do nothing, whose contracts are rows of `specs/server/Rows`.
-ghost use Rattle.ftp_protocol.specs.server.Rows.{Abort, ActiveDownload, BrokenUpload, ByFamily, EarlyAbort, ForeignEndpoint, ForeignOpener, LateRename, LateRestart, Listing, Login, Marker, OnlyExtended, Order, PassiveUpload, Quit, RefusedListen, RefusedOpening, Reinitialized, Rename, Restart, TooMuch, WaitingLine, WrongPassword};
+ghost use Rattle.ftp_protocol.specs.server.Rows.{Abort, ActiveDownload, BrokenUpload, ByFamily, EarlyAbort, ForeignEndpoint, ForeignOpener, LateRename, LateRestart, Listing, Login, Marker, OnlyExtended, OrderOfDecisions, PassiveUpload, Quit, RefusedListen, RefusedOpening, Reinitialized, Rename, Restart, TooMuch, WaitingLine, WrongPassword};
 
 /// A login with a password.
 pub fn login()
@@ -13,7 +13,7 @@ pub fn wrong_password()
 
 /// A long line, one that is no command, one of who is not logged in.
 pub fn order()
-    ensures { Order }
+    ensures { OrderOfDecisions }
 {}
 
 /// REIN ends the login.

@@ -10,7 +10,7 @@ use Rattle.ftp_protocol.specs.Link.{same_host}
 use Rattle.ftp_protocol.specs.client.Dialogue.{begins, goes_on, answered, moved_on, has_begun}
 use Rattle.ftp_protocol.specs.client.Moving.{flow_octet}
 use Rattle.ftp_protocol.specs.client.Replies.{Between, Heard, GoesOn, Says, Faulty, line_heard}
-use Rattle.ftp_protocol.specs.client.View.{View, Job, Idle, Waiting, Doing, Moving, Told, Transfer, Flow, Up, Down, tells, fails, failure_said, strange}
+use Rattle.ftp_protocol.specs.client.View.{View, Job, Idle, Waiting, Doing, Moving, Told, Transfer, Flow, Up, Down, finishes, fails, failure_said, strange}
 use Rattle.ftp_protocol.specs.declared.client.Ending.{Ending}
 use Rattle.ftp_protocol.specs.declared.client.Ending.TheVariants as Endings
 use Rattle.ftp_protocol.specs.declared.client.Failure.TheVariants as Failures
@@ -131,7 +131,7 @@ listening port v = unless_closing (λ v. door_by v.link v.job port v) v
 
 -- no port can be had: the operation is not opened
 abbrev pub doorless_by : Link → View → View
-doorless_by Links.Asked v = tells Unopened v
+doorless_by Links.Asked v = finishes Unopened v
 doorless_by link v = v
 
 unfoldable pub listen_refused : View → View
@@ -158,7 +158,7 @@ data_opened host v = unless_closing (λ v. opened_by v.link host v) v
 
 -- the link can't be had: before a transfer command the operation is not opened; own choice: at the client's port it counts as broken
 abbrev pub unopened_by : Link → View → View
-unopened_by (Links.Dialing endpoint) v = tells Unopened v
+unopened_by (Links.Dialing endpoint) v = finishes Unopened v
 unopened_by (Links.Awaiting port) v = moved_on (record v { link = Links.Over Endings.Broken; closing = true })
 unopened_by link v = v
 

@@ -18,7 +18,7 @@ use Rattle.ftp_protocol.specs.client.Moving.{flow_of, content_answer, broken_ans
 use Rattle.ftp_protocol.specs.client.Plan.{asked_settings, first_step, next_step, settings_behind, command_of, is_extended}
 use Rattle.ftp_protocol.specs.client.Replies.{Verdict, Preliminary, Completion, Intermediate, Negative, Closing, Displaced, verdict_of}
 use Rattle.ftp_protocol.specs.client.Values.{passive_value, extended_value, quoted_value, number_value, mark_value}
-use Rattle.ftp_protocol.specs.client.View.{View, Job, Waiting, Doing, Moving, Transfer, Flow, Up, Down, stands, tells, tells_read, fails, strange}
+use Rattle.ftp_protocol.specs.client.View.{View, Job, Waiting, Doing, Moving, Transfer, Flow, Up, Down, stands, finishes, finishes_read, fails, strange}
 use Rattle.ftp_protocol.specs.declared.client.Ending.{Ending}
 use Rattle.ftp_protocol.specs.declared.client.Ending.TheVariants as Endings
 use Rattle.ftp_protocol.specs.declared.client.Failure.TheVariants as Failures
@@ -94,15 +94,15 @@ pass_answered other v = strange v
 -- ---- an answer at a step
 
 -- the text of a reply: its lines joined by LF
-abbrev pub text_of : List Text → Text
-text_of texts = joined texts
+abbrev pub joined_text : List Text → Text
+joined_text texts = joined texts
 
 -- what an operation's own command is answered: a row an operation, and none where the text has no value that is asked for
 abbrev pub answer_in : Op (List ℕ) → List Text → Option Said
-answer_in Ops.Where texts = option_map Path (quoted_value (text_of texts))
-answer_in (Ops.MakeDir path) texts = option_map Path (quoted_value (text_of texts))
-answer_in (Ops.Size path how) texts = option_map Number (number_value (text_of texts))
-answer_in (Ops.Modified path) texts = option_map Stamp (moment_value (text_of texts))
+answer_in Ops.Where texts = option_map Path (quoted_value (joined_text texts))
+answer_in (Ops.MakeDir path) texts = option_map Path (quoted_value (joined_text texts))
+answer_in (Ops.Size path how) texts = option_map Number (number_value (joined_text texts))
+answer_in (Ops.Modified path) texts = option_map Stamp (moment_value (joined_text texts))
 answer_in (Ops.Facts path) texts = option_map Entry (facts_in texts)
 answer_in other texts = Some Done
 
@@ -117,7 +117,7 @@ dials op endpoint v = goes_on op Steps.Passive (record v { link = Links.Dialing 
 -- the endpoint of a 227 has to be on the server's host: own choice, no other is contacted
 abbrev pub named : Option Endpoint → Op (List ℕ) → View → View
 named None op v = strange v
-named (Some endpoint) op v = if same_host endpoint.host v.peer then dials op endpoint v else tells Foreign v
+named (Some endpoint) op v = if same_host endpoint.host v.peer then dials op endpoint v else finishes Foreign v
 
 -- a 229 means the host of the control connection (RFC 2428, section 3)
 abbrev pub port_named : Option ℕ → Op (List ℕ) → View → View
@@ -132,8 +132,8 @@ passive_named false op text v = named (passive_value text) op v
 -- a 2yz at a step: a row a step
 abbrev pub step_done : Op (List ℕ) → Step → List Text → View → View
 step_done op Steps.Port texts v = goes_on op Steps.Port v
-step_done op Steps.Passive texts v = passive_named (is_extended v op) op (text_of texts) v
-step_done op Steps.Last texts v = tells_read (answer_in op texts) v
+step_done op Steps.Passive texts v = passive_named (is_extended v op) op (joined_text texts) v
+step_done op Steps.Last texts v = finishes_read (answer_in op texts) v
 step_done op Steps.Listen texts v = strange v
 step_done op Steps.Connect texts v = strange v
 step_done op Steps.Restart texts v = strange v
@@ -154,7 +154,7 @@ awaits_reply other = true
 
 -- a refusal at a step; what stands of the data connection is to be closed
 abbrev pub refused : Step → ℕ → View → View
-refused step code v = if awaits_reply step then tells (Refused code) v else strange v
+refused step code v = if awaits_reply step then finishes (Refused code) v else strange v
 
 -- a reply to the command of a step, by its first digit
 abbrev pub step_answered : Op (List ℕ) → Step → Verdict → ℕ → List Text → View → View
@@ -193,7 +193,7 @@ judged ending code op flow = if is_refusal code then Some (refusal_answer code f
 
 -- it is answered when its final reply and its link's end are both in
 abbrev pub answers_by : Replied → Link → Op (List ℕ) → Flow → View → View
-answers_by (Replies.Final code) (Links.Over ending) op flow v = tells_read (judged ending code op flow) v
+answers_by (Replies.Final code) (Links.Over ending) op flow v = finishes_read (judged ending code op flow) v
 answers_by replied link op flow v = v
 
 -- of the transfer under way
@@ -287,7 +287,7 @@ transfer_answered (Replies.Final before) verdict code text op transfer v = stran
 -- a reply that comes while an operation is under way, or that nobody waits for
 abbrev pub job_answered : Job → Verdict → ℕ → List Text → View → View
 job_answered (Doing op step) verdict code texts v = step_answered op step verdict code texts v
-job_answered (Moving op transfer) verdict code texts v = transfer_answered transfer.replied verdict code (text_of texts) op transfer v
+job_answered (Moving op transfer) verdict code texts v = transfer_answered transfer.replied verdict code (joined_text texts) op transfer v
 job_answered other verdict code texts v = strange v
 
 -- who is answered: the greeting, USER, PASS, or the operation under way

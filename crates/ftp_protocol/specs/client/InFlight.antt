@@ -68,16 +68,16 @@ AnsweredAtRest = (code : ℕ) (texts : List Text) (v : View) → IsAtRest v → 
 -- ---- a row of replies
 
 -- a code and the texts of the lines
-abbrev pub Reply : Type 0
-Reply = ℕ × List Text
+abbrev pub CodeAndTexts : Type 0
+CodeAndTexts = ℕ × List Text
 
 -- what a row of replies does
-abbrev pub answered_all : List Reply → View → View
+abbrev pub answered_all : List CodeAndTexts → View → View
 answered_all [] v = v
 answered_all ((code, texts) ∷ replies) v = answered_all replies (answered code texts v)
 
 -- every row of replies is heard reply by reply
 abbrev pub RowIsHeard : Type 0
 RowIsHeard =
-    (replies : List Reply) (v : View) → AllByRecursion (λ reply. IsWritten reply.0 reply.1) replies → IsAtRest v
+    (replies : List CodeAndTexts) (v : View) → AllByRecursion (λ reply. IsWritten reply.0 reply.1) replies → IsAtRest v
     → hears v (flat_map (λ reply. octets_of reply.0 reply.1) replies) ≡ answered_all replies v

@@ -124,8 +124,8 @@ abbrev pub Quoted : Type 0
 Quoted = quoted_value (34 ∷ 47 ∷ 97 ∷ 34 ∷ 34 ∷ 98 ∷ 34 ∷ codes " created") ≡ Some (47 ∷ 97 ∷ 34 ∷ 98 ∷ [])
 
 -- the server's marker stands behind the client's (RFC 959, section 4.2)
-abbrev pub Mark : Type 0
-Mark = (mark_value (codes "MARK 65536 = 65537") ≡ Some 65537) × (mark_value (codes "Restart marker") ≡ None)
+abbrev pub MarkRead : Type 0
+MarkRead = (mark_value (codes "MARK 65536 = 65537") ≡ Some 65537) × (mark_value (codes "Restart marker") ≡ None)
 
 -- the lines that a reader has behind one more
 abbrev pub gathered_in : Heard → Gathered
@@ -216,19 +216,19 @@ abbrev pub set : Event
 set = replied 200 (codes "Type set")
 
 -- 227: port 49152 is 192 times 256
-abbrev pub named : Event
-named = replied 227 (codes "Entering Passive Mode (127,0,0,1,192,0)")
+abbrev pub entering : Event
+entering = replied 227 (codes "Entering Passive Mode (127,0,0,1,192,0)")
 
-abbrev pub begins : Event
-begins = replied 150 (codes "Opening data connection")
+abbrev pub opening : Event
+opening = replied 150 (codes "Opening data connection")
 
 -- the final reply of a whole transfer
 abbrev pub complete : Event
 complete = replied 226 (codes "Transfer complete")
 
 -- the final reply of a broken one
-abbrev pub cut : Event
-cut = replied 426 (codes "Transfer broken")
+abbrev pub broken_off : Event
+broken_off = replied 426 (codes "Transfer broken")
 
 -- the final reply where no link came about
 abbrev pub unopened : Event
@@ -237,16 +237,16 @@ unopened = replied 425 (codes "No data connection")
 -- TYPE is sent where it differs, then PASV; the client connects, and only then sends RETR
 abbrev pub PassiveDownload : Type 0
 PassiveDownload =
-    (wanted (get plain ∷ set ∷ named ∷ []) ≡ Want.Connect (record { host = here; port = 49152 }))
-    × (sent (get plain ∷ set ∷ named ∷ opened here ∷ []) ≡ lines (codes "TYPE I" ∷ codes "PASV" ∷ codes "RETR f" ∷ []))
-    × (reported (get plain ∷ set ∷ named ∷ opened here ∷ begins ∷ octets (codes "abc") ∷ ended ∷ []) ≡ None)
-    × (reported (get plain ∷ set ∷ named ∷ opened here ∷ begins ∷ octets (codes "abc") ∷ ended ∷ complete ∷ []) ≡ Some (Octets (codes "abc")))
+    (wanted (get plain ∷ set ∷ entering ∷ []) ≡ Want.Connect (record { host = here; port = 49152 }))
+    × (sent (get plain ∷ set ∷ entering ∷ opened here ∷ []) ≡ lines (codes "TYPE I" ∷ codes "PASV" ∷ codes "RETR f" ∷ []))
+    × (reported (get plain ∷ set ∷ entering ∷ opened here ∷ opening ∷ octets (codes "abc") ∷ ended ∷ []) ≡ None)
+    × (reported (get plain ∷ set ∷ entering ∷ opened here ∷ opening ∷ octets (codes "abc") ∷ ended ∷ complete ∷ []) ≡ Some (Octets (codes "abc")))
 
 -- the final reply and the link's end come in either order, and data is taken before the 150 too
 abbrev pub OtherOrders : Type 0
 OtherOrders =
-    (reported (get plain ∷ set ∷ named ∷ opened here ∷ begins ∷ complete ∷ octets (codes "abc") ∷ ended ∷ []) ≡ Some (Octets (codes "abc")))
-    × (reported (get plain ∷ set ∷ named ∷ opened here ∷ octets (codes "abc") ∷ ended ∷ begins ∷ complete ∷ []) ≡ Some (Octets (codes "abc")))
+    (reported (get plain ∷ set ∷ entering ∷ opened here ∷ opening ∷ complete ∷ octets (codes "abc") ∷ ended ∷ []) ≡ Some (Octets (codes "abc")))
+    × (reported (get plain ∷ set ∷ entering ∷ opened here ∷ octets (codes "abc") ∷ ended ∷ opening ∷ complete ∷ []) ≡ Some (Octets (codes "abc")))
 
 -- PORT 127,0,0,1,192,0
 abbrev pub port_line : List ℕ
@@ -258,34 +258,34 @@ ActiveDownload =
     (wanted (get active ∷ set ∷ []) ≡ Want.Listen)
     × (sent (get active ∷ set ∷ port 49152 ∷ replied 200 [] ∷ []) ≡ lines (codes "TYPE I" ∷ port_line ∷ codes "RETR f" ∷ []))
     × (wanted (get active ∷ set ∷ port 49152 ∷ replied 200 [] ∷ []) ≡ Want.Nothing)
-    × (wanted (get active ∷ set ∷ port 49152 ∷ replied 200 [] ∷ begins ∷ []) ≡ Want.Accept)
+    × (wanted (get active ∷ set ∷ port 49152 ∷ replied 200 [] ∷ opening ∷ []) ≡ Want.Accept)
 
 -- the same octets, and the final reply before the end
 abbrev pub ActiveReport : Type 0
 ActiveReport =
-    reported (get active ∷ set ∷ port 49152 ∷ replied 200 [] ∷ begins ∷ opened here ∷ octets (codes "abc") ∷ complete ∷ ended ∷ [])
+    reported (get active ∷ set ∷ port 49152 ∷ replied 200 [] ∷ opening ∷ opened here ∷ octets (codes "abc") ∷ complete ∷ ended ∷ [])
     ≡ Some (Octets (codes "abc"))
 
 -- a broken download gives what came, without an unpaired CR, whatever its final reply says of a whole; one that ends early counts
 -- as broken
 abbrev pub BrokenDownload : Type 0
 BrokenDownload =
-    (reported (get text ∷ named ∷ opened here ∷ begins ∷ octets (97 ∷ 13 ∷ []) ∷ broken ∷ cut ∷ []) ≡ Some (Broken (97 ∷ []) None))
-    × (reported (get text ∷ named ∷ opened here ∷ begins ∷ octets (97 ∷ 13 ∷ []) ∷ broken ∷ complete ∷ []) ≡ Some (Broken (97 ∷ []) None))
-    × (reported (get records ∷ set ∷ replied 200 [] ∷ named ∷ opened here ∷ begins ∷ octets (97 ∷ 255 ∷ 1 ∷ []) ∷ ended ∷ complete ∷ [])
+    (reported (get text ∷ entering ∷ opened here ∷ opening ∷ octets (97 ∷ 13 ∷ []) ∷ broken ∷ broken_off ∷ []) ≡ Some (Broken (97 ∷ []) None))
+    × (reported (get text ∷ entering ∷ opened here ∷ opening ∷ octets (97 ∷ 13 ∷ []) ∷ broken ∷ complete ∷ []) ≡ Some (Broken (97 ∷ []) None))
+    × (reported (get records ∷ set ∷ replied 200 [] ∷ entering ∷ opened here ∷ opening ∷ octets (97 ∷ 255 ∷ 1 ∷ []) ∷ ended ∷ complete ∷ [])
     ≡ Some (Broken (97 ∷ 10 ∷ []) None))
 
 -- octets of an upload are given after the 150 alone, and behind the last the link is closed
 abbrev pub PassiveUpload : Type 0
 PassiveUpload =
-    (gives (put plain ∷ set ∷ named ∷ opened here ∷ []) ≡ [])
-    × (gives (put plain ∷ set ∷ named ∷ opened here ∷ begins ∷ []) ≡ codes "abc")
-    × (wanted (put plain ∷ set ∷ named ∷ opened here ∷ begins ∷ given 3 ∷ []) ≡ Want.CloseData)
-    × (reported (put plain ∷ set ∷ named ∷ opened here ∷ begins ∷ given 3 ∷ complete ∷ []) ≡ Some Done)
+    (gives (put plain ∷ set ∷ entering ∷ opened here ∷ []) ≡ [])
+    × (gives (put plain ∷ set ∷ entering ∷ opened here ∷ opening ∷ []) ≡ codes "abc")
+    × (wanted (put plain ∷ set ∷ entering ∷ opened here ∷ opening ∷ given 3 ∷ []) ≡ Want.CloseData)
+    × (reported (put plain ∷ set ∷ entering ∷ opened here ∷ opening ∷ given 3 ∷ complete ∷ []) ≡ Some Done)
 
 -- the octets 78 0A 79 in ASCII, up to the 150: a line end goes as CR LF
 abbrev pub lines_up : List Event
-lines_up = asks (Ops.Put (codes "f") (120 ∷ 10 ∷ 121 ∷ []) text) ∷ named ∷ opened here ∷ begins ∷ []
+lines_up = asks (Ops.Put (codes "f") (120 ∷ 10 ∷ 121 ∷ []) text) ∷ entering ∷ opened here ∷ opening ∷ []
 
 -- an upload that breaks behind a CR: no octet is given any more, and it is broken once the final reply is in
 abbrev pub BrokenUpload : Type 0
@@ -293,20 +293,20 @@ BrokenUpload =
     (gives lines_up ≡ 120 ∷ 13 ∷ 10 ∷ 121 ∷ [])
     × (gives (lines_up ++ given 2 ∷ broken ∷ []) ≡ [])
     × (reported (lines_up ++ given 2 ∷ broken ∷ []) ≡ None)
-    × (reported (lines_up ++ given 2 ∷ broken ∷ cut ∷ []) ≡ Some (Broken [] None))
+    × (reported (lines_up ++ given 2 ∷ broken ∷ broken_off ∷ []) ≡ Some (Broken [] None))
 
 -- a link or a port that is refused, and a 425, leave the operation undone; what stands is closed
 abbrev pub NotOpened : Type 0
 NotOpened =
-    (reported (get plain ∷ set ∷ named ∷ refused ∷ []) ≡ Some Unopened)
+    (reported (get plain ∷ set ∷ entering ∷ refused ∷ []) ≡ Some Unopened)
     × (reported (get active ∷ set ∷ no_port ∷ []) ≡ Some Unopened)
-    × (reported (get plain ∷ set ∷ named ∷ opened here ∷ unopened ∷ []) ≡ Some Unopened)
-    × (wanted (get plain ∷ set ∷ named ∷ opened here ∷ unopened ∷ []) ≡ Want.CloseData)
+    × (reported (get plain ∷ set ∷ entering ∷ opened here ∷ unopened ∷ []) ≡ Some Unopened)
+    × (wanted (get plain ∷ set ∷ entering ∷ opened here ∷ unopened ∷ []) ≡ Want.CloseData)
 
 -- no other host is contacted or heard (own choice)
 abbrev pub OtherHosts : Type 0
 OtherHosts =
     (reported (get plain ∷ set ∷ replied 227 (codes "(10,0,0,9,192,0)") ∷ []) ≡ Some Foreign)
-    × (wanted (get active ∷ set ∷ port 49152 ∷ replied 200 [] ∷ begins ∷ opened elsewhere ∷ []) ≡ Want.CloseData)
-    × (reported (get active ∷ set ∷ port 49152 ∷ replied 200 [] ∷ begins ∷ opened elsewhere ∷ []) ≡ None)
-    × (reported (get active ∷ set ∷ port 49152 ∷ replied 200 [] ∷ begins ∷ opened elsewhere ∷ complete ∷ []) ≡ Some Foreign)
+    × (wanted (get active ∷ set ∷ port 49152 ∷ replied 200 [] ∷ opening ∷ opened elsewhere ∷ []) ≡ Want.CloseData)
+    × (reported (get active ∷ set ∷ port 49152 ∷ replied 200 [] ∷ opening ∷ opened elsewhere ∷ []) ≡ None)
+    × (reported (get active ∷ set ∷ port 49152 ∷ replied 200 [] ∷ opening ∷ opened elsewhere ∷ complete ∷ []) ≡ Some Foreign)

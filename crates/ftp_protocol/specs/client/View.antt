@@ -89,8 +89,8 @@ abbrev pub dropped : View → View
 dropped v = record v { link = Links.Free; closing = v.closing || stands v.link }
 
 -- an operation is done: its answer stands until it is taken, and no link of it is needed
-abbrev pub tells : Said → View → View
-tells answer v = record (dropped v) { job = Told answer }
+abbrev pub finishes : Said → View → View
+finishes answer v = record (dropped v) { job = Told answer }
 
 -- the answer of every operation after a failure
 abbrev pub failure_said : Failure → Said
@@ -125,6 +125,6 @@ abbrev pub strange : View → View
 strange v = fails Failures.Strange v
 
 -- the answer that was read, or what was said has no place
-abbrev pub tells_read : Option Said → View → View
-tells_read None v = strange v
-tells_read (Some answer) v = tells answer v
+abbrev pub finishes_read : Option Said → View → View
+finishes_read None v = strange v
+finishes_read (Some answer) v = finishes answer v

@@ -8,7 +8,7 @@ use Rattle.ftp_operation.specs.declared.op.Op.TheVariants as Ops
 use Rattle.ftp_protocol.specs.Settings.{same_structure, same_mode}
 use Rattle.ftp_repr.specs.declared.form.Structure.TheVariants as Structures
 use Rattle.ftp_framer.specs.declared.mode.Mode.TheVariants as Modes
-use Rattle.ftp_protocol.specs.server.View.{Session, direct_of, how_of}
+use Rattle.ftp_protocol.specs.server.View.{Session, direct_of, how_in_force}
 use Rattle.ftp_protocol.specs.server.Replies.{Turn, tells}
 use Rattle.ftp_protocol.specs.server.Walk.{unless, path_of}
 use Rattle.ftp_protocol.specs.declared.settings.Settings.{Settings}
@@ -26,7 +26,7 @@ has_size settings = same_structure settings.structure Structures.File && same_mo
 -- SIZE; own choice: a size is told in file structure and stream mode alone
 abbrev pub size : List ℕ → Session → Turn
 size text v =
-    if has_size v.settings then unless (refusal (direct_of v) (Ops.Size text (how_of v.settings))) v (v, Say.Size (size_of v text))
+    if has_size v.settings then unless (refusal (direct_of v) (Ops.Size text (how_in_force v.settings))) v (v, Say.Size (size_of v text))
     else tells Texts.Refused v
 
 -- MDTM: the second in which a file was installed
@@ -38,9 +38,9 @@ abbrev pub mdtm : List ℕ → Session → Turn
 mdtm text v = unless (refusal (direct_of v) (Ops.Modified text)) v (v, Say.Stamp (moment_digits (stamp_of v text)))
 
 -- an argument that may be left out; an empty text names the current directory
-abbrev pub given : Option (List ℕ) → List ℕ
-given text = unwrap_or text []
+abbrev pub or_empty : Option (List ℕ) → List ℕ
+or_empty text = unwrap_or text []
 
 -- MLST: the entry of what stands at a path
 abbrev pub mlst : Option (List ℕ) → Session → Turn
-mlst text v = unless (refusal (direct_of v) (Ops.Facts (given text))) v (v, Say.Entry (named_or_here (direct_of v) (given text)))
+mlst text v = unless (refusal (direct_of v) (Ops.Facts (or_empty text))) v (v, Say.Entry (named_or_here (direct_of v) (or_empty text)))

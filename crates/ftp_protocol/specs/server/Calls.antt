@@ -252,12 +252,12 @@ data_closed v = later (close_step v)
 -- ---- the control connection ends: a transfer under way is dropped, with the map as it was, and so is what waits or is owed
 
 -- the session behind it: the data connection is forgotten, and nothing is heard any more
-abbrev pub cut : Session → Session
-cut v = record (forgotten v) { once = Onces.Nothing; life = Lives.Cut }
+abbrev pub session_cut : Session → Session
+session_cut v = record (forgotten v) { once = Onces.Nothing; life = Lives.Cut }
 
 -- the line that waits is dropped, so nothing comes later
 unfoldable pub control_end : View → View
-control_end v = record v { session = cut v.session; waiting = None; owed = [] }
+control_end v = record v { session = session_cut v.session; waiting = None; owed = [] }
 
 -- ---- what the server wants
 

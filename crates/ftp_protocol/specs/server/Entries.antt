@@ -61,8 +61,8 @@ abbrev pub names_fact : List (List ℕ) → List ℕ → Bool
 names_fact words name = list_any (λ word. str_eq_ignore_ascii_case word name) words
 
 -- the facts that words name, whatever their case; others are passed over (RFC 3659, section 7.9)
-abbrev pub facts_in : List (List ℕ) → Facts
-facts_in words = record {
+abbrev pub facts_named : List (List ℕ) → Facts
+facts_named words = record {
   kind = names_fact words (codes "Type");
   size = names_fact words (codes "Size");
   modify = names_fact words (codes "Modify");
@@ -71,8 +71,8 @@ facts_in words = record {
 
 -- the facts that a text chooses: of no text none; else each word is ended by a semicolon
 abbrev pub chosen_in : List ℕ → Option Facts
-chosen_in [] = Some (facts_in [])
-chosen_in (c ∷ cs) = if ends_with nat_eq (c ∷ cs) (semicolon ∷ []) then Some (facts_in (slice_split is_semicolon (c ∷ cs))) else None
+chosen_in [] = Some (facts_named [])
+chosen_in (c ∷ cs) = if ends_with nat_eq (c ∷ cs) (semicolon ∷ []) then Some (facts_named (slice_split is_semicolon (c ∷ cs))) else None
 
 -- the facts that the argument of OPTS chooses; another option than MLST is not known
 abbrev pub option_facts : List ℕ → Option Facts

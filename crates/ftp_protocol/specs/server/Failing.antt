@@ -130,8 +130,8 @@ HeardFails heard v w =
     ⊎ ((is_abor heard && is_moving v.session.link ≡ false) × Late (record v { waiting = Some heard }) w)
 
 -- a whole line is heard as ever, or fails
-abbrev pub LineIsHeard : Heard (List ℕ) → View → View → Type 0
-LineIsHeard heard v w = (w ≡ heard_line heard v) ⊎ HeardFails heard v w
+abbrev pub WholeLineIsHeard : Heard (List ℕ) → View → View → Type 0
+WholeLineIsHeard heard v w = (w ≡ heard_line heard v) ⊎ HeardFails heard v w
 
 -- a command that holds a text; one without an argument takes no memory to be read
 abbrev pub holds_text : Command (List ℕ) → Bool
@@ -148,8 +148,8 @@ ReadingFails heard v w = ⊥
 
 -- an event of the ear
 abbrev pub EventIsHeard : Reading → NvtEvent → View → View → Type 0
-EventIsHeard read (line text) v w = LineIsHeard (read text) v w ⊎ ReadingFails (read text) v w
-EventIsHeard read too_long v w = LineIsHeard TooLong v w
+EventIsHeard read (line text) v w = WholeLineIsHeard (read text) v w ⊎ ReadingFails (read text) v w
+EventIsHeard read too_long v w = WholeLineIsHeard TooLong v w
 EventIsHeard read (owed answer) v w = w ≡ owes answer v
 
 -- events in order, each of which may fail

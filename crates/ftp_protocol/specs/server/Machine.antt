@@ -60,14 +60,14 @@ obeyed heard v =
     completed (turned (decided v.footing heard v.session.once (record v.session { once = Onces.Nothing })) v)
 
 -- a transfer is under way, or a port was asked for
-abbrev pub is_busy : Link Move → Bool
-is_busy (At.Asked asked) = true
-is_busy (At.Opening move way) = true
-is_busy (At.Moving move) = true
-is_busy At.Free = false
-is_busy (At.Port endpoint) = false
-is_busy At.Door = false
-is_busy At.Ready = false
+abbrev pub is_link_busy : Link Move → Bool
+is_link_busy (At.Asked asked) = true
+is_link_busy (At.Opening move way) = true
+is_link_busy (At.Moving move) = true
+is_link_busy At.Free = false
+is_link_busy (At.Port endpoint) = false
+is_link_busy At.Door = false
+is_link_busy At.Ready = false
 
 -- own choice: 4,096 of the 8,192 octets of control output are free, so that whatever comes of an octet has room
 abbrev pub has_room : View → Bool
@@ -75,7 +75,7 @@ has_room v = nat_le (length v.owed) 4096
 
 -- a line may be acted on
 abbrev pub is_idle : View → Bool
-is_idle v = not (is_busy v.session.link) && has_room v
+is_idle v = not (is_link_busy v.session.link) && has_room v
 
 -- the line that waits is acted on where it may be, and waits on where it may not
 abbrev pub waited : Option (Heard (List ℕ)) → View → View

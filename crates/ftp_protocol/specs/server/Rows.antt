@@ -83,8 +83,8 @@ abbrev pub member : Table → List Event → View
 member table events = server table (asks (command.User (codes "anonymous")) ∷ events)
 
 -- what it has said, the login of that somebody left out
-abbrev pub greeted : List (List ℕ) → List ℕ
-greeted texts = lines (codes "220 Ready" ∷ codes "230 Logged in" ∷ texts)
+abbrev pub said_to_member : List (List ℕ) → List ℕ
+said_to_member texts = lines (codes "220 Ready" ∷ codes "230 Logged in" ∷ texts)
 
 -- the path of a name in the root
 abbrev pub of : List ℕ → Names
@@ -108,8 +108,8 @@ WrongPassword =
 -- ---- the order of decisions on a line
 
 -- a long line, one that is no command, one of who is not logged in
-abbrev pub Order : Type 0
-Order =
+abbrev pub OrderOfDecisions : Type 0
+OrderOfDecisions =
     (table : Table) → (server table (line TooLong ∷ line (Bad Faults.BadArgument) ∷ asks command.Pwd ∷ asks command.Noop ∷ [])).owed
     ≡ lines (codes "220 Ready" ∷ codes "500 Line too long" ∷ codes "501 Bad argument" ∷ codes "530 Not logged in" ∷ codes "200 Ok" ∷ [])
 
@@ -118,20 +118,20 @@ abbrev pub OnlyExtended : Type 0
 OnlyExtended =
     (table : Table)
     → (member table (asks (command.Epsv Families.Only) ∷ asks (command.Port (at elsewhere)) ∷ asks command.Pasv ∷ line (Bad Faults.Protocol) ∷ [])).owed
-    ≡ greeted (codes "200 Only EPSV from now on" ∷ codes "503 Bad sequence" ∷ codes "503 Bad sequence"
+    ≡ said_to_member (codes "200 Only EPSV from now on" ∷ codes "503 Bad sequence" ∷ codes "503 Bad sequence"
     ∷ codes "522 Network protocol not supported, use (1,2)" ∷ [])
 
 -- REIN: nobody is logged in any more (RFC 959, section 4.1.1)
 abbrev pub Reinitialized : Type 0
 Reinitialized =
-    (table : Table) → (member table (asks command.Rein ∷ asks command.Pwd ∷ [])).owed ≡ greeted (codes "220 Ready" ∷ codes "530 Not logged in" ∷ [])
+    (table : Table) → (member table (asks command.Rein ∷ asks command.Pwd ∷ [])).owed ≡ said_to_member (codes "220 Ready" ∷ codes "530 Not logged in" ∷ [])
 
 -- QUIT: nothing is heard behind it, and the connection is closed once the reply is out
 abbrev pub Quit : Type 0
 Quit =
     (table : Table)
     → let v = member table (asks command.Quit ∷ []) in
-    (v.owed ≡ greeted (codes "221 Goodbye" ∷ [])) × (may_hear v ≡ false) × (wants v ≡ Want.Nothing) × (wants (gives_control (length v.owed) v) ≡ Want.CloseAll)
+    (v.owed ≡ said_to_member (codes "221 Goodbye" ∷ [])) × (may_hear v ≡ false) × (wants v ≡ Want.Nothing) × (wants (gives_control (length v.owed) v) ≡ Want.CloseAll)
 
 -- ---- endpoints
 
@@ -140,27 +140,27 @@ abbrev pub ForeignEndpoint : Type 0
 ForeignEndpoint =
     (table : Table) → node_at table [] ≡ Some Dir
     → (member table (asks (command.Port (at here)) ∷ asks (command.Port (at elsewhere)) ∷ asks (command.List None) ∷ [])).owed
-    ≡ greeted (codes "200 Endpoint taken" ∷ codes "504 Parameter not implemented" ∷ codes "425 No data connection" ∷ [])
+    ≡ said_to_member (codes "200 Endpoint taken" ∷ codes "504 Parameter not implemented" ∷ codes "425 No data connection" ∷ [])
 
 -- EPSV by the number of a family: only that of the control connection (RFC 2428, section 3)
 abbrev pub ByFamily : Type 0
 ByFamily =
     (table : Table)
-    → ((member table (asks (command.Epsv Families.Ipv6) ∷ [])).owed ≡ greeted (codes "522 Network protocol not supported, use (1)" ∷ []))
+    → ((member table (asks (command.Epsv Families.Ipv6) ∷ [])).owed ≡ said_to_member (codes "522 Network protocol not supported, use (1)" ∷ []))
     × (wants (member table (asks (command.Epsv Families.Ipv6) ∷ [])) ≡ Want.Nothing)
     × (wants (member table (asks (command.Epsv Families.Ipv4) ∷ [])) ≡ Want.Listen)
 
 -- 425: no port to listen at
 abbrev pub RefusedListen : Type 0
 RefusedListen =
-    (table : Table) → (member table (asks command.Pasv ∷ no_port ∷ [])).owed ≡ greeted (codes "425 No data connection" ∷ [])
+    (table : Table) → (member table (asks command.Pasv ∷ no_port ∷ [])).owed ≡ said_to_member (codes "425 No data connection" ∷ [])
 
 -- 425: a listing whose opening is refused behind the 150, and one without an endpoint
 abbrev pub RefusedOpening : Type 0
 RefusedOpening =
     (table : Table) → node_at table [] ≡ Some Dir
     → (member table (asks command.Pasv ∷ port 1930 ∷ asks (command.List None) ∷ refused ∷ asks (command.List None) ∷ [])).owed
-    ≡ greeted (codes "227 Entering Passive Mode (127,0,0,1,7,138)" ∷ codes "150 Opening data connection" ∷ codes "425 No data connection"
+    ≡ said_to_member (codes "227 Entering Passive Mode (127,0,0,1,7,138)" ∷ codes "150 Opening data connection" ∷ codes "425 No data connection"
     ∷ codes "425 No data connection" ∷ [])
 
 -- 425: another host opens the port behind the 150; its link is to be closed
@@ -168,7 +168,7 @@ abbrev pub ForeignOpener : Type 0
 ForeignOpener =
     (table : Table) → node_at table [] ≡ Some Dir
     → let v = member table (asks (command.Epsv Families.Any) ∷ port 1930 ∷ asks (command.List None) ∷ opened elsewhere ∷ []) in
-    (v.owed ≡ greeted (codes "229 Entering Extended Passive Mode (|||1930|)" ∷ codes "150 Opening data connection" ∷ codes "425 No data connection" ∷ []))
+    (v.owed ≡ said_to_member (codes "229 Entering Extended Passive Mode (|||1930|)" ∷ codes "150 Opening data connection" ∷ codes "425 No data connection" ∷ []))
     × (wants v ≡ Want.CloseData)
 
 -- ---- the map
@@ -179,7 +179,7 @@ Rename =
     (table : Table) → node_at table [] ≡ Some Dir → node_at table (of (codes "d")) ≡ Some Dir → node_at table (of (codes "e")) ≡ None
     → moves_fit table (of (codes "d")) (of (codes "e")) ≡ true
     → let v = member table (asks (command.Rnfr (codes "d")) ∷ asks (command.Rnto (codes "e")) ∷ []) in
-    (v.owed ≡ greeted (codes "350 Ready for the new name" ∷ codes "250 Done" ∷ []))
+    (v.owed ≡ said_to_member (codes "350 Ready for the new name" ∷ codes "250 Done" ∷ []))
     × (v.session.table ≡ moved table (of (codes "d")) (of (codes "e")))
 
 -- RNTO counts right behind an RNFR
@@ -187,7 +187,7 @@ abbrev pub LateRename : Type 0
 LateRename =
     (table : Table) → node_at table (of (codes "d")) ≡ Some Dir
     → (member table (asks (command.Rnfr (codes "d")) ∷ line (Bad Faults.Unknown) ∷ asks (command.Rnto (codes "e")) ∷ [])).owed
-    ≡ greeted (codes "350 Ready for the new name" ∷ codes "500 Unknown command" ∷ codes "503 Bad sequence" ∷ [])
+    ≡ said_to_member (codes "350 Ready for the new name" ∷ codes "500 Unknown command" ∷ codes "503 Bad sequence" ∷ [])
 
 -- ---- downloads
 
@@ -201,7 +201,7 @@ ActiveDownload =
     × (wants (member table (asked ++ opened here ∷ given 2 ∷ [])) ≡ Want.Send)
     × (wants (member table (asked ++ opened here ∷ given 2 ∷ given 1 ∷ [])) ≡ Want.CloseData)
     × ((member table (asked ++ opened here ∷ given 2 ∷ given 1 ∷ [])).owed
-    ≡ greeted (codes "200 Type set" ∷ codes "200 Endpoint taken" ∷ codes "150 Opening data connection" ∷ codes "226 Transfer complete" ∷ []))
+    ≡ said_to_member (codes "200 Type set" ∷ codes "200 Endpoint taken" ∷ codes "150 Opening data connection" ∷ codes "226 Transfer complete" ∷ []))
 
 -- REST right before RETR
 abbrev pub Restart : Type 0
@@ -233,7 +233,7 @@ PassiveUpload =
     (table : Table) → node_at table (of (codes "f")) ≡ Some (File [] 0) → room_at table (of (codes "f")) ≡ 1000
     → let v = member table (asks (command.Repr Kinds.Image) ∷ asks command.Pasv ∷ port 1930 ∷ opened here ∷ asks (command.Stor (codes "f"))
     ∷ octets (codes "ab") ∷ octets (codes "c") ∷ ended ∷ []) in
-    (v.owed ≡ greeted (codes "200 Type set" ∷ codes "227 Entering Passive Mode (127,0,0,1,7,138)" ∷ codes "150 Opening data connection"
+    (v.owed ≡ said_to_member (codes "200 Type set" ∷ codes "227 Entering Passive Mode (127,0,0,1,7,138)" ∷ codes "150 Opening data connection"
     ∷ codes "226 Transfer complete" ∷ []))
     × (v.session.table ≡ installed table (of (codes "f")) (codes "abc") 0)
     × (wants v ≡ Want.Nothing)
@@ -243,7 +243,7 @@ abbrev pub BrokenUpload : Type 0
 BrokenUpload =
     (table : Table) → node_at table (of (codes "f")) ≡ Some (File [] 0) → room_at table (of (codes "f")) ≡ 1000
     → let v = member table (asks (command.Port (at here)) ∷ asks (command.Stor (codes "f")) ∷ opened here ∷ octets (120 ∷ 13 ∷ []) ∷ broken ∷ []) in
-    (v.owed ≡ greeted (codes "200 Endpoint taken" ∷ codes "150 Opening data connection" ∷ codes "426 Transfer broken" ∷ []))
+    (v.owed ≡ said_to_member (codes "200 Endpoint taken" ∷ codes "150 Opening data connection" ∷ codes "426 Transfer broken" ∷ []))
     × (v.session.table ≡ installed table (of (codes "f")) (codes "x") 0)
 
 -- 552: past the room for the file the rest is dropped, and the map is as it was
@@ -251,7 +251,7 @@ abbrev pub TooMuch : Type 0
 TooMuch =
     (table : Table) → node_at table (of (codes "f")) ≡ Some (File [] 0) → room_at table (of (codes "f")) ≡ 2
     → let v = member table (asks (command.Port (at here)) ∷ asks (command.Stor (codes "f")) ∷ opened here ∷ octets (codes "abc") ∷ ended ∷ []) in
-    (v.owed ≡ greeted (codes "200 Endpoint taken" ∷ codes "150 Opening data connection" ∷ codes "552 Too much" ∷ []))
+    (v.owed ≡ said_to_member (codes "200 Endpoint taken" ∷ codes "150 Opening data connection" ∷ codes "552 Too much" ∷ []))
     × (v.session.table ≡ table)
 
 -- 110: a marker in block mode is answered by the octets that are held behind those kept, here of an APPE
@@ -260,7 +260,7 @@ Marker =
     (table : Table) → node_at table (of (codes "f")) ≡ Some (File (codes "abc") 0) → room_at table (of (codes "f")) ≡ 1000
     → (member table (asks (command.Repr Kinds.Image) ∷ asks (command.Mode Modes.Block) ∷ asks (command.Port (at here)) ∷ asks (command.Appe (codes "f"))
     ∷ opened here ∷ octets (0 ∷ 0 ∷ 1 ∷ 100 ∷ 16 ∷ 0 ∷ 1 ∷ 77 ∷ []) ∷ [])).owed
-    ≡ greeted (codes "200 Type set" ∷ codes "200 Mode set" ∷ codes "200 Endpoint taken" ∷ codes "150 Opening data connection" ∷ codes "110 MARK M = 4" ∷ [])
+    ≡ said_to_member (codes "200 Type set" ∷ codes "200 Mode set" ∷ codes "200 Endpoint taken" ∷ codes "150 Opening data connection" ∷ codes "110 MARK M = 4" ∷ [])
 
 -- ---- ABOR and a line that waits
 
@@ -269,7 +269,7 @@ abbrev pub EarlyAbort : Type 0
 EarlyAbort =
     (table : Table) → node_at table [] ≡ Some Dir
     → let v = member table (asks (command.Port (at here)) ∷ asks (command.List None) ∷ asks command.Abor ∷ []) in
-    (v.owed ≡ greeted (codes "200 Endpoint taken" ∷ codes "150 Opening data connection" ∷ codes "425 No data connection" ∷ codes "226 Abort done" ∷ []))
+    (v.owed ≡ said_to_member (codes "200 Endpoint taken" ∷ codes "150 Opening data connection" ∷ codes "425 No data connection" ∷ codes "226 Abort done" ∷ []))
     × (wants v ≡ Want.Nothing)
 
 -- another line waits, and is acted on behind the last reply
@@ -277,13 +277,13 @@ abbrev pub WaitingLine : Type 0
 WaitingLine =
     (table : Table) → node_at table [] ≡ Some Dir
     → (member table (asks (command.Port (at here)) ∷ asks (command.List None) ∷ asks command.Noop ∷ refused ∷ [])).owed
-    ≡ greeted (codes "200 Endpoint taken" ∷ codes "150 Opening data connection" ∷ codes "425 No data connection" ∷ codes "200 Ok" ∷ [])
+    ≡ said_to_member (codes "200 Endpoint taken" ∷ codes "150 Opening data connection" ∷ codes "425 No data connection" ∷ codes "200 Ok" ∷ [])
 
 -- ABOR during an upload acts as a break, and its own reply follows
 abbrev pub Abort : Type 0
 Abort =
     (table : Table) → node_at table (of (codes "f")) ≡ Some (File [] 0) → room_at table (of (codes "f")) ≡ 1000
     → let v = member table (asks (command.Port (at here)) ∷ asks (command.Stor (codes "f")) ∷ opened here ∷ octets (codes "ab") ∷ asks command.Abor ∷ []) in
-    (v.owed ≡ greeted (codes "200 Endpoint taken" ∷ codes "150 Opening data connection" ∷ codes "426 Transfer broken" ∷ codes "226 Abort done" ∷ []))
+    (v.owed ≡ said_to_member (codes "200 Endpoint taken" ∷ codes "150 Opening data connection" ∷ codes "426 Transfer broken" ∷ codes "226 Abort done" ∷ []))
     × (v.session.table ≡ installed table (of (codes "f")) (codes "ab") 0)
     × (wants v ≡ Want.CloseData)

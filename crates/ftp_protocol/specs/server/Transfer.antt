@@ -8,11 +8,11 @@ use Rattle.ftp_framer.specs.Block.{marked_text}
 use Rattle.ftp_framer.specs.Wire.{wire}
 use Rattle.ftp_protocol.specs.Settings.{form_of, has_markers}
 use Rattle.ftp_protocol.specs.Decoder.{no_octets}
-use Rattle.ftp_protocol.specs.server.View.{Move, Session, direct_of, how_of}
+use Rattle.ftp_protocol.specs.server.View.{Move, Session, direct_of, how_in_force}
 use Rattle.ftp_protocol.specs.server.Replies.{Turn, tells}
 use Rattle.ftp_protocol.specs.server.Endpoint.{forgotten}
 use Rattle.ftp_protocol.specs.server.Walk.{unless, path_of}
-use Rattle.ftp_protocol.specs.server.Ask.{given}
+use Rattle.ftp_protocol.specs.server.Ask.{or_empty}
 use Rattle.ftp_protocol.specs.server.Listing.{listing_wire, list_lines, entry_lines, name_lines}
 use Rattle.ftp_protocol.specs.declared.settings.Settings.{Settings}
 use Rattle.ftp_protocol.specs.declared.said.Text.TheVariants as Texts
@@ -39,7 +39,7 @@ rests (Some code) place v = tells Texts.BadParameter v
 
 -- REST: a place where a transfer can begin stands for the next line only, another is 504
 abbrev pub rest : ℕ → Session → Turn
-rest place v = rests (offset_refusal place (how_of v.settings)) place v
+rest place v = rests (offset_refusal place (how_in_force v.settings)) place v
 
 -- ---- the data connection: at an endpoint, at a port, or by the link that is open already
 
@@ -76,24 +76,24 @@ retr once text v =
 
 -- the path that an argument names which may be left out
 abbrev pub path_or_here : Session → Option (List ℕ) → Names
-path_or_here v text = named_or_here (direct_of v) (given text)
+path_or_here v text = named_or_here (direct_of v) (or_empty text)
 
 -- LIST: refused as NLST is
 abbrev pub list : Option (List ℕ) → Session → Turn
 list text v =
-    transfer_starts (refusal (direct_of v) (Ops.Names (given text) (how_of v.settings)))
+    transfer_starts (refusal (direct_of v) (Ops.Names (or_empty text) (how_in_force v.settings)))
     (Moves.Listing (listing_wire v.settings.mode (list_lines v.table (path_or_here v text)))) v
 
 -- NLST
 abbrev pub nlst : Option (List ℕ) → Session → Turn
 nlst text v =
-    transfer_starts (refusal (direct_of v) (Ops.Names (given text) (how_of v.settings)))
-    (Moves.Listing (listing_wire v.settings.mode (name_lines v.table (path_or_here v text) (given text)))) v
+    transfer_starts (refusal (direct_of v) (Ops.Names (or_empty text) (how_in_force v.settings)))
+    (Moves.Listing (listing_wire v.settings.mode (name_lines v.table (path_or_here v text) (or_empty text)))) v
 
 -- MLSD
 abbrev pub mlsd : Option (List ℕ) → Session → Turn
 mlsd text v =
-    transfer_starts (refusal (direct_of v) (Ops.List (given text) (how_of v.settings)))
+    transfer_starts (refusal (direct_of v) (Ops.List (or_empty text) (how_in_force v.settings)))
     (Moves.Listing (listing_wire v.settings.mode (entry_lines v.facts v.table (path_or_here v text)))) v
 
 -- ---- uploads: held apart from the map until they end (own choice). An upload over breaks will ask for nothing else: SIZE,

@@ -18,7 +18,7 @@ use Rattle.ftp_protocol.specs.server.Calls.{start}
 use Rattle.ftp_protocol.specs.server.Machine.{Reading, IsReading}
 use Rattle.ftp_protocol.specs.server.View.{Accounts}
 use Rattle.ftp_protocol.specs.world.Agreement.{Order, Agrees, WorldAgrees, IsDirect, Leads, AreHonest}
-use Rattle.ftp_protocol.specs.world.Events.{Event, Deliver, Open, End, Next, IsQuiet, is_free}
+use Rattle.ftp_protocol.specs.world.Events.{Event, Deliver, Open, End, Next, IsQuiet, can_begin}
 use Rattle.ftp_protocol.specs.world.World.{World, world, Mark}
 
 -- ---- how a session begins
@@ -96,7 +96,7 @@ AgreesAlways = Always (λ read b events begun w. WorldAgrees (state_of b) begun 
 -- where nothing is in flight each operation begun has its report, and another is possible
 pub record IsAnswered (begun : List Order) (w : World) : Type 0 where
   pub reported : length w.reports ≡ length begun
-  pub free : IsTrue (is_free w)
+  pub free : IsTrue (can_begin w)
 
 -- after every list of events: if nothing is in flight, nothing is left open
 abbrev pub QuietIsAnswered : Type 0

@@ -63,8 +63,8 @@ may_take Rising w = far.may_receive w.far
 may_take Falling w = near.may_receive w.near
 
 -- so many octets of a queue could be taken, each when its turn came
-abbrev pub MayTake : Reading → Queue → World → ℕ → Type 0
-MayTake read queue w count = (k : ℕ) → k < count → IsTrue (may_take queue (pushed read queue k w))
+abbrev pub MayTakeFrom : Reading → Queue → World → ℕ → Type 0
+MayTakeFrom read queue w count = (k : ℕ) → k < count → IsTrue (may_take queue (pushed read queue k w))
 
 -- ---- a delivery
 
@@ -92,7 +92,7 @@ Fills queue count w (gave ∷ counts) =
 -- the first octets of a queue are offered, so many at most, and some of them are taken; one at least where one may be taken
 pub record Takes (read : Reading) (queue : Queue) (count : ℕ) (w : World) (taken : ℕ) : Type 0 where
   pub within : taken ≤ min count (length (in_queue queue w))
-  pub may : MayTake read queue w taken
+  pub may : MayTakeFrom read queue w taken
   pub some : 0 < count → IsTrue (is_some (in_queue queue w)) → IsTrue (may_take queue w) → 0 < taken
 
 -- the octets that a delivery took, out of a queue
@@ -133,8 +133,8 @@ abbrev pub is_asked_for : World → Bool
 is_asked_for w = is_gone w.link && is_wanted (near.wants w.near) (far.wants w.far)
 
 -- both ends are told that it is open, each with the other's host
-abbrev pub opens : World → World
-opens w = record w {
+abbrev pub link_opens : World → World
+link_opens w = record w {
   link = Opened;
   came = 0;
   near = near.data_opened w.far.footing.here w.near;
@@ -147,8 +147,8 @@ refused_by true w = record w { near = near.data_refused w.near }
 refused_by false w = record w { far = far.data_refused w.far }
 
 -- a wanted link is refused, and marked so
-abbrev pub refuses : World → World
-refuses w = with_mark Refused (refused_by (is_connecting (near.wants w.near)) w)
+abbrev pub link_refused : World → World
+link_refused w = with_mark Refused (refused_by (is_connecting (near.wants w.near)) w)
 
 -- ---- ends
 
@@ -196,8 +196,8 @@ broken_by ClosedByNear w = record w { far = far.data_fault w.far }
 broken_by ClosedByFar w = record w { near = near.data_fault w.near }
 
 -- the link breaks: what was on its way is lost, and the mark says how much had come
-abbrev pub breaks : World → World
-breaks w = with_mark (Broken w.came) (gone (broken_by w.link w))
+abbrev pub link_breaks : World → World
+link_breaks w = with_mark (Broken w.came) (gone (broken_by w.link w))
 
 -- both ends are told, and what was on its way is lost
 abbrev pub ends_control : World → World
@@ -211,12 +211,12 @@ is_parted other = false
 -- ---- the next operation
 
 -- the client has no operation open, and no link stands or is wanted
-abbrev pub is_free : World → Bool
-is_free w = not (near.is_busy w.near) && is_gone w.link && not (is_asked_for w)
+abbrev pub can_begin : World → Bool
+can_begin w = not (near.is_busy w.near) && is_gone w.link && not (is_asked_for w)
 
 -- the server's clock is set, the client begins, and the operation has no mark yet
-abbrev pub begins : Op (List ℕ) → ℕ → World → World
-begins op moment w = record w { far = far.clocked moment w.far; near = near.starts op w.near; marks = w.marks ++ [] ∷ [] }
+abbrev pub operation_begins : Op (List ℕ) → ℕ → World → World
+operation_begins op moment w = record w { far = far.clocked moment w.far; near = near.starts op w.near; marks = w.marks ++ [] ∷ [] }
 
 -- ---- all events
 
@@ -228,7 +228,7 @@ can_happen Refuse w = is_asked_for w
 can_happen (End queue) w = is_closed queue w && not (is_some (in_queue queue w)) && not (is_some (due queue w))
 can_happen Break w = not (is_gone w.link)
 can_happen EndControl w = not (is_parted w.control)
-can_happen (Next op moment) w = is_free w
+can_happen (Next op moment) w = can_begin w
 
 -- a delivery of none moves octets, another one moves and offers them
 abbrev pub DeliversBy : Bool → Reading → Queue → ℕ → World → World → Type 0
@@ -238,12 +238,12 @@ DeliversBy false read queue count old new = Delivers read queue count old new
 -- what a possible event does
 abbrev pub Does : Reading → Event → World → World → Type 0
 Does read (Deliver queue count) old new = DeliversBy (count == 0) read queue count old new
-Does read Open old new = new ≡ after_event (opens old)
-Does read Refuse old new = new ≡ after_event (refuses old)
+Does read Open old new = new ≡ after_event (link_opens old)
+Does read Refuse old new = new ≡ after_event (link_refused old)
 Does read (End queue) old new = new ≡ after_event (told queue old)
-Does read Break old new = new ≡ after_event (breaks old)
+Does read Break old new = new ≡ after_event (link_breaks old)
 Does read EndControl old new = new ≡ after_event (ends_control old)
-Does read (Next op moment) old new = new ≡ after_event (begins op moment old)
+Does read (Next op moment) old new = new ≡ after_event (operation_begins op moment old)
 
 -- what the event before took is no longer lent
 abbrev pub lends_none : World → World

@@ -23,7 +23,7 @@ use Rattle.ftp_protocol.specs.server.Machine.{Reading}
 use Rattle.ftp_protocol.specs.server.Rows.{accounts, member}
 use Rattle.ftp_protocol.specs.server.View.{View as Far}
 use Rattle.ftp_protocol.specs.world.Claims.{Beginning, world_of}
-use Rattle.ftp_protocol.specs.world.Events.{Queue, Asked, Replied, Falling, due, pulled, pushed, opens, told, breaks, begins}
+use Rattle.ftp_protocol.specs.world.Events.{Queue, Asked, Replied, Falling, due, pulled, pushed, link_opens, told, link_breaks, operation_begins}
 use Rattle.ftp_protocol.specs.world.Serving.{after_event}
 use Rattle.ftp_protocol.specs.world.World.{World, world, Open, Broken}
 use Rattle.ftp_protocol.specs.declared.client.Standing.TheVariants as Stands
@@ -60,10 +60,10 @@ moved queue count w = after_event (pushed reading queue count (pulled queue w co
 abbrev pub does : Act → World → World
 does (moves queue) w = moved queue (length (due queue w)) w
 does (moves_some queue count) w = moved queue count w
-does links w = after_event (opens w)
+does links w = after_event (link_opens w)
 does (tells queue) w = after_event (told queue w)
-does cuts w = after_event (breaks w)
-does (asks op) w = after_event (begins op 7 w)
+does cuts w = after_event (link_breaks w)
+does (asks op) w = after_event (operation_begins op 7 w)
 
 -- acts, one after another
 abbrev pub behind : List Act → World → World
