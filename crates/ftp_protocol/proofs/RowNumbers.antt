@@ -2,7 +2,8 @@
 use Rattle.std.proofs.Common.{◌≡◌, ℕ, List, [], ◌∷◌, ◌++◌, ap, ◌∙◌, arith, codes, decimal}
 use Rattle.std.proofs.lemmas.Fmt.{decimal_digit, decimal_step}
 use Rattle.ftp_endpoint.specs.Written.{six_text}
-use Rattle.ftp_protocol.specs.server.Rows.{at, here}
+use Rattle.ftp_protocol.specs.RowWords.{here}
+use Rattle.ftp_protocol.specs.server.Rows.{at}
 
 pub of_3 : decimal 3 ≡ codes "3"
 of_3 = decimal_digit 3 (omega arith)

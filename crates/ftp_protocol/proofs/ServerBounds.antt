@@ -5,11 +5,10 @@ use Rattle.std.proofs.lemmas.List.{length-drop}
 use Rattle.ftp_protocol.specs.Link.{same_host}
 use Rattle.ftp_protocol.specs.server.Calls.{link_of, given_by, listening_turn, unheard, door_opens_for, opens, refuses, takes_given, ends, breaks, control_end, clock_step, control_step, listening_step, no_port_step, opened_step, refused_step, end_step, break_step, close_step, given_step}
 use Rattle.ftp_protocol.specs.server.Endpoint.{is_standing}
-use Rattle.ftp_protocol.specs.server.Failing.{LineFails, WaitingFails, Late, InstallFails, ListingFails, install_lost}
+use Rattle.ftp_protocol.specs.server.Failing.{LineFails, WaitingFails, Late, InstallFails, ListingFails, install_lost, Ended, Given}
 use Rattle.ftp_protocol.specs.server.Machine.{given_out, completed, obeyed, waited, later, is_idle, turned, lost}
 use Rattle.ftp_protocol.specs.server.View.{Move, View}
-use Rattle.ftp_protocol.specs.world.Bounds.{lines_left, stages_left, to_begin, Lowers, ServerLowers}
-use Rattle.ftp_protocol.specs.world.Far.{Ended, Given}
+use Rattle.ftp_protocol.specs.server.Bounds.{lines_left, stages_left, to_begin, Lowers, ServerLowers}
 use Rattle.ftp_protocol.specs.declared.heard.Heard.{Heard}
 use Rattle.ftp_protocol.specs.declared.heard.Heard.TheVariants.{TooLong, Bad, Asks}
 use Rattle.ftp_protocol.specs.declared.session.Asked.TheVariants as Asking

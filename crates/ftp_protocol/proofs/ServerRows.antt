@@ -17,7 +17,8 @@ use Rattle.ftp_facts.specs.Calendar.{year_and_place, month_and_place}
 use Rattle.ftp_facts.specs.Moment.{four_digits}
 use Rattle.ftp_protocol.specs.server.Machine.{obeyed, completed, turned, owes, with_session}
 use Rattle.ftp_protocol.specs.server.Calls.{gives_control, listening, listen_refused, data_opened, data_refused, gives_data, to_give, wants}
-use Rattle.ftp_protocol.specs.server.Rows.{Event, behind, member, here, elsewhere, at, of, asks, opened, refused, Login, WrongPassword, OrderOfDecisions, OnlyExtended, Reinitialized, Quit, ByFamily, ForeignEndpoint, RefusedOpening, RefusedListen, ForeignOpener, Rename, LateRename, ActiveDownload, Restart, LateRestart, Listing, EarlyAbort, WaitingLine}
+use Rattle.ftp_protocol.specs.RowWords.{here, elsewhere}
+use Rattle.ftp_protocol.specs.server.Rows.{Event, behind, member, at, of, asks, opened, refused, Login, WrongPassword, OrderOfDecisions, OnlyExtended, Reinitialized, Quit, ByFamily, ForeignEndpoint, RefusedOpening, RefusedListen, ForeignOpener, Rename, LateRename, ActiveDownload, Restart, LateRestart, Listing, EarlyAbort, WaitingLine}
 use Rattle.ftp_protocol.specs.declared.session.Once.TheVariants as Onces
 use Rattle.ftp_protocol.specs.declared.session.Link.TheVariants as At
 use Rattle.ftp_protocol.specs.declared.session.Transfer.TheVariants as Moves

@@ -19,7 +19,8 @@ use Rattle.ftp_protocol.specs.server.Replies.{reply_octets, reply_of, fixed_repl
 use Rattle.ftp_protocol.specs.server.Transfer.{room_code}
 use Rattle.ftp_protocol.specs.server.Machine.{obeyed, Outcome, is_over, put_in, owes, with_session}
 use Rattle.ftp_protocol.specs.server.Calls.{listening, data_opened, receives, receives_octet, data_end, data_fault, wants}
-use Rattle.ftp_protocol.specs.server.Rows.{Event, accounts, behind, said_to_member, member, here, at, of, asks, opened, octets, port, ended as ends, broken as breaks, PassiveUpload, BrokenUpload, TooMuch, Marker, Abort}
+use Rattle.ftp_protocol.specs.RowWords.{here}
+use Rattle.ftp_protocol.specs.server.Rows.{Event, accounts, behind, said_to_member, member, at, of, asks, opened, octets, port, ended as ends, broken as breaks, PassiveUpload, BrokenUpload, TooMuch, Marker, Abort}
 use Rattle.ftp_protocol.specs.declared.said.Text.{Text}
 use Rattle.ftp_protocol.specs.declared.said.Text.TheVariants as Texts
 use Rattle.ftp_protocol.specs.declared.settings.Settings.{Settings}

@@ -2,6 +2,7 @@ pub mod Settings
 pub mod Ear
 pub mod Decoder
 pub mod Link
+pub mod RowWords
 pub mod server
 pub mod client
 pub mod world

@@ -1,8 +1,7 @@
 -- The data connection between two ends: who wants what of it, and when an event is possible (RFC 959, sections 2.3, 3.2 and
 -- 4.1.2). Each transfer has a link of its own (own choice); one end listens and accepts, the other connects.
-use Rattle.std.specs.Prelude.{Bool, true, false, ◌||◌, ◌&&◌, Option, Some, None, nat_eq}
+use Rattle.std.specs.Prelude.{Bool, true, false, ◌||◌, ◌&&◌, nat_eq}
 use Rattle.std.specs.Cmp.Lexicographic.{pointwise}
-use Rattle.ftp_endpoint.specs.declared.endpoint.Endpoint.{Endpoint}
 use Rattle.ftp_endpoint.specs.declared.host.Host.{Host}
 use Rattle.ftp_endpoint.specs.declared.host.Host.TheVariants.{V4, V6}
 use Rattle.ftp_protocol.specs.declared.link.Wants.{Wants}
@@ -14,6 +13,11 @@ same_host (V4 a) (V4 b) = pointwise nat_eq a b
 same_host (V4 a) (V6 b) = false
 same_host (V6 a) (V4 b) = false
 same_host (V6 a) (V6 b) = pointwise nat_eq a b
+
+-- a host of IPv6
+abbrev pub is_v6 : Host → Bool
+is_v6 (V4 octets) = false
+is_v6 (V6 octets) = true
 
 -- ---- what an end wants: `CloseData` comes before all others
 

@@ -15,4 +15,5 @@ pub mod Machine
 pub mod InFlight
 pub mod Calls
 pub mod Failing
+pub mod Bounds
 pub mod Rows

@@ -1,6 +1,5 @@
 -- The two ends together, what lies between them, and what is claimed. The files are in the order in which they are to be read.
 pub mod Far
-pub mod Bounds
 pub mod World
 pub mod Serving
 pub mod Events

@@ -1,10 +1,10 @@
 // The server's end of a session, as a world of both sees it: each call is the function of the view that `specs` has for it.
 ghost use Rattle.std.specs.Prelude.{◌≡◌, ◌<◌, ◌≤◌, ℕ, IsTrue, length, take};
 ghost use Rattle.ftp_protocol.specs.server.Calls.{break_step, clock_step, clocked, close_step, control_end, control_step, data_closed, data_end, data_fault, data_opened, data_refused, end_step, gives_control, gives_data, listen_refused, listening, listening_step, may_receive, no_port_step, opened_step, refused_step, to_give, wants};
-ghost use Rattle.ftp_protocol.specs.server.Failing.{Counts, Late};
+ghost use Rattle.ftp_protocol.specs.server.Failing.{Counts, Late, Ended, Given};
 ghost use Rattle.ftp_protocol.specs.server.Machine.{may_hear};
 ghost use Rattle.ftp_protocol.specs.server.View.{View};
-ghost use Rattle.ftp_protocol.specs.world.Far.{Acts, Ended, Given, Heard, Received};
+ghost use Rattle.ftp_protocol.specs.world.Far.{Acts, Heard, Received};
 
 use crate::Wants;
 use ftp_endpoint::Host;

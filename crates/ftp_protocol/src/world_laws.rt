@@ -1,6 +1,6 @@
 //! Laws of what is claimed of a session: functions that do nothing, whose contracts are laws of `specs/world`.
 ghost use Rattle.ftp_protocol.specs.client.Bounds.{CallsLower, GivingPays, HearingLowers, ReceivingLowers, WantLowers};
-ghost use Rattle.ftp_protocol.specs.world.Bounds.{ServerLowers};
+ghost use Rattle.ftp_protocol.specs.server.Bounds.{ServerLowers};
 ghost use Rattle.ftp_protocol.specs.world.Claims.{HeadlineFollows, UnmarkedIsDirect};
 
 /// Without breaks, refusals and an end of the control connection, agreement is the direct run.

@@ -4,8 +4,6 @@ use Rattle.ftp_command.specs.declared.command.Command.{Command}
 use Rattle.ftp_command.specs.declared.command.Command.TheVariants as Commands
 use Rattle.ftp_command.specs.declared.command.Passive.TheVariants as Passives
 use Rattle.ftp_endpoint.specs.declared.endpoint.Endpoint.{Endpoint}
-use Rattle.ftp_endpoint.specs.declared.host.Host.{Host}
-use Rattle.ftp_endpoint.specs.declared.host.Host.TheVariants.{V4, V6}
 use Rattle.ftp_operation.specs.declared.op.How.{How}
 use Rattle.ftp_operation.specs.declared.op.Op.{Op}
 use Rattle.ftp_operation.specs.declared.op.Op.TheVariants as Ops
@@ -14,6 +12,7 @@ use Rattle.ftp_framer.specs.declared.mode.Mode.TheVariants as Modes
 use Rattle.ftp_repr.specs.declared.form.Kind.TheVariants as Kinds
 use Rattle.ftp_repr.specs.declared.form.Structure.TheVariants as Structures
 use Rattle.ftp_protocol.specs.Settings.{kind_asked, structure_asked, mode_asked, same_kind, same_structure, same_mode}
+use Rattle.ftp_protocol.specs.Link.{is_v6}
 use Rattle.ftp_protocol.specs.client.View.{View}
 use Rattle.ftp_protocol.specs.declared.client.Link.{Link}
 use Rattle.ftp_protocol.specs.declared.client.Link.TheVariants as Links
@@ -129,11 +128,6 @@ settings_behind step now None = now
 settings_behind step now (Some wanted) = settings_behind_by step now wanted
 
 -- ---- the command of each step
-
--- EPRT and EPSV: where they are asked for, and where the control connection is one of IPv6
-abbrev pub is_v6 : Host → Bool
-is_v6 (V4 octets) = false
-is_v6 (V6 octets) = true
 
 -- a transfer may ask for EPRT and EPSV
 abbrev pub asks_extended : Option How → Bool

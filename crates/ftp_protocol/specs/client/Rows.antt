@@ -1,19 +1,18 @@
 -- Worked rows: what a client sends, wants and reports, reply by reply and event by event. Each is a theorem that computes. The
 -- login is `guest` with password `secret`; both hosts are 127.0.0.1.
-use Rattle.std.specs.Prelude.{◌≡◌, ℕ, List, [], ◌∷◌, ◌++◌, flat_map, codes, true, false, Option, Some, None}
+use Rattle.std.specs.Prelude.{◌≡◌, ℕ, List, [], ◌∷◌, ◌++◌, codes, true, false, Option, Some, None}
 use Rattle.ftp_command.specs.Line.{line_of}
 use Rattle.ftp_command.specs.declared.command.Command.TheVariants as Commands
 use Rattle.ftp_endpoint.specs.declared.endpoint.Endpoint.{Endpoint}
 use Rattle.ftp_endpoint.specs.declared.host.Host.{Host}
-use Rattle.ftp_endpoint.specs.declared.host.Host.TheVariants.{V4}
 use Rattle.ftp_operation.specs.Answer.{Said, Done, Path, Octets, Stamp, Refused, BadOperation, Broken, Unopened, Foreign, Lost, Strange}
 use Rattle.ftp_operation.specs.declared.op.How.{How}
 use Rattle.ftp_operation.specs.declared.op.Op.{Op}
 use Rattle.ftp_operation.specs.declared.op.Op.TheVariants as Ops
 use Rattle.ftp_framer.specs.declared.mode.Mode.TheVariants as Modes
-use Rattle.ftp_nvt.specs.Lines.{written_line}
 use Rattle.ftp_repr.specs.declared.form.Kind.TheVariants as Kinds
 use Rattle.ftp_repr.specs.declared.form.Structure.TheVariants as Structures
+use Rattle.ftp_protocol.specs.RowWords.{here, elsewhere, lines}
 use Rattle.ftp_protocol.specs.client.Calls.{starts, report_of, hears, listening, listen_refused, data_opened, data_refused, data_end, data_fault, receives, gives_data, to_give, wants}
 use Rattle.ftp_protocol.specs.client.Dialogue.{answered}
 use Rattle.ftp_protocol.specs.client.Replies.{Gathered, Between, Heard, GoesOn, Says, Faulty, line_heard}
@@ -55,18 +54,6 @@ happens broken v = data_fault v
 abbrev pub behind : List Event → View → View
 behind [] v = v
 behind (event ∷ events) v = behind events (happens event v)
-
--- the octets of lines
-abbrev pub lines : List (List ℕ) → List ℕ
-lines texts = flat_map written_line texts
-
--- 127.0.0.1, and another host
-abbrev pub here : Host
-here = V4 (127 ∷ 0 ∷ 0 ∷ 1 ∷ [])
-
--- a third host, which is nobody's peer
-abbrev pub elsewhere : Host
-elsewhere = V4 (10 ∷ 0 ∷ 0 ∷ 9 ∷ [])
 
 -- a client as it begins, and one that is logged in and whose commands went out
 abbrev pub guest : View

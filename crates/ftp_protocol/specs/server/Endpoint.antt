@@ -2,10 +2,9 @@
 use Rattle.std.specs.Prelude.{Bool, true, false, ◌&&◌, ◌||◌, nat_le, if◌then◌else◌}
 use Rattle.ftp_endpoint.specs.declared.endpoint.Endpoint.{Endpoint}
 use Rattle.ftp_endpoint.specs.declared.host.Host.{Host}
-use Rattle.ftp_endpoint.specs.declared.host.Host.TheVariants.{V4, V6}
 use Rattle.ftp_command.specs.declared.command.Passive.{Passive}
 use Rattle.ftp_command.specs.declared.command.Passive.TheVariants.{Any, Ipv4, Ipv6, Only}
-use Rattle.ftp_protocol.specs.Link.{same_host}
+use Rattle.ftp_protocol.specs.Link.{same_host, is_v6}
 use Rattle.ftp_protocol.specs.server.View.{Footing, Move, Session}
 use Rattle.ftp_protocol.specs.server.Replies.{Turn, tells}
 use Rattle.ftp_protocol.specs.declared.said.Text.TheVariants as Texts
@@ -48,11 +47,6 @@ takes false endpoint v = tells Texts.BadParameter v
 abbrev pub port : Footing → Endpoint → Session → Turn
 port footing endpoint v =
     if v.only_extended then tells Texts.BadSequence v else takes (is_taken footing.peer endpoint) endpoint (forgotten v)
-
--- a host of IPv6
-abbrev pub is_v6 : Host → Bool
-is_v6 (V4 octets) = false
-is_v6 (V6 octets) = true
 
 -- a port is asked for; the reply follows when it is told, or refused
 abbrev pub asks : Asked → Session → Turn

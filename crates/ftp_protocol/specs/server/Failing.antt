@@ -13,7 +13,7 @@ use Rattle.ftp_protocol.specs.server.View.{Move, Session, View, line_limit}
 use Rattle.ftp_protocol.specs.server.Endpoint.{forgotten, unlinked}
 use Rattle.ftp_protocol.specs.server.Act.{forgets}
 use Rattle.ftp_protocol.specs.server.Machine.{owes, replied, later, may_hear, is_idle, is_abor, is_moving, heard_line, abort_said, Reading, lost}
-use Rattle.ftp_protocol.specs.server.Calls.{link_of, may_receive, receives_octet, takes_given, takes_all, with_link}
+use Rattle.ftp_protocol.specs.server.Calls.{link_of, may_receive, receives_octet, takes_given, given_step, takes_all, with_link}
 use Rattle.ftp_protocol.specs.declared.heard.Heard.{Heard}
 use Rattle.ftp_protocol.specs.declared.heard.Heard.TheVariants.{TooLong, Bad, Asks}
 use Rattle.ftp_protocol.specs.declared.said.Text.TheVariants as Texts
@@ -120,6 +120,16 @@ ListingFails link count v w = ⊥
 -- so many octets of a listing were given, and the next were not had
 abbrev pub GiveFails : ℕ → View → View → Type 0
 GiveFails count v w = ListingFails (link_of v.session) count v w
+
+-- ---- what a call on the link leaves where a count changed
+
+-- the end or the break of a link: the upload could not be installed, or the line that waits failed
+abbrev pub Ended : View → View → View → Type 0
+Ended step old new = EndFails old new ⊎ Late step new
+
+-- octets were given: the next of a listing were not had, or the line that waits failed
+abbrev pub Given : ℕ → View → View → Type 0
+Given count old new = GiveFails count old new ⊎ Late (given_step count old) new
 
 -- ---- octets
 

@@ -1,8 +1,6 @@
 -- Worked rows: what a server says, does to its map and sends, line by line and event by event. Each is a theorem that
 -- computes. The accounts are `guest` with password `secret`, and `anonymous` without one; both hosts are 127.0.0.1.
 use Rattle.std.specs.Prelude.{◌≡◌, ℕ, true, false, length, List, [], ◌∷◌, ◌++◌, Some, None, codes}
-use Rattle.std.specs.List.{flat_map}
-use Rattle.ftp_nvt.specs.Lines.{written_line}
 use Rattle.ftp_command.specs.declared.command.Command.{Command}
 use Rattle.ftp_command.specs.declared.command.Command.TheVariants as command
 use Rattle.ftp_command.specs.declared.command.Kind.TheVariants as Kinds
@@ -11,9 +9,9 @@ use Rattle.ftp_command.specs.declared.command.Passive.TheVariants as Families
 use Rattle.ftp_endpoint.specs.declared.endpoint.Endpoint.{Endpoint}
 use Rattle.ftp_command.specs.declared.fault.CommandFault.TheVariants as Faults
 use Rattle.ftp_endpoint.specs.declared.host.Host.{Host}
-use Rattle.ftp_endpoint.specs.declared.host.Host.TheVariants.{V4}
 use Rattle.ftp_path.specs.Path.{Names}
 use Rattle.ftp_tree.specs.Tree.{Dir, File, Table, node_at, children, installed, moved, moves_fit, room_at}
+use Rattle.ftp_protocol.specs.RowWords.{here, elsewhere, lines}
 use Rattle.ftp_protocol.specs.server.View.{Accounts, View}
 use Rattle.ftp_protocol.specs.server.Machine.{heard_line, may_hear}
 use Rattle.ftp_protocol.specs.server.Calls.{start, gives_control, listening, listen_refused, data_opened, data_refused, receives, gives_data, data_end, data_fault, data_closed, to_give, wants}
@@ -53,18 +51,6 @@ happens closed v = data_closed v
 abbrev pub behind : List Event → View → View
 behind [] v = v
 behind (event ∷ events) v = behind events (happens event v)
-
--- the octets of lines
-abbrev pub lines : List (List ℕ) → List ℕ
-lines texts = flat_map written_line texts
-
--- the host of both ends
-abbrev pub here : Host
-here = V4 (127 ∷ 0 ∷ 0 ∷ 1 ∷ [])
-
--- a third host, which is nobody's peer
-abbrev pub elsewhere : Host
-elsewhere = V4 (10 ∷ 0 ∷ 0 ∷ 9 ∷ [])
 
 -- port 1930 of a host: 7 times 256 and 138
 abbrev pub at : Host → Endpoint

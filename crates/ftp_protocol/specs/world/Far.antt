@@ -1,24 +1,14 @@
 -- What each call of the server's end does, with want of memory or a failure of the device or without: the function of the call
 -- where neither count changed, and else what the call leaves, to which a line that waits belongs that could not be acted on.
-use Rattle.std.specs.Prelude.{◌≡◌, ◌≢◌, ◌⊎◌, ℕ, List, take}
-use Rattle.ftp_protocol.specs.server.Calls.{receives, MayReceive, given_step}
-use Rattle.ftp_protocol.specs.server.Failing.{Counts, Late, EndFails, GiveFails, AreHeard, AreReceived}
+use Rattle.std.specs.Prelude.{◌≡◌, ◌≢◌, ℕ, List, take}
+use Rattle.ftp_protocol.specs.server.Calls.{receives, MayReceive}
+use Rattle.ftp_protocol.specs.server.Failing.{Counts, AreHeard, AreReceived}
 use Rattle.ftp_protocol.specs.server.Machine.{Reading, IsReading, hears, MayHear}
 use Rattle.ftp_protocol.specs.server.View.{View}
 
 -- neither count changed, and the server is what the call makes of it; or one changed, and the call left this
 abbrev pub Acts : (before after : Counts) → (new step : View) → Type 0 → Type 0
 Acts before after new step Fails = (after ≡ before → new ≡ step) × (after ≢ before → Fails)
-
--- ---- what it leaves where a count changed
-
--- the end or the break of a link: the upload could not be installed, or the line that waits failed
-abbrev pub Ended : View → View → View → Type 0
-Ended step old new = EndFails old new ⊎ Late step new
-
--- octets were given: the next of a listing were not had, or the line that waits failed
-abbrev pub Given : ℕ → View → View → Type 0
-Given count old new = GiveFails count old new ⊎ Late (given_step count old) new
 
 -- ---- octets, of which so many of a piece were taken
 

@@ -13,7 +13,8 @@ use Rattle.ftp_direct.specs.Direct.{State, named}
 use Rattle.ftp_protocol.specs.client.Moving.{download}
 use Rattle.ftp_protocol.specs.client.Plan.{settings_of}
 use Rattle.ftp_protocol.specs.world.Outcome.{cut}
-use Rattle.ftp_protocol.specs.client.Rows.{here, entered, text}
+use Rattle.ftp_protocol.specs.RowWords.{here}
+use Rattle.ftp_protocol.specs.client.Rows.{entered, text}
 use Rattle.ftp_protocol.specs.client.View.{View as Near, Moving}
 use Rattle.ftp_protocol.specs.declared.client.Link.TheVariants as Links
 use Rattle.ftp_protocol.specs.declared.client.Replied.TheVariants as Replies

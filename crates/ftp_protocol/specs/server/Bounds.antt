@@ -5,9 +5,8 @@ use Rattle.std.specs.Prelude.{◌≡◌, ℕ, ◌+◌, ◌*◌, ◌<◌, ◌≤�
 use Rattle.ftp_endpoint.specs.declared.host.Host.{Host}
 use Rattle.ftp_protocol.specs.server.Calls.{given_by, to_give, control_end, break_step, clock_step, close_step, control_step, end_step, listening_step, no_port_step, opened_step, refused_step}
 use Rattle.ftp_protocol.specs.server.Endpoint.{is_standing}
-use Rattle.ftp_protocol.specs.server.Failing.{Late}
+use Rattle.ftp_protocol.specs.server.Failing.{Late, Ended, Given}
 use Rattle.ftp_protocol.specs.server.View.{Move, Session, View}
-use Rattle.ftp_protocol.specs.world.Far.{Ended, Given}
 use Rattle.ftp_protocol.specs.declared.heard.Heard.{Heard}
 use Rattle.ftp_protocol.specs.declared.session.Link.{Link}
 use Rattle.ftp_protocol.specs.declared.session.Link.TheVariants as At
