@@ -1,27 +1,7 @@
 // A command as a value, generic in how it holds a text.
 
 use ftp_endpoint::Endpoint;
-
-/// How the octets of a file are represented: TYPE A or TYPE I (RFC 959, section 3.1.1).
-#[derive(Clone, Copy, Debug, PartialEq, Eq)]
-pub enum Kind {
-    Ascii,
-    Image,
-}
-
-/// What a file is made of: STRU F or STRU R (RFC 959, section 3.1.2).
-#[derive(Clone, Copy, Debug, PartialEq, Eq)]
-pub enum Structure {
-    File,
-    Record,
-}
-
-/// How a file goes over the data connection: MODE S or MODE B (RFC 959, section 3.4).
-#[derive(Clone, Copy, Debug, PartialEq, Eq)]
-pub enum Mode {
-    Stream,
-    Block,
-}
+use ftp_representation::{Kind, Mode, Structure};
 
 /// What EPSV asks for: an endpoint of any family, of one, or that no other command opens one (RFC 2428, section 3).
 #[derive(Clone, Copy, Debug, PartialEq, Eq)]

@@ -13,9 +13,10 @@ mod text;
 mod verb;
 mod writing;
 
-pub use command::{Command, Kind, Mode, Passive, Structure};
+pub use command::{Command, Passive};
 pub use fault::CommandFault;
 pub use ftp_endpoint::{Endpoint, Host};
+pub use ftp_representation::{Kind, Mode, Structure};
 pub use laws::{one_meaning, only_stated, round_trip};
 pub use reading::read;
 pub use text::Text;

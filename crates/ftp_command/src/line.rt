@@ -4,11 +4,12 @@ ghost use Rattle.ftp_command.specs.Command.{verb_of};
 ghost use Rattle.ftp_command.specs.Line.{IsStated, line_of as line_text, longest_text, passive_text as passive_words, spaced, tail_of};
 ghost use Rattle.ftp_endpoint.specs.Written.{IsV4, extended_text, six_text};
 
-use crate::command::{Command, Kind, Mode, Passive, Structure};
+use crate::command::{Command, Passive};
 use crate::text::Text;
 use crate::verb::Verb;
 use arrayvec::ArrayVec;
 use ftp_endpoint::{Endpoint, write_extended, write_six};
+use ftp_representation::{Kind, Mode, Structure};
 use itoa::Buffer;
 use std::alloc::Allocator;
 

@@ -5,9 +5,10 @@ ghost use Rattle.ftp_command.specs.Decline.{Declines, DeclinesFamily};
 ghost use Rattle.ftp_endpoint.specs.Host.{IsOtherProtocol, SaysExtended};
 ghost use Rattle.ftp_command.specs.declared.command.Passive.{Passive};
 
-use crate::command::{Kind, Mode, Passive, Structure};
+use crate::command::Passive;
 use crate::fault::CommandFault;
 use ftp_endpoint::{Endpoint, EndpointFault, after, extended_endpoint, number, split_digits};
+use ftp_representation::{Kind, Mode, Structure};
 
 /// Reads the parameter of TYPE (RFC 959, section 4.1.2).
 pub(crate) fn kind(text: &[u8]) -> Result<Kind, CommandFault>

@@ -1,12 +1,13 @@
 -- The writer gives the one text of a whole file, in each mode, type and structure.
 use Rattle.std.proofs.Common.{◌≡◌, ℕ, ◌+◌, ◌<◌, ◌^◌, List, [], ◌∷◌, length, refl, ap, ◌∙◌, arith}
 use Rattle.ftp_repr.specs.Machine.{gives}
-use Rattle.ftp_repr.specs.Signs.{Sign, octet, Form, signs_of}
-use Rattle.ftp_repr.specs.declared.form.Structure.{Structure}
-use Rattle.ftp_repr.specs.declared.form.Structure.TheVariants.{File, Record}
+use Rattle.ftp_repr.specs.Signs.{Sign, octet, signs_of}
+use Rattle.ftp_representation.specs.Representation.{Form}
+use Rattle.ftp_representation.specs.declared.representation.Structure.{Structure}
+use Rattle.ftp_representation.specs.declared.representation.Structure.TheVariants.{File, Record}
 use Rattle.ftp_repr.proofs.SignLemmas.{IsWhole, whole-signs_of, signs_of-cons}
-use Rattle.ftp_framer.specs.declared.mode.Mode.{Mode}
-use Rattle.ftp_framer.specs.declared.mode.Mode.TheVariants.{Stream, Block as Blocks}
+use Rattle.ftp_representation.specs.declared.representation.Mode.{Mode}
+use Rattle.ftp_representation.specs.declared.representation.Mode.TheVariants.{Stream, Block as Blocks}
 use Rattle.ftp_framer.specs.Block.{marked_text}
 use Rattle.ftp_framer.specs.Wire.{wire_text, wire, image_file}
 use Rattle.ftp_framer.specs.Writing.{blank, writer, with_marks, unmarked, never}

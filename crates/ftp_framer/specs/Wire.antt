@@ -1,11 +1,12 @@
 -- The one text of a file, in each mode, type and structure.
 use Rattle.std.specs.Prelude.{ℕ, List, []}
-use Rattle.ftp_repr.specs.Signs.{Sign, Form, signs_of}
-use Rattle.ftp_repr.specs.declared.form.Kind.TheVariants.{Image}
-use Rattle.ftp_repr.specs.declared.form.Structure.{Structure}
-use Rattle.ftp_repr.specs.declared.form.Structure.TheVariants.{File, Record}
-use Rattle.ftp_framer.specs.declared.mode.Mode.{Mode}
-use Rattle.ftp_framer.specs.declared.mode.Mode.TheVariants.{Stream, Block as Blocks}
+use Rattle.ftp_repr.specs.Signs.{Sign, signs_of}
+use Rattle.ftp_representation.specs.Representation.{Form}
+use Rattle.ftp_representation.specs.declared.representation.Kind.TheVariants.{Image}
+use Rattle.ftp_representation.specs.declared.representation.Structure.{Structure}
+use Rattle.ftp_representation.specs.declared.representation.Structure.TheVariants.{File, Record}
+use Rattle.ftp_representation.specs.declared.representation.Mode.{Mode}
+use Rattle.ftp_representation.specs.declared.representation.Mode.TheVariants.{Stream, Block as Blocks}
 use Rattle.ftp_framer.specs.Stream.{plain_text, record_text}
 use Rattle.ftp_framer.specs.Block.{rows_text}
 

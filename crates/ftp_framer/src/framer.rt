@@ -5,9 +5,9 @@ ghost use Rattle.ftp_framer.specs.Block.{block_text, marker_text};
 ghost use Rattle.ftp_framer.specs.Writing.{blank, with_marks, is_due, due_text, marked, counted_on, writer, write_step, closed};
 ghost use Rattle.ftp_framer.specs.Framing.{writing, counting, owed_block, owed_octets, still_to_write, is_open, IsClear, Takes, Waits, AreRun};
 
-use crate::mode::Mode;
 use arrayvec::ArrayVec;
-use ftp_repr::{Item, Structure, first_ff};
+use ftp_repr::{Item, first_ff};
+use ftp_representation::{Mode, Structure};
 use itoa::Buffer;
 
 /// How much of an item was taken, and how many octets of the room were made.

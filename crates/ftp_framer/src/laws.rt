@@ -2,10 +2,11 @@
 
 ghost use Rattle.std.specs.Prelude.{◌≡◌, ◌+◌, ◌<◌, ◌^◌, ℕ, List, length};
 ghost use Rattle.ftp_repr.specs.Machine.{gives};
-ghost use Rattle.ftp_repr.specs.Signs.{Form, signs_of};
-ghost use Rattle.ftp_repr.specs.declared.form.Structure.TheVariants.{File};
-ghost use Rattle.ftp_framer.specs.declared.mode.Mode.{Mode};
-ghost use Rattle.ftp_framer.specs.declared.mode.Mode.TheVariants.{Block};
+ghost use Rattle.ftp_repr.specs.Signs.{signs_of};
+ghost use Rattle.ftp_representation.specs.Representation.{Form};
+ghost use Rattle.ftp_representation.specs.declared.representation.Structure.TheVariants.{File};
+ghost use Rattle.ftp_representation.specs.declared.representation.Mode.{Mode};
+ghost use Rattle.ftp_representation.specs.declared.representation.Mode.TheVariants.{Block};
 ghost use Rattle.ftp_framer.specs.Block.{marked_text};
 ghost use Rattle.ftp_framer.specs.Wire.{wire, image_file};
 ghost use Rattle.ftp_framer.specs.Writing.{writer, blank, with_marks};

@@ -4,8 +4,7 @@
 
 mod framer;
 mod laws;
-mod mode;
 
 pub use framer::{Framer, Moved};
+pub use ftp_representation::Mode;
 pub use laws::one_text;
-pub use mode::Mode;

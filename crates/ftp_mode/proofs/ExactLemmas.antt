@@ -3,10 +3,10 @@ use Rattle.std.proofs.Common.{◌≡◌, ℕ, ◌+◌, ◌<◌, ◌^◌, ◌⊎�
 use Rattle.std.proofs.lemmas.Bool.{false≢true}
 use Rattle.ftp_repr.specs.Machine.{after, gives}
 use Rattle.ftp_repr.specs.Signs.{end_file}
-use Rattle.ftp_repr.specs.declared.form.Structure.{Structure}
-use Rattle.ftp_repr.specs.declared.form.Structure.TheVariants.{File, Record}
-use Rattle.ftp_framer.specs.declared.mode.Mode.{Mode}
-use Rattle.ftp_framer.specs.declared.mode.Mode.TheVariants.{Stream, Block as Blocks}
+use Rattle.ftp_representation.specs.declared.representation.Structure.{Structure}
+use Rattle.ftp_representation.specs.declared.representation.Structure.TheVariants.{File, Record}
+use Rattle.ftp_representation.specs.declared.representation.Mode.{Mode}
+use Rattle.ftp_representation.specs.declared.representation.Mode.TheVariants.{Stream, Block as Blocks}
 use Rattle.ftp_mode.specs.declared.fault.FrameFault.{FrameFault}
 use Rattle.ftp_mode.specs.declared.fault.FrameFault.TheVariants.{BadEscape, Suspect, BadMarker, EndedEarly}
 use Rattle.ftp_framer.specs.Said.{Said, says, octets_said}

@@ -1,16 +1,17 @@
 -- The laws of the reader over whole files, for each mode, type and structure.
 use Rattle.std.proofs.Common.{◌≡◌, ℕ, ◌+◌, ◌<◌, ◌^◌, List, [], ◌∷◌, ◌++◌, map, length, refl, ap, sym, subst, ◌∙◌, append_assoc, append-nil}
 use Rattle.ftp_repr.specs.Machine.{gives, IsFront}
-use Rattle.ftp_repr.specs.Signs.{Sign, octet, Form, wire_octets, signs_of}
+use Rattle.ftp_repr.specs.Signs.{Sign, octet, wire_octets, signs_of}
+use Rattle.ftp_representation.specs.Representation.{Form}
 use Rattle.ftp_repr.specs.Content.{content}
-use Rattle.ftp_repr.specs.declared.form.Kind.{Kind}
-use Rattle.ftp_repr.specs.declared.form.Structure.{Structure}
-use Rattle.ftp_repr.specs.declared.form.Structure.TheVariants.{File, Record}
+use Rattle.ftp_representation.specs.declared.representation.Kind.{Kind}
+use Rattle.ftp_representation.specs.declared.representation.Structure.{Structure}
+use Rattle.ftp_representation.specs.declared.representation.Structure.TheVariants.{File, Record}
 use Rattle.ftp_repr.proofs.MachineLemmas.{gives-front}
 use Rattle.ftp_repr.proofs.SignLemmas.{whole-signs_of, signs_of-cons}
 use Rattle.ftp_repr.proofs.ContentLemmas.{content-signs_of, content_front}
-use Rattle.ftp_framer.specs.declared.mode.Mode.{Mode}
-use Rattle.ftp_framer.specs.declared.mode.Mode.TheVariants.{Stream, Block as Blocks}
+use Rattle.ftp_representation.specs.declared.representation.Mode.{Mode}
+use Rattle.ftp_representation.specs.declared.representation.Mode.TheVariants.{Stream, Block as Blocks}
 use Rattle.ftp_framer.specs.Said.{Said, says, marker, file_signs}
 use Rattle.ftp_framer.specs.Block.{marked_text}
 use Rattle.ftp_mode.specs.Units.{Reads}

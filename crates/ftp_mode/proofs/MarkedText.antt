@@ -5,8 +5,8 @@ use Rattle.std.specs.Fmt.{decimal}
 use Rattle.std.proofs.lemmas.Fmt.{decimal_by_steps, decimal_nonempty, length-decimal-le}
 use Rattle.std.proofs.lemmas.List.{take-append-drop, map-append}
 use Rattle.ftp_repr.specs.Signs.{Sign, octet, end_file}
-use Rattle.ftp_repr.specs.declared.form.Structure.{Structure}
-use Rattle.ftp_framer.specs.declared.mode.Mode.TheVariants.{Block as Blocks}
+use Rattle.ftp_representation.specs.declared.representation.Structure.{Structure}
+use Rattle.ftp_representation.specs.declared.representation.Mode.TheVariants.{Block as Blocks}
 use Rattle.ftp_framer.specs.Said.{Said, says, marker, octets_said, file_signs}
 use Rattle.ftp_framer.specs.Marker.{is_marker_octet, IsMarker, to_place, places}
 use Rattle.ftp_framer.specs.Block.{Block, IsBlock, count_of, marker_text, data_text, marks_text, marked_text}

@@ -3,11 +3,11 @@ use Rattle.std.proofs.Common.{◌≡◌, ℕ, zero, suc, ◌+◌, ◌<◌, ◌�
 use Rattle.std.specs.List.{AllByRecursion}
 use Rattle.std.proofs.lemmas.Bool.{eqb-true, cases_lt, false≢true}
 use Rattle.std.proofs.lemmas.List.{length-take-le, take_all, take-append-drop, length-take}
-use Rattle.ftp_repr.specs.declared.form.Structure.{Structure}
-use Rattle.ftp_repr.specs.declared.form.Structure.TheVariants.{File, Record}
+use Rattle.ftp_representation.specs.declared.representation.Structure.{Structure}
+use Rattle.ftp_representation.specs.declared.representation.Structure.TheVariants.{File, Record}
 use Rattle.ftp_repr.proofs.AsciiLemmas.{decided}
-use Rattle.ftp_framer.specs.declared.mode.Mode.{Mode}
-use Rattle.ftp_framer.specs.declared.mode.Mode.TheVariants.{Stream, Block as Blocks}
+use Rattle.ftp_representation.specs.declared.representation.Mode.{Mode}
+use Rattle.ftp_representation.specs.declared.representation.Mode.TheVariants.{Stream, Block as Blocks}
 use Rattle.ftp_mode.specs.declared.fault.FrameFault.{FrameFault}
 use Rattle.ftp_mode.specs.declared.fault.FrameFault.TheVariants.{BadEscape, Suspect, BadMarker}
 use Rattle.ftp_framer.specs.Said.{Said, octets_said}

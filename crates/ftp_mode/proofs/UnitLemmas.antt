@@ -2,10 +2,10 @@
 use Rattle.std.proofs.Common.{◌≡◌, ℕ, ◌-◌, ◌≤◌, ◌^◌, List, [], ◌∷◌, ◌++◌, length, true, if◌then◌else◌, refl, ap, sym, subst, ◌∙◌, arith, append-nil, length-append}
 use Rattle.std.specs.List.{AllByRecursion}
 use Rattle.ftp_repr.specs.Machine.{after, gives}
-use Rattle.ftp_repr.specs.declared.form.Structure.{Structure}
-use Rattle.ftp_repr.specs.declared.form.Structure.TheVariants.{File, Record}
-use Rattle.ftp_framer.specs.declared.mode.Mode.{Mode}
-use Rattle.ftp_framer.specs.declared.mode.Mode.TheVariants.{Stream, Block as Blocks}
+use Rattle.ftp_representation.specs.declared.representation.Structure.{Structure}
+use Rattle.ftp_representation.specs.declared.representation.Structure.TheVariants.{File, Record}
+use Rattle.ftp_representation.specs.declared.representation.Mode.{Mode}
+use Rattle.ftp_representation.specs.declared.representation.Mode.TheVariants.{Stream, Block as Blocks}
 use Rattle.ftp_framer.specs.Said.{Said}
 use Rattle.ftp_framer.specs.Stream.{is_code, code_said, code_ends}
 use Rattle.ftp_mode.specs.Units.{WireUnit, one, escape, whole, unit_octets, unit_said, unit_ends, IsUnit, GoesOn, units_octets, units_said, IsText}

@@ -1,12 +1,13 @@
 -- What the reader makes of whole wires.
 use Rattle.std.specs.Prelude.{◌≡◌, ℕ, List, [], ◌∷◌, ◌++◌}
 use Rattle.ftp_repr.specs.Machine.{after, gives}
-use Rattle.ftp_repr.specs.Signs.{end_file, Form}
+use Rattle.ftp_repr.specs.Signs.{end_file}
+use Rattle.ftp_representation.specs.Representation.{Form}
 use Rattle.ftp_repr.specs.Content.{content}
-use Rattle.ftp_repr.specs.declared.form.Structure.{Structure}
-use Rattle.ftp_repr.specs.declared.form.Structure.TheVariants.{File, Record}
-use Rattle.ftp_framer.specs.declared.mode.Mode.{Mode}
-use Rattle.ftp_framer.specs.declared.mode.Mode.TheVariants.{Stream, Block as Blocks}
+use Rattle.ftp_representation.specs.declared.representation.Structure.{Structure}
+use Rattle.ftp_representation.specs.declared.representation.Structure.TheVariants.{File, Record}
+use Rattle.ftp_representation.specs.declared.representation.Mode.{Mode}
+use Rattle.ftp_representation.specs.declared.representation.Mode.TheVariants.{Stream, Block as Blocks}
 use Rattle.ftp_framer.specs.Said.{Said, says, file_signs}
 use Rattle.ftp_mode.specs.Reading.{start, is_complete, reader}
 

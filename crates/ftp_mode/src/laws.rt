@@ -2,11 +2,12 @@
 
 ghost use Rattle.std.specs.Prelude.{◌≡◌, ◌+◌, ◌<◌, ◌^◌, ◌++◌, ◌↔◌, ℕ, List, map, length};
 ghost use Rattle.ftp_repr.specs.Machine.{IsFront, after, gives};
-ghost use Rattle.ftp_repr.specs.Signs.{Sign, Form, signs_of};
-ghost use Rattle.ftp_repr.specs.declared.form.Structure.{Structure};
-ghost use Rattle.ftp_repr.specs.declared.form.Structure.TheVariants.{File};
-ghost use Rattle.ftp_framer.specs.declared.mode.Mode.{Mode};
-ghost use Rattle.ftp_framer.specs.declared.mode.Mode.TheVariants.{Block};
+ghost use Rattle.ftp_repr.specs.Signs.{Sign, signs_of};
+ghost use Rattle.ftp_representation.specs.Representation.{Form};
+ghost use Rattle.ftp_representation.specs.declared.representation.Structure.{Structure};
+ghost use Rattle.ftp_representation.specs.declared.representation.Structure.TheVariants.{File};
+ghost use Rattle.ftp_representation.specs.declared.representation.Mode.{Mode};
+ghost use Rattle.ftp_representation.specs.declared.representation.Mode.TheVariants.{Block};
 ghost use Rattle.ftp_mode.specs.declared.fault.FrameFault.{FrameFault};
 ghost use Rattle.ftp_mode.specs.declared.fault.FrameFault.TheVariants.{EndedEarly};
 ghost use Rattle.ftp_framer.specs.Said.{Said, says, file_signs};

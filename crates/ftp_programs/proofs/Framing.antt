@@ -1,28 +1,32 @@
 -- A file that is written, from its start to its end.
 use Rattle.std.proofs.Common.{◌≡◌, ℕ, ◌+◌, ◌*◌, ◌^◌, ◌≤◌, ◌<◌, ◌∙◌, Option, List, [], ◌∷◌, ◌++◌, length, drop, true, false, refl, sym, ap, subst, arith, append_assoc, append-nil, length-append, drop-drop, Result, Ok, Err}
-use Rattle.std.specs.Prelude.{Bool, flat_map, if◌then◌else◌, IsTrue, OnErr}
+use Rattle.std.proofs.lemmas.Bool.{false≢true}
+use Rattle.std.specs.Prelude.{Bool, ◌&&◌, flat_map, if◌then◌else◌, IsTrue, OnErr}
 use Rattle.std.proofs.KnownBytes.{Appends-trans, Appends-nil, Consumes-nil, Consumes-trans, Consumes-kept}
 use Rattle.std.specs.Io.KnownBytes.{Appends, Consumes, IsAtEnd, Keeps}
 use Rattle.ftp_repr.specs.Machine.{gives}
-use Rattle.ftp_repr.specs.Signs.{Sign, end_file, Form, signs_of, signs_of_octet}
+use Rattle.ftp_repr.specs.Signs.{Sign, end_file, signs_of, signs_of_octet}
+use Rattle.ftp_representation.specs.Representation.{Form, form_of, has_markers}
 use Rattle.ftp_repr.specs.Sending.{sender_form, has_sent_end, still_to_send}
-use Rattle.ftp_repr.specs.declared.form.Kind.{Kind}
-use Rattle.ftp_repr.specs.declared.form.Kind.TheVariants.{Ascii, Image}
-use Rattle.ftp_repr.specs.declared.form.Structure.{Structure}
-use Rattle.ftp_repr.specs.declared.form.Structure.TheVariants.{File, Record}
+use Rattle.ftp_representation.specs.declared.representation.Kind.{Kind}
+use Rattle.ftp_representation.specs.declared.representation.Kind.TheVariants.{Ascii, Image}
+use Rattle.ftp_representation.specs.declared.representation.Structure.{Structure}
+use Rattle.ftp_representation.specs.declared.representation.Structure.TheVariants.{File, Record}
 use Rattle.ftp_repr.specs.declared.sender.Sender.{Sender}
 use Rattle.ftp_repr.proofs.SignLemmas.{signs_of-append}
 use Rattle.ftp_framer.specs.declared.framer.Framer.{Framer}
-use Rattle.ftp_framer.specs.declared.mode.Mode.{Mode}
-use Rattle.ftp_framer.specs.declared.mode.Mode.TheVariants.{Stream, Block}
+use Rattle.ftp_representation.specs.declared.representation.Mode.{Mode}
+use Rattle.ftp_representation.specs.declared.representation.Mode.TheVariants.{Stream, Block}
+use Rattle.ftp_framer.specs.Block.{marked_text}
+use Rattle.ftp_framer.specs.Wire.{wire}
 use Rattle.ftp_framer.specs.Framing.{still_to_write, owed_octets, writing}
 use Rattle.ftp_framer.specs.Writing.{writer, blank, with_marks}
 use Rattle.ftp_framer.proofs.LawLemmas.{writes_wire, writes_marked}
 use Rattle.ftp_pieces.proofs.Fronts.{Appends-front, AppendsFront-more, Appends-then-front}
 use Rattle.ftp_pieces.specs.Beginning.{AppendsFront}
-use Rattle.ftp_programs.specs.Frame.{Frames, FramesFront, form_of, frame_text}
+use Rattle.ftp_programs.specs.Frame.{Frames, FramesFront, frame_text}
 use Rattle.ftp_programs.specs.Sending.{still_to_give, Puts, Gives}
-use Rattle.ftp_programs.specs.declared.frames.Representation.{Representation}
+use Rattle.ftp_representation.specs.declared.representation.Representation.{Representation}
 use Rattle.ftp_programs.specs.declared.frames.Sending.{Sending}
 
 -- THE START
@@ -30,46 +34,34 @@ use Rattle.ftp_programs.specs.declared.frames.Sending.{Sending}
 abbrev shape : Kind → Structure → Mode → Representation
 shape k s m = record { kind = k; structure = s; mode = m }
 
-abbrev form : Kind → Structure → Form
-form k s = record { kind = k; structure = s }
-
-pub new_marked : (s : Structure) (m : Mode) (b : List ℕ) → length b < 2 ^ 64
-    → gives writer (with_marks 0 (blank m s)) (signs_of (record { kind = Image; structure = s }) b) ≡ frame_text (record { kind = Image; structure = s; mode = m }) true b
-new_marked File Stream b fits = writes_wire Stream (form Image File) b
-new_marked Record Stream b fits = writes_wire Stream (form Image Record) b
-new_marked File Block b fits = writes_marked 0 b (omega (arith, fits))
-new_marked Record Block b fits = writes_wire Block (form Image Record) b
-
-pub new_ascii : (marks : Bool) (s : Structure) (m : Mode) (b : List ℕ)
-    → gives writer (blank m s) (signs_of (record { kind = Ascii; structure = s }) b) ≡ frame_text (record { kind = Ascii; structure = s; mode = m }) marks b
-new_ascii true s m b = writes_wire m (form Ascii s) b
-new_ascii false s m b = writes_wire m (form Ascii s) b
-
-pub new_plain : (r : Representation) (b : List ℕ) → gives writer (blank r.mode r.structure) (signs_of (form_of r) b) ≡ frame_text r false b
-new_plain r b = writes_wire r.mode (form_of r) b
-
-pub text_plain : (r : Representation) (marks : Bool) (f : Framer) → writing f ≡ blank r.mode r.structure → marks ≡ false
-    → (b : List ℕ) → gives writer (writing f) (signs_of (form_of r) b) ≡ frame_text r marks b
-text_plain r marks f state none b =
-    ap (λ w. gives writer w (signs_of (form_of r) b)) state ∙ new_plain r b ∙ ap (λ m. frame_text r m b) (sym none)
-
-pub text_ascii : (r : Representation) (marks : Bool) (f : Framer) → writing f ≡ blank r.mode r.structure → r.kind ≡ Ascii
-    → (b : List ℕ) → gives writer (writing f) (signs_of (form_of r) b) ≡ frame_text r marks b
-text_ascii r marks f state kind b =
-    ap (λ w. gives writer w (signs_of (form_of r) b)) state
-    ∙ ap (λ k. gives writer (blank r.mode r.structure) (signs_of (form k r.structure) b)) kind
-    ∙ new_ascii marks r.structure r.mode b
-    ∙ ap (λ k. frame_text (shape k r.structure r.mode) marks b) (sym kind)
+-- own markers from the start, where they have an effect
+marks_in : (k : Kind) (s : Structure) (m : Mode) → has_markers (shape k s m) ≡ true → (b : List ℕ) → length b < 2 ^ 64
+    → gives writer (with_marks 0 (blank m s)) (signs_of (form_of (shape k s m)) b) ≡ frame_text (shape k s m) true b
+marks_in Image File Block has b fits = writes_marked 0 b (omega (arith, fits))
+marks_in Image File Stream has b fits = absurd (false≢true has)
+marks_in Image Record Stream has b fits = absurd (false≢true has)
+marks_in Image Record Block has b fits = absurd (false≢true has)
+marks_in Ascii s m has b fits = absurd (false≢true has)
 
 pub text_marked : (r : Representation) (marks : Bool) (f g : Framer) → writing f ≡ blank r.mode r.structure → writing g ≡ with_marks 0 (writing f)
-    → r.kind ≡ Image → marks ≡ true
+    → marks ≡ true → has_markers r ≡ true
     → (b : List ℕ) → length b < 2 ^ 64 → gives writer (writing g) (signs_of (form_of r) b) ≡ frame_text r marks b
-text_marked r marks f g state marked kind asked b fits =
+text_marked r marks f g state marked asked has b fits =
     ap (λ w. gives writer w (signs_of (form_of r) b)) (marked ∙ ap (with_marks 0) state)
-    ∙ ap (λ k. gives writer (with_marks 0 (blank r.mode r.structure)) (signs_of (form k r.structure) b)) kind
-    ∙ new_marked r.structure r.mode b fits
-    ∙ ap (λ m. frame_text (shape Image r.structure r.mode) m b) (sym asked)
-    ∙ ap (λ k. frame_text (shape k r.structure r.mode) marks b) (sym kind)
+    ∙ marks_in r.kind r.structure r.mode has b fits
+    ∙ ap (λ m. frame_text r m b) (sym asked)
+
+-- and no markers
+pub has_none : (asked has : Bool) → has ≡ false → (asked && has) ≡ false
+has_none true has none = none
+has_none false has none = refl
+
+pub text_plain : (r : Representation) (marks : Bool) (f : Framer) → writing f ≡ blank r.mode r.structure → (marks && has_markers r) ≡ false
+    → (b : List ℕ) → gives writer (writing f) (signs_of (form_of r) b) ≡ frame_text r marks b
+text_plain r marks f state none b =
+    ap (λ w. gives writer w (signs_of (form_of r) b)) state
+    ∙ writes_wire r.mode (form_of r) b
+    ∙ ap (λ c. if c then marked_text 0 b else wire r.mode (form_of r) b) (sym none)
 
 -- ITEMS
 

@@ -17,9 +17,9 @@ use Rattle.ftp_framer.specs.Said.{Said, says, marker, file_signs, octets_said}
 use Rattle.ftp_mode.specs.Reading.{Reading, IsGoing, failed, reader, start}
 use Rattle.ftp_mode.specs.Deframing.{reading, owed, part_said, last_marker, Hears, FailsAt}
 use Rattle.ftp_mode.proofs.ReaderRuns.{failed_after, failed_gives}
-use Rattle.ftp_programs.specs.Frame.{form_of}
+use Rattle.ftp_representation.specs.Representation.{form_of}
 use Rattle.ftp_programs.specs.Receiving.{read_by, said_by, StandsAfter, FaultyAfter}
-use Rattle.ftp_programs.specs.declared.frames.Representation.{Representation}
+use Rattle.ftp_representation.specs.declared.representation.Representation.{Representation}
 use Rattle.ftp_programs.specs.declared.receiving.Receiving.{Receiving}
 
 -- SIGNS

@@ -3,19 +3,20 @@ use Rattle.std.proofs.Common.{◌≡◌, ℕ, ◌<◌, ◌^◌, ◌∙◌, List,
 use Rattle.std.specs.Prelude.{Bool, if◌then◌else◌, ◌==◌, ◌||◌}
 use Rattle.std.proofs.lemmas.Bool.{eqb-true}
 use Rattle.ftp_repr.specs.Machine.{after, gives}
-use Rattle.ftp_repr.specs.Signs.{end_record, end_file, Form}
+use Rattle.ftp_repr.specs.Signs.{end_record, end_file}
+use Rattle.ftp_representation.specs.Representation.{Form, form_of}
 use Rattle.ftp_repr.specs.Content.{content}
 use Rattle.ftp_repr.specs.Receiving.{Taking, fresh, receiving}
 use Rattle.ftp_repr.specs.Received.{Receives, receiver_form, taking}
-use Rattle.ftp_repr.specs.declared.form.Kind.{Kind}
-use Rattle.ftp_repr.specs.declared.form.Structure.{Structure}
-use Rattle.ftp_repr.specs.declared.form.Structure.TheVariants.{File, Record}
+use Rattle.ftp_representation.specs.declared.representation.Kind.{Kind}
+use Rattle.ftp_representation.specs.declared.representation.Structure.{Structure}
+use Rattle.ftp_representation.specs.declared.representation.Structure.TheVariants.{File, Record}
 use Rattle.ftp_repr.proofs.ContentLemmas.{gives-receiving}
 use Rattle.ftp_repr.proofs.MachineLemmas.{after-append, gives-append}
 use Rattle.ftp_mode.specs.declared.fault.FrameFault.{FrameFault}
 use Rattle.ftp_mode.specs.declared.fault.FrameFault.TheVariants.{EndedEarly}
-use Rattle.ftp_framer.specs.declared.mode.Mode.{Mode}
-use Rattle.ftp_framer.specs.declared.mode.Mode.TheVariants.{Stream, Block as Blocks}
+use Rattle.ftp_representation.specs.declared.representation.Mode.{Mode}
+use Rattle.ftp_representation.specs.declared.representation.Mode.TheVariants.{Stream, Block as Blocks}
 use Rattle.ftp_framer.specs.Said.{Said, says, file_signs}
 use Rattle.ftp_framer.specs.Stream.{code_said}
 use Rattle.ftp_framer.specs.Block.{has, ends_of, octets_of}
@@ -25,10 +26,9 @@ use Rattle.ftp_mode.specs.Deframing.{reading}
 use Rattle.ftp_mode.specs.Laws.{unsaid_end, ended_content, settled_content}
 use Rattle.ftp_mode.proofs.ExactLemmas.{to_reads, says_front, fails_fault, early_reads, early_faults}
 use Rattle.ftp_programs.proofs.Hearing.{file-append}
-use Rattle.ftp_programs.specs.Frame.{form_of}
 use Rattle.ftp_programs.specs.Receiving.{read_by, said_by, StandsAfter, WholeAfter}
 use Rattle.ftp_programs.specs.WireReading.{ReadsAs, Settles, Stops}
-use Rattle.ftp_programs.specs.declared.frames.Representation.{Representation}
+use Rattle.ftp_representation.specs.declared.representation.Representation.{Representation}
 use Rattle.ftp_programs.specs.declared.receiving.Receiving.{Receiving}
 
 -- THE END OF FILE

@@ -5,7 +5,7 @@ use Rattle.ftp_programs.specs.Frame.{Frames, FramesFront}
 use Rattle.ftp_programs.specs.WireReading.{Tells, TellsFront}
 use Rattle.ftp_programs.specs.declared.frames.Direction.{Direction}
 use Rattle.ftp_programs.specs.declared.frames.Direction.TheVariants.{ToWire, ToFile}
-use Rattle.ftp_programs.specs.declared.frames.Representation.{Representation}
+use Rattle.ftp_representation.specs.declared.representation.Representation.{Representation}
 
 -- it was done: a file was written as its wire and nothing was told, or a wire was read
 abbrev pub Goes : Representation → Direction → Option (List ℕ) → Option (List ℕ) → Option (List ℕ) → Option (List ℕ) → Option (List ℕ) → Option (List ℕ) → ℕ → Type 0

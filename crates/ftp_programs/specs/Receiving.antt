@@ -9,8 +9,8 @@ use Rattle.ftp_framer.specs.Said.{Said, file_signs}
 use Rattle.ftp_mode.specs.Reading.{Reading, IsGoing, reader, start, failed, at_end, is_complete}
 use Rattle.ftp_mode.specs.Deframing.{reading, owed}
 use Rattle.ftp_mode.specs.Laws.{settled_content, ended_content}
-use Rattle.ftp_programs.specs.Frame.{form_of}
-use Rattle.ftp_programs.specs.declared.frames.Representation.{Representation}
+use Rattle.ftp_representation.specs.Representation.{form_of}
+use Rattle.ftp_representation.specs.declared.representation.Representation.{Representation}
 use Rattle.ftp_programs.specs.declared.receiving.Heard.{Heard}
 use Rattle.ftp_programs.specs.declared.receiving.Heard.TheVariants.{More, Whole, Faulty}
 use Rattle.ftp_programs.specs.declared.receiving.Receiving.{Receiving}

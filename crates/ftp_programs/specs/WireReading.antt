@@ -12,8 +12,8 @@ use Rattle.ftp_mode.specs.Units.{Reads}
 use Rattle.ftp_mode.specs.Fault.{IsFault}
 use Rattle.ftp_mode.specs.Front.{Front}
 use Rattle.ftp_pieces.specs.Beginning.{AppendsFront}
-use Rattle.ftp_programs.specs.Frame.{form_of}
-use Rattle.ftp_programs.specs.declared.frames.Representation.{Representation}
+use Rattle.ftp_representation.specs.Representation.{form_of}
+use Rattle.ftp_representation.specs.declared.representation.Representation.{Representation}
 use Rattle.ftp_pieces.specs.declared.pieces.Failed.{Failed}
 
 -- a wire that has ended reads as this file

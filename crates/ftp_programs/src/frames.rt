@@ -10,25 +10,19 @@ ghost use Rattle.ftp_framer.specs.Framing.{owed_octets, writing};
 ghost use Rattle.ftp_framer.specs.Writing.{writer};
 ghost use Rattle.ftp_pieces.specs.Beginning.{AppendsFront};
 ghost use Rattle.ftp_programs.specs.Direction.{Goes, GoesFront};
-ghost use Rattle.ftp_programs.specs.Frame.{Frames, FramesFront, form_of, frame_text};
+ghost use Rattle.ftp_programs.specs.Frame.{Frames, FramesFront, frame_text};
+ghost use Rattle.ftp_representation.specs.Representation.{form_of};
 
 use crate::receiving::to_file;
-use ftp_mode::{Framer, Mode};
+use ftp_mode::Framer;
 use ftp_pieces::{Failed, TURNS};
-use ftp_repr::{Item, Kind, Sender, Structure};
+use ftp_repr::{Item, Sender};
+use ftp_representation::Representation;
 use std::alloc::Allocator;
 use std::io::{Read, Write};
 
 /// The most octets that are read or written at a time.
 pub const PIECE_LIMIT: usize = 4096;
-
-/// How a file goes over a data connection: type, structure and mode (RFC 959, sections 3.1 and 3.4).
-#[derive(Clone, Copy, Debug, PartialEq, Eq)]
-pub struct Representation {
-    pub kind: Kind,
-    pub structure: Structure,
-    pub mode: Mode,
-}
 
 /// Which way a file goes.
 #[derive(Clone, Copy, Debug, PartialEq, Eq)]
@@ -133,14 +127,8 @@ fn framer_of(form: Representation, marks: bool) -> Framer
     ensures owes { owed_octets result ≡ [] }
 {
     let mut framer = Framer::new(form.mode, form.structure);
-    if marks {
-        match form.kind {
-            Kind::Ascii => return framer,
-            Kind::Image => {
-                framer.mark(0);
-                return framer;
-            }
-        }
+    if marks && form.has_markers() {
+        framer.mark(0);
     }
     framer
 }

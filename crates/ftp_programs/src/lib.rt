@@ -7,4 +7,5 @@ mod frames;
 mod receiving;
 
 pub use fact_lines::facts;
-pub use frames::{Direction, Representation, frame};
+pub use frames::{Direction, frame};
+pub use ftp_representation::Representation;

@@ -8,10 +8,11 @@ ghost use Rattle.ftp_mode.specs.Deframing.{part_said};
 ghost use Rattle.ftp_pieces.specs.Beginning.{AppendsFront};
 ghost use Rattle.ftp_programs.specs.WireReading.{fault_line, ReadsTo, Tells, TellsFront};
 
-use crate::frames::{PIECE_LIMIT, Representation};
+use crate::frames::PIECE_LIMIT;
 use ftp_mode::{Deframer, FrameFault, Part};
 use ftp_pieces::{Failed, TURNS};
 use ftp_repr::{Item, Receiver};
+use ftp_representation::Representation;
 use itoa::Buffer;
 use std::alloc::{AllocError, Allocator};
 use std::io::{Read, Write};
@@ -34,7 +35,7 @@ pub struct Receiving<A: Allocator> {
 
 impl<A: Allocator> Receiving<A> {
     ghost use Rattle.ftp_programs.specs.Receiving.{StandsAfter, HearsAfter};
-    ghost use Rattle.ftp_programs.specs.declared.frames.Representation.{Representation};
+    ghost use Rattle.ftp_representation.specs.declared.representation.Representation.{Representation};
 
     /// No octet of the wire came.
     fn new(alloc: A, form: Representation) -> Receiving<A>

@@ -6,7 +6,7 @@ use Rattle.ftp_operation.specs.Answer.{Said}
 use Rattle.ftp_operation.specs.declared.op.How.{How}
 use Rattle.ftp_operation.specs.declared.op.Op.{Op}
 use Rattle.ftp_operation.specs.declared.op.Op.TheVariants as Ops
-use Rattle.ftp_protocol.specs.Settings.{same_kind, same_structure, same_mode}
+use Rattle.ftp_representation.specs.Representation.{same_kind, same_structure, same_mode}
 use Rattle.ftp_protocol.specs.client.Bounds.{login_left, steps_left, job_left, to_begin, upload_left, still_to_give, Lowers}
 use Rattle.ftp_protocol.specs.client.Dialogue.{sends_if, last_job, placed, begins, goes_on}
 use Rattle.ftp_protocol.specs.client.Moving.{flow_of}
@@ -18,7 +18,7 @@ use Rattle.ftp_protocol.specs.declared.client.Standing.{Standing}
 use Rattle.ftp_protocol.specs.declared.client.Standing.TheVariants as Stands
 use Rattle.ftp_protocol.specs.declared.client.Step.{Step}
 use Rattle.ftp_protocol.specs.declared.client.Step.TheVariants as Steps
-use Rattle.ftp_protocol.specs.declared.settings.Settings.{Settings}
+use Rattle.ftp_representation.specs.declared.representation.Representation.{Representation}
 
 -- ---- changes one after another
 
@@ -151,23 +151,23 @@ opening_le : (how : Option How) (op : Op (List ℕ)) → place_left (opening_of 
 opening_le None op = omega (arith, alone_le op)
 opening_le (Some how) op = if_le how.active Steps.Listen Steps.Passive 4 (omega arith) (omega arith)
 
-mode_le : (now wanted : Settings) (step : Step) → place_left step ≤ 4 → place_left (from_mode now wanted step) ≤ 5
+mode_le : (now wanted : Representation) (step : Step) → place_left step ≤ 4 → place_left (from_mode now wanted step) ≤ 5
 mode_le now wanted step le = if_le (same_mode now.mode wanted.mode) step Steps.Mode 5 (omega (arith, le)) (omega arith)
 
-structure_le : (now wanted : Settings) (step : Step) → place_left step ≤ 4 → place_left (from_structure now wanted step) ≤ 6
+structure_le : (now wanted : Representation) (step : Step) → place_left step ≤ 4 → place_left (from_structure now wanted step) ≤ 6
 structure_le now wanted step le =
     if_le (same_structure now.structure wanted.structure) (from_mode now wanted step) Steps.Structure 6 (omega (arith, mode_le now wanted step le)) (omega arith)
 
-kind_le : (now wanted : Settings) (step : Step) → place_left step ≤ 4 → place_left (from_kind now wanted step) ≤ 7
+kind_le : (now wanted : Representation) (step : Step) → place_left step ≤ 4 → place_left (from_kind now wanted step) ≤ 7
 kind_le now wanted step le =
     if_le (same_kind now.kind wanted.kind) (from_structure now wanted step) Steps.Kind 7 (omega (arith, structure_le now wanted step le)) (omega arith)
 
-by_le : (from : Settings → Settings → Step → Step) (n : ℕ) → 4 ≤ n → ((now wanted : Settings) (step : Step) → place_left step ≤ 4 → place_left (from now wanted step) ≤ n)
-    → (wanted : Option Settings) (now : Settings) (op : Op (List ℕ)) → place_left (step_by from wanted now op) ≤ n
+by_le : (from : Representation → Representation → Step → Step) (n : ℕ) → 4 ≤ n → ((now wanted : Representation) (step : Step) → place_left step ≤ 4 → place_left (from now wanted step) ≤ n)
+    → (wanted : Option Representation) (now : Representation) (op : Op (List ℕ)) → place_left (step_by from wanted now op) ≤ n
 by_le from n four le None now op = omega (arith, four, opening_le (how_of op) op)
 by_le from n four le (Some wanted) now op = le now wanted (opening_of (how_of op) op) (opening_le (how_of op) op)
 
-pub first_le : (now : Settings) (op : Op (List ℕ)) → place_left (first_step now op) ≤ 7
+pub first_le : (now : Representation) (op : Op (List ℕ)) → place_left (first_step now op) ≤ 7
 first_le now op = by_le from_kind 7 (omega arith) kind_le (asked_settings op) now op
 
 behind_le : (offset : Option ℕ) → place_left (opened_step offset) ≤ 2
@@ -179,7 +179,7 @@ abbrev pub goes_step : Step → Bool
 goes_step Steps.Last = false
 goes_step step = true
 
-pub next_less : (now : Settings) (op : Op (List ℕ)) (step : Step) → goes_step step ≡ true → place_left (next_step now op step) < steps_left step
+pub next_less : (now : Representation) (op : Op (List ℕ)) (step : Step) → goes_step step ≡ true → place_left (next_step now op step) < steps_left step
 next_less now op Steps.Kind goes = omega (arith, by_le from_structure 6 (omega arith) structure_le (asked_settings op) now op)
 next_less now op Steps.Structure goes = omega (arith, by_le from_mode 5 (omega arith) mode_le (asked_settings op) now op)
 next_less now op Steps.Mode goes = omega (arith, opening_le (how_of op) op)

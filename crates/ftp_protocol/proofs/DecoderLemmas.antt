@@ -1,7 +1,8 @@
 -- The decoder as the two readers, one behind the other.
 use Rattle.std.proofs.Common.{◌≡◌, ℕ, List, [], ◌∷◌, ◌++◌, refl, sym, ap, ◌∙◌, append_assoc, append-nil}
 use Rattle.ftp_repr.specs.Machine.{after, gives}
-use Rattle.ftp_repr.specs.Signs.{Sign, Form}
+use Rattle.ftp_repr.specs.Signs.{Sign}
+use Rattle.ftp_representation.specs.Representation.{Form, form_of}
 use Rattle.ftp_repr.specs.Receiving.{Taking, receiving}
 use Rattle.ftp_repr.specs.Content.{content}
 use Rattle.ftp_repr.proofs.MachineLemmas.{after-append, gives-append}
@@ -9,7 +10,6 @@ use Rattle.ftp_repr.proofs.ContentLemmas.{gives-receiving}
 use Rattle.ftp_framer.specs.Said.{Said, says, marker, file_signs}
 use Rattle.ftp_mode.specs.Reading.{Reading, reader, start, read_step}
 use Rattle.ftp_mode.proofs.LawLemmas.{front_again, front_marked}
-use Rattle.ftp_protocol.specs.Settings.{form_of}
 use Rattle.ftp_protocol.specs.Decoder.{Decoder, no_octets, with_sign, with_said, with_all, read_on, octet_says, decoded_octet, decoded, image_blocks, DecodesWhatIsSettled, FrontGivesFront, MarkedFrontGivesFront}
 
 -- what a wire says, signs of the file and markers, is the file's signs taken in order

@@ -2,7 +2,7 @@
 use Rattle.std.proofs.Common.{◌≡◌, ℕ, List, [], ◌∷◌, ◌++◌, Option, Some, None, true, refl, ap, ◌∙◌}
 use Rattle.std.specs.Prelude.{codes, decimal, drop, filter_map, nat_le, unwrap_or}
 use Rattle.ftp_command.specs.declared.command.Command.TheVariants as command
-use Rattle.ftp_command.specs.declared.command.Kind.TheVariants as Kinds
+use Rattle.ftp_representation.specs.declared.representation.Kind.TheVariants as Kinds
 use Rattle.ftp_command.specs.declared.command.Passive.TheVariants as Families
 use Rattle.ftp_operation.specs.Account.{is_known}
 use Rattle.ftp_direct.specs.Direct.{refusal, front_code}

@@ -2,16 +2,14 @@
 use Rattle.std.proofs.Common.{◌≡◌, ℕ, ◌+◌, List, [], ◌∷◌, ◌++◌, Option, Some, None, Bool, true, false, refl, ap, ◌∙◌}
 use Rattle.std.specs.Prelude.{codes, decimal, length, nat_le, if◌then◌else◌}
 use Rattle.ftp_command.specs.declared.command.Command.TheVariants as command
-use Rattle.ftp_command.specs.declared.command.Kind.TheVariants as Kinds
-use Rattle.ftp_command.specs.declared.command.Mode.TheVariants as Modes
+use Rattle.ftp_representation.specs.declared.representation.Kind.TheVariants as Kinds
+use Rattle.ftp_representation.specs.declared.representation.Mode.TheVariants as Modes
 use Rattle.ftp_operation.specs.Account.{is_known}
 use Rattle.ftp_direct.specs.Direct.{or_code, past_refusal}
 use Rattle.ftp_path.specs.Path.{resolved, fits, text_of, Names}
 use Rattle.ftp_tree.specs.Tree.{Table, File, node_at, octets_at, octets_or_none, room_refusal, room_at}
-use Rattle.ftp_repr.specs.declared.form.Kind.TheVariants as KindOf
-use Rattle.ftp_repr.specs.declared.form.Structure.TheVariants as StructureOf
-use Rattle.ftp_framer.specs.declared.mode.Mode.TheVariants as ModeOf
-use Rattle.ftp_protocol.specs.Settings.{first_settings}
+use Rattle.ftp_representation.specs.declared.representation.Structure.TheVariants as Structures
+use Rattle.ftp_representation.specs.Representation.{defaults}
 use Rattle.ftp_protocol.specs.Decoder.{Decoder, no_octets, decoder_of, ended}
 use Rattle.ftp_protocol.specs.Ear.{quiet}
 use Rattle.ftp_protocol.specs.server.View.{Footing, Move, Session, View, all_facts, direct_of}
@@ -23,7 +21,7 @@ use Rattle.ftp_protocol.specs.RowWords.{here}
 use Rattle.ftp_protocol.specs.server.Rows.{Event, accounts, behind, said_to_member, member, at, of, asks, opened, octets, port, ended as ends, broken as breaks, PassiveUpload, BrokenUpload, TooMuch, Marker, Abort}
 use Rattle.ftp_protocol.specs.declared.said.Text.{Text}
 use Rattle.ftp_protocol.specs.declared.said.Text.TheVariants as Texts
-use Rattle.ftp_protocol.specs.declared.settings.Settings.{Settings}
+use Rattle.ftp_representation.specs.declared.representation.Representation.{Representation}
 use Rattle.ftp_protocol.specs.declared.session.Access.TheVariants as Accesses
 use Rattle.ftp_protocol.specs.declared.session.Once.TheVariants as Onces
 use Rattle.ftp_protocol.specs.declared.session.Life.TheVariants as Lives
@@ -48,7 +46,7 @@ abbrev stored : View → Option ℕ → View
 stored v code = started v (Moves.Up f_path 0 (no_octets v.session.settings)) code
 
 -- an upload is under way, whatever was said before
-abbrev uploading : Footing → Table → Settings → List ℕ → Link Move → View
+abbrev uploading : Footing → Table → Representation → List ℕ → Link Move → View
 uploading footing table settings said link = record {
   footing = footing;
   session = record {
@@ -76,7 +74,7 @@ abbrev limited : Decoder → Bool → Link Move
 limited d over = if over then At.Moving Moves.Past else up d
 
 -- the upload is over
-abbrev left : Footing → Settings → List ℕ → Outcome → Bool → View
+abbrev left : Footing → Representation → List ℕ → Outcome → Bool → View
 left footing settings said outcome closing = record {
   footing = footing;
   session = record {
@@ -100,14 +98,14 @@ abbrev outcome : Footing → Table → List ℕ → Text → Bool → Outcome
 outcome footing table content text over = if over then (table, Texts.TooMuch) else (put_in footing table f_path 0 content, text)
 
 -- decoders of a file in type I and of one in type A
-abbrev image_settings : Settings
-image_settings = record { kind = KindOf.Image; structure = StructureOf.File; mode = ModeOf.Stream }
+abbrev image_settings : Representation
+image_settings = record { kind = Kinds.Image; structure = Structures.File; mode = Modes.Stream }
 
 abbrev image : List ℕ → Decoder
 image w = decoder_of image_settings w
 
 abbrev ascii : List ℕ → Decoder
-ascii w = decoder_of first_settings w
+ascii w = decoder_of defaults w
 
 -- so many octets pass no limit
 fits_room : (table : Table) (room : ℕ) (d : Decoder) → room_at table f_path ≡ room → nat_le (0 + length d.content) 16777216 ≡ true
@@ -117,29 +115,29 @@ fits_room table room d is small fit = rw small (rw is (rw fit refl))
 -- ---- octets: what each of them settles, where that passes no limit or does
 
 a_comes : (footing : Footing) (table : Table) (said : List ℕ) (over : Bool) → is_over table f_path 0 (ascii (97 ∷ [])) ≡ over
-    → receives_octet (uploading footing table first_settings said (up (ascii ([])))) 97 ≡ uploading footing table first_settings said (limited (ascii (97 ∷ [])) over)
+    → receives_octet (uploading footing table defaults said (up (ascii ([])))) 97 ≡ uploading footing table defaults said (limited (ascii (97 ∷ [])) over)
 unfolding receives_octet
-a_comes footing table said over is = ap (λ b. uploading footing table first_settings said (limited (ascii (97 ∷ [])) b)) is
+a_comes footing table said over is = ap (λ b. uploading footing table defaults said (limited (ascii (97 ∷ [])) b)) is
 
 b_comes : (footing : Footing) (table : Table) (said : List ℕ) (over : Bool) → is_over table f_path 0 (ascii (97 ∷ 98 ∷ [])) ≡ over
-    → receives_octet (uploading footing table first_settings said (up (ascii (97 ∷ [])))) 98 ≡ uploading footing table first_settings said (limited (ascii (97 ∷ 98 ∷ [])) over)
+    → receives_octet (uploading footing table defaults said (up (ascii (97 ∷ [])))) 98 ≡ uploading footing table defaults said (limited (ascii (97 ∷ 98 ∷ [])) over)
 unfolding receives_octet
-b_comes footing table said over is = ap (λ b. uploading footing table first_settings said (limited (ascii (97 ∷ 98 ∷ [])) b)) is
+b_comes footing table said over is = ap (λ b. uploading footing table defaults said (limited (ascii (97 ∷ 98 ∷ [])) b)) is
 
 c_comes : (footing : Footing) (table : Table) (said : List ℕ) (over : Bool) → is_over table f_path 0 (ascii (97 ∷ 98 ∷ 99 ∷ [])) ≡ over
-    → receives_octet (uploading footing table first_settings said (up (ascii (97 ∷ 98 ∷ [])))) 99 ≡ uploading footing table first_settings said (limited (ascii (97 ∷ 98 ∷ 99 ∷ [])) over)
+    → receives_octet (uploading footing table defaults said (up (ascii (97 ∷ 98 ∷ [])))) 99 ≡ uploading footing table defaults said (limited (ascii (97 ∷ 98 ∷ 99 ∷ [])) over)
 unfolding receives_octet
-c_comes footing table said over is = ap (λ b. uploading footing table first_settings said (limited (ascii (97 ∷ 98 ∷ 99 ∷ [])) b)) is
+c_comes footing table said over is = ap (λ b. uploading footing table defaults said (limited (ascii (97 ∷ 98 ∷ 99 ∷ [])) b)) is
 
 x_comes : (footing : Footing) (table : Table) (said : List ℕ) (over : Bool) → is_over table f_path 0 (ascii (120 ∷ [])) ≡ over
-    → receives_octet (uploading footing table first_settings said (up (ascii ([])))) 120 ≡ uploading footing table first_settings said (limited (ascii (120 ∷ [])) over)
+    → receives_octet (uploading footing table defaults said (up (ascii ([])))) 120 ≡ uploading footing table defaults said (limited (ascii (120 ∷ [])) over)
 unfolding receives_octet
-x_comes footing table said over is = ap (λ b. uploading footing table first_settings said (limited (ascii (120 ∷ [])) b)) is
+x_comes footing table said over is = ap (λ b. uploading footing table defaults said (limited (ascii (120 ∷ [])) b)) is
 
 return_comes : (footing : Footing) (table : Table) (said : List ℕ) (over : Bool) → is_over table f_path 0 (ascii (120 ∷ 13 ∷ [])) ≡ over
-    → receives_octet (uploading footing table first_settings said (up (ascii (120 ∷ [])))) 13 ≡ uploading footing table first_settings said (limited (ascii (120 ∷ 13 ∷ [])) over)
+    → receives_octet (uploading footing table defaults said (up (ascii (120 ∷ [])))) 13 ≡ uploading footing table defaults said (limited (ascii (120 ∷ 13 ∷ [])) over)
 unfolding receives_octet
-return_comes footing table said over is = ap (λ b. uploading footing table first_settings said (limited (ascii (120 ∷ 13 ∷ [])) b)) is
+return_comes footing table said over is = ap (λ b. uploading footing table defaults said (limited (ascii (120 ∷ 13 ∷ [])) b)) is
 
 image_a : (footing : Footing) (table : Table) (said : List ℕ) (over : Bool) → is_over table f_path 0 (image (97 ∷ [])) ≡ over
     → receives_octet (uploading footing table image_settings said (up (image ([])))) 97 ≡ uploading footing table image_settings said (limited (image (97 ∷ [])) over)
@@ -159,19 +157,19 @@ image_c footing table said over is = ap (λ b. uploading footing table image_set
 -- ---- ends
 
 aborts : (footing : Footing) (table : Table) (said : List ℕ) → is_over table f_path 0 (ascii (97 ∷ 98 ∷ [])) ≡ false
-    → behind (asks command.Abor ∷ []) (uploading footing table first_settings said (up (ascii (97 ∷ 98 ∷ []))))
-    ≡ owes (reply_octets (fixed_reply Texts.AbortDone)) (left footing first_settings said (outcome footing table (codes "ab") Texts.Broken false) true)
+    → behind (asks command.Abor ∷ []) (uploading footing table defaults said (up (ascii (97 ∷ 98 ∷ []))))
+    ≡ owes (reply_octets (fixed_reply Texts.AbortDone)) (left footing defaults said (outcome footing table (codes "ab") Texts.Broken false) true)
 aborts footing table said is =
-    ap (λ b. owes (reply_octets (fixed_reply Texts.AbortDone)) (left footing first_settings said (outcome footing table (codes "ab") Texts.Broken b) true)) is
+    ap (λ b. owes (reply_octets (fixed_reply Texts.AbortDone)) (left footing defaults said (outcome footing table (codes "ab") Texts.Broken b) true)) is
 
 breaks_off : (footing : Footing) (table : Table) (said : List ℕ) → is_over table f_path 0 (ascii (120 ∷ 13 ∷ [])) ≡ false
-    → data_fault (uploading footing table first_settings said (up (ascii (120 ∷ 13 ∷ []))))
-    ≡ left footing first_settings said (outcome footing table (codes "x") Texts.Broken false) false
+    → data_fault (uploading footing table defaults said (up (ascii (120 ∷ 13 ∷ []))))
+    ≡ left footing defaults said (outcome footing table (codes "x") Texts.Broken false) false
 unfolding data_fault
-breaks_off footing table said is = ap (λ b. left footing first_settings said (outcome footing table (codes "x") Texts.Broken b) false) is
+breaks_off footing table said is = ap (λ b. left footing defaults said (outcome footing table (codes "x") Texts.Broken b) false) is
 
 ends_past : (footing : Footing) (table : Table) (said : List ℕ)
-    → data_end (uploading footing table first_settings said (At.Moving Moves.Past)) ≡ left footing first_settings said (table, Texts.TooMuch) false
+    → data_end (uploading footing table defaults said (At.Moving Moves.Past)) ≡ left footing defaults said (table, Texts.TooMuch) false
 unfolding data_end
 ends_past footing table said = refl
 
@@ -191,7 +189,7 @@ abbrev active_said : List ℕ
 active_said = said_to_member (codes "200 Endpoint taken" ∷ codes "150 Opening data connection" ∷ [])
 
 begun : (table : Table) → node_at table f_path ≡ Some (File [] 0)
-    → member table (asks (command.Port (at here)) ∷ asks (command.Stor (codes "f")) ∷ opened here ∷ []) ≡ uploading standing table first_settings active_said (up (ascii []))
+    → member table (asks (command.Port (at here)) ∷ asks (command.Stor (codes "f")) ∷ opened here ∷ []) ≡ uploading standing table defaults active_said (up (ascii []))
 unfolding obeyed is_known fits text_of resolved data_opened
 begun table f =
     let v : View = member table (asks (command.Port (at here)) ∷ []) in
@@ -257,8 +255,8 @@ passive_upload table f room =
 
 -- ---- APPE with a marker
 
-abbrev block_settings : Settings
-block_settings = record { kind = KindOf.Image; structure = StructureOf.File; mode = ModeOf.Block }
+abbrev block_settings : Representation
+block_settings = record { kind = Kinds.Image; structure = Structures.File; mode = Modes.Block }
 
 abbrev blocks : List ℕ → Decoder
 blocks w = decoder_of block_settings w

@@ -3,11 +3,12 @@ use Rattle.std.proofs.Common.{◌≡◌, ℕ, List, [], ◌∷◌, ◌++◌, Boo
 use Rattle.std.specs.Prelude.{IsTrue}
 use Rattle.std.specs.List.{flat_map}
 use Rattle.ftp_repr.specs.Machine.{after, gives}
-use Rattle.ftp_repr.specs.Signs.{Sign, end_file, Form, signs_of, signs_of_octet}
+use Rattle.ftp_repr.specs.Signs.{Sign, end_file, signs_of, signs_of_octet}
+use Rattle.ftp_representation.specs.Representation.{Form, form_of}
 use Rattle.ftp_repr.specs.Receiving.{Taking, fresh, receiving}
-use Rattle.ftp_repr.specs.declared.form.Kind.{Kind}
-use Rattle.ftp_repr.specs.declared.form.Structure.{Structure}
-use Rattle.ftp_repr.specs.declared.form.Structure.TheVariants.{File, Record}
+use Rattle.ftp_representation.specs.declared.representation.Kind.{Kind}
+use Rattle.ftp_representation.specs.declared.representation.Structure.{Structure}
+use Rattle.ftp_representation.specs.declared.representation.Structure.TheVariants.{File, Record}
 use Rattle.ftp_repr.proofs.MachineLemmas.{after-append, gives-append}
 use Rattle.ftp_repr.proofs.ContentLemmas.{gives-receiving, content-signs_of}
 use Rattle.ftp_framer.specs.Said.{Said, says, file_signs}
@@ -15,14 +16,13 @@ use Rattle.ftp_mode.specs.Reading.{Reading, going, failed, reader, start, is_com
 use Rattle.ftp_framer.specs.Wire.{wire}
 use Rattle.ftp_mode.specs.Laws.{ReadsTo, unsaid_end}
 use Rattle.ftp_framer.specs.Block.{marked_text}
-use Rattle.ftp_framer.specs.declared.mode.Mode.{Mode}
-use Rattle.ftp_framer.specs.declared.mode.Mode.TheVariants.{Stream, Block as Blocks}
+use Rattle.ftp_representation.specs.declared.representation.Mode.{Mode}
+use Rattle.ftp_representation.specs.declared.representation.Mode.TheVariants.{Stream, Block as Blocks}
 use Rattle.ftp_mode.proofs.LawLemmas.{reads_wire, marked_reads}
 use Rattle.ftp_mode.proofs.ExactLemmas.{reads_to}
 use Rattle.ftp_mode.proofs.TextLemmas.{file-row_said}
-use Rattle.ftp_protocol.specs.Settings.{form_of}
 use Rattle.ftp_protocol.specs.Decoder.{no_octets, is_ended_in, decoder_of, image_blocks, GivesFile, WireGivesFile, MarkedWireGivesFile}
-use Rattle.ftp_protocol.specs.declared.settings.Settings.{Settings}
+use Rattle.ftp_representation.specs.declared.representation.Representation.{Representation}
 use Rattle.ftp_protocol.proofs.DecoderLemmas.{Decodes, decodes, file_signs-append}
 
 -- a reader that is complete is one at which the file may end
@@ -54,7 +54,7 @@ settles_end Blocks k s ss b e =
     let f : Form = record { kind = k; structure = s } in behind_end f ss (flat_map (signs_of_octet f) b) (sym (append-nil ss) ∙ e)
 
 -- a wire that reads as the signs of a file gives the file
-pub gives_file : (settings : Settings) (b w : List ℕ) (said : List Said) → ReadsTo settings.mode settings.structure w said
+pub gives_file : (settings : Representation) (b w : List ℕ) (said : List Said) → ReadsTo settings.mode settings.structure w said
     → file_signs said ≡ signs_of (form_of settings) b → GivesFile settings w b
 gives_file settings b w said r is =
     let f : Form = form_of settings in

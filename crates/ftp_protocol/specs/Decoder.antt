@@ -2,17 +2,17 @@
 -- type and structure (RFC 959, sections 3.1 to 3.5).
 use Rattle.std.specs.Prelude.{◌≡◌, ℕ, ◌<◌, ◌+◌, ◌^◌, List, [], ◌∷◌, ◌++◌, length, Bool, false, Option, Some, None, IsTrue}
 use Rattle.ftp_repr.specs.Machine.{IsFront}
-use Rattle.ftp_repr.specs.Signs.{Sign, end_file, Form}
+use Rattle.ftp_repr.specs.Signs.{Sign, end_file}
+use Rattle.ftp_representation.specs.Representation.{Form, form_of}
 use Rattle.ftp_repr.specs.Receiving.{Taking, fresh, receiving}
 use Rattle.ftp_framer.specs.Said.{Said, says, marker}
 use Rattle.ftp_mode.specs.Reading.{Reading, going, failed, start, read_step, read_out, is_complete_at}
 use Rattle.ftp_framer.specs.Block.{marked_text}
 use Rattle.ftp_framer.specs.Wire.{wire, image_file}
 use Rattle.ftp_mode.specs.Laws.{settled_content}
-use Rattle.ftp_framer.specs.declared.mode.Mode.TheVariants as Modes
+use Rattle.ftp_representation.specs.declared.representation.Mode.TheVariants as Modes
 use Rattle.ftp_mode.specs.declared.fault.FrameFault.{FrameFault}
-use Rattle.ftp_protocol.specs.Settings.{form_of}
-use Rattle.ftp_protocol.specs.declared.settings.Settings.{Settings}
+use Rattle.ftp_representation.specs.declared.representation.Representation.{Representation}
 
 -- where both readers stand, and the octets of the file that are settled
 pub record Decoder : Type 0 where
@@ -22,7 +22,7 @@ pub record Decoder : Type 0 where
   pub content : List ℕ
 
 -- no octet came
-abbrev pub no_octets : Settings → Decoder
+abbrev pub no_octets : Representation → Decoder
 no_octets settings = record {
   form = form_of settings;
   reading = start settings.mode settings.structure;
@@ -95,25 +95,25 @@ broken d = d
 -- ---- the laws
 
 -- the decoder of these octets
-abbrev pub decoder_of : Settings → List ℕ → Decoder
+abbrev pub decoder_of : Representation → List ℕ → Decoder
 decoder_of settings w = decoded (no_octets settings) w
 
 -- own markers change nothing of the file
-abbrev pub image_blocks : Settings
+abbrev pub image_blocks : Representation
 image_blocks = record { kind = image_file.kind; structure = image_file.structure; mode = Modes.Block }
 
 -- what came is what a wire settles that was cut
 abbrev pub DecodesWhatIsSettled : Type 0
-DecodesWhatIsSettled = (settings : Settings) (w : List ℕ) → (decoder_of settings w).content ≡ settled_content settings.mode (form_of settings) w
+DecodesWhatIsSettled = (settings : Representation) (w : List ℕ) → (decoder_of settings w).content ≡ settled_content settings.mode (form_of settings) w
 
 -- the one text of a file, ended, gives the file
-pub record GivesFile (settings : Settings) (w b : List ℕ) : Type 0 where
+pub record GivesFile (settings : Representation) (w b : List ℕ) : Type 0 where
   pub whole : IsTrue (is_whole (decoder_of settings w))
   pub content : (ended (decoder_of settings w)).content ≡ b
 
 -- in all eight representations
 abbrev pub WireGivesFile : Type 0
-WireGivesFile = (settings : Settings) (b : List ℕ) → GivesFile settings (wire settings.mode (form_of settings) b) b
+WireGivesFile = (settings : Representation) (b : List ℕ) → GivesFile settings (wire settings.mode (form_of settings) b) b
 
 -- with own markers too
 abbrev pub MarkedWireGivesFile : Type 0
@@ -121,7 +121,7 @@ MarkedWireGivesFile = (from : ℕ) (b : List ℕ) → from + length b < 2 ^ 64 �
 
 -- a front of it settles a front of the file
 abbrev pub FrontGivesFront : Type 0
-FrontGivesFront = (settings : Settings) (b w : List ℕ) → IsFront w (wire settings.mode (form_of settings) b) → IsFront (decoder_of settings w).content b
+FrontGivesFront = (settings : Representation) (b w : List ℕ) → IsFront w (wire settings.mode (form_of settings) b) → IsFront (decoder_of settings w).content b
 
 -- with own markers too
 abbrev pub MarkedFrontGivesFront : Type 0

@@ -1,4 +1,3 @@
-pub mod Settings
 pub mod Ear
 pub mod Decoder
 pub mod Link

@@ -13,7 +13,6 @@ mod near;
 mod said;
 pub mod server_rows;
 mod session;
-mod settings;
 pub mod world_laws;
 pub mod world_rows;
 
@@ -23,4 +22,3 @@ pub use link::Wants;
 pub use near::Near;
 pub use said::{Said, Text};
 pub use session::{Access, Asked, Facts, Life, Link, Once, Transfer, Way};
-pub use settings::Settings;

@@ -5,13 +5,14 @@ use Rattle.std.proofs.lemmas.Bool.{eqb-true}
 use Rattle.std.proofs.lemmas.List.Concat.{flat_map-append}
 use Rattle.ftp_repr.specs.Machine.{gives, IsFront}
 use Rattle.ftp_repr.specs.Ascii.{asc, plain}
-use Rattle.ftp_repr.specs.Signs.{Sign, octet, end_record, end_file, Form, wire_octets, wire_row, octet_signs, signs_of}
+use Rattle.ftp_repr.specs.Signs.{Sign, octet, end_record, end_file, wire_octets, wire_row, octet_signs, signs_of}
+use Rattle.ftp_representation.specs.Representation.{Form}
 use Rattle.ftp_repr.specs.Receiving.{Taking, receiving, ascii_gives, held_octets, fresh, over}
 use Rattle.ftp_repr.specs.Content.{read_record, content_by, content}
-use Rattle.ftp_repr.specs.declared.form.Kind.{Kind}
-use Rattle.ftp_repr.specs.declared.form.Kind.TheVariants.{Ascii, Image}
-use Rattle.ftp_repr.specs.declared.form.Structure.{Structure}
-use Rattle.ftp_repr.specs.declared.form.Structure.TheVariants.{File, Record}
+use Rattle.ftp_representation.specs.declared.representation.Kind.{Kind}
+use Rattle.ftp_representation.specs.declared.representation.Kind.TheVariants.{Ascii, Image}
+use Rattle.ftp_representation.specs.declared.representation.Structure.{Structure}
+use Rattle.ftp_representation.specs.declared.representation.Structure.TheVariants.{File, Record}
 use Rattle.ftp_repr.proofs.AsciiLemmas.{decided, plain-nil, plain-asc}
 use Rattle.ftp_repr.proofs.MachineLemmas.{gives-front}
 use Rattle.ftp_repr.proofs.SignLemmas.{signs_of-cons}

@@ -3,10 +3,11 @@ use Rattle.std.proofs.Common.{◌≡◌, ℕ, ◌+◌, ◌<◌, ◌≤◌, List,
 use Rattle.std.specs.List.{AllByRecursion}
 use Rattle.std.proofs.lemmas.List.{map-append, take-append-drop}
 use Rattle.ftp_repr.specs.Machine.{after, gives}
-use Rattle.ftp_repr.specs.Signs.{Sign, octet, Form}
+use Rattle.ftp_repr.specs.Signs.{Sign, octet}
+use Rattle.ftp_representation.specs.Representation.{Form}
 use Rattle.ftp_repr.specs.Receiving.{receiving}
 use Rattle.ftp_repr.specs.Received.{Receives, HasNoRoom, receiver_form, taking}
-use Rattle.ftp_repr.specs.declared.form.Kind.TheVariants.{Ascii, Image}
+use Rattle.ftp_representation.specs.declared.representation.Kind.TheVariants.{Ascii, Image}
 use Rattle.ftp_repr.specs.declared.receiver.Receiver.{Receiver}
 use Rattle.ftp_repr.proofs.MachineLemmas.{gives-append}
 use Rattle.ftp_repr.proofs.RunLemmas.{run_ascii, run_image}

@@ -2,12 +2,13 @@
 use Rattle.std.proofs.Common.{◌≡◌, ℕ, zero, suc, ◌<◌, ◌≤◌, List, [], ◌∷◌, ◌++◌, Bool, true, false, ◌==◌, length, take, get_or, map, refl, ap, sym, subst, ◌∙◌, arith}
 use Rattle.std.specs.List.{AllByRecursion}
 use Rattle.ftp_repr.specs.Machine.{after, gives}
-use Rattle.ftp_repr.specs.Signs.{Sign, octet, Form}
+use Rattle.ftp_repr.specs.Signs.{Sign, octet}
+use Rattle.ftp_representation.specs.Representation.{Form}
 use Rattle.ftp_repr.specs.Receiving.{Taking, receiving}
 use Rattle.ftp_repr.specs.Runs.{IsRun}
-use Rattle.ftp_repr.specs.declared.form.Kind.{Kind}
-use Rattle.ftp_repr.specs.declared.form.Kind.TheVariants.{Ascii, Image}
-use Rattle.ftp_repr.specs.declared.form.Structure.{Structure}
+use Rattle.ftp_representation.specs.declared.representation.Kind.{Kind}
+use Rattle.ftp_representation.specs.declared.representation.Kind.TheVariants.{Ascii, Image}
+use Rattle.ftp_representation.specs.declared.representation.Structure.{Structure}
 use Rattle.ftp_repr.proofs.ContentLemmas.{form}
 
 -- what holds at each place of the first n

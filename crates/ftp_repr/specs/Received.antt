@@ -1,7 +1,8 @@
 -- What a receiver made of items.
 use Rattle.std.specs.Prelude.{◌≡◌, ℕ, ◌+◌, ◌<◌, ◌≤◌, List, ◌++◌, length, take, map}
 use Rattle.ftp_repr.specs.Machine.{after, gives}
-use Rattle.ftp_repr.specs.Signs.{Sign, octet, Form}
+use Rattle.ftp_repr.specs.Signs.{Sign, octet}
+use Rattle.ftp_representation.specs.Representation.{Form}
 use Rattle.ftp_repr.specs.Receiving.{Taking, receiving}
 use Rattle.ftp_repr.specs.declared.receiver.Receiver.{Receiver}
 

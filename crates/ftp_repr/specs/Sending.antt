@@ -1,6 +1,7 @@
 -- What a sender has still to give.
 use Rattle.std.specs.Prelude.{ℕ, List, [], Bool, if◌then◌else◌}
-use Rattle.ftp_repr.specs.Signs.{Sign, Form, signs_of}
+use Rattle.ftp_repr.specs.Signs.{Sign, signs_of}
+use Rattle.ftp_representation.specs.Representation.{Form}
 use Rattle.ftp_repr.specs.declared.sender.Sender.{Sender}
 
 -- its type and structure

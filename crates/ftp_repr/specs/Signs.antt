@@ -2,19 +2,15 @@
 use Rattle.std.specs.Prelude.{ℕ, List, [], ◌∷◌, ◌++◌, map, if◌then◌else◌, ◌==◌}
 use Rattle.std.specs.List.{flat_map}
 use Rattle.ftp_repr.specs.Ascii.{ascii_octet}
-use Rattle.ftp_repr.specs.declared.form.Kind.{Kind}
-use Rattle.ftp_repr.specs.declared.form.Kind.TheVariants.{Ascii, Image}
-use Rattle.ftp_repr.specs.declared.form.Structure.{Structure}
-use Rattle.ftp_repr.specs.declared.form.Structure.TheVariants.{File, Record}
+use Rattle.ftp_representation.specs.Representation.{Form}
+use Rattle.ftp_representation.specs.declared.representation.Kind.{Kind}
+use Rattle.ftp_representation.specs.declared.representation.Kind.TheVariants.{Ascii, Image}
+use Rattle.ftp_representation.specs.declared.representation.Structure.{Structure}
+use Rattle.ftp_representation.specs.declared.representation.Structure.TheVariants.{File, Record}
 
 pub data Sign : Type 0 where
   octet : (c : ℕ) → Sign
   end_record end_file : Sign
-
--- a type and a structure
-pub record Form : Type 0 where
-  pub kind : Kind
-  pub structure : Structure
 
 -- what an octet of the file goes as (RFC 959, sections 3.1.1.1 and 3.1.1.3)
 abbrev pub wire_octets : Kind → ℕ → List ℕ

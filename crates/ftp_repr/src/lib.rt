@@ -3,7 +3,6 @@
 #![tactic(auto)]
 
 mod fault;
-mod form;
 mod item;
 mod laws;
 mod receiver;
@@ -13,7 +12,7 @@ mod size;
 mod skipping;
 
 pub use fault::ReprFault;
-pub use form::{Kind, Structure};
+pub use ftp_representation::{Kind, Structure};
 pub use item::Item;
 pub use laws::{files, front, line_ends, places, records, round_trip, runs};
 pub use receiver::Receiver;

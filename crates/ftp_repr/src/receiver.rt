@@ -3,10 +3,10 @@ ghost use Rattle.ftp_repr.specs.Signs.{Sign, octet as sign, end_record, end_file
 ghost use Rattle.ftp_repr.specs.Items.{signs};
 ghost use Rattle.ftp_repr.specs.Receiving.{fresh, over};
 ghost use Rattle.ftp_repr.specs.Received.{Receives, Bites, HasNoRoom, receiver_form, taking};
-ghost use Rattle.ftp_repr.specs.declared.form.Kind.TheVariants.{Ascii};
+ghost use Rattle.ftp_representation.specs.declared.representation.Kind.TheVariants.{Ascii};
 
 use crate::fault::ReprFault;
-use crate::form::{Kind, Structure};
+use ftp_representation::{Kind, Structure};
 use crate::item::Item;
 use crate::run::before_return;
 use std::alloc::{AllocError, Allocator};

@@ -1,7 +1,7 @@
 ghost use Rattle.std.specs.Prelude.{◌==◌};
 ghost use Rattle.ftp_repr.specs.Runs.{IsRun, is_changed};
 
-use crate::form::{Kind, Structure};
+use ftp_representation::{Kind, Structure};
 use memchr::{memchr, memchr2};
 
 /// How many octets of a file stand before the first that does not go over the wire as itself, or all.

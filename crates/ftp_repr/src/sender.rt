@@ -3,7 +3,7 @@ ghost use Rattle.ftp_repr.specs.Items.{given_signs};
 ghost use Rattle.ftp_repr.specs.Sending.{sender_form, has_sent_end, still_to_send};
 ghost use Rattle.ftp_repr.specs.declared.item.Item.TheVariants.{EndFile};
 
-use crate::form::{Kind, Structure};
+use ftp_representation::{Kind, Structure};
 use crate::item::Item;
 use crate::run::plain_run;
 

@@ -2,7 +2,7 @@ ghost use Rattle.std.specs.Prelude.{◌≡◌, ◌+◌, ◌≤◌, length, if◌
 ghost use Rattle.ftp_repr.specs.Ascii.{asc, ascii_octet};
 ghost use Rattle.ftp_repr.specs.Signs.{wire_row};
 
-use crate::form::Kind;
+use ftp_representation::Kind;
 
 /// How many octets these octets of a file are on the wire, in file structure and stream mode (RFC 959, section
 /// 3.1.1.1). It takes no memory.

@@ -9,17 +9,17 @@ use Rattle.ftp_framer.specs.Block.{marked_text}
 use Rattle.ftp_framer.specs.Wire.{wire}
 use Rattle.ftp_framer.specs.Said.{Said as WireSaid, says, marker}
 use Rattle.ftp_protocol.specs.Decoder.{no_octets, octet_says, decoded_octet, broken}
-use Rattle.ftp_protocol.specs.Settings.{form_of, has_markers}
+use Rattle.ftp_representation.specs.Representation.{form_of, has_markers}
 use Rattle.ftp_protocol.specs.client.Listing.{entries_value, names_value}
 use Rattle.ftp_protocol.specs.client.Plan.{settings_of, listing_settings}
 use Rattle.ftp_protocol.specs.client.Values.{number_value}
 use Rattle.ftp_protocol.specs.client.View.{Flow, Up, Down}
-use Rattle.ftp_protocol.specs.declared.settings.Settings.{Settings}
+use Rattle.ftp_representation.specs.declared.representation.Representation.{Representation}
 
 -- ---- an upload
 
 -- the one written text of octets in some settings, with own markers or without; markers count from a start
-abbrev pub written : Bool → Settings → ℕ → List ℕ → List ℕ
+abbrev pub written : Bool → Representation → ℕ → List ℕ → List ℕ
 written true settings start octets = marked_text start octets
 written false settings start octets = wire settings.mode (form_of settings) octets
 
@@ -34,7 +34,7 @@ upload how start octets = Up (upload_text how start octets) None
 -- ---- a download
 
 -- a download at its start: no octet came
-abbrev pub download : Settings → Flow
+abbrev pub download : Representation → Flow
 download settings = Down (no_octets settings) None
 
 -- what an operation's transfer carries at its start, where it has one: a PutFrom counts its markers from its offset, an Append

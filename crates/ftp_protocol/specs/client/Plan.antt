@@ -7,18 +7,18 @@ use Rattle.ftp_endpoint.specs.declared.endpoint.Endpoint.{Endpoint}
 use Rattle.ftp_operation.specs.declared.op.How.{How}
 use Rattle.ftp_operation.specs.declared.op.Op.{Op}
 use Rattle.ftp_operation.specs.declared.op.Op.TheVariants as Ops
-use Rattle.ftp_framer.specs.declared.mode.Mode.{Mode}
-use Rattle.ftp_framer.specs.declared.mode.Mode.TheVariants as Modes
-use Rattle.ftp_repr.specs.declared.form.Kind.TheVariants as Kinds
-use Rattle.ftp_repr.specs.declared.form.Structure.TheVariants as Structures
-use Rattle.ftp_protocol.specs.Settings.{kind_asked, structure_asked, mode_asked, same_kind, same_structure, same_mode}
+use Rattle.ftp_representation.specs.declared.representation.Mode.{Mode}
+use Rattle.ftp_representation.specs.declared.representation.Mode.TheVariants as Modes
+use Rattle.ftp_representation.specs.declared.representation.Kind.TheVariants as Kinds
+use Rattle.ftp_representation.specs.declared.representation.Structure.TheVariants as Structures
+use Rattle.ftp_representation.specs.Representation.{same_kind, same_structure, same_mode}
 use Rattle.ftp_protocol.specs.Link.{is_v6}
 use Rattle.ftp_protocol.specs.client.View.{View}
 use Rattle.ftp_protocol.specs.declared.client.Link.{Link}
 use Rattle.ftp_protocol.specs.declared.client.Link.TheVariants as Links
 use Rattle.ftp_protocol.specs.declared.client.Step.{Step}
 use Rattle.ftp_protocol.specs.declared.client.Step.TheVariants as Steps
-use Rattle.ftp_protocol.specs.declared.settings.Settings.{Settings}
+use Rattle.ftp_representation.specs.declared.representation.Representation.{Representation}
 
 -- ---- what an operation asks for
 
@@ -34,16 +34,16 @@ how_of (Ops.Names path how) = Some how
 how_of other = None
 
 -- the settings that a transfer asks for; a listing goes in type A and file structure
-abbrev pub settings_of : How → Settings
+abbrev pub settings_of : How → Representation
 settings_of how = record { kind = how.kind; structure = how.structure; mode = how.mode }
 
 -- the settings of a listing, in a mode
-abbrev pub listing_settings : Mode → Settings
+abbrev pub listing_settings : Mode → Representation
 listing_settings mode = record { kind = Kinds.Ascii; structure = Structures.File; mode = mode }
 
 -- the settings that an operation asks for, where it does; SIZE depends on the type, and is asked in file structure and stream
 -- mode (RFC 3659, section 4)
-abbrev pub asked_settings : Op (List ℕ) → Option Settings
+abbrev pub asked_settings : Op (List ℕ) → Option Representation
 asked_settings (Ops.List path how) = Some (listing_settings how.mode)
 asked_settings (Ops.Names path how) = Some (listing_settings how.mode)
 asked_settings (Ops.Size path how) = Some (record { kind = how.kind; structure = Structures.File; mode = Modes.Stream })
@@ -82,28 +82,28 @@ opening_of None op = alone_step op
 opening_of (Some how) op = opening_step how
 
 -- TYPE, STRU and MODE in that order, each only where it differs from the last that the server accepted
-abbrev pub from_mode : (now wanted : Settings) → Step → Step
+abbrev pub from_mode : (now wanted : Representation) → Step → Step
 from_mode now wanted behind = if same_mode now.mode wanted.mode then behind else Steps.Mode
 
 -- from STRU on
-abbrev pub from_structure : (now wanted : Settings) → Step → Step
+abbrev pub from_structure : (now wanted : Representation) → Step → Step
 from_structure now wanted behind = if same_structure now.structure wanted.structure then from_mode now wanted behind else Steps.Structure
 
 -- from TYPE on
-abbrev pub from_kind : (now wanted : Settings) → Step → Step
+abbrev pub from_kind : (now wanted : Representation) → Step → Step
 from_kind now wanted behind = if same_kind now.kind wanted.kind then from_structure now wanted behind else Steps.Kind
 
 -- the first of these steps that is needed, or the opening behind them
-abbrev pub step_by : (Settings → Settings → Step → Step) → Option Settings → Settings → Op (List ℕ) → Step
+abbrev pub step_by : (Representation → Representation → Step → Step) → Option Representation → Representation → Op (List ℕ) → Step
 step_by from None now op = opening_of (how_of op) op
 step_by from (Some wanted) now op = from now wanted (opening_of (how_of op) op)
 
 -- the first step of an operation, where the server has these settings
-abbrev pub first_step : Settings → Op (List ℕ) → Step
+abbrev pub first_step : Representation → Op (List ℕ) → Step
 first_step now op = step_by from_kind (asked_settings op) now op
 
 -- the step behind one that was answered well
-abbrev pub next_step : Settings → Op (List ℕ) → Step → Step
+abbrev pub next_step : Representation → Op (List ℕ) → Step → Step
 next_step now op Steps.Kind = step_by from_structure (asked_settings op) now op
 next_step now op Steps.Structure = step_by from_mode (asked_settings op) now op
 next_step now op Steps.Mode = opening_of (how_of op) op
@@ -116,14 +116,14 @@ next_step now op Steps.Source = Steps.Last
 next_step now op Steps.Last = Steps.Last
 
 -- the settings once a step was accepted
-abbrev pub settings_behind_by : Step → (now wanted : Settings) → Settings
+abbrev pub settings_behind_by : Step → (now wanted : Representation) → Representation
 settings_behind_by Steps.Kind now wanted = record now { kind = wanted.kind }
 settings_behind_by Steps.Structure now wanted = record now { structure = wanted.structure }
 settings_behind_by Steps.Mode now wanted = record now { mode = wanted.mode }
 settings_behind_by other now wanted = now
 
 -- an operation without settings changes none
-abbrev pub settings_behind : Step → Settings → Option Settings → Settings
+abbrev pub settings_behind : Step → Representation → Option Representation → Representation
 settings_behind step now None = now
 settings_behind step now (Some wanted) = settings_behind_by step now wanted
 
@@ -181,14 +181,14 @@ own_command (Ops.List path how) = Commands.Mlsd (optional path)
 own_command (Ops.Names path how) = Commands.Nlst (optional path)
 
 -- TYPE, STRU or MODE, of the settings wanted
-abbrev pub setting_command : Step → Settings → Option (Command (List ℕ))
-setting_command Steps.Kind wanted = Some (Commands.Repr (kind_asked wanted.kind))
-setting_command Steps.Structure wanted = Some (Commands.Stru (structure_asked wanted.structure))
-setting_command Steps.Mode wanted = Some (Commands.Mode (mode_asked wanted.mode))
+abbrev pub setting_command : Step → Representation → Option (Command (List ℕ))
+setting_command Steps.Kind wanted = Some (Commands.Repr wanted.kind)
+setting_command Steps.Structure wanted = Some (Commands.Stru wanted.structure)
+setting_command Steps.Mode wanted = Some (Commands.Mode wanted.mode)
 setting_command other wanted = None
 
 -- of an operation that asks for settings
-abbrev pub set_command : Step → Option Settings → Option (Command (List ℕ))
+abbrev pub set_command : Step → Option Representation → Option (Command (List ℕ))
 set_command step None = None
 set_command step (Some wanted) = setting_command step wanted
 

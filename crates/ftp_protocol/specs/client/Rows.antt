@@ -9,9 +9,9 @@ use Rattle.ftp_operation.specs.Answer.{Said, Done, Path, Octets, Stamp, Refused,
 use Rattle.ftp_operation.specs.declared.op.How.{How}
 use Rattle.ftp_operation.specs.declared.op.Op.{Op}
 use Rattle.ftp_operation.specs.declared.op.Op.TheVariants as Ops
-use Rattle.ftp_framer.specs.declared.mode.Mode.TheVariants as Modes
-use Rattle.ftp_repr.specs.declared.form.Kind.TheVariants as Kinds
-use Rattle.ftp_repr.specs.declared.form.Structure.TheVariants as Structures
+use Rattle.ftp_representation.specs.declared.representation.Mode.TheVariants as Modes
+use Rattle.ftp_representation.specs.declared.representation.Kind.TheVariants as Kinds
+use Rattle.ftp_representation.specs.declared.representation.Structure.TheVariants as Structures
 use Rattle.ftp_protocol.specs.RowWords.{here, elsewhere, lines}
 use Rattle.ftp_protocol.specs.client.Calls.{starts, report_of, hears, listening, listen_refused, data_opened, data_refused, data_end, data_fault, receives, gives_data, to_give, wants}
 use Rattle.ftp_protocol.specs.client.Dialogue.{answered}

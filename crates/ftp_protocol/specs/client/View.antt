@@ -6,7 +6,7 @@ use Rattle.ftp_operation.specs.Answer.{Said, Lost, Strange, Memory}
 use Rattle.ftp_operation.specs.declared.op.Op.{Op}
 use Rattle.ftp_protocol.specs.Decoder.{Decoder}
 use Rattle.ftp_protocol.specs.Ear.{Ear, quiet}
-use Rattle.ftp_protocol.specs.Settings.{first_settings}
+use Rattle.ftp_representation.specs.Representation.{defaults}
 use Rattle.ftp_protocol.specs.client.Replies.{Gathered, Between}
 use Rattle.ftp_protocol.specs.declared.client.Failure.{Failure}
 use Rattle.ftp_protocol.specs.declared.client.Failure.TheVariants as Failures
@@ -16,7 +16,7 @@ use Rattle.ftp_protocol.specs.declared.client.Replied.{Replied}
 use Rattle.ftp_protocol.specs.declared.client.Standing.{Standing}
 use Rattle.ftp_protocol.specs.declared.client.Standing.TheVariants as Stands
 use Rattle.ftp_protocol.specs.declared.client.Step.{Step}
-use Rattle.ftp_protocol.specs.declared.settings.Settings.{Settings}
+use Rattle.ftp_representation.specs.declared.representation.Representation.{Representation}
 
 -- what goes over the data connection: the octets of an upload that are still to give, with the last mmmm of a 110 reply; or what
 -- the octets of a download have said, with its last marker that is a number
@@ -48,7 +48,7 @@ pub record View : Type 0 where
   pub peer : Host
   pub standing : Standing
   pub job : Job
-  pub settings : Settings
+  pub settings : Representation
   pub link : Link
   pub closing : Bool
   pub ear : Ear
@@ -64,7 +64,7 @@ client user pass here peer = record {
   peer = peer;
   standing = Stands.Greeting;
   job = Idle;
-  settings = first_settings;
+  settings = defaults;
   link = Links.Free;
   closing = false;
   ear = quiet;

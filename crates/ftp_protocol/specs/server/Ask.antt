@@ -5,13 +5,13 @@ use Rattle.ftp_tree.specs.Tree.{octets_or_none, stamp_at}
 use Rattle.ftp_facts.specs.Moment.{moment_digits}
 use Rattle.ftp_direct.specs.Direct.{refusal, named_or_here, size_in}
 use Rattle.ftp_operation.specs.declared.op.Op.TheVariants as Ops
-use Rattle.ftp_protocol.specs.Settings.{same_structure, same_mode}
-use Rattle.ftp_repr.specs.declared.form.Structure.TheVariants as Structures
-use Rattle.ftp_framer.specs.declared.mode.Mode.TheVariants as Modes
+use Rattle.ftp_representation.specs.Representation.{same_structure, same_mode}
+use Rattle.ftp_representation.specs.declared.representation.Structure.TheVariants as Structures
+use Rattle.ftp_representation.specs.declared.representation.Mode.TheVariants as Modes
 use Rattle.ftp_protocol.specs.server.View.{Session, direct_of, how_in_force}
 use Rattle.ftp_protocol.specs.server.Replies.{Turn, tells}
 use Rattle.ftp_protocol.specs.server.Walk.{unless, path_of}
-use Rattle.ftp_protocol.specs.declared.settings.Settings.{Settings}
+use Rattle.ftp_representation.specs.declared.representation.Representation.{Representation}
 use Rattle.ftp_protocol.specs.declared.said.Text.TheVariants as Texts
 use Rattle.ftp_protocol.specs.declared.said.Said.TheVariants as Say
 
@@ -20,7 +20,7 @@ abbrev pub size_of : Session → List ℕ → ℕ
 size_of v text = size_in v.settings.kind (octets_or_none v.table (path_of v text))
 
 -- the settings in which a size is told
-abbrev pub has_size : Settings → Bool
+abbrev pub has_size : Representation → Bool
 has_size settings = same_structure settings.structure Structures.File && same_mode settings.mode Modes.Stream
 
 -- SIZE; own choice: a size is told in file structure and stream mode alone

@@ -7,11 +7,11 @@ use Rattle.ftp_facts.specs.Moment.{four_digits}
 use Rattle.ftp_path.specs.Path.{fits, Names}
 use Rattle.ftp_tree.specs.Tree.{Node, Dir, File, Table, node_at, children}
 use Rattle.ftp_direct.specs.Direct.{entries_in, names_for, child}
-use Rattle.ftp_repr.specs.Signs.{Form}
-use Rattle.ftp_repr.specs.declared.form.Kind.TheVariants as Kinds
-use Rattle.ftp_repr.specs.declared.form.Structure.TheVariants as Structures
+use Rattle.ftp_representation.specs.Representation.{Form}
+use Rattle.ftp_representation.specs.declared.representation.Kind.TheVariants as Kinds
+use Rattle.ftp_representation.specs.declared.representation.Structure.TheVariants as Structures
 use Rattle.ftp_framer.specs.Wire.{wire}
-use Rattle.ftp_framer.specs.declared.mode.Mode.{Mode}
+use Rattle.ftp_representation.specs.declared.representation.Mode.{Mode}
 use Rattle.ftp_protocol.specs.server.Entries.{listed_line}
 use Rattle.ftp_protocol.specs.declared.session.Facts.{Facts}
 

@@ -2,7 +2,7 @@
 use Rattle.std.specs.Prelude.{ℕ, Bool, true, false, ◌&&◌, List, [], is_none, if◌then◌else◌}
 use Rattle.std.specs.List.{list_any}
 use Rattle.ftp_operation.specs.Account.{has_user, is_known}
-use Rattle.ftp_protocol.specs.Settings.{first_settings}
+use Rattle.ftp_representation.specs.Representation.{defaults}
 use Rattle.ftp_protocol.specs.server.View.{Accounts, Session, all_facts}
 use Rattle.ftp_protocol.specs.server.Replies.{Turn, tells}
 use Rattle.ftp_protocol.specs.server.Endpoint.{forgotten}
@@ -36,7 +36,7 @@ pass Known accounts word v = tells Texts.BadSequence v
 -- REIN: all is as at the start
 abbrev pub rein : Session → Turn
 rein v =
-    tells Texts.Ready (record (forgotten v) { access = Nobody; cwd = []; settings = first_settings; facts = all_facts; only_extended = false })
+    tells Texts.Ready (record (forgotten v) { access = Nobody; cwd = []; settings = defaults; facts = all_facts; only_extended = false })
 
 -- QUIT: the reply is the last, and nothing is heard behind it
 abbrev pub quit : Session → Turn

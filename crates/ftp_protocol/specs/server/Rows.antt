@@ -3,8 +3,8 @@
 use Rattle.std.specs.Prelude.{◌≡◌, ℕ, true, false, length, List, [], ◌∷◌, ◌++◌, Some, None, codes}
 use Rattle.ftp_command.specs.declared.command.Command.{Command}
 use Rattle.ftp_command.specs.declared.command.Command.TheVariants as command
-use Rattle.ftp_command.specs.declared.command.Kind.TheVariants as Kinds
-use Rattle.ftp_command.specs.declared.command.Mode.TheVariants as Modes
+use Rattle.ftp_representation.specs.declared.representation.Kind.TheVariants as Kinds
+use Rattle.ftp_representation.specs.declared.representation.Mode.TheVariants as Modes
 use Rattle.ftp_command.specs.declared.command.Passive.TheVariants as Families
 use Rattle.ftp_endpoint.specs.declared.endpoint.Endpoint.{Endpoint}
 use Rattle.ftp_command.specs.declared.fault.CommandFault.TheVariants as Faults

@@ -6,7 +6,7 @@ use Rattle.ftp_direct.specs.Direct.{refusal, refused_room, limited, or_code, pas
 use Rattle.ftp_operation.specs.declared.op.Op.TheVariants as Ops
 use Rattle.ftp_framer.specs.Block.{marked_text}
 use Rattle.ftp_framer.specs.Wire.{wire}
-use Rattle.ftp_protocol.specs.Settings.{form_of, has_markers}
+use Rattle.ftp_representation.specs.Representation.{form_of, has_markers}
 use Rattle.ftp_protocol.specs.Decoder.{no_octets}
 use Rattle.ftp_protocol.specs.server.View.{Move, Session, direct_of, how_in_force}
 use Rattle.ftp_protocol.specs.server.Replies.{Turn, tells}
@@ -14,7 +14,7 @@ use Rattle.ftp_protocol.specs.server.Endpoint.{forgotten}
 use Rattle.ftp_protocol.specs.server.Walk.{unless, path_of}
 use Rattle.ftp_protocol.specs.server.Ask.{or_empty}
 use Rattle.ftp_protocol.specs.server.Listing.{listing_wire, list_lines, entry_lines, name_lines}
-use Rattle.ftp_protocol.specs.declared.settings.Settings.{Settings}
+use Rattle.ftp_representation.specs.declared.representation.Representation.{Representation}
 use Rattle.ftp_protocol.specs.declared.said.Text.TheVariants as Texts
 use Rattle.ftp_protocol.specs.declared.said.Said.TheVariants as Say
 use Rattle.ftp_protocol.specs.declared.session.Once.{Once}
@@ -62,7 +62,7 @@ transfer_starts (Some code) move v = unless (Some code) (forgotten v) (tells Tex
 
 -- the octets of a file from a place on, in the representation in force; own choice: with markers, counted from that place,
 -- wherever the mode and the type have them
-abbrev pub file_wire : Settings → ℕ → List ℕ → List ℕ
+abbrev pub file_wire : Representation → ℕ → List ℕ → List ℕ
 file_wire settings from octets = if has_markers settings then marked_text from octets else wire settings.mode (form_of settings) octets
 
 -- the wire of the file at a path, behind its first `place` octets

@@ -7,10 +7,10 @@ use Rattle.ftp_tree.specs.Tree.{Table}
 use Rattle.ftp_direct.specs.Direct.{State}
 use Rattle.ftp_operation.specs.declared.account.Account.{Account}
 use Rattle.ftp_operation.specs.declared.op.How.{How}
-use Rattle.ftp_protocol.specs.Settings.{first_settings}
+use Rattle.ftp_representation.specs.Representation.{defaults}
 use Rattle.ftp_protocol.specs.Ear.{Ear}
 use Rattle.ftp_protocol.specs.Decoder.{Decoder}
-use Rattle.ftp_protocol.specs.declared.settings.Settings.{Settings}
+use Rattle.ftp_representation.specs.declared.representation.Representation.{Representation}
 use Rattle.ftp_protocol.specs.declared.heard.Heard.{Heard}
 use Rattle.ftp_protocol.specs.declared.session.Access.{Access}
 use Rattle.ftp_protocol.specs.declared.session.Access.TheVariants as Accesses
@@ -45,7 +45,7 @@ pub record Session : Type 0 where
   pub access : Access (List ℕ)
   pub cwd : Names
   pub once : Once Names
-  pub settings : Settings
+  pub settings : Representation
   pub facts : Facts
   pub only_extended : Bool
   pub link : Link Move
@@ -75,7 +75,7 @@ first_session table = record {
   access = Accesses.Nobody;
   cwd = [];
   once = Onces.Nothing;
-  settings = first_settings;
+  settings = defaults;
   facts = all_facts;
   only_extended = false;
   link = At.Free;
@@ -84,7 +84,7 @@ first_session table = record {
 }
 
 -- the settings as an operation of the direct run asks for them; how its data connection is opened is of no matter here
-abbrev pub how_in_force : Settings → How
+abbrev pub how_in_force : Representation → How
 how_in_force settings =
     record { kind = settings.kind; structure = settings.structure; mode = settings.mode; marks = false; active = false; extended = false }
 

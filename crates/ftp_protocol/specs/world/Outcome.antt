@@ -14,12 +14,12 @@ use Rattle.ftp_repr.specs.Machine.{IsFront}
 use Rattle.ftp_path.specs.Path.{Names}
 use Rattle.ftp_tree.specs.Tree.{installed, octets_or_none, octets_refusal}
 use Rattle.ftp_protocol.specs.Decoder.{Decoder, no_octets, octet_says, decoded_octet}
-use Rattle.ftp_protocol.specs.Settings.{form_of, has_markers}
+use Rattle.ftp_representation.specs.Representation.{form_of, has_markers}
 use Rattle.ftp_protocol.specs.client.Moving.{written, upload_text, last_mark}
 use Rattle.ftp_protocol.specs.client.Plan.{settings_of, listing_settings, how_of}
 use Rattle.ftp_protocol.specs.server.Entries.{listed_line}
 use Rattle.ftp_protocol.specs.server.View.{all_facts}
-use Rattle.ftp_protocol.specs.declared.settings.Settings.{Settings}
+use Rattle.ftp_representation.specs.declared.representation.Representation.{Representation}
 
 -- what a lost operation did: nothing, all, or what the front of its wire lets stand
 pub data Part : Type 0 where
@@ -54,7 +54,7 @@ upload_of state other = None
 
 -- a download: octets in some settings, with the place from which markers count
 pub record Download : Type 0 where
-  pub settings : Settings
+  pub settings : Representation
   pub start : ℕ
   pub octets : List ℕ
 
@@ -86,7 +86,7 @@ download_text d = written (has_markers d.settings) d.settings d.start d.octets
 -- ---- what a cut wire lets stand
 
 -- the octets of the file that a wire settles which was cut
-abbrev pub front : Settings → List ℕ → List ℕ
+abbrev pub front : Representation → List ℕ → List ℕ
 front settings wire = settled_content settings.mode (form_of settings) wire
 
 -- the last marker that stands whole in a wire, as a number

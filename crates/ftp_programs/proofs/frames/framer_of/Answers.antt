@@ -1,12 +1,19 @@
-use Rattle.ftp_programs.proofs.Framing.{text_plain, text_ascii, text_marked}
+use Rattle.std.proofs.Common.{ap, sym}
+use Rattle.std.specs.Prelude.{◌&&◌}
+use Rattle.ftp_representation.specs.Representation.{has_markers}
+use Rattle.ftp_programs.proofs.Framing.{text_plain, text_marked, has_none}
 use Rattle.ftp_programs.proofs.frames.framer_of.Goals as goal
+use Rattle.ftp_programs.proofs.frames.framer_of.Goals.{else-marks-via-then-marks+else-has_markers, else-marks-via-else-marks}
 
-pub returns-in-Ascii-clause-text : goal.returns-in-Ascii-clause-text
-returns-in-Ascii-clause-text c = λ file fits. text_ascii c.args.form c.args.marks c.new-framer.result c.new-framer.ensures.state c.in-Ascii.is file
+pub returns-then-has_markers-clause-text : goal.returns-then-has_markers-clause-text
+returns-then-has_markers-clause-text c = λ file fits.
+    text_marked c.args.form c.args.marks c.new-framer.result c.mark.new.self c.new-framer.ensures.state c.mark.ensures.state c.if-marks.true (sym c.if-has_markers.ensures) file fits
 
-pub returns-in-Image-clause-text : goal.returns-in-Image-clause-text
-returns-in-Image-clause-text c = λ file fits.
-    text_marked c.args.form c.args.marks c.new-framer.result c.mark.new.self c.new-framer.ensures.state c.mark.ensures.state c.in-Image.is c.if-marks.true file fits
-
-pub returns-clause-text : goal.returns-clause-text
-returns-clause-text c = λ file fits. text_plain c.args.form c.args.marks c.new-framer.result c.new-framer.ensures.state c.if-marks.false file
+pub returns-else-marks-clause-text : goal.returns-else-marks-clause-text
+returns-else-marks-clause-text c = λ file fits.
+    text_plain c.args.form c.args.marks c.new-framer.result c.new-framer.ensures.state
+        (elim c.else-marks.branch [
+          else-marks-via-then-marks+else-has_markers w ↦ has_none c.args.marks (has_markers c.args.form) (sym w.if-has_markers.ensures)
+        | else-marks-via-else-marks w ↦ ap (λ asked. asked && has_markers c.args.form) w.if-marks.false
+        ])
+        file

@@ -1,7 +1,7 @@
 use Rattle.std.proofs.Common.{ℕ, ◌+◌, ◌-◌, ◌*◌, ◌≤◌, List, ◌++◌, length, take}
 use Rattle.ftp_mode.specs.Deframing.{owed}
 use Rattle.ftp_programs.specs.Receiving.{StandsAfter}
-use Rattle.ftp_programs.specs.declared.frames.Representation.{Representation}
+use Rattle.ftp_representation.specs.declared.representation.Representation.{Representation}
 use Rattle.ftp_programs.proofs.Hearing.{Hearing}
 use Rattle.ftp_programs.proofs.receiving.Receiving.hear.Given as goal
 

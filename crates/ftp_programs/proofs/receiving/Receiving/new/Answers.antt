@@ -1,6 +1,6 @@
 use Rattle.std.proofs.Common.{◌∙◌, []}
 use Rattle.ftp_repr.proofs.ContentLemmas.{gives-receiving}
-use Rattle.ftp_programs.specs.Frame.{form_of}
+use Rattle.ftp_representation.specs.Representation.{form_of}
 use Rattle.ftp_programs.proofs.receiving.Receiving.new.Goals as goal
 
 pub returns-clause-stands : goal.returns-clause-stands

@@ -1,7 +1,7 @@
 use Rattle.std.proofs.Common.{◌≡◌, ◌≤◌, ◌-◌, length, take, map, false, vec_capacity}
 use Rattle.ftp_repr.specs.Signs.{octet}
 use Rattle.ftp_repr.specs.Received.{Receives}
-use Rattle.ftp_repr.specs.declared.form.Kind.TheVariants.{Ascii}
+use Rattle.ftp_representation.specs.declared.representation.Kind.TheVariants.{Ascii}
 use Rattle.ftp_repr.proofs.receiver.Receiver.add_lines.Given as goal
 
 abbrev pub invariant-loop-at : goal.invariant-loop-at
