@@ -52,11 +52,8 @@ pub fn get<R: Read>(reader: &mut R, room: &mut [u8]) -> Result<usize, Failed>
     for _ in 0..TURNS {
         match reader.read(room) {
             Ok(count) => return Ok(count),
-            Err(error) => {
-                if error.kind() != ErrorKind::Interrupted {
-                    return Err(Failed);
-                }
-            }
+            Err(error) if error.kind() == ErrorKind::Interrupted => {}
+            Err(_) => return Err(Failed),
         }
     }
     Err(Failed)
