@@ -41,7 +41,7 @@ begins input old new connection fresh greeted = record {
     asks = none_asked;
     session = fresh.session;
     goes_on = ap (list_any is_last) (replies-nil start);
-    refused = fresh.refused ∙ sym (ap (list_any (λ reply. is_refusal (reply_line reply))) (replies-nil start));
+    refused = fresh.refused ∙ sym (ap (list_any is_refusal) (replies-nil start));
     wrote = subst (λ l. Appends old new l) (sym transcript-nil) greeted;
   };
 }

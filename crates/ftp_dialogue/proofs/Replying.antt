@@ -99,10 +99,10 @@ is_over-one xs one goes_on =
     ∙ or-false (is_last reply)
 
 pub is_refused-one : (xs : List Asked) (one : Asked) → is_over xs ≡ false
-    → is_refused (xs ++ one ∷ []) ≡ (is_refused xs || is_refusal (reply_line (turn (after start xs) one).1))
+    → is_refused (xs ++ one ∷ []) ≡ (is_refused xs || is_refusal (turn (after start xs) one).1)
 is_refused-one xs one goes_on =
     let reply = (turn (after start xs) one).1 in
-    let test = λ (r : Reply (List (List ℕ))). is_refusal (reply_line r) in
+    let test = λ (r : Reply (List (List ℕ))). is_refusal r in
     ap (list_any test) (replies-more xs one goes_on)
     ∙ list_any-append test (replies start xs) (reply ∷ [])
     ∙ ap (λ b. is_refused xs || b) (or-false (test reply))

@@ -53,15 +53,15 @@ transcript_by octets more asked new reply open_so_far hears =
 
 refused_by : {A : Type 0} (octets more : List ℕ) (asked : List Asked) (old new : Connection A) (reply : Reply (List (List ℕ)))
     → is_over asked ≡ false → old.refused ≡ is_refused asked → (hears : HearsOne octets more asked new reply)
-    → new.refused ≡ (old.refused || is_refusal (reply_line reply)) → new.refused ≡ is_refused (asked ++ hears.one ∷ [])
+    → new.refused ≡ (old.refused || is_refusal reply) → new.refused ≡ is_refused (asked ++ hears.one ∷ [])
 refused_by octets more asked old new reply open_so_far before hears refused =
     let same = reply_is (after start asked) (state_of new.session) hears.one reply hears.turned in
-    refused ∙ ap (λ b. b || is_refusal (reply_line reply)) before
-    ∙ ap (λ r. is_refused asked || is_refusal (reply_line r)) (sym same) ∙ sym (is_refused-one asked hears.one open_so_far)
+    refused ∙ ap (λ b. b || is_refusal reply) before
+    ∙ ap (λ r. is_refused asked || is_refusal r) (sym same) ∙ sym (is_refused-one asked hears.one open_so_far)
 
 pub goes_on : {A : Type 0} (octets more : List ℕ) (before now later : Option (List ℕ)) (old new : Connection A) (reply : Reply (List (List ℕ)))
     → (stands : GoesOnAfter octets before now old) → HearsOne octets more stands.asked new reply
-    → Appends now later (reply_line reply) → new.refused ≡ (old.refused || is_refusal (reply_line reply)) → is_last reply ≡ false
+    → Appends now later (reply_line reply) → new.refused ≡ (old.refused || is_refusal reply) → is_last reply ≡ false
     → GoesOnAfter (octets ++ more) before later new
 goes_on octets more before now later old new reply stands hears wrote refused not_last =
     let same = reply_is (after start stands.asked) (state_of new.session) hears.one reply hears.turned in
@@ -80,7 +80,7 @@ goes_on octets more before now later old new reply stands hears wrote refused no
 -- the last reply is written; what stands behind in the piece is not heard
 pub ends : {A : Type 0} (octets more rest : List ℕ) (before now later : Option (List ℕ)) (old new : Connection A) (reply : Reply (List (List ℕ)))
     → (stands : GoesOnAfter octets before now old) → HearsOne octets more stands.asked new reply
-    → Appends now later (reply_line reply) → new.refused ≡ (old.refused || is_refusal (reply_line reply)) → is_last reply ≡ true
+    → Appends now later (reply_line reply) → new.refused ≡ (old.refused || is_refusal reply) → is_last reply ≡ true
     → IsOverAfter ((octets ++ more) ++ rest) before later new
 ends octets more rest before now later old new reply stands hears wrote refused last =
     let same = reply_is (after start stands.asked) (state_of new.session) hears.one reply hears.turned in

@@ -164,7 +164,7 @@ is_over asked = list_any is_last (replies start asked)
 
 -- whether a reply of 4yz or 5yz is among them
 abbrev pub is_refused : List Asked → Bool
-is_refused asked = list_any (λ reply. is_refusal (reply_line reply)) (replies start asked)
+is_refused asked = list_any is_refusal (replies start asked)
 
 abbrev pub status_of : List Asked → ℕ
 status_of asked = if is_refused asked then 1 else 0

@@ -33,10 +33,16 @@ doubled c = if c == 34 then 34 ∷ 34 ∷ [] else c ∷ []
 unfoldable pub created_line : List ℕ → List ℕ
 created_line path = codes "257 \"" ++ flat_map doubled path ++ codes "\" created\r\n"
 
--- a reply of 4yz or 5yz refuses (RFC 959, section 4.2.1)
-abbrev pub is_refusal : List ℕ → Bool
-is_refusal [] = false
-is_refusal (digit ∷ rest) = (digit == 52) || (digit == 53)
+-- a line of a reply of 4yz or 5yz (RFC 959, section 4.2.1)
+abbrev pub begins_refusal : List ℕ → Bool
+begins_refusal [] = false
+begins_refusal (digit ∷ rest) = (digit == 52) || (digit == 53)
+
+-- a reply refuses by its code; the 257 to MKD does not, nor does an answer to a Telnet octet
+abbrev pub is_refusal : Reply (List (List ℕ)) → Bool
+is_refusal (Fixed text) = begins_refusal (text_line text)
+is_refusal (Created path) = false
+is_refusal (Owed answer) = false
 
 -- a reply, or an answer that Telnet octets are owed, as it stands on the wire
 abbrev pub reply_line : Reply (List (List ℕ)) → List ℕ

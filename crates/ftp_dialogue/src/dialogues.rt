@@ -5,7 +5,6 @@ ghost use Rattle.ftp_pieces.specs.Beginning.{AppendsFront};
 ghost use Rattle.ftp_dialogue.specs.Converses.{Converses, BreaksOff, Ends};
 ghost use Rattle.ftp_dialogue.specs.Replies.{is_refusal, reply_line};
 
-use crate::reply;
 use crate::reply::Reply;
 use crate::session::Session;
 use crate::text::Text;
@@ -118,7 +117,7 @@ impl<A: Allocator + Copy> Connection<A> {
     fn say<W: Write>(&mut self, reply: &Reply<Path<A>>, writer: &mut W) -> Result<(), Failed>
         ensures ok { OnOk result (Appends (W.contents writer.old) (W.contents writer.new) (reply_line reply.now)) }
         ensures front { AppendsFront (W.contents writer.old) (W.contents writer.new) (reply_line reply.now) }
-        ensures refused { OnOk result (self.new.refused ≡ (self.old.refused || is_refusal (reply_line reply.now))) }
+        ensures refused { OnOk result (self.new.refused ≡ (self.old.refused || is_refusal reply.now)) }
         ensures ear { self.new.ear ≡ self.old.ear }
         ensures session { self.new.session ≡ self.old.session }
     {
@@ -126,7 +125,7 @@ impl<A: Allocator + Copy> Connection<A> {
         if reply.write(&mut self.line).is_err() {
             return Err(Failed);
         }
-        self.refused = self.refused || reply::is_refusal(self.line.as_slice());
+        self.refused = self.refused || reply.is_refusal();
         ftp_pieces::put(writer, self.line.as_slice())
     }
 }

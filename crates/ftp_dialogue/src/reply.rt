@@ -1,6 +1,6 @@
 // The replies of the dialogue (RFC 959, section 4.2), and Telnet's answers between them (RFC 854).
 ghost use Rattle.std.specs.Prelude.{◌≡◌, ◌++◌, ℕ, OnOk, List, flat_map, take, IfOk};
-ghost use Rattle.ftp_dialogue.specs.Replies.{created_line, doubled, is_refusal};
+ghost use Rattle.ftp_dialogue.specs.Replies.{created_line, doubled};
 
 use crate::text::Text;
 use ftp_tree::Path;
@@ -16,7 +16,7 @@ pub enum Reply<P: Drop> {
 }
 
 impl<A: Allocator> Reply<Path<A>> {
-    ghost use Rattle.ftp_dialogue.specs.Replies.{reply_line};
+    ghost use Rattle.ftp_dialogue.specs.Replies.{is_refusal, reply_line};
     ghost use Rattle.ftp_dialogue.specs.Dialogue.{is_last};
 
     /// Whether nothing is read after this reply.
@@ -24,6 +24,16 @@ impl<A: Allocator> Reply<Path<A>> {
         ensures { result ≡ is_last self.now }
     {
         matches!(self, Reply::Fixed(Text::Goodbye))
+    }
+
+    /// Whether this is a reply of 4yz or 5yz (RFC 959, section 4.2.1).
+    pub fn is_refusal(&self) -> bool
+        ensures { result ≡ is_refusal self.now }
+    {
+        match self {
+            Reply::Fixed(text) => text.is_refusal(),
+            Reply::Created(_) | Reply::Owed(_) => false,
+        }
     }
 
     /// The reply as it stands on the wire, put behind what `out` holds; refused memory leaves some of it there.
@@ -59,11 +69,4 @@ fn write_doubled<A: Allocator>(text: &[u8], out: &mut Vec<u8, A>) -> Result<(), 
         out.push(*octet)?;
     }
     Ok(())
-}
-
-/// Whether a reply as it stands on the wire is one of 4yz or 5yz (RFC 959, section 4.2.1).
-pub fn is_refusal(line: &[u8]) -> bool
-    ensures { result ≡ is_refusal line.now }
-{
-    matches!(line, [b'4' | b'5', ..])
 }

@@ -1,6 +1,6 @@
 // The texts of replies without computed parts (RFC 959, sections 4.2 and 5.4).
 ghost use Rattle.std.specs.Prelude.{◌≡◌};
-ghost use Rattle.ftp_dialogue.specs.Replies.{text_line};
+ghost use Rattle.ftp_dialogue.specs.Replies.{begins_refusal, text_line};
 
 /// A reply of one line whose text is always the same.
 #[derive(Clone, Copy, Debug, PartialEq, Eq)]
@@ -46,6 +46,31 @@ impl Text {
             Text::NotLoggedIn => b"530 Not logged in\r\n",
             Text::LoginRefused => b"530 Login refused\r\n",
             Text::Refused => b"550 Refused\r\n",
+        }
+    }
+
+    #[tactic(auto, unfolding(crate::specs::Replies::text_line))]
+    /// Whether the code is one of 4yz or 5yz (RFC 959, section 4.2.1).
+    pub fn is_refusal(self) -> bool
+        ensures { result ≡ begins_refusal (text_line self) }
+    {
+        match self {
+            Text::Ready
+            | Text::Done
+            | Text::Goodbye
+            | Text::LoggedIn
+            | Text::Here
+            | Text::PasswordNeeded => false,
+            Text::Unknown
+            | Text::TooLong
+            | Text::BadArgument
+            | Text::NotImplemented
+            | Text::BadSequence
+            | Text::BadParameter
+            | Text::BadProtocol
+            | Text::NotLoggedIn
+            | Text::LoginRefused
+            | Text::Refused => true,
         }
     }
 }

@@ -39,7 +39,7 @@ returns-then-is_last-clause-stands g c octets before stands =
     (c.in_ok-say.ensures.ear ∙ c.in_ok-reply.ensures.ear) refl answers.is answers.asks
     (ap (λ s. (state_of s, c.in-Some.reply)) c.in_ok-say.ensures.session ∙ answers.turned) in
     let done = ends octets (take n piece) (drop n piece) before _ _ c.args.self.now c.say.new.self c.in-Some.reply stands one c.in_ok-say.ensures.ok
-    (c.in_ok-say.ensures.refused ∙ ap (λ b. b || is_refusal (reply_line c.in-Some.reply)) c.in_ok-reply.ensures.refused)
+    (c.in_ok-say.ensures.refused ∙ ap (λ b. b || is_refusal c.in-Some.reply) c.in_ok-reply.ensures.refused)
     (sym c.is_last.ensures ∙ c.if-is_last.true) in
     let whole = append_assoc octets (take n piece) (drop n piece) ∙ ap (λ l. octets ++ l) (take-append-drop n piece) in
     subst (λ l. IsOverAfter l before (g.W.Write.contents c.say.new.writer) c.say.new.self) whole done
@@ -54,5 +54,5 @@ returns-clause-stands g c octets before stands =
     (c.in_ok-say.ensures.ear ∙ c.in_ok-reply.ensures.ear) refl answers.is answers.asks
     (ap (λ s. (state_of s, c.in-Some.reply)) c.in_ok-say.ensures.session ∙ answers.turned) in
     goes_on octets _ before _ _ c.args.self.now c.say.new.self c.in-Some.reply stands one c.in_ok-say.ensures.ok
-    (c.in_ok-say.ensures.refused ∙ ap (λ b. b || is_refusal (reply_line c.in-Some.reply)) c.in_ok-reply.ensures.refused)
+    (c.in_ok-say.ensures.refused ∙ ap (λ b. b || is_refusal c.in-Some.reply) c.in_ok-reply.ensures.refused)
     (sym c.is_last.ensures ∙ c.if-is_last.false)
