@@ -28,6 +28,6 @@ pub record BreaksOff (before after : Option (List ℕ)) (old new : Option (List 
   pub wrote : AppendsFront old new (transcript asked)
 
 -- how it ended: well, with whether something was refused, or by breaking off
-abbrev pub Ends : Option (List ℕ) → Option (List ℕ) → Option (List ℕ) → Option (List ℕ) → Result Bool Failed → Type 0
+abbrev pub Ends : (before after old new : Option (List ℕ)) → Result Bool Failed → Type 0
 Ends before after old new (Ok refused) = Converses before after old new (if refused then 1 else 0)
 Ends before after old new (Err failed) = BreaksOff before after old new

@@ -7,12 +7,15 @@ use Rattle.ftp_programs.specs.declared.frames.Direction.{Direction}
 use Rattle.ftp_programs.specs.declared.frames.Direction.TheVariants.{ToWire, ToFile}
 use Rattle.ftp_representation.specs.declared.representation.Representation.{Representation}
 
+-- Of each stream two rows of octets are named: what the reader had left before and after, what the writer held (old, new), and what
+-- the second writer held (untold, told).
+
 -- it was done: a file was written as its wire and nothing was told, or a wire was read
-abbrev pub Goes : Representation → Direction → Option (List ℕ) → Option (List ℕ) → Option (List ℕ) → Option (List ℕ) → Option (List ℕ) → Option (List ℕ) → ℕ → Type 0
+abbrev pub Goes : Representation → Direction → (before after old new untold told : Option (List ℕ)) → ℕ → Type 0
 Goes r (ToWire marks) before after old new untold told status = Frames r marks before after old new status × Appends untold told []
 Goes r ToFile before after old new untold told status = Tells r before after old new untold told status
 
 -- it broke off
-abbrev pub GoesFront : Representation → Direction → Option (List ℕ) → Option (List ℕ) → Option (List ℕ) → Option (List ℕ) → Option (List ℕ) → Option (List ℕ) → Type 0
+abbrev pub GoesFront : Representation → Direction → (before after old new untold told : Option (List ℕ)) → Type 0
 GoesFront r (ToWire marks) before after old new untold told = FramesFront r marks before after old new × Appends untold told []
 GoesFront r ToFile before after old new untold told = TellsFront r before after old new untold told

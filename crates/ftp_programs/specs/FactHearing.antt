@@ -13,7 +13,7 @@ abbrev pub LacksFeed : List ℕ → Type 0
 LacksFeed octets = All (λ octet. (octet == 10) ≡ false) octets
 
 -- These lines are answered, or a beginning of the answers of the first of them is written.
-abbrev pub Told : Type 0 → List (List ℕ) → Option (List ℕ) → Option (List ℕ) → Result Bool Failed → Type 0
+abbrev pub Told : Type 0 → List (List ℕ) → (before now : Option (List ℕ)) → Result Bool Failed → Type 0
 Told A all before now (Ok faulty) = (text : List ℕ) × AnswersAll A all faulty text × Appends before now text
 Told A all before now (Err failed) = AnswersFront A all before now
 
@@ -28,16 +28,16 @@ pub record StandsAfter {A : Type 0} (octets : List ℕ) (before now : Option (Li
   pub wrote : Appends before now text
 
 -- how it stands after a piece behind these octets
-abbrev pub HearsAfter : (A : Type 0) → List ℕ → List ℕ → Option (List ℕ) → Option (List ℕ) → Result (Unit {0}) Failed → FactLines A → Type 0
+abbrev pub HearsAfter : (A : Type 0) → List ℕ → List ℕ → (before now : Option (List ℕ)) → Result (Unit {0}) Failed → FactLines A → Type 0
 HearsAfter A octets piece before now (Ok done) kept = StandsAfter (octets ++ piece) before now kept
 HearsAfter A octets piece before now (Err failed) kept = AnswersFront A (lines (octets ++ piece)) before now
 
 -- the same after a bite of a piece
-abbrev pub BitesAfter : (A : Type 0) → List ℕ → List ℕ → Option (List ℕ) → Option (List ℕ) → Result ℕ Failed → FactLines A → Type 0
+abbrev pub BitesAfter : (A : Type 0) → List ℕ → List ℕ → (before now : Option (List ℕ)) → Result ℕ Failed → FactLines A → Type 0
 BitesAfter A octets piece before now (Ok count) kept = StandsAfter (octets ++ take count piece) before now kept
 BitesAfter A octets piece before now (Err failed) kept = AnswersFront A (lines (octets ++ piece)) before now
 
 -- the same after the LF that ends a line, whatever follows it
-abbrev pub EndsAfter : (A : Type 0) → List ℕ → Option (List ℕ) → Option (List ℕ) → Result (Unit {0}) Failed → FactLines A → Type 0
+abbrev pub EndsAfter : (A : Type 0) → List ℕ → (before now : Option (List ℕ)) → Result (Unit {0}) Failed → FactLines A → Type 0
 EndsAfter A octets before now (Ok done) kept = StandsAfter (octets ++ line_feed ∷ []) before now kept
 EndsAfter A octets before now (Err failed) kept = (more : List ℕ) → AnswersFront A (lines (octets ++ line_feed ∷ more)) before now

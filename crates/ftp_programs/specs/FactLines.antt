@@ -64,6 +64,6 @@ pub record TellsFront (A : Type 0) (before after : Option (List ℕ)) (old new :
   pub wrote : AnswersFront A (lines octets) old new
 
 -- how it ended: well, with whether a line was faulty, or by breaking off
-abbrev pub TellsTo : Type 0 → Option (List ℕ) → Option (List ℕ) → Option (List ℕ) → Option (List ℕ) → Result Bool Failed → Type 0
+abbrev pub TellsTo : Type 0 → (before after old new : Option (List ℕ)) → Result Bool Failed → Type 0
 TellsTo A before after old new (Ok faulty) = TellsAll A before after old new (if faulty then 1 else 0)
 TellsTo A before after old new (Err failed) = TellsFront A before after old new

@@ -67,19 +67,19 @@ pub record ReadsFront (r : Representation) (before after : Option (List ℕ)) (o
   pub wrote : AppendsFront old new file
 
 -- how it ended: with the file, with a fault, or by breaking off
-abbrev pub ReadsTo : Representation → Option (List ℕ) → Option (List ℕ) → Option (List ℕ) → Option (List ℕ) → Result (Option FrameFault) Failed → Type 0
+abbrev pub ReadsTo : Representation → (before after old new : Option (List ℕ)) → Result (Option FrameFault) Failed → Type 0
 ReadsTo r before after old new (Ok None) = ReadsFile r before after old new
 ReadsTo r before after old new (Ok (Some fault)) = ReadsFault r before after old new fault
 ReadsTo r before after old new (Err failed) = ReadsFront r before after old new
 
 -- it broke off, and a second writer had nothing, or a beginning of the fault's line behind all that is settled before it
-abbrev pub TellsFront : Representation → Option (List ℕ) → Option (List ℕ) → Option (List ℕ) → Option (List ℕ) → Option (List ℕ) → Option (List ℕ) → Type 0
+abbrev pub TellsFront : Representation → (before after old new untold told : Option (List ℕ)) → Type 0
 TellsFront r before after old new untold told =
     (ReadsFront r before after old new × Appends untold told [])
     ⊎ ((fault : FrameFault) × ReadsFault r before after old new fault × AppendsFront untold told (fault_line fault))
 
 -- the status, and what is told to a second writer: nothing of a file, and the line of a fault
-abbrev pub Tells : Representation → Option (List ℕ) → Option (List ℕ) → Option (List ℕ) → Option (List ℕ) → Option (List ℕ) → Option (List ℕ) → ℕ → Type 0
+abbrev pub Tells : Representation → (before after old new untold told : Option (List ℕ)) → ℕ → Type 0
 Tells r before after old new untold told status =
     ((status ≡ 0) × ReadsFile r before after old new × Appends untold told [])
     ⊎ ((status ≡ 1) × ((fault : FrameFault) × ReadsFault r before after old new fault × Appends untold told (fault_line fault)))
