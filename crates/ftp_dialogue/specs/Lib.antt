@@ -1,6 +1,7 @@
 pub mod Converses
 pub mod Dialogue
 pub mod Hearing
+pub mod Laws
 pub mod Login
 pub mod Replies
 pub mod Session

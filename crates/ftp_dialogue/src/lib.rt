@@ -3,6 +3,7 @@
 #![tactic(auto)]
 
 mod dialogues;
+pub mod laws;
 mod login;
 mod reply;
 mod session;
