@@ -12,6 +12,3 @@ mod walk;
 pub use fault::PathFault;
 pub use name::{Name, is_path_text};
 pub use path::Path;
-
-#[cfg(test)]
-mod tests;

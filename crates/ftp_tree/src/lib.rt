@@ -14,6 +14,3 @@ pub use fault::TreeFault;
 pub use ftp_path::{Name, Path, PathFault, is_path_text};
 pub use memory::MemTree;
 pub use tree::{NodeKind, Tree};
-
-#[cfg(test)]
-mod tests;

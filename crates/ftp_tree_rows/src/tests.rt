@@ -1,0 +1,10 @@
+//! Worked rows of `ftp_path` and `ftp_tree`, and each growth refused in turn.
+mod files;
+mod growths;
+mod keys;
+mod listings;
+mod paths;
+mod renames;
+mod steps;
+mod texts;
+mod trees;

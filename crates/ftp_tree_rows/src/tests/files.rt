@@ -1,0 +1,140 @@
+//! Rows of files: their octets by pieces and by fronts, and the limits of one and of all.
+use super::steps::{Row, Step, all_answer, has, only_if, place, put};
+use ftp_facts::Moment;
+use ftp_path::Path;
+use ftp_tree::{Content, MemTree, Tree, TreeFault};
+use std::alloc::Global;
+
+type Memory = MemTree<Global>;
+
+/// A place in `hello`, a number of octets, and what is read there.
+const PIECES: &[(u64, usize, &[u8])] = &[
+    (0, 0, b""),
+    (0, 2, b"he"),
+    (1, 3, b"ell"),
+    (3, 2, b"lo"),
+    (3, 9, b"lo"),
+    (4, 1, b"o"),
+    (5, 1, b""),
+    (99, 1, b""),
+];
+
+fn is_read(tree: &Memory, path: &Path<Global>) -> bool {
+    PIECES
+        .iter()
+        .all(|row| tree.piece(path, row.0, row.1) == row.2)
+}
+
+fn is_no_file(tree: &Memory, path: &Path<Global>) -> bool {
+    tree.piece(path, 0, 9).is_empty() && tree.size(path).is_none() && tree.stamp(path).is_none()
+}
+
+/// Puts octets there, and says whether they are read in that second.
+fn is_put(alloc: Global, tree: &mut Memory, octets: &[u8], second: u64) -> Result<bool, TreeFault> {
+    let path = place(alloc, b"f")?;
+    put(alloc, tree, &path, octets, second)?;
+    Ok(has(tree, &path, octets, second))
+}
+
+fn pieces_of(alloc: Global, tree: &Memory) -> Result<bool, TreeFault> {
+    let path = place(alloc, b"f")?;
+    Ok(is_read(tree, &path) && is_no_file(tree, &Path::root(alloc)))
+}
+
+#[test]
+fn a_file_is_read_by_pieces(rt: HostRuntime) {
+    let mut tree = MemTree::new(rt.alloc());
+    assert!(&rt; is_put(rt.alloc(), &mut tree, b"hello", 9) == Ok(true));
+    assert!(&rt; pieces_of(rt.alloc(), &tree) == Ok(true));
+    assert!(&rt; is_put(rt.alloc(), &mut tree, b"bye", 10) == Ok(true));
+}
+
+/// Whether so many first octets of `/f` are had, and read again where they are put.
+fn is_front(alloc: Global, tree: &mut Memory, count: usize) -> Result<bool, TreeFault> {
+    let path = place(alloc, b"/f")?;
+    let copy = place(alloc, b"/copy")?;
+    let mut content = Content::of(alloc, tree, &path, count as u64)?;
+    let had = content.len() == count as u64;
+    let Some(moment) = Moment::new(8) else {
+        return Err(TreeFault::BadOffset);
+    };
+    tree.install(&copy, &mut content, moment)?;
+    Ok(
+        had && has(
+            tree,
+            &copy,
+            b"hello".as_slice().get(..count).unwrap_or(b"?".as_slice()),
+            8,
+        ),
+    )
+}
+
+fn are_fronts(alloc: Global, tree: &mut Memory) -> bool {
+    for count in 0..=5usize {
+        if is_front(alloc, tree, count) != Ok(true) {
+            return false;
+        }
+    }
+    true
+}
+
+const FRONTS: &[Row] = &[
+    (b"/f", Step::Front(6), Err(TreeFault::BadOffset)),
+    (b"/g", Step::Front(0), Err(TreeFault::Absent)),
+    (b"/", Step::Front(0), Err(TreeFault::WrongKind)),
+];
+
+#[test]
+fn a_front_of_a_file_is_had(rt: HostRuntime) {
+    let mut tree = MemTree::new(rt.alloc());
+    assert!(&rt; is_put(rt.alloc(), &mut tree, b"hello", 9) == Ok(true));
+    assert!(&rt; are_fronts(rt.alloc(), &mut tree));
+    assert!(&rt; all_answer(rt.alloc(), &mut tree, FRONTS));
+}
+
+const FILE_LIMIT: usize = 16_777_216;
+
+fn is_old(alloc: Global, tree: &Memory) -> Result<(), TreeFault> {
+    let path = place(alloc, b"/f")?;
+    only_if(has(tree, &path, b"old", 1))
+}
+
+const TOO_LONG: &[Row] = &[(b"/f", Step::Install(FILE_LIMIT + 1), Err(TreeFault::TooBig))];
+
+const LONGEST: &[Row] = &[
+    (b"/f", Step::Install(FILE_LIMIT), Ok(())),
+    (b"/f", Step::Size(Some(16_777_216)), Ok(())),
+];
+
+#[test]
+fn a_file_has_16777216_octets_at_most(rt: HostRuntime) {
+    let mut tree = MemTree::new(rt.alloc());
+    assert!(&rt; is_put(rt.alloc(), &mut tree, b"old", 1) == Ok(true));
+    assert!(&rt; all_answer(rt.alloc(), &mut tree, TOO_LONG));
+    assert!(&rt; is_old(rt.alloc(), &tree).is_ok());
+    assert!(&rt; all_answer(rt.alloc(), &mut tree, LONGEST));
+}
+
+const TOTALS: &[Row] = &[
+    (b"/a", Step::Install(FILE_LIMIT), Ok(())),
+    (b"/b", Step::Install(FILE_LIMIT), Ok(())),
+    (b"/c", Step::Install(FILE_LIMIT), Ok(())),
+    (b"/d", Step::Install(FILE_LIMIT - 3), Ok(())),
+    (b"/e", Step::Room(3), Ok(())),
+    (b"/d", Step::Room(16_777_216), Ok(())),
+    (b"/e", Step::Install(4), Err(TreeFault::Full)),
+    (b"/e", Step::Install(3), Ok(())),
+    (b"/d", Step::Room(16_777_213), Ok(())),
+    (b"/d", Step::Install(FILE_LIMIT), Err(TreeFault::Full)),
+    (b"/e", Step::Delete, Ok(())),
+    (b"/d", Step::Install(FILE_LIMIT), Ok(())),
+    (b"/e", Step::Room(0), Ok(())),
+    (b"/e", Step::Install(0), Ok(())),
+    (b"/", Step::Room(0), Err(TreeFault::WrongKind)),
+];
+
+#[test]
+fn all_files_have_67108864_octets_at_most(rt: HostRuntime) {
+    let mut tree = MemTree::new(rt.alloc());
+    assert!(rt; all_answer(rt.alloc(), &mut tree, TOTALS));
+}

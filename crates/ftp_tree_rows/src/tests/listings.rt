@@ -1,0 +1,68 @@
+//! Rows of directories and the names in them.
+use super::steps::{Row, Step, all_answer, place};
+use ftp_path::Path;
+use ftp_tree::{MemTree, Tree, TreeFault};
+use std::alloc::{AllocError, Global};
+
+/// The names in a directory, each with a `,` behind it.
+fn joined(
+    alloc: Global,
+    tree: &MemTree<Global>,
+    path: &Path<Global>,
+) -> Result<Vec<u8, Global>, AllocError> {
+    let mut all = Vec::new(alloc);
+    for place in 0..16usize {
+        if let Some(name) = tree.nth_name(path, place) {
+            all.extend_from_slice(name.octets())?;
+            all.push(b',')?;
+        }
+    }
+    Ok(all)
+}
+
+fn are_names(
+    alloc: Global,
+    tree: &MemTree<Global>,
+    row: &(&[u8], &[u8]),
+) -> Result<bool, TreeFault> {
+    let path = place(alloc, row.0)?;
+    match joined(alloc, tree, &path) {
+        Ok(all) => Ok(all.as_slice() == row.1),
+        Err(_) => Err(TreeFault::Memory),
+    }
+}
+
+const MAKES: &[Row] = &[
+    (b"/b", Step::Install(0), Ok(())),
+    (b"/a.b", Step::Make, Ok(())),
+    (b"/a", Step::Make, Ok(())),
+    (b"/a/y", Step::Make, Ok(())),
+    (b"/a/x", Step::Install(0), Ok(())),
+    (b"/a/y/z", Step::Install(0), Ok(())),
+    (b"/a b", Step::Make, Ok(())),
+    (b"/ab", Step::Make, Ok(())),
+    (b"/a b/c", Step::Install(0), Ok(())),
+    (b"/a b/\xc3\xa9", Step::Install(0), Ok(())),
+    (b"/a b/e\xcc\x81", Step::Make, Ok(())),
+];
+
+const NAMES: &[(&[u8], &[u8])] = &[
+    (b"/", b"a,a b,a.b,ab,b,"),
+    (b"/a", b"x,y,"),
+    (b"/a/y", b"z,"),
+    (b"/a b", b"c,e\xcc\x81,\xc3\xa9,"),
+    (b"/a.b", b""),
+    (b"/b", b""),
+    (b"/c", b""),
+];
+
+#[test]
+fn names_come_in_the_order_of_their_octets(rt: HostRuntime) {
+    let mut tree = MemTree::new(rt.alloc());
+    assert!(&rt; all_answer(rt.alloc(), &mut tree, MAKES));
+    assert!(&rt;
+        NAMES
+            .iter()
+            .all(|row| are_names(rt.alloc(), &tree, row) == Ok(true))
+    );
+}

@@ -1,0 +1,151 @@
+//! What rows do with a tree, and whether it answers as they say.
+use ftp_facts::Moment;
+use ftp_path::{Path, is_path_text};
+use ftp_tree::{Content, MemTree, NodeKind, Tree, TreeFault};
+use std::alloc::Allocator;
+
+/// What a step of a test does.
+#[derive(Clone, Copy)]
+pub(super) enum Step {
+    Make,
+    Remove,
+    Delete,
+    /// With so many octets, all `x`, in the second 7.
+    Install(usize),
+    Rename(&'static [u8]),
+    Kind(Option<NodeKind>),
+    Size(Option<u64>),
+    /// The room there is just so many octets.
+    Room(u64),
+    /// So many first octets are had.
+    Front(u64),
+}
+
+/// A path, what is done there, and what that answers.
+pub(super) type Row = (&'static [u8], Step, Result<(), TreeFault>);
+
+/// A path from the root by a text, which has to be a path text.
+pub(super) fn place<A: Allocator + Copy>(alloc: A, text: &[u8]) -> Result<Path<A>, TreeFault> {
+    if is_path_text(text) {
+        Ok(Path::root(alloc).resolve(alloc, text)?)
+    } else {
+        Err(TreeFault::WrongKind)
+    }
+}
+
+/// No refusal where a condition holds.
+pub(super) fn only_if(holds: bool) -> Result<(), TreeFault> {
+    if holds {
+        Ok(())
+    } else {
+        Err(TreeFault::Device)
+    }
+}
+
+/// Installs octets in a second. Refused, the content is as it was.
+pub(super) fn put<A: Allocator + Copy>(
+    alloc: A,
+    tree: &mut MemTree<A>,
+    path: &Path<A>,
+    octets: &[u8],
+    second: u64,
+) -> Result<(), TreeFault> {
+    let mut content = Content::new(alloc);
+    let Ok(_) = content.push(octets) else {
+        return Err(TreeFault::Memory);
+    };
+    let Some(moment) = Moment::new(second) else {
+        return Err(TreeFault::BadOffset);
+    };
+    let answer = tree.install(path, &mut content, moment);
+    let left = if answer.is_ok() {
+        0
+    } else {
+        octets.len() as u64
+    };
+    only_if(content.len() == left)?;
+    answer
+}
+
+fn fill<A: Allocator + Copy>(
+    alloc: A,
+    tree: &mut MemTree<A>,
+    path: &Path<A>,
+    count: usize,
+) -> Result<(), TreeFault> {
+    let Ok(octets) = Vec::from_elem(alloc, b'x', count) else {
+        return Err(TreeFault::Memory);
+    };
+    put(alloc, tree, path, octets.as_slice(), 7)
+}
+
+fn call<A: Allocator + Copy>(
+    alloc: A,
+    tree: &mut MemTree<A>,
+    path: &Path<A>,
+    text: &[u8],
+) -> Result<(), TreeFault> {
+    let to = place(alloc, text)?;
+    tree.rename(path, &to)
+}
+
+fn has_front<A: Allocator + Copy>(
+    alloc: A,
+    tree: &MemTree<A>,
+    path: &Path<A>,
+    count: u64,
+) -> Result<(), TreeFault> {
+    let content = Content::of(alloc, tree, path, count)?;
+    only_if(content.len() == count)
+}
+
+/// Does a step.
+pub(super) fn act<A: Allocator + Copy>(
+    alloc: A,
+    tree: &mut MemTree<A>,
+    text: &[u8],
+    step: Step,
+) -> Result<(), TreeFault> {
+    let path = place(alloc, text)?;
+    match step {
+        Step::Make => tree.make_dir(&path),
+        Step::Remove => tree.remove_dir(&path),
+        Step::Delete => tree.delete(&path),
+        Step::Install(count) => fill(alloc, tree, &path, count),
+        Step::Rename(to) => call(alloc, tree, &path, to),
+        Step::Kind(kind) => only_if(tree.kind(&path) == kind),
+        Step::Size(size) => only_if(tree.size(&path) == size),
+        Step::Room(room) => only_if(tree.room(&path)? == room),
+        Step::Front(count) => has_front(alloc, tree, &path, count),
+    }
+}
+
+/// Whether each row answers as it says.
+pub(super) fn all_answer<A: Allocator + Copy>(
+    alloc: A,
+    tree: &mut MemTree<A>,
+    rows: &[Row],
+) -> bool {
+    for (text, step, expected) in rows {
+        if act(alloc, tree, text, *step) != *expected {
+            return false;
+        }
+    }
+    true
+}
+
+/// Whether the file there has these octets and this second.
+pub(super) fn has<A: Allocator + Copy, B: Allocator>(
+    tree: &MemTree<A>,
+    path: &Path<B>,
+    octets: &[u8],
+    second: u64,
+) -> bool {
+    let stamped = match tree.stamp(path) {
+        Some(moment) => moment.seconds == second,
+        None => false,
+    };
+    stamped
+        && tree.size(path) == Some(octets.len() as u64)
+        && tree.piece(path, 0, octets.len() + 1) == octets
+}
