@@ -1,6 +1,6 @@
 -- What a framer has still to write.
-use Rattle.std.specs.Prelude.{◌≡◌, ℕ, ◌<◌, List, [], ◌++◌, drop, length, map, Bool, true, false}
-use Rattle.ftp_repr.specs.Machine.{gives}
+use Rattle.std.specs.Prelude.{◌≡◌, ℕ, ◌+◌, ◌<◌, ◌≤◌, List, [], ◌++◌, drop, length, map, Bool, true, false}
+use Rattle.ftp_repr.specs.Machine.{after, gives}
 use Rattle.ftp_repr.specs.Signs.{Sign, octet}
 use Rattle.ftp_framer.specs.declared.framer.Stage.{Stage}
 use Rattle.ftp_framer.specs.declared.framer.Stage.TheVariants.{Copying, Free, Held, Filling, AtRecord, Leaving, Last, Closed}
@@ -8,7 +8,7 @@ use Rattle.ftp_framer.specs.declared.framer.Marks.{Marks}
 use Rattle.ftp_framer.specs.declared.framer.Marks.TheVariants.{Never, Unmarked, Counted}
 use Rattle.ftp_framer.specs.declared.framer.Framer.{Framer}
 use Rattle.ftp_framer.specs.Block.{block_text}
-use Rattle.ftp_framer.specs.Writing.{Writing, copying, free, held, filling, at_record, closed, Counting, never, unmarked, counted, writer, write_step, write_out}
+use Rattle.ftp_framer.specs.Writing.{Writing, copying, free, held, filling, at_record, closed, Counting, never, unmarked, counted, IsFar, writer, write_step, write_out}
 
 -- the octets of the held block that are decided and not yet out
 abbrev pub owed_block : Stage → List ℕ → List ℕ
@@ -74,6 +74,18 @@ pub record Waits (old : Framer) (x : Sign) (new : Framer) : Type 0 where
   pub state : write_step (writing new) x ≡ write_step (writing old) x
   pub gives : owed_octets new ++ write_out (writing new) x ≡ write_out (writing old) x
   pub some : 0 < length (owed_octets new)
+
+-- so many octets go into the block, and nothing is written before them
+pub record Fills (f : Framer) (len : ℕ) : Type 0 where
+  pub stage : f.stage ≡ Filling
+  pub room : length f.block.items + len ≤ 8192
+  pub far : IsFar (counting f.marks) len
+
+-- octets were taken, and nothing is decided by them
+pub record TakesRun (old : Framer) (xs : List ℕ) (new : Framer) : Type 0 where
+  pub state : writing new ≡ after writer (writing old) (map octet xs)
+  pub quiet : gives writer (writing old) (map octet xs) ≡ []
+  pub clear : IsClear new
 
 -- octets that go as they are, whatever follows
 abbrev pub AreRun : Writing → List ℕ → Type 0

@@ -1,5 +1,5 @@
 -- The writer of a wire, sign by sign. The laws tie it to the texts of whole files.
-use Rattle.std.specs.Prelude.{ℕ, ◌%◌, List, [], ◌∷◌, ◌++◌, length, Bool, false, if◌then◌else◌, ◌&&◌, ◌==◌, nat_lt}
+use Rattle.std.specs.Prelude.{◌≡◌, ℕ, ◌%◌, ◌^◌, ◌<◌, List, [], ◌∷◌, ◌++◌, length, Bool, false, if◌then◌else◌, ◌&&◌, ◌==◌, nat_lt}
 use Rattle.ftp_repr.specs.Machine.{Machine}
 use Rattle.ftp_repr.specs.Signs.{Sign, octet, end_record, end_file}
 use Rattle.ftp_representation.specs.declared.representation.Structure.{Structure}
@@ -8,7 +8,7 @@ use Rattle.ftp_representation.specs.declared.representation.Mode.{Mode}
 use Rattle.ftp_representation.specs.declared.representation.Mode.TheVariants.{Stream, Block as Blocks}
 use Rattle.ftp_framer.specs.Stream.{escaped_octet}
 use Rattle.ftp_framer.specs.Block.{block_text, marker_text}
-use Rattle.ftp_framer.specs.Count.{next}
+use Rattle.ftp_framer.specs.Count.{count_on, next}
 
 -- own markers: never with records, none asked for, or the octets of the file are counted, and the last marker or
 -- the start stands at `since`
@@ -37,6 +37,22 @@ abbrev pub counted_on : Counting → Counting
 counted_on never = never
 counted_on unmarked = unmarked
 counted_on (counted since count) = counted since (next count)
+
+-- so many more
+abbrev pub counted_far : Counting → ℕ → Counting
+counted_far never n = never
+counted_far unmarked n = unmarked
+counted_far (counted since count) n = counted since (count_on count n)
+
+-- a count of 64 bits
+abbrev pub IsCount : Counting → Type 0
+IsCount never = Unit {0}
+IsCount unmarked = Unit {0}
+IsCount (counted since count) = count < 2 ^ 64
+
+-- no marker stands before so many octets
+abbrev pub IsFar : Counting → ℕ → Type 0
+IsFar n len = (k : ℕ) → k < len → is_due (counted_far n k) ≡ false
 
 -- an end of record, or a block, is held until the next sign says what it goes with
 pub data Writing : Type 0 where

@@ -2,8 +2,8 @@ ghost use Rattle.std.specs.Prelude.{◌≡◌, ◌≢◌, ◌+◌, ◌/◌, ◌%
 ghost use Rattle.ftp_repr.specs.Signs.{Sign, octet as sign, end_record, end_file};
 ghost use Rattle.ftp_repr.specs.Items.{signs};
 ghost use Rattle.ftp_framer.specs.Block.{block_text, marker_text};
-ghost use Rattle.ftp_framer.specs.Writing.{blank, with_marks, is_due, due_text, marked, counted_on, writer, write_step, closed};
-ghost use Rattle.ftp_framer.specs.Framing.{writing, counting, owed_block, owed_octets, still_to_write, is_open, IsClear, Takes, Waits, AreRun};
+ghost use Rattle.ftp_framer.specs.Writing.{blank, with_marks, is_due, due_text, marked, counted_on, counted_far, IsCount, IsFar, writer, write_step, closed};
+ghost use Rattle.ftp_framer.specs.Framing.{writing, counting, owed_block, owed_octets, still_to_write, is_open, IsClear, Takes, Waits, AreRun, Fills, TakesRun};
 
 use arrayvec::ArrayVec;
 use ftp_repr::{Item, first_ff};
@@ -51,6 +51,12 @@ enum Marks {
 
 /// File octets between two own markers.
 const MARKED: u64 = 65_536;
+
+/// The most octets of a written block.
+const BLOCK_LIMIT: usize = 8192;
+
+/// Octets before those of a block: a descriptor and a count.
+const HEADER: usize = 3;
 
 /// Writes items as the octets of a data connection, into rooms of any size (RFC 959, sections 3.4.1 and 3.4.2).
 ///
@@ -153,17 +159,16 @@ impl Framer {
         self.is_open() && self.owed.is_empty()
     }
 
-    /// The octet of the written block at a place.
-    fn octet_at(&self, descriptor: u8, place: usize) -> u8
-        requires { place < length self.now.block.items + 3 }
+    /// An octet of the written block's header.
+    fn header_octet(&self, descriptor: u8, place: usize) -> u8
+        requires { place < 3 }
         ensures { result ≡ slice_index (block_text descriptor self.now.block.items) place }
     {
         let len = self.block.len();
         match place {
             0 => descriptor,
             1 => (len / 256) as u8,
-            2 => (len % 256) as u8,
-            _ => self.block[place - 3],
+            _ => (len % 256) as u8,
         }
     }
 
@@ -175,15 +180,52 @@ impl Framer {
             ≡ take at room.old ++ drop place (block_text descriptor self.now.block.items) }
         ensures all { (length self.now.block.items + 3 ≤ result.1) ⊎ (result.0 ≡ length room.old) }
     {
-        let len = self.block.len() + 3;
+        let (made, next) = self.copy_header(descriptor, place, room, at);
+        if next < HEADER {
+            return (made, next);
+        }
+        let count = self.copy_octets(next - HEADER, room, made);
+        (made + count, next + count)
+    }
+
+    /// Copies what is left of the written block's header.
+    fn copy_header(
+        &self,
+        descriptor: u8,
+        place: usize,
+        room: &mut [u8],
+        at: usize,
+    ) -> (usize, usize)
+        requires { at ≤ length room.old }
+        ensures within { (at ≤ result.0) × (result.0 ≤ length room.old) }
+        ensures copied { take result.0 room.new ++ drop result.1 (block_text descriptor self.now.block.items)
+            ≡ take at room.old ++ drop place (block_text descriptor self.now.block.items) }
+        ensures all { (3 ≤ result.1) ⊎ (result.0 ≡ length room.old) }
+    {
         let mut made = at;
         let mut next = place;
-        while made < room.len() && next < len {
-            room[made] = self.octet_at(descriptor, next);
+        while made < room.len() && next < HEADER {
+            room[made] = self.header_octet(descriptor, next);
             made += 1;
             next += 1;
         }
         (made, next)
+    }
+
+    /// Copies the written block's octets from the first of these on, and says how many.
+    fn copy_octets(&self, first: usize, room: &mut [u8], at: usize) -> usize
+        requires { at ≤ length room.old }
+        ensures within { at + result ≤ length room.old }
+        ensures copied { take (at + result) room.new ++ drop (first + result) self.now.block.items
+            ≡ take at room.old ++ drop first self.now.block.items }
+        ensures all { (length self.now.block.items ≤ first + result) ⊎ (at + result ≡ length room.old) }
+        ensures few { 0 < result → first + result ≤ 8192 }
+    {
+        let (_, rest) = self.block.as_slice().split_at(first.min(self.block.len()));
+        let count = rest.len().min(room.len() - at);
+        let (front, _) = rest.split_at(count);
+        copy_to(room, at, front);
+        count
     }
 
     /// Moves a decided block to the room from `at` on.
@@ -230,6 +272,12 @@ impl Framer {
         ensures block { self.new.block.items ≡ self.old.block.items }
         ensures marks { self.new.marks ≡ self.old.marks }
     {
+        let len = self.owed.len();
+        if len <= room.len() - at {
+            copy_to(room, at, self.owed.as_slice());
+            self.owed.clear();
+            return at + len;
+        }
         let mut made = at;
         while made < room.len() && !self.owed.is_empty() {
             room[made] = self.owed.remove(0);
@@ -306,15 +354,66 @@ impl Framer {
             self.due();
             return false;
         }
-        if self.block.len() == 8192 {
+        if self.block.len() == BLOCK_LIMIT {
             self.stage = Stage::Leaving(0, 0);
             return false;
         }
         self.block.push(octet);
-        if let Marks::Counted(since, count) = self.marks {
-            self.marks = Marks::Counted(since, count.saturating_add(1));
-        }
+        self.count(1);
         true
+    }
+
+    /// Counts octets of the file, where own markers are asked for.
+    fn count(&mut self, octets: usize)
+        ensures marks { counting self.new.marks ≡ counted_far (counting self.old.marks) octets }
+        ensures fits { IsCount (counting self.old.marks) }
+        ensures stage { self.new.stage ≡ self.old.stage }
+        ensures block { self.new.block.items ≡ self.old.block.items }
+        ensures owes { self.new.owed.items ≡ self.old.owed.items }
+    {
+        match self.marks {
+            Marks::Never | Marks::Unmarked => {}
+            Marks::Counted(since, count) => {
+                self.marks = Marks::Counted(since, count.saturating_add(octets as u64));
+            }
+        }
+    }
+
+    /// How many octets in front go into the block with nothing written before them.
+    fn fill_len(&self, piece: &[u8]) -> usize
+        ensures within { result ≤ length piece.now }
+        ensures fills { 0 < result → Fills self.now result }
+    {
+        match self.stage {
+            Stage::Filling => piece
+                .len()
+                .min(BLOCK_LIMIT - self.block.len())
+                .min(self.to_marker()),
+            _ => 0,
+        }
+    }
+
+    /// As many octets as come before the next marker, or fewer.
+    fn to_marker(&self) -> usize
+        ensures { IsFar (counting self.now.marks) result }
+    {
+        if self.is_due() {
+            return 0;
+        }
+        match self.marks {
+            Marks::Never | Marks::Unmarked => usize::MAX,
+            Marks::Counted(_, count) => (MARKED - count % MARKED) as usize,
+        }
+    }
+
+    /// Takes octets for which there is place in the block.
+    fn fill_run(&mut self, piece: &[u8])
+        requires clear { IsClear self.old }
+        requires fills { Fills self.old (length piece.now) }
+        ensures { TakesRun self.old piece.now self.new }
+    {
+        let _ = self.block.try_extend_from_slice(piece);
+        self.count(piece.len());
     }
 
     /// Whether a marker stands before the next octet.
@@ -407,8 +506,8 @@ impl Framer {
         self.owed.push(code);
     }
 
-    /// Takes octets that go as they are or, where none stands in front, octets until something before them waits for
-    /// room.
+    /// Takes octets that go into the block or, as they are, into the room; where none stands in front, the first octet or
+    /// what goes before it.
     fn put_octets(&mut self, piece: &[u8], room: &mut [u8], at: usize) -> Moved
         requires clear { IsClear self.old }
         requires within { at ≤ length room.old }
@@ -417,6 +516,15 @@ impl Framer {
             ≡ take result.made room.new ++ still_to_write self.new (drop result.taken (map sign piece.now) ++ more) }
         ensures some { at < length room.old → 0 < length piece.now → at < result.taken + result.made }
     {
+        let fills = self.fill_len(piece);
+        if fills > 0 {
+            let (front, _) = piece.split_at(fills);
+            self.fill_run(front);
+            return Moved {
+                taken: fills,
+                made: at,
+            };
+        }
         let run = self.copy_run(piece, room, at);
         if run > 0 {
             return Moved {
@@ -424,12 +532,7 @@ impl Framer {
                 made: at + run,
             };
         }
-        let few = match self.stage {
-            Stage::Free | Stage::Held => piece.len().min(1),
-            _ => piece.len(),
-        };
-        let (front, _) = piece.split_at(few);
-        self.put_each(front, room, at)
+        self.put_first(piece, room, at)
     }
 
     /// Copies the octets in front that go as they are, as far as there is room, and says how many.
@@ -464,8 +567,8 @@ impl Framer {
         }
     }
 
-    /// Takes octets until something before them waits for room.
-    fn put_each(&mut self, piece: &[u8], room: &mut [u8], at: usize) -> Moved
+    /// Takes the first octet, or decides what goes before it.
+    fn put_first(&mut self, piece: &[u8], room: &mut [u8], at: usize) -> Moved
         requires clear { IsClear self.old }
         requires within { at ≤ length room.old }
         ensures within { (result.taken ≤ length piece.now) × (at ≤ result.made) × (result.made ≤ length room.old) }
@@ -473,20 +576,15 @@ impl Framer {
             ≡ take result.made room.new ++ still_to_write self.new (drop result.taken (map sign piece.now) ++ more) }
         ensures some { at < length room.old → 0 < length piece.now → at < result.taken + result.made }
     {
-        let mut taken = 0;
-        let mut made = at;
-        while taken < piece.len() {
-            if !self.octet(piece[taken]) {
-                let made = self.pour(room, made);
-                return Moved { taken, made };
-            }
-            taken += 1;
-            made = self.pour(room, made);
-            if !self.is_clear() {
-                return Moved { taken, made };
-            }
+        if piece.is_empty() {
+            return Moved { taken: 0, made: at };
         }
-        Moved { taken, made }
+        if self.octet(piece[0]) {
+            let made = self.pour(room, at);
+            return Moved { taken: 1, made };
+        }
+        let made = self.pour(room, at);
+        Moved { taken: 0, made }
     }
 }
 

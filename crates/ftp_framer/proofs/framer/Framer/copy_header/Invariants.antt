@@ -1,6 +1,6 @@
 use Rattle.std.proofs.Common.{◌≡◌, ◌≤◌, ◌-◌, ◌++◌, length, take, drop}
 use Rattle.ftp_framer.specs.Block.{block_text}
-use Rattle.ftp_framer.proofs.framer.Framer.copy.Given as goal
+use Rattle.ftp_framer.proofs.framer.Framer.copy_header.Given as goal
 
 abbrev pub invariant-loop-made : goal.invariant-loop-made
 invariant-loop-made l = record {
