@@ -1,5 +1,5 @@
 -- What an ear has heard.
-use Rattle.std.specs.Prelude.{◌≡◌, ℕ, List, ◌++◌}
+use Rattle.std.specs.Prelude.{◌≡◌, ℕ, List, ◌++◌, vec_capacity}
 use Rattle.ftp_nvt.specs.Telnet.{bare, place}
 use Rattle.ftp_nvt.specs.Lines.{NvtEvent, events}
 use Rattle.ftp_nvt.specs.LineBuffer.{HasRead}
@@ -13,6 +13,10 @@ limit_of ear = ear.line.limit
 -- the text that this ear lends
 abbrev pub line_of : {A : Type 0} → Ear A → List ℕ
 line_of ear = ear.line.text.items
+
+-- how many octets the buffer of this ear has room for
+abbrev pub room_of : {A : Type 0} → Ear A → ℕ
+room_of ear = vec_capacity ear.line.text
 
 -- this ear can have heard just these octets
 pub record HasHeard {A : Type 0} (ear : Ear A) (octets : List ℕ) : Type 0 where

@@ -16,13 +16,14 @@ pub struct Ear<A: Allocator> {
 }
 
 impl<A: Allocator> Ear<A> {
-    ghost use Rattle.ftp_nvt.specs.Ear.{HasHeard, Hears, event_list, limit_of, line_of};
+    ghost use Rattle.ftp_nvt.specs.Ear.{HasHeard, Hears, event_list, limit_of, line_of, room_of};
 
     /// An ear that has heard nothing, for lines of at most `limit` octets, their ends included and Telnet octets
     /// taken out.
     pub fn new(alloc: A, limit: usize) -> Result<Ear<A>, NvtFault>
         ensures heard { IfOk result (λ ear. HasHeard ear []) }
         ensures limit { IfOk result (λ ear. limit_of ear ≡ limit) }
+        ensures room { IfOk result (λ ear. room_of ear ≡ limit) }
         ensures memory { IfErr result (λ fault. fault ≡ NvtFault.Memory) }
     {
         let line = LineBuffer::new(alloc, limit).map_err(|_| NvtFault::Memory)?;
@@ -32,7 +33,8 @@ impl<A: Allocator> Ear<A> {
         })
     }
 
-    /// Takes octets until they settle something or the piece is used up; `taken` counts them. Takes no memory.
+    /// Takes octets until they settle something or the piece is used up; `taken` counts them. Takes no memory: the
+    /// room that `new` took is that of the limit, and stays.
     ///
     /// A line is lent by `line` until the next call. Octets behind those taken are for the next call.
     pub fn feed(&mut self, piece: &[u8]) -> Heard
@@ -41,6 +43,7 @@ impl<A: Allocator> Ear<A> {
             (event_list result.event (line_of self.new)) self.new }
         ensures some { 0 < length piece.now → 0 < result.taken }
         ensures all { (result.event ≡ Event.More) → result.taken ≡ length piece.now }
+        ensures room { room_of self.new ≡ room_of self.old }
     {
         let mut taken = 0;
         while taken < piece.len() {

@@ -34,7 +34,7 @@ pub struct LineBuffer<A: Allocator> {
     text: Vec<u8, A>,
     ghost within: { count ≤ limit },
     ghost fits: { vec_len text ≤ count },
-    ghost room: { limit ≤ vec_capacity text },
+    ghost room: { vec_capacity text ≡ limit },
 }
 
 impl<A: Allocator> LineBuffer<A> {
@@ -165,8 +165,10 @@ impl<A: Allocator> LineBuffer<A> {
         ensures stage { self.new.stage ≡ self.old.stage }
         ensures limit { self.new.limit ≡ self.old.limit }
     {
-        self.count += plain.len();
-        self.text.extend_from_slice(plain).unwrap();
+        for octet in plain {
+            self.count += 1;
+            self.text.push_reserved(*octet);
+        }
     }
 
     // Reads the first octet of a piece.

@@ -1,4 +1,4 @@
-use Rattle.std.proofs.Common.{arith, length, [], ◌+◌, ◌≤◌, ap, sym}
+use Rattle.std.proofs.Common.{arith, length, [], ◌+◌, ◌≤◌, ◌∙◌, ap, sym}
 use Rattle.ftp_nvt.specs.Ear.{event_list, line_of}
 use Rattle.ftp_nvt.proofs.EarLemmas.{Hears-rest, Hears-as}
 use Rattle.ftp_nvt.proofs.ear.Ear.feed.Goals as goal
@@ -21,4 +21,5 @@ returns-in_default g c =
       hears = Hears-rest c.args.self.now loop.self bite.new.self c.args.piece.now c.split_at.result.1.now loop.taken bite.result.taken [] added c.split_at.ensures.back loop.invariant.1 bite.ensures.hears;
       some = λ some. omega (arith, bite.ensures.some);
       all = λ more. absurd (c.in_default.not-More more);
+      room = bite.new.self.line.room ∙ bite.ensures.hears.limit ∙ loop.invariant.1.limit ∙ sym c.args.self.now.line.room;
     }
