@@ -9,9 +9,10 @@ use Rattle.std.specs.Str.{bytes_eq}
 use Rattle.std.proofs.lemmas.Str.Parse.{digit_from_value}
 use Rattle.std.specs.Int.{IsInRange}
 use Rattle.ftp_command.specs.Argument.{IsOtherFamily, IsOtherKind, IsOtherMode, IsOtherStructure, SaysEbcdic, SaysKind, SaysLocal, SaysLongest, SaysMode, SaysPassive, SaysPathOrNone, SaysSizes, SaysStructure, SaysTextOrNone, argument, trimmed, without_options, word}
-use Rattle.ftp_command.specs.Command.{Argues, Declined, IsNotDone, IsOtherNetwork, IsOtherParameter, Refuses, Says, verb_of}
+use Rattle.ftp_command.specs.Command.{Argues, Declined, HoldsText, IsNotDone, IsOtherNetwork, IsOtherParameter, Refuses, Says, verb_of}
 use Rattle.ftp_endpoint.specs.Number.{SaysNumber, behind_digits}
-use Rattle.ftp_command.specs.Verb.{SameLetters}
+use Rattle.ftp_command.specs.Decline.{SaysText}
+use Rattle.ftp_command.specs.Verb.{Names, SameLetters}
 use Rattle.ftp_command.specs.declared.command.Command.{Command}
 use Rattle.ftp_command.specs.declared.command.Command.TheVariants as command
 use Rattle.ftp_representation.specs.declared.representation.Kind.{Kind}
@@ -252,13 +253,22 @@ same_declined : (a : List ℕ) (v w : Verb) (f : CommandFault) → v ≡ w → D
 same_declined a v w f e h =
     let P : Verb → Type 0 = λ x. Declined a x f in subst P e h
 
+-- a refusal is that no verb is named, or one of the argument of the verb that is
+refusal : (line : List ℕ) (f : CommandFault) → Refuses line f
+    → ((f ≡ fault.Unknown) × ((v : Verb) → ¬ Names (word line) v)) ⊎ ((v : Verb) × Names (word line) v × Declined (argument line) v f)
+refusal line fault.Unknown h = inl (refl, h)
+refusal line fault.BadArgument h = inr h
+refusal line fault.NotDone h = inr h
+refusal line fault.BadParameter h = inr h
+refusal line fault.Protocol h = inr h
+refusal line fault.Memory h = inr h
+
 pub not_refused : (line : List ℕ) (v : Command (List ℕ)) (f : CommandFault) → Says line v → Refuses line f → ⊥
-not_refused line v fault.Unknown h k = k (verb_of v) h.0
-not_refused line v fault.BadArgument h k = not_declined (argument line) v fault.BadArgument h.1 (same_declined (argument line) k.0 (verb_of v) fault.BadArgument (one_verb (word line) k.0 (verb_of v) k.1 h.0) k.2)
-not_refused line v fault.NotDone h k = not_declined (argument line) v fault.NotDone h.1 (same_declined (argument line) k.0 (verb_of v) fault.NotDone (one_verb (word line) k.0 (verb_of v) k.1 h.0) k.2)
-not_refused line v fault.BadParameter h k = not_declined (argument line) v fault.BadParameter h.1 (same_declined (argument line) k.0 (verb_of v) fault.BadParameter (one_verb (word line) k.0 (verb_of v) k.1 h.0) k.2)
-not_refused line v fault.Protocol h k = not_declined (argument line) v fault.Protocol h.1 (same_declined (argument line) k.0 (verb_of v) fault.Protocol (one_verb (word line) k.0 (verb_of v) k.1 h.0) k.2)
-not_refused line v fault.Memory h k = k.2
+not_refused line v f says h =
+    elim (refusal line f h) [
+      | inl none ↦ none.1 (verb_of v) says.0
+      | inr is ↦ not_declined (argument line) v f says.1 (same_declined (argument line) is.0 (verb_of v) f (one_verb (word line) is.0 (verb_of v) is.1 says.0) is.2)
+    ]
 
 -- a line is refused in one way
 done_parameter : (a : List ℕ) (v : Verb) → IsNotDone a v → IsOtherParameter a v → ⊥
@@ -278,88 +288,60 @@ parameter_network a verb.Epsv h k = absurd h
 parameter_network a v h k = absurd k
 
 one_decline : (a : List ℕ) (v : Verb) (f g : CommandFault) → Declined a v f → Declined a v g → f ≡ g
-one_decline a v fault.Unknown fault.Unknown h k = refl
-one_decline a v fault.Unknown fault.BadArgument h k = absurd h
-one_decline a v fault.Unknown fault.NotDone h k = absurd h
-one_decline a v fault.Unknown fault.BadParameter h k = absurd h
-one_decline a v fault.Unknown fault.Protocol h k = absurd h
-one_decline a v fault.Unknown fault.Memory h k = absurd h
-one_decline a v fault.BadArgument fault.Unknown h k = absurd k
+one_decline a v fault.Unknown g h k = absurd h
+one_decline a v fault.Memory g h k = absurd h
+one_decline a v f fault.Unknown h k = absurd k
+one_decline a v f fault.Memory h k = absurd k
 one_decline a v fault.BadArgument fault.BadArgument h k = refl
 one_decline a v fault.BadArgument fault.NotDone h k = absurd (h.0 k)
 one_decline a v fault.BadArgument fault.BadParameter h k = absurd (h.1 k)
 one_decline a v fault.BadArgument fault.Protocol h k = absurd (h.2 k)
-one_decline a v fault.BadArgument fault.Memory h k = absurd k
-one_decline a v fault.NotDone fault.Unknown h k = absurd k
 one_decline a v fault.NotDone fault.BadArgument h k = absurd (k.0 h)
 one_decline a v fault.NotDone fault.NotDone h k = refl
 one_decline a v fault.NotDone fault.BadParameter h k = absurd (done_parameter a v h k)
 one_decline a v fault.NotDone fault.Protocol h k = absurd (done_network a v h k)
-one_decline a v fault.NotDone fault.Memory h k = absurd k
-one_decline a v fault.BadParameter fault.Unknown h k = absurd k
 one_decline a v fault.BadParameter fault.BadArgument h k = absurd (k.1 h)
 one_decline a v fault.BadParameter fault.NotDone h k = absurd (done_parameter a v k h)
 one_decline a v fault.BadParameter fault.BadParameter h k = refl
 one_decline a v fault.BadParameter fault.Protocol h k = absurd (parameter_network a v h k)
-one_decline a v fault.BadParameter fault.Memory h k = absurd k
-one_decline a v fault.Protocol fault.Unknown h k = absurd k
 one_decline a v fault.Protocol fault.BadArgument h k = absurd (k.2 h)
 one_decline a v fault.Protocol fault.NotDone h k = absurd (done_network a v k h)
 one_decline a v fault.Protocol fault.BadParameter h k = absurd (parameter_network a v k h)
 one_decline a v fault.Protocol fault.Protocol h k = refl
-one_decline a v fault.Protocol fault.Memory h k = absurd k
-one_decline a v fault.Memory fault.Unknown h k = absurd h
-one_decline a v fault.Memory fault.BadArgument h k = absurd h
-one_decline a v fault.Memory fault.NotDone h k = absurd h
-one_decline a v fault.Memory fault.BadParameter h k = absurd h
-one_decline a v fault.Memory fault.Protocol h k = absurd h
-one_decline a v fault.Memory fault.Memory h k = refl
 
 pub one_fault : (line : List ℕ) (f g : CommandFault) → Refuses line f → Refuses line g → f ≡ g
-one_fault line fault.Unknown fault.Unknown h k = refl
-one_fault line fault.Unknown fault.BadArgument h k = absurd (h k.0 k.1)
-one_fault line fault.Unknown fault.NotDone h k = absurd (h k.0 k.1)
-one_fault line fault.Unknown fault.BadParameter h k = absurd (h k.0 k.1)
-one_fault line fault.Unknown fault.Protocol h k = absurd (h k.0 k.1)
-one_fault line fault.Unknown fault.Memory h k = absurd (h k.0 k.1)
-one_fault line fault.BadArgument fault.Unknown h k = absurd (k h.0 h.1)
-one_fault line fault.BadArgument fault.BadArgument h k = one_decline (argument line) k.0 fault.BadArgument fault.BadArgument (same_declined (argument line) h.0 k.0 fault.BadArgument (one_verb (word line) h.0 k.0 h.1 k.1) h.2) k.2
-one_fault line fault.BadArgument fault.NotDone h k = one_decline (argument line) k.0 fault.BadArgument fault.NotDone (same_declined (argument line) h.0 k.0 fault.BadArgument (one_verb (word line) h.0 k.0 h.1 k.1) h.2) k.2
-one_fault line fault.BadArgument fault.BadParameter h k = one_decline (argument line) k.0 fault.BadArgument fault.BadParameter (same_declined (argument line) h.0 k.0 fault.BadArgument (one_verb (word line) h.0 k.0 h.1 k.1) h.2) k.2
-one_fault line fault.BadArgument fault.Protocol h k = one_decline (argument line) k.0 fault.BadArgument fault.Protocol (same_declined (argument line) h.0 k.0 fault.BadArgument (one_verb (word line) h.0 k.0 h.1 k.1) h.2) k.2
-one_fault line fault.BadArgument fault.Memory h k = one_decline (argument line) k.0 fault.BadArgument fault.Memory (same_declined (argument line) h.0 k.0 fault.BadArgument (one_verb (word line) h.0 k.0 h.1 k.1) h.2) k.2
-one_fault line fault.NotDone fault.Unknown h k = absurd (k h.0 h.1)
-one_fault line fault.NotDone fault.BadArgument h k = one_decline (argument line) k.0 fault.NotDone fault.BadArgument (same_declined (argument line) h.0 k.0 fault.NotDone (one_verb (word line) h.0 k.0 h.1 k.1) h.2) k.2
-one_fault line fault.NotDone fault.NotDone h k = one_decline (argument line) k.0 fault.NotDone fault.NotDone (same_declined (argument line) h.0 k.0 fault.NotDone (one_verb (word line) h.0 k.0 h.1 k.1) h.2) k.2
-one_fault line fault.NotDone fault.BadParameter h k = one_decline (argument line) k.0 fault.NotDone fault.BadParameter (same_declined (argument line) h.0 k.0 fault.NotDone (one_verb (word line) h.0 k.0 h.1 k.1) h.2) k.2
-one_fault line fault.NotDone fault.Protocol h k = one_decline (argument line) k.0 fault.NotDone fault.Protocol (same_declined (argument line) h.0 k.0 fault.NotDone (one_verb (word line) h.0 k.0 h.1 k.1) h.2) k.2
-one_fault line fault.NotDone fault.Memory h k = one_decline (argument line) k.0 fault.NotDone fault.Memory (same_declined (argument line) h.0 k.0 fault.NotDone (one_verb (word line) h.0 k.0 h.1 k.1) h.2) k.2
-one_fault line fault.BadParameter fault.Unknown h k = absurd (k h.0 h.1)
-one_fault line fault.BadParameter fault.BadArgument h k = one_decline (argument line) k.0 fault.BadParameter fault.BadArgument (same_declined (argument line) h.0 k.0 fault.BadParameter (one_verb (word line) h.0 k.0 h.1 k.1) h.2) k.2
-one_fault line fault.BadParameter fault.NotDone h k = one_decline (argument line) k.0 fault.BadParameter fault.NotDone (same_declined (argument line) h.0 k.0 fault.BadParameter (one_verb (word line) h.0 k.0 h.1 k.1) h.2) k.2
-one_fault line fault.BadParameter fault.BadParameter h k = one_decline (argument line) k.0 fault.BadParameter fault.BadParameter (same_declined (argument line) h.0 k.0 fault.BadParameter (one_verb (word line) h.0 k.0 h.1 k.1) h.2) k.2
-one_fault line fault.BadParameter fault.Protocol h k = one_decline (argument line) k.0 fault.BadParameter fault.Protocol (same_declined (argument line) h.0 k.0 fault.BadParameter (one_verb (word line) h.0 k.0 h.1 k.1) h.2) k.2
-one_fault line fault.BadParameter fault.Memory h k = one_decline (argument line) k.0 fault.BadParameter fault.Memory (same_declined (argument line) h.0 k.0 fault.BadParameter (one_verb (word line) h.0 k.0 h.1 k.1) h.2) k.2
-one_fault line fault.Protocol fault.Unknown h k = absurd (k h.0 h.1)
-one_fault line fault.Protocol fault.BadArgument h k = one_decline (argument line) k.0 fault.Protocol fault.BadArgument (same_declined (argument line) h.0 k.0 fault.Protocol (one_verb (word line) h.0 k.0 h.1 k.1) h.2) k.2
-one_fault line fault.Protocol fault.NotDone h k = one_decline (argument line) k.0 fault.Protocol fault.NotDone (same_declined (argument line) h.0 k.0 fault.Protocol (one_verb (word line) h.0 k.0 h.1 k.1) h.2) k.2
-one_fault line fault.Protocol fault.BadParameter h k = one_decline (argument line) k.0 fault.Protocol fault.BadParameter (same_declined (argument line) h.0 k.0 fault.Protocol (one_verb (word line) h.0 k.0 h.1 k.1) h.2) k.2
-one_fault line fault.Protocol fault.Protocol h k = one_decline (argument line) k.0 fault.Protocol fault.Protocol (same_declined (argument line) h.0 k.0 fault.Protocol (one_verb (word line) h.0 k.0 h.1 k.1) h.2) k.2
-one_fault line fault.Protocol fault.Memory h k = one_decline (argument line) k.0 fault.Protocol fault.Memory (same_declined (argument line) h.0 k.0 fault.Protocol (one_verb (word line) h.0 k.0 h.1 k.1) h.2) k.2
-one_fault line fault.Memory fault.Unknown h k = absurd (k h.0 h.1)
-one_fault line fault.Memory fault.BadArgument h k = one_decline (argument line) k.0 fault.Memory fault.BadArgument (same_declined (argument line) h.0 k.0 fault.Memory (one_verb (word line) h.0 k.0 h.1 k.1) h.2) k.2
-one_fault line fault.Memory fault.NotDone h k = one_decline (argument line) k.0 fault.Memory fault.NotDone (same_declined (argument line) h.0 k.0 fault.Memory (one_verb (word line) h.0 k.0 h.1 k.1) h.2) k.2
-one_fault line fault.Memory fault.BadParameter h k = one_decline (argument line) k.0 fault.Memory fault.BadParameter (same_declined (argument line) h.0 k.0 fault.Memory (one_verb (word line) h.0 k.0 h.1 k.1) h.2) k.2
-one_fault line fault.Memory fault.Protocol h k = one_decline (argument line) k.0 fault.Memory fault.Protocol (same_declined (argument line) h.0 k.0 fault.Memory (one_verb (word line) h.0 k.0 h.1 k.1) h.2) k.2
-one_fault line fault.Memory fault.Memory h k = one_decline (argument line) k.0 fault.Memory fault.Memory (same_declined (argument line) h.0 k.0 fault.Memory (one_verb (word line) h.0 k.0 h.1 k.1) h.2) k.2
+one_fault line f g h k =
+    elim (refusal line f h) [
+      | inl none ↦
+          elim (refusal line g k) [
+            | inl other ↦ none.0 ∙ sym other.0
+            | inr is ↦ absurd (none.1 is.0 is.1)
+          ]
+      | inr is ↦
+          elim (refusal line g k) [
+            | inl none ↦ absurd (none.1 is.0 is.1)
+            | inr other ↦ one_decline (argument line) other.0 f g (same_declined (argument line) is.0 other.0 f (one_verb (word line) is.0 other.0 is.1 other.1) is.2) other.2
+          ]
+    ]
 
--- an outcome that is said or refused is the one that the line has
-pub exactly_said : (line : List ℕ) (r : Result (Command (List ℕ)) CommandFault) → IfOk r (λ v. Says line v) → IfErr r (λ f. (f ≡ fault.Memory) ⊎ Refuses line f) → (v : Command (List ℕ)) → Says line v → (r ≡ Ok v) ⊎ (r ≡ Err fault.Memory)
-exactly_said line (Ok w) h k v says = inl (ap Ok (one_command line w v h says))
-exactly_said line (Err f) h (inl k) v says = inr (ap Err k)
-exactly_said line (Err f) h (inr k) v says = absurd (not_refused line v f says k)
+-- an outcome that is said or refused is the one that the line has; memory is wanted only for a text
+abbrev pub Outcome : List ℕ → Result (Command (List ℕ)) CommandFault → Type 0
+Outcome line r = IfOk r (λ v. Says line v) × IfErr r (λ f. ((f ≡ fault.Memory) × SaysText line) ⊎ Refuses line f)
 
-pub exactly_refused : (line : List ℕ) (r : Result (Command (List ℕ)) CommandFault) → IfOk r (λ v. Says line v) → IfErr r (λ f. (f ≡ fault.Memory) ⊎ Refuses line f) → (g : CommandFault) → Refuses line g → (r ≡ Err g) ⊎ (r ≡ Err fault.Memory)
-exactly_refused line (Ok w) h k g refuses = absurd (not_refused line w g h refuses)
-exactly_refused line (Err f) h (inl k) g refuses = inr (ap Err k)
-exactly_refused line (Err f) h (inr k) g refuses = inl (ap Err (one_fault line f g k refuses))
+pub exactly_said : (line : List ℕ) (r : Result (Command (List ℕ)) CommandFault) → Outcome line r
+    → (v : Command (List ℕ)) → Says line v → (r ≡ Ok v) ⊎ (HoldsText v × (r ≡ Err fault.Memory))
+exactly_said line (Ok w) h v says = inl (ap Ok (one_command line w v h.0 says))
+exactly_said line (Err f) (h, inl k) v says =
+    let P : Command (List ℕ) → Type 0 = λ w. HoldsText w in inr (subst P (one_command line k.1.0 v k.1.1 says) k.1.2, ap Err k.0)
+exactly_said line (Err f) (h, inr k) v says = absurd (not_refused line v f says k)
+
+pub exactly_refused : (line : List ℕ) (r : Result (Command (List ℕ)) CommandFault) → Outcome line r
+    → (g : CommandFault) → Refuses line g → r ≡ Err g
+exactly_refused line (Ok w) h g refuses = absurd (not_refused line w g h.0 refuses)
+exactly_refused line (Err f) (h, inl k) g refuses = absurd (not_refused line k.1.0 g k.1.1 refuses)
+exactly_refused line (Err f) (h, inr k) g refuses = ap Err (one_fault line f g k refuses)
+
+pub refused_or_memory : (line : List ℕ) (r : Result (Command (List ℕ)) CommandFault) → Outcome line r → IfErr r (λ f. (f ≡ fault.Memory) ⊎ Refuses line f)
+refused_or_memory line (Ok w) h = tt
+refused_or_memory line (Err f) (h, inl k) = inl k.0
+refused_or_memory line (Err f) (h, inr k) = inr k

@@ -1,5 +1,5 @@
 -- Which line says which command, and how a line is refused (RFC 959, sections 4.1, 4.2 and 5.3).
-use Rattle.std.specs.Prelude.{◌≡◌, ◌≤◌, ℕ, List, length}
+use Rattle.std.specs.Prelude.{◌≡◌, ◌≤◌, ℕ, List, length, IsTrue, is_some}
 use Rattle.ftp_command.specs.Argument.{IsBlank, IsName, IsOtherFamily, IsOtherKind, IsOtherMode, IsOtherStructure, IsPassword, IsPath, SaysKind, SaysMode, SaysPassive, SaysPathOrNone, SaysSizes, SaysStructure, SaysTextOrNone, argument, trimmed, without_options, word}
 use Rattle.ftp_endpoint.specs.Endpoint.{SaysSix}
 use Rattle.ftp_endpoint.specs.Host.{IsOtherProtocol, SaysExtended}
@@ -52,6 +52,30 @@ verb_of (command.Help value) = verb.Help
 verb_of command.Noop = verb.Noop
 verb_of command.Feat = verb.Feat
 verb_of (command.Opts value) = verb.Opts
+
+-- a command that holds a text
+abbrev pub HoldsText : Command (List ℕ) → Type 0
+HoldsText (command.User value) = Unit {0}
+HoldsText (command.Pass value) = Unit {0}
+HoldsText (command.Acct value) = Unit {0}
+HoldsText (command.Cwd value) = Unit {0}
+HoldsText (command.Retr value) = Unit {0}
+HoldsText (command.Stor value) = Unit {0}
+HoldsText (command.Appe value) = Unit {0}
+HoldsText (command.Rnfr value) = Unit {0}
+HoldsText (command.Rnto value) = Unit {0}
+HoldsText (command.Dele value) = Unit {0}
+HoldsText (command.Rmd value) = Unit {0}
+HoldsText (command.Mkd value) = Unit {0}
+HoldsText (command.List value) = IsTrue (is_some value)
+HoldsText (command.Nlst value) = IsTrue (is_some value)
+HoldsText (command.Mlst value) = IsTrue (is_some value)
+HoldsText (command.Mlsd value) = IsTrue (is_some value)
+HoldsText (command.Size value) = Unit {0}
+HoldsText (command.Mdtm value) = Unit {0}
+HoldsText (command.Help value) = IsTrue (is_some value)
+HoldsText (command.Opts value) = Unit {0}
+HoldsText command = ⊥
 
 -- an argument says the value of a command: a row of the table of verbs each
 abbrev pub Argues : List ℕ → Command (List ℕ) → Type 0

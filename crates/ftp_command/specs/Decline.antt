@@ -1,4 +1,10 @@
--- How a parameter is refused.
+-- How a parameter is refused, and which arguments are copied.
+use Rattle.std.specs.Prelude.{◌≤◌, ℕ, List, length}
+use Rattle.ftp_command.specs.Argument.{IsName, IsPassword, IsPath, trimmed, without_options}
+use Rattle.ftp_command.specs.Command.{HoldsText, Says}
+use Rattle.ftp_command.specs.declared.command.Command.{Command}
+use Rattle.ftp_command.specs.declared.verb.Verb.{Verb}
+use Rattle.ftp_command.specs.declared.verb.Verb.TheVariants as verb
 use Rattle.ftp_command.specs.declared.fault.CommandFault.{CommandFault}
 use Rattle.ftp_command.specs.declared.fault.CommandFault.TheVariants.{BadArgument, BadParameter, Protocol}
 
@@ -13,3 +19,31 @@ abbrev pub DeclinesFamily : {V : Type 0} → (V → Type 0) → Type 0 → Comma
 DeclinesFamily {V} Says Other Protocol = Other
 DeclinesFamily {V} Says Other BadArgument = (¬ Other) × ((value : V) → ¬ Says value)
 DeclinesFamily {V} Says Other fault = ⊥
+
+-- an argument that says a text of a verb's command, which is copied
+abbrev pub NeedsCopy : List ℕ → Verb → Type 0
+NeedsCopy a verb.User = IsName a
+NeedsCopy a verb.Pass = IsPassword a
+NeedsCopy a verb.Acct = 1 ≤ length (trimmed a)
+NeedsCopy a verb.Cwd = IsPath a
+NeedsCopy a verb.Retr = IsPath a
+NeedsCopy a verb.Stor = IsPath a
+NeedsCopy a verb.Appe = IsPath a
+NeedsCopy a verb.Rnfr = IsPath a
+NeedsCopy a verb.Rnto = IsPath a
+NeedsCopy a verb.Dele = IsPath a
+NeedsCopy a verb.Rmd = IsPath a
+NeedsCopy a verb.Mkd = IsPath a
+NeedsCopy a verb.List = IsPath (without_options a)
+NeedsCopy a verb.Nlst = IsPath (without_options a)
+NeedsCopy a verb.Mlst = IsPath a
+NeedsCopy a verb.Mlsd = IsPath a
+NeedsCopy a verb.Size = IsPath a
+NeedsCopy a verb.Mdtm = IsPath a
+NeedsCopy a verb.Help = 1 ≤ length (trimmed a)
+NeedsCopy a verb.Opts = 1 ≤ length (trimmed a)
+NeedsCopy a verb = ⊥
+
+-- a line says a command that holds a text
+abbrev pub SaysText : List ℕ → Type 0
+SaysText line = (command : Command (List ℕ)) × Says line command × HoldsText command

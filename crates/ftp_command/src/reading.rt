@@ -1,7 +1,8 @@
 // Reading a command line.
 ghost use Rattle.std.specs.Prelude.{Ok, Err, ◌≡◌, ◌⊎◌, ◌≤◌, ℕ, List, [], IfErr, IfOk, IfSome, IfNone, IsTrue, OnOk, Option, length};
 ghost use Rattle.ftp_command.specs.Argument.{IsBlank, IsName, IsPassword, IsPath, SaysPathOrNone, SaysSizes, SaysTextOrNone, argument, trimmed, without_options, word};
-ghost use Rattle.ftp_command.specs.Command.{Argues, Declined, Refuses, Says, verb_of};
+ghost use Rattle.ftp_command.specs.Command.{Argues, Declined, HoldsText, Refuses, Says, verb_of};
+ghost use Rattle.ftp_command.specs.Decline.{NeedsCopy, SaysText};
 ghost use Rattle.ftp_endpoint.specs.Endpoint.{SaysSix};
 ghost use Rattle.ftp_endpoint.specs.Number.{SaysNumber};
 ghost use Rattle.ftp_command.specs.Verb.{Names};
@@ -20,19 +21,21 @@ use std::alloc::Allocator;
 /// Reads a line without its end as a command (RFC 959, sections 4.1 and 5.3).
 ///
 /// The word before the first SP names the verb, in capitals or small letters; all octets behind that SP are the
-/// argument. Each fault stands for one reply: see `CommandFault`. Memory is asked for last.
+/// argument. Each fault stands for one reply: see `CommandFault`. Memory is asked for last, and only for the text that a
+/// command holds.
 pub fn read<A: Allocator>(alloc: A, line: &[u8]) -> Result<Command<Text<A>>, CommandFault>
     ensures says { IfOk result (λ command. Says line.now command) }
     ensures refuses { IfErr result (λ fault. (fault ≡ CommandFault.Memory) ⊎ Refuses line.now fault) }
-    ensures said { (command : Command (List ℕ)) → Says line.now command → (result ≡ Ok command) ⊎ (result ≡ Err CommandFault.Memory) }
-    ensures refused { (fault : CommandFault) → Refuses line.now fault → (result ≡ Err fault) ⊎ (result ≡ Err CommandFault.Memory) }
+    ensures refused { (fault : CommandFault) → Refuses line.now fault → result ≡ Err fault }
+    ensures said { (command : Command (List ℕ)) → Says line.now command
+        → (result ≡ Ok command) ⊎ (HoldsText command × (result ≡ Err CommandFault.Memory)) }
 {
     read_line(alloc, line)
 }
 
 fn read_line<A: Allocator>(alloc: A, line: &[u8]) -> Result<Command<Text<A>>, CommandFault>
     ensures says { IfOk result (λ command. Says line.now command) }
-    ensures refuses { IfErr result (λ fault. (fault ≡ CommandFault.Memory) ⊎ Refuses line.now fault) }
+    ensures refuses { IfErr result (λ fault. ((fault ≡ CommandFault.Memory) × SaysText line.now) ⊎ Refuses line.now fault) }
 {
     let (word, argument) = split_line(line);
     let Some(verb) = verb_of(word) else {
@@ -48,7 +51,7 @@ fn read_argument<A: Allocator>(
     argument: &[u8],
 ) -> Result<Command<Text<A>>, CommandFault>
     ensures says { IfOk result (λ command. (verb_of command ≡ verb) × Argues argument.now command) }
-    ensures refuses { IfErr result (λ fault. (fault ≡ CommandFault.Memory) ⊎ Declined argument.now verb fault) }
+    ensures refuses { IfErr result (λ fault. ((fault ≡ CommandFault.Memory) × NeedsCopy argument.now verb) ⊎ Declined argument.now verb fault) }
 {
     match verb {
         Verb::User => Ok(Command::User(name(alloc, argument)?)),
@@ -135,7 +138,7 @@ fn space(text: &[u8]) -> Result<(u64, Option<u64>), CommandFault>
 // A path text.
 fn path<A: Allocator>(alloc: A, argument: &[u8]) -> Result<Text<A>, CommandFault>
     ensures ok { IfOk result (λ text. (argument.now ≡ text) × IsPath text) }
-    ensures err { IfErr result (λ fault. (fault ≡ CommandFault.Memory) ⊎ ((fault ≡ CommandFault.BadArgument) × (¬ IsPath argument.now))) }
+    ensures err { IfErr result (λ fault. ((fault ≡ CommandFault.Memory) × IsPath argument.now) ⊎ ((fault ≡ CommandFault.BadArgument) × (¬ IsPath argument.now))) }
 {
     if !is_path(argument) {
         return Err(CommandFault::BadArgument);
@@ -146,7 +149,7 @@ fn path<A: Allocator>(alloc: A, argument: &[u8]) -> Result<Text<A>, CommandFault
 // A user name.
 fn name<A: Allocator>(alloc: A, argument: &[u8]) -> Result<Text<A>, CommandFault>
     ensures ok { IfOk result (λ text. (argument.now ≡ text) × IsName text) }
-    ensures err { IfErr result (λ fault. (fault ≡ CommandFault.Memory) ⊎ ((fault ≡ CommandFault.BadArgument) × (¬ IsName argument.now))) }
+    ensures err { IfErr result (λ fault. ((fault ≡ CommandFault.Memory) × IsName argument.now) ⊎ ((fault ≡ CommandFault.BadArgument) × (¬ IsName argument.now))) }
 {
     if !is_name(argument) {
         return Err(CommandFault::BadArgument);
@@ -157,7 +160,7 @@ fn name<A: Allocator>(alloc: A, argument: &[u8]) -> Result<Text<A>, CommandFault
 // A password.
 fn password<A: Allocator>(alloc: A, argument: &[u8]) -> Result<Text<A>, CommandFault>
     ensures ok { IfOk result (λ text. (argument.now ≡ text) × IsPassword text) }
-    ensures err { IfErr result (λ fault. (fault ≡ CommandFault.Memory) ⊎ ((fault ≡ CommandFault.BadArgument) × (¬ IsPassword argument.now))) }
+    ensures err { IfErr result (λ fault. ((fault ≡ CommandFault.Memory) × IsPassword argument.now) ⊎ ((fault ≡ CommandFault.BadArgument) × (¬ IsPassword argument.now))) }
 {
     if !is_password(argument) {
         return Err(CommandFault::BadArgument);
@@ -168,7 +171,7 @@ fn password<A: Allocator>(alloc: A, argument: &[u8]) -> Result<Text<A>, CommandF
 // Words, of one octet or more.
 fn words<A: Allocator>(alloc: A, text: &[u8]) -> Result<Text<A>, CommandFault>
     ensures ok { IfOk result (λ words. (text.now ≡ words) × (1 ≤ length words)) }
-    ensures err { IfErr result (λ fault. (fault ≡ CommandFault.Memory) ⊎ ((fault ≡ CommandFault.BadArgument) × (¬ (1 ≤ length text.now)))) }
+    ensures err { IfErr result (λ fault. ((fault ≡ CommandFault.Memory) × (1 ≤ length text.now)) ⊎ ((fault ≡ CommandFault.BadArgument) × (¬ (1 ≤ length text.now)))) }
 {
     if text.is_empty() {
         return Err(CommandFault::BadArgument);
@@ -179,7 +182,7 @@ fn words<A: Allocator>(alloc: A, text: &[u8]) -> Result<Text<A>, CommandFault>
 // Words, or nothing.
 fn words_or_none<A: Allocator>(alloc: A, text: &[u8]) -> Result<Option<Text<A>>, CommandFault>
     ensures ok { IfOk result (λ words. SaysTextOrNone text.now words) }
-    ensures err { IfErr result (λ fault. fault ≡ CommandFault.Memory) }
+    ensures err { IfErr result (λ fault. (fault ≡ CommandFault.Memory) × (1 ≤ length text.now)) }
 {
     if text.is_empty() {
         return Ok(None);
@@ -193,7 +196,7 @@ fn words_or_none<A: Allocator>(alloc: A, text: &[u8]) -> Result<Option<Text<A>>,
 // A path text, or nothing.
 fn path_or_none<A: Allocator>(alloc: A, text: &[u8]) -> Result<Option<Text<A>>, CommandFault>
     ensures ok { IfOk result (λ path. SaysPathOrNone text.now path) }
-    ensures err { IfErr result (λ fault. (fault ≡ CommandFault.Memory) ⊎ ((fault ≡ CommandFault.BadArgument) × (¬ ((text.now ≡ []) ⊎ IsPath text.now)))) }
+    ensures err { IfErr result (λ fault. ((fault ≡ CommandFault.Memory) × IsPath text.now) ⊎ ((fault ≡ CommandFault.BadArgument) × (¬ ((text.now ≡ []) ⊎ IsPath text.now)))) }
 {
     if text.is_empty() {
         return Ok(None);

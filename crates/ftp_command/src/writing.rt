@@ -23,7 +23,8 @@ pub fn write<A: Allocator, B: Allocator>(
     out: &mut Vec<u8, B>,
 ) -> Result<(), CommandFault>
     ensures ok { OnOk result (IsStated command.now × (out.new.items ≡ out.old.items ++ line_text command.now)) }
-    ensures err { IfErr result (λ fault. (fault ≡ CommandFault.Memory) ⊎ ((fault ≡ CommandFault.BadArgument) × (¬ IsStated command.now))) }
+    ensures refused { (¬ IsStated command.now) → result ≡ Err CommandFault.BadArgument }
+    ensures memory { IsStated command.now → IfErr result (λ fault. fault ≡ CommandFault.Memory) }
     ensures kept { IfErr result (λ _. out.new.items ≡ out.old.items) }
 {
     if !is_stated(command) {
