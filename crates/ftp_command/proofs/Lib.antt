@@ -5,3 +5,4 @@ pub mod CommandLemmas
 pub mod LawLemmas
 pub mod RoundTripLemmas
 pub mod StatedLemmas
+pub mod CarriedLemmas

@@ -15,8 +15,10 @@ pub fn one_meaning()
     ensures fault { (line : List ℕ) (f g : CommandFault) → Refuses line f → Refuses line g → f ≡ g }
 {}
 
-/// The line that is written for a command says it, and says no other.
+/// The line that is written for a command says it, says no other, and is one that a control connection can carry: so a
+/// command has a line where it is stated, and only there.
 pub fn round_trip()
+    ensures carried { (v : Command (List ℕ)) → IsTyped v → IsStated v → IsLine (line_of v) }
     ensures says { (v : Command (List ℕ)) → IsTyped v → IsStated v → Says (line_of v) v }
     ensures alone { (v w : Command (List ℕ)) → IsTyped v → IsStated v → Says (line_of v) w → w ≡ v }
 {}

@@ -4,6 +4,7 @@ use Rattle.std.specs.Prelude.{if◌then◌else◌}
 use Rattle.std.specs.List.{flat_map, list_all}
 use Rattle.ftp_nvt.specs.Lines.{NvtEvent, Lacks, written_line}
 use Rattle.ftp_command.specs.Line.{IsLine, is_no_feed, line_of}
+use Rattle.ftp_command.proofs.CarriedLemmas.{carried}
 use Rattle.ftp_repr.specs.Machine.{after, gives}
 use Rattle.ftp_protocol.specs.Ear.{Ear, quiet, ear, ear_out, ear_step}
 use Rattle.ftp_protocol.specs.server.InFlight.{HeardInPieces, HearsLine, LineIsHeard, CommandIsHeard, AnswerIsDropped, LineLeavesEar, RowIsHeard}
@@ -15,7 +16,6 @@ use Rattle.ftp_protocol.specs.declared.session.Link.TheVariants as At
 use Rattle.ftp_protocol.specs.declared.session.Transfer.TheVariants as Moves
 use Rattle.ftp_protocol.proofs.LineInFlight.{no_more, Closes, unended, line_closes, written_is, front_of_front, front_says, answer_is_dropped}
 use Rattle.ftp_protocol.proofs.ReadingLemmas.{reads_stated}
-use Rattle.ftp_protocol.proofs.StatedLines.{stated_is_line}
 
 -- ---- octets of which nothing is said
 
@@ -102,7 +102,7 @@ line_is_heard read text v is rest = hears_line read text v is rest
 
 pub command_is_heard : CommandIsHeard
 command_is_heard read command v reads typed stated rest =
-    (hears_line read (line_of command) v (stated_is_line command typed stated) rest).whole ∙ ap (λ heard. heard_line heard v) (reads_stated read command reads typed stated)
+    (hears_line read (line_of command) v (carried command typed stated) rest).whole ∙ ap (λ heard. heard_line heard v) (reads_stated read command reads typed stated)
 
 answer_dropped : (read : Reading) (v : View) (octets : List ℕ) → v.ear ≡ quiet → gives (ear line_limit) quiet octets ≡ []
     → after (ear line_limit) quiet octets ≡ quiet → hears read v octets ≡ v

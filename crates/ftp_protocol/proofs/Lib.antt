@@ -26,7 +26,6 @@ pub mod RowNumbers
 pub mod ServerBounds
 pub mod ServerRows
 pub mod ServerUploads
-pub mod StatedLines
 pub mod ValueLemmas
 pub mod WireLemmas
 pub mod WorldRows

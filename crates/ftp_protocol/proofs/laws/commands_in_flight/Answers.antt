@@ -1,5 +1,5 @@
 use Rattle.ftp_protocol.proofs.CommandsInFlight.{in_pieces, line_is_heard, command_is_heard, answer_is_dropped_here, line_leaves_ear, row_is_heard}
-use Rattle.ftp_protocol.proofs.StatedLines.{stated_is_line}
+use Rattle.ftp_command.proofs.CarriedLemmas.{carried}
 use Rattle.ftp_protocol.proofs.laws.commands_in_flight.Goals as goal
 
 pub returns-clause-pieces : goal.returns-clause-pieces
@@ -9,7 +9,7 @@ pub returns-clause-line : goal.returns-clause-line
 returns-clause-line c = line_is_heard
 
 pub returns-clause-stated : goal.returns-clause-stated
-returns-clause-stated c = stated_is_line
+returns-clause-stated c = carried
 
 pub returns-clause-command : goal.returns-clause-command
 returns-clause-command c = command_is_heard

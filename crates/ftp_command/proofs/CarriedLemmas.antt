@@ -20,8 +20,13 @@ use Rattle.ftp_endpoint.specs.declared.host.Host.{Host}
 use Rattle.ftp_endpoint.specs.declared.host.Host.TheVariants.{V4, V6}
 use Rattle.ftp_endpoint.proofs.NumberLemmas.{is_digit, digit_bounds}
 use Rattle.ftp_endpoint.proofs.WrittenLemmas.{says_number}
-use Rattle.ftp_protocol.specs.server.InFlight.{StatedIsLine}
-use Rattle.ftp_protocol.proofs.ClientNumbers.{both, and_both}
+
+both : (a b : Bool) → (a && b) ≡ true → (a ≡ true) × (b ≡ true)
+both true b is = (refl, is)
+both false b is = absurd (let e : false ≡ true = is in cc)
+
+and_both : (a b : Bool) → a ≡ true → b ≡ true → (a && b) ≡ true
+and_both a b one other = rw (one, other) refl
 
 -- ---- texts without LF and CR, up to a length
 
@@ -184,11 +189,27 @@ spaced_fits n [] fits = record { plain = tt; short = omega arith }
 spaced_fits n (c ∷ text) fits = record { plain = (refl, fits.plain); short = omega (arith, fits.short) }
 
 -- a verb of four letters or three, and what stands behind it
-behind_verb : (verb rest : List ℕ) (n : ℕ) → Fits 4 verb → Fits n rest → n ≤ 1018 → IsLine (verb ++ rest)
-behind_verb verb rest n one other small = line_fits (4 + n) (verb ++ rest) (omega (arith, small)) (fits_both 4 n verb rest one other)
+abbrev IsWord : List ℕ → Type 0
+IsWord verb = (list_all is_plain verb ≡ true) × (length verb ≤ 4)
 
-verb_fits : (verb : List ℕ) → AllByRecursion (λ c. is_plain c ≡ true) verb → length verb ≤ 4 → Fits 4 verb
-verb_fits verb plain short = record { plain = plain; short = short }
+verb_fits : (verb : List ℕ) → IsWord verb → Fits 4 verb
+verb_fits verb is = record { plain = all_plain is_plain (λ c plain. plain) verb is.0; short = is.1 }
+
+behind_verb : (verb rest : List ℕ) (n : ℕ) → IsWord verb → Fits n rest → n ≤ 1018 → IsLine (verb ++ rest)
+behind_verb verb rest n is fits small = line_fits (4 + n) (verb ++ rest) (omega (arith, small)) (fits_both 4 n verb rest (verb_fits verb is) fits)
+
+alone_line : (verb : List ℕ) → IsWord verb → IsLine (verb ++ [])
+alone_line verb is = behind_verb verb [] 0 is (record { plain = tt; short = omega arith }) (omega arith)
+
+path_line : (verb value : List ℕ) → IsWord verb → IsPath value → IsLine (verb ++ spaced value)
+path_line verb value is path = behind_verb verb (spaced value) 901 is (spaced_fits 900 value (path_fits value path)) (omega arith)
+
+password_line : (verb value : List ℕ) → IsWord verb → IsPassword value → IsLine (verb ++ spaced value)
+password_line verb value is word = behind_verb verb (spaced value) 256 is (spaced_fits 255 value (password_fits value word)) (omega arith)
+
+plain_line : (verb rest : List ℕ) → IsWord verb → list_all is_plain rest ≡ true → length rest ≤ 4 → IsLine (verb ++ rest)
+plain_line verb rest is plain short =
+    behind_verb verb rest 4 is (record { plain = all_plain is_plain (λ c here. here) rest plain; short = short }) (omega arith)
 
 words_line : (verb words : List ℕ) → AllByRecursion (λ c. is_plain c ≡ true) verb → length verb ≡ 4 → IsWords words → IsLine (verb ++ spaced words)
 words_line verb [] plain four is = absurd (omega (arith, is.0))
@@ -216,61 +237,58 @@ words_line verb (c ∷ words) plain four is = (
 
 -- ---- a row a command
 
-stated : (said : Command (List ℕ)) → IsTyped said → IsStated said → IsLine (line_of said)
-stated (command.User value) typed is = behind_verb (codes "USER") (spaced value) 256 (verb_fits (codes "USER") (refl, (refl, (refl, (refl, tt)))) (omega arith)) (spaced_fits 255 value (password_fits value is.1)) (omega arith)
-stated (command.Pass value) typed is = behind_verb (codes "PASS") (spaced value) 256 (verb_fits (codes "PASS") (refl, (refl, (refl, (refl, tt)))) (omega arith)) (spaced_fits 255 value (password_fits value is)) (omega arith)
-stated (command.Acct value) typed is = words_line (codes "ACCT") value (refl, (refl, (refl, (refl, tt)))) refl is
-stated (command.Cwd value) typed is = behind_verb (codes "CWD") (spaced value) 901 (verb_fits (codes "CWD") (refl, (refl, (refl, tt))) (omega arith)) (spaced_fits 900 value (path_fits value is)) (omega arith)
-stated command.Cdup typed is = behind_verb (codes "CDUP") ([]) 0 (verb_fits (codes "CDUP") (refl, (refl, (refl, (refl, tt)))) (omega arith)) (record { plain = tt; short = omega arith }) (omega arith)
-stated command.Rein typed is = behind_verb (codes "REIN") ([]) 0 (verb_fits (codes "REIN") (refl, (refl, (refl, (refl, tt)))) (omega arith)) (record { plain = tt; short = omega arith }) (omega arith)
-stated command.Quit typed is = behind_verb (codes "QUIT") ([]) 0 (verb_fits (codes "QUIT") (refl, (refl, (refl, (refl, tt)))) (omega arith)) (record { plain = tt; short = omega arith }) (omega arith)
-stated (command.Port value) typed is = behind_verb (codes "PORT") (codes " " ++ six_text value) 201 (verb_fits (codes "PORT") (refl, (refl, (refl, (refl, tt)))) (omega arith)) (let six = six_fits value.host value.port is typed.0 typed.1 in record { plain = (refl, six.plain); short = omega (arith, six.short) }) (omega arith)
-stated command.Pasv typed is = behind_verb (codes "PASV") ([]) 0 (verb_fits (codes "PASV") (refl, (refl, (refl, (refl, tt)))) (omega arith)) (record { plain = tt; short = omega arith }) (omega arith)
-stated (command.Eprt value) typed is = behind_verb (codes "EPRT") (codes " " ++ extended_text value) 201 (verb_fits (codes "EPRT") (refl, (refl, (refl, (refl, tt)))) (omega arith)) (let all = extended_fits value typed in record { plain = (refl, all.plain); short = omega (arith, all.short) }) (omega arith)
-stated (command.Epsv Any) typed is = behind_verb (codes "EPSV") ([]) 0 (verb_fits (codes "EPSV") (refl, (refl, (refl, (refl, tt)))) (omega arith)) (record { plain = tt; short = omega arith }) (omega arith)
-stated (command.Epsv Ipv4) typed is = behind_verb (codes "EPSV") (codes " 1") 2 (verb_fits (codes "EPSV") (refl, (refl, (refl, (refl, tt)))) (omega arith)) (record { plain = (refl, (refl, tt)); short = omega arith }) (omega arith)
-stated (command.Epsv Ipv6) typed is = behind_verb (codes "EPSV") (codes " 2") 2 (verb_fits (codes "EPSV") (refl, (refl, (refl, (refl, tt)))) (omega arith)) (record { plain = (refl, (refl, tt)); short = omega arith }) (omega arith)
-stated (command.Epsv Only) typed is = behind_verb (codes "EPSV") (codes " ALL") 4 (verb_fits (codes "EPSV") (refl, (refl, (refl, (refl, tt)))) (omega arith)) (record { plain = (refl, (refl, (refl, (refl, tt)))); short = omega arith }) (omega arith)
-stated (command.Repr Ascii) typed is = behind_verb (codes "TYPE") (codes " A") 2 (verb_fits (codes "TYPE") (refl, (refl, (refl, (refl, tt)))) (omega arith)) (record { plain = (refl, (refl, tt)); short = omega arith }) (omega arith)
-stated (command.Repr Image) typed is = behind_verb (codes "TYPE") (codes " I") 2 (verb_fits (codes "TYPE") (refl, (refl, (refl, (refl, tt)))) (omega arith)) (record { plain = (refl, (refl, tt)); short = omega arith }) (omega arith)
-stated (command.Stru File) typed is = behind_verb (codes "STRU") (codes " F") 2 (verb_fits (codes "STRU") (refl, (refl, (refl, (refl, tt)))) (omega arith)) (record { plain = (refl, (refl, tt)); short = omega arith }) (omega arith)
-stated (command.Stru Record) typed is = behind_verb (codes "STRU") (codes " R") 2 (verb_fits (codes "STRU") (refl, (refl, (refl, (refl, tt)))) (omega arith)) (record { plain = (refl, (refl, tt)); short = omega arith }) (omega arith)
-stated (command.Mode Stream) typed is = behind_verb (codes "MODE") (codes " S") 2 (verb_fits (codes "MODE") (refl, (refl, (refl, (refl, tt)))) (omega arith)) (record { plain = (refl, (refl, tt)); short = omega arith }) (omega arith)
-stated (command.Mode Block) typed is = behind_verb (codes "MODE") (codes " B") 2 (verb_fits (codes "MODE") (refl, (refl, (refl, (refl, tt)))) (omega arith)) (record { plain = (refl, (refl, tt)); short = omega arith }) (omega arith)
-stated (command.Retr value) typed is = behind_verb (codes "RETR") (spaced value) 901 (verb_fits (codes "RETR") (refl, (refl, (refl, (refl, tt)))) (omega arith)) (spaced_fits 900 value (path_fits value is)) (omega arith)
-stated (command.Stor value) typed is = behind_verb (codes "STOR") (spaced value) 901 (verb_fits (codes "STOR") (refl, (refl, (refl, (refl, tt)))) (omega arith)) (spaced_fits 900 value (path_fits value is)) (omega arith)
-stated (command.Appe value) typed is = behind_verb (codes "APPE") (spaced value) 901 (verb_fits (codes "APPE") (refl, (refl, (refl, (refl, tt)))) (omega arith)) (spaced_fits 900 value (path_fits value is)) (omega arith)
-stated (command.Allo octets None) typed is = behind_verb (codes "ALLO") (codes " " ++ (decimal octets ++ [])) 19 (verb_fits (codes "ALLO") (refl, (refl, (refl, (refl, tt)))) (omega arith)) (let one = fits_both 18 0 (decimal octets) [] (decimal_fits octets is.0) (record { plain = tt; short = omega arith }) in record { plain = (refl, one.plain); short = omega (arith, one.short) }) (omega arith)
-stated (command.Allo octets (Some longest)) typed is =
+pub carried : (said : Command (List ℕ)) → IsTyped said → IsStated said → IsLine (line_of said)
+carried (command.User value) typed is = password_line (codes "USER") value (refl, omega arith) is.1
+carried (command.Pass value) typed is = password_line (codes "PASS") value (refl, omega arith) is
+carried (command.Acct value) typed is = words_line (codes "ACCT") value (refl, (refl, (refl, (refl, tt)))) refl is
+carried (command.Cwd value) typed is = path_line (codes "CWD") value (refl, omega arith) is
+carried command.Cdup typed is = alone_line (codes "CDUP") (refl, omega arith)
+carried command.Rein typed is = alone_line (codes "REIN") (refl, omega arith)
+carried command.Quit typed is = alone_line (codes "QUIT") (refl, omega arith)
+carried (command.Port value) typed is = behind_verb (codes "PORT") (codes " " ++ six_text value) 201 (refl, omega arith) (let six = six_fits value.host value.port is typed.0 typed.1 in record { plain = (refl, six.plain); short = omega (arith, six.short) }) (omega arith)
+carried command.Pasv typed is = alone_line (codes "PASV") (refl, omega arith)
+carried (command.Eprt value) typed is = behind_verb (codes "EPRT") (codes " " ++ extended_text value) 201 (refl, omega arith) (let all = extended_fits value typed in record { plain = (refl, all.plain); short = omega (arith, all.short) }) (omega arith)
+carried (command.Epsv Any) typed is = alone_line (codes "EPSV") (refl, omega arith)
+carried (command.Epsv Ipv4) typed is = plain_line (codes "EPSV") (codes " 1") (refl, omega arith) refl (omega arith)
+carried (command.Epsv Ipv6) typed is = plain_line (codes "EPSV") (codes " 2") (refl, omega arith) refl (omega arith)
+carried (command.Epsv Only) typed is = plain_line (codes "EPSV") (codes " ALL") (refl, omega arith) refl (omega arith)
+carried (command.Repr Ascii) typed is = plain_line (codes "TYPE") (codes " A") (refl, omega arith) refl (omega arith)
+carried (command.Repr Image) typed is = plain_line (codes "TYPE") (codes " I") (refl, omega arith) refl (omega arith)
+carried (command.Stru File) typed is = plain_line (codes "STRU") (codes " F") (refl, omega arith) refl (omega arith)
+carried (command.Stru Record) typed is = plain_line (codes "STRU") (codes " R") (refl, omega arith) refl (omega arith)
+carried (command.Mode Stream) typed is = plain_line (codes "MODE") (codes " S") (refl, omega arith) refl (omega arith)
+carried (command.Mode Block) typed is = plain_line (codes "MODE") (codes " B") (refl, omega arith) refl (omega arith)
+carried (command.Retr value) typed is = path_line (codes "RETR") value (refl, omega arith) is
+carried (command.Stor value) typed is = path_line (codes "STOR") value (refl, omega arith) is
+carried (command.Appe value) typed is = path_line (codes "APPE") value (refl, omega arith) is
+carried (command.Allo octets None) typed is = behind_verb (codes "ALLO") (codes " " ++ (decimal octets ++ [])) 19 (refl, omega arith) (let one = fits_both 18 0 (decimal octets) [] (decimal_fits octets is.0) (record { plain = tt; short = omega arith }) in record { plain = (refl, one.plain); short = omega (arith, one.short) }) (omega arith)
+carried (command.Allo octets (Some longest)) typed is =
     let two = decimal_fits longest is.1 in
     let more : Fits 21 (codes " R " ++ decimal longest) = record { plain = (refl, (refl, (refl, two.plain))); short = omega (arith, two.short) } in
     let all = fits_both 18 21 (decimal octets) (codes " R " ++ decimal longest) (decimal_fits octets is.0) more in
-    behind_verb (codes "ALLO") (codes " " ++ (decimal octets ++ (codes " R " ++ decimal longest))) 40 (verb_fits (codes "ALLO") (refl, (refl, (refl, (refl, tt)))) (omega arith)) (record { plain = (refl, all.plain); short = omega (arith, all.short) }) (omega arith)
-stated (command.Rest value) typed is = behind_verb (codes "REST") (codes " " ++ decimal value) 19 (verb_fits (codes "REST") (refl, (refl, (refl, (refl, tt)))) (omega arith)) (let one = decimal_fits value is in record { plain = (refl, one.plain); short = omega (arith, one.short) }) (omega arith)
-stated (command.Rnfr value) typed is = behind_verb (codes "RNFR") (spaced value) 901 (verb_fits (codes "RNFR") (refl, (refl, (refl, (refl, tt)))) (omega arith)) (spaced_fits 900 value (path_fits value is)) (omega arith)
-stated (command.Rnto value) typed is = behind_verb (codes "RNTO") (spaced value) 901 (verb_fits (codes "RNTO") (refl, (refl, (refl, (refl, tt)))) (omega arith)) (spaced_fits 900 value (path_fits value is)) (omega arith)
-stated command.Abor typed is = behind_verb (codes "ABOR") ([]) 0 (verb_fits (codes "ABOR") (refl, (refl, (refl, (refl, tt)))) (omega arith)) (record { plain = tt; short = omega arith }) (omega arith)
-stated (command.Dele value) typed is = behind_verb (codes "DELE") (spaced value) 901 (verb_fits (codes "DELE") (refl, (refl, (refl, (refl, tt)))) (omega arith)) (spaced_fits 900 value (path_fits value is)) (omega arith)
-stated (command.Rmd value) typed is = behind_verb (codes "RMD") (spaced value) 901 (verb_fits (codes "RMD") (refl, (refl, (refl, tt))) (omega arith)) (spaced_fits 900 value (path_fits value is)) (omega arith)
-stated (command.Mkd value) typed is = behind_verb (codes "MKD") (spaced value) 901 (verb_fits (codes "MKD") (refl, (refl, (refl, tt))) (omega arith)) (spaced_fits 900 value (path_fits value is)) (omega arith)
-stated command.Pwd typed is = behind_verb (codes "PWD") ([]) 0 (verb_fits (codes "PWD") (refl, (refl, (refl, tt))) (omega arith)) (record { plain = tt; short = omega arith }) (omega arith)
-stated (command.List None) typed is = behind_verb (codes "LIST") ([]) 0 (verb_fits (codes "LIST") (refl, (refl, (refl, (refl, tt)))) (omega arith)) (record { plain = tt; short = omega arith }) (omega arith)
-stated (command.List (Some value)) typed is = behind_verb (codes "LIST") (spaced value) 901 (verb_fits (codes "LIST") (refl, (refl, (refl, (refl, tt)))) (omega arith)) (spaced_fits 900 value (path_fits value is.0)) (omega arith)
-stated (command.Nlst None) typed is = behind_verb (codes "NLST") ([]) 0 (verb_fits (codes "NLST") (refl, (refl, (refl, (refl, tt)))) (omega arith)) (record { plain = tt; short = omega arith }) (omega arith)
-stated (command.Nlst (Some value)) typed is = behind_verb (codes "NLST") (spaced value) 901 (verb_fits (codes "NLST") (refl, (refl, (refl, (refl, tt)))) (omega arith)) (spaced_fits 900 value (path_fits value is.0)) (omega arith)
-stated (command.Mlst None) typed is = behind_verb (codes "MLST") ([]) 0 (verb_fits (codes "MLST") (refl, (refl, (refl, (refl, tt)))) (omega arith)) (record { plain = tt; short = omega arith }) (omega arith)
-stated (command.Mlst (Some value)) typed is = behind_verb (codes "MLST") (spaced value) 901 (verb_fits (codes "MLST") (refl, (refl, (refl, (refl, tt)))) (omega arith)) (spaced_fits 900 value (path_fits value is)) (omega arith)
-stated (command.Mlsd None) typed is = behind_verb (codes "MLSD") ([]) 0 (verb_fits (codes "MLSD") (refl, (refl, (refl, (refl, tt)))) (omega arith)) (record { plain = tt; short = omega arith }) (omega arith)
-stated (command.Mlsd (Some value)) typed is = behind_verb (codes "MLSD") (spaced value) 901 (verb_fits (codes "MLSD") (refl, (refl, (refl, (refl, tt)))) (omega arith)) (spaced_fits 900 value (path_fits value is)) (omega arith)
-stated (command.Size value) typed is = behind_verb (codes "SIZE") (spaced value) 901 (verb_fits (codes "SIZE") (refl, (refl, (refl, (refl, tt)))) (omega arith)) (spaced_fits 900 value (path_fits value is)) (omega arith)
-stated (command.Mdtm value) typed is = behind_verb (codes "MDTM") (spaced value) 901 (verb_fits (codes "MDTM") (refl, (refl, (refl, (refl, tt)))) (omega arith)) (spaced_fits 900 value (path_fits value is)) (omega arith)
-stated command.Syst typed is = behind_verb (codes "SYST") ([]) 0 (verb_fits (codes "SYST") (refl, (refl, (refl, (refl, tt)))) (omega arith)) (record { plain = tt; short = omega arith }) (omega arith)
-stated command.Stat typed is = behind_verb (codes "STAT") ([]) 0 (verb_fits (codes "STAT") (refl, (refl, (refl, (refl, tt)))) (omega arith)) (record { plain = tt; short = omega arith }) (omega arith)
-stated (command.Help None) typed is = behind_verb (codes "HELP") ([]) 0 (verb_fits (codes "HELP") (refl, (refl, (refl, (refl, tt)))) (omega arith)) (record { plain = tt; short = omega arith }) (omega arith)
-stated (command.Help (Some value)) typed is = words_line (codes "HELP") value (refl, (refl, (refl, (refl, tt)))) refl is
-stated command.Noop typed is = behind_verb (codes "NOOP") ([]) 0 (verb_fits (codes "NOOP") (refl, (refl, (refl, (refl, tt)))) (omega arith)) (record { plain = tt; short = omega arith }) (omega arith)
-stated command.Feat typed is = behind_verb (codes "FEAT") ([]) 0 (verb_fits (codes "FEAT") (refl, (refl, (refl, (refl, tt)))) (omega arith)) (record { plain = tt; short = omega arith }) (omega arith)
-stated (command.Opts value) typed is = words_line (codes "OPTS") value (refl, (refl, (refl, (refl, tt)))) refl is
-
-pub stated_is_line : StatedIsLine
-stated_is_line command typed is = stated command typed is
+    behind_verb (codes "ALLO") (codes " " ++ (decimal octets ++ (codes " R " ++ decimal longest))) 40 (refl, omega arith) (record { plain = (refl, all.plain); short = omega (arith, all.short) }) (omega arith)
+carried (command.Rest value) typed is = behind_verb (codes "REST") (codes " " ++ decimal value) 19 (refl, omega arith) (let one = decimal_fits value is in record { plain = (refl, one.plain); short = omega (arith, one.short) }) (omega arith)
+carried (command.Rnfr value) typed is = path_line (codes "RNFR") value (refl, omega arith) is
+carried (command.Rnto value) typed is = path_line (codes "RNTO") value (refl, omega arith) is
+carried command.Abor typed is = alone_line (codes "ABOR") (refl, omega arith)
+carried (command.Dele value) typed is = path_line (codes "DELE") value (refl, omega arith) is
+carried (command.Rmd value) typed is = path_line (codes "RMD") value (refl, omega arith) is
+carried (command.Mkd value) typed is = path_line (codes "MKD") value (refl, omega arith) is
+carried command.Pwd typed is = alone_line (codes "PWD") (refl, omega arith)
+carried (command.List None) typed is = alone_line (codes "LIST") (refl, omega arith)
+carried (command.List (Some value)) typed is = path_line (codes "LIST") value (refl, omega arith) is.0
+carried (command.Nlst None) typed is = alone_line (codes "NLST") (refl, omega arith)
+carried (command.Nlst (Some value)) typed is = path_line (codes "NLST") value (refl, omega arith) is.0
+carried (command.Mlst None) typed is = alone_line (codes "MLST") (refl, omega arith)
+carried (command.Mlst (Some value)) typed is = path_line (codes "MLST") value (refl, omega arith) is
+carried (command.Mlsd None) typed is = alone_line (codes "MLSD") (refl, omega arith)
+carried (command.Mlsd (Some value)) typed is = path_line (codes "MLSD") value (refl, omega arith) is
+carried (command.Size value) typed is = path_line (codes "SIZE") value (refl, omega arith) is
+carried (command.Mdtm value) typed is = path_line (codes "MDTM") value (refl, omega arith) is
+carried command.Syst typed is = alone_line (codes "SYST") (refl, omega arith)
+carried command.Stat typed is = alone_line (codes "STAT") (refl, omega arith)
+carried (command.Help None) typed is = alone_line (codes "HELP") (refl, omega arith)
+carried (command.Help (Some value)) typed is = words_line (codes "HELP") value (refl, (refl, (refl, (refl, tt)))) refl is
+carried command.Noop typed is = alone_line (codes "NOOP") (refl, omega arith)
+carried command.Feat typed is = alone_line (codes "FEAT") (refl, omega arith)
+carried (command.Opts value) typed is = words_line (codes "OPTS") value (refl, (refl, (refl, (refl, tt)))) refl is
