@@ -10,7 +10,8 @@ use Rattle.std.proofs.lemmas.Slice.Eq.{starts_is}
 use Rattle.ftp_nvt.specs.Lines.{written_line}
 use Rattle.ftp_nvt.proofs.CutLemmas.{decided}
 use Rattle.ftp_reply.specs.Lines.{Text, AreWithin}
-use Rattle.ftp_reply.specs.Reply.{IsCode, code_text, last_line, opening_line, begins_with_digits, padded, written_after, written, but_last, inner_lines}
+use Rattle.ftp_reply.specs.Reply.{IsCode, code_text, last_line, opening_line, begins_with_digits, written, but_last, inner_lines}
+use Rattle.ftp_reply.proofs.LawLemmas.{cut_after}
 use Rattle.ftp_repr.specs.Machine.{after, gives}
 use Rattle.ftp_protocol.specs.Ear.{Ear, quiet, ear, ear_out, ear_step}
 use Rattle.ftp_protocol.specs.client.Calls.{reply_limit, line_taken, events_taken, hears_octet, hears, may_hear}
@@ -216,26 +217,6 @@ record IsGathered (code : ℕ) (texts lines : List Text) : Type 0 where
   goes : Gathers Between begun gathered
   says : line_heard gathered last ≡ Says code texts
 
--- the lines after the first, cut before the last
-record IsCut (code : ℕ) (texts : List Text) : Type 0 where
-  last : Text
-  texts_are : texts ≡ but_last texts ++ last ∷ []
-  written_are : written_after code texts ≡ but_last texts ++ last_line code last ∷ []
-
-plain_as_is : (text : Text) → begins_with_digits text ≡ false → padded text ≡ text
-plain_as_is text plain = rw plain refl
-
-cut_after : (code : ℕ) (x : Text) (xs : List Text) → All (λ line. begins_with_digits line ≡ false) (but_last (x ∷ xs)) → IsCut code (x ∷ xs)
-cut_after code x [] plain = record { last = x; texts_are = refl; written_are = refl }
-cut_after code x (y ∷ ys) plain =
-    let rest = cut_after code y ys (All-tail (λ line. begins_with_digits line ≡ false) x (but_last (y ∷ ys)) plain) in
-    let here = plain_as_is x (All-head (λ line. begins_with_digits line ≡ false) x (but_last (y ∷ ys)) plain) in
-    record {
-      last = rest.last;
-      texts_are = ap (λ l. x ∷ l) rest.texts_are;
-      written_are = ap (λ l. l ∷ written_after code (y ∷ ys)) here ∙ ap (λ l. x ∷ l) rest.written_are;
-    }
-
 is_gathered : (code : ℕ) (texts : List Text) → IsCode code → 0 < length texts → AreWithin texts
     → All (λ line. begins_with_digits line ≡ false) (inner_lines texts) → IsGathered code texts (written code texts)
 is_gathered code [] is some within plain = absurd (omega (arith, some))
@@ -244,7 +225,7 @@ is_gathered code (text ∷ []) is some within plain =
 is_gathered code (first ∷ next ∷ more) is some within plain =
     let cut = cut_after code next more plain in
     let between : List Text = but_last (next ∷ more) in
-    let all : first ∷ next ∷ more ≡ (first ∷ between) ++ cut.last ∷ [] = ap (λ l. first ∷ l) cut.texts_are in
+    let all : first ∷ next ∷ more ≡ (first ∷ between) ++ cut.last ∷ [] = ap (λ l. first ∷ l) cut.lines_are in
     let kept : AreWithin ((first ∷ between) ++ cut.last ∷ []) = subst AreWithin all within in
     record {
       begun = opening_line code first ∷ between;

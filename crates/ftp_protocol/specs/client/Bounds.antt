@@ -20,7 +20,8 @@ login_left Stands.Greeting = 2
 login_left Stands.User = 1
 login_left other = 0
 
--- behind a step of an operation
+-- what follows a step at most: TYPE by STRU, MODE, the port, PORT, REST, the command itself and its 1yz; PASV by the link, REST, the
+-- command and its 1yz
 abbrev pub steps_left : Step → ℕ
 steps_left Steps.Kind = 7
 steps_left Steps.Structure = 6

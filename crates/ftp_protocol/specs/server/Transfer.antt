@@ -11,7 +11,7 @@ use Rattle.ftp_protocol.specs.Decoder.{no_octets}
 use Rattle.ftp_protocol.specs.server.View.{Move, Session, direct_of, how_in_force}
 use Rattle.ftp_protocol.specs.server.Replies.{Turn, tells}
 use Rattle.ftp_protocol.specs.server.Endpoint.{forgotten}
-use Rattle.ftp_protocol.specs.server.Walk.{unless, path_of}
+use Rattle.ftp_protocol.specs.server.Walk.{refusal_text, path_of}
 use Rattle.ftp_protocol.specs.server.Ask.{or_empty}
 use Rattle.ftp_protocol.specs.server.Listing.{listing_wire, list_lines, entry_lines, name_lines}
 use Rattle.ftp_representation.specs.declared.representation.Representation.{Representation}
@@ -56,7 +56,7 @@ begin (At.Moving other) move v = tells Texts.NoConnection v
 -- a transfer command forgets the endpoint where it is refused by path, and else uses it up (own choice)
 abbrev pub transfer_starts : Option ℕ → Move → Session → Turn
 transfer_starts None move v = begin v.link move v
-transfer_starts (Some code) move v = unless (Some code) (forgotten v) (tells Texts.Opens v)
+transfer_starts (Some code) move v = tells (refusal_text code) (forgotten v)
 
 -- ---- downloads and listings: what is sent
 

@@ -67,6 +67,12 @@ abbrev pub MayTakeFrom : Reading → Queue → World → ℕ → Type 0
 MayTakeFrom read queue w count = (k : ℕ) → k < count → IsTrue (may_take queue (pushed read queue k w))
 
 -- ---- a delivery
+--
+--     sender    -- pulled -->    queue       -- pushed -->    receiver
+--     due                        in_queue                     may_take
+--
+-- A delivery of n octets has two parts. Calls of the sender, each of which `Gives` some octets, fill the queue until n are there or
+-- nothing is due (`Fills`). Then the first n at most are offered to the receiver, which takes some of them (`Takes`).
 
 -- a queue is filled by one output call after the other
 abbrev pub filled : Queue → World → List ℕ → World
