@@ -10,3 +10,4 @@ pub mod RunLemmas
 pub mod ReceivingLemmas
 pub mod RoomLemmas
 pub mod SkipLemmas
+pub mod LaneLemmas

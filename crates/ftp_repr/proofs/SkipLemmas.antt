@@ -219,3 +219,6 @@ pub inside_cut : (b : List ℕ) (at n m : ℕ) → 0 < m → goes Ascii b at + m
 inside_cut b at n m h e g =
     let P : List ℕ → Type 0 = λ l. Skips Ascii l n Inside in
     subst P (take-append-drop at b) (skips_on Ascii (take at b) (drop at b) n m Inside (h, e) g)
+
+pub goes_whole : (b : List ℕ) (at : ℕ) → length (wire_row Ascii b) ≡ goes Ascii b at + length (wire_row Ascii (drop at b))
+goes_whole b at = ap (λ l. length (wire_row Ascii l)) (sym (take-append-drop at b)) ∙ row_append Ascii (take at b) (drop at b)

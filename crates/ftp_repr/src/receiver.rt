@@ -6,9 +6,9 @@ ghost use Rattle.ftp_repr.specs.Received.{Receives, Bites, HasNoRoom, receiver_f
 ghost use Rattle.ftp_representation.specs.declared.representation.Kind.TheVariants.{Ascii};
 
 use crate::fault::ReprFault;
-use ftp_representation::{Kind, Structure};
 use crate::item::Item;
 use crate::run::before_return;
+use ftp_representation::{Kind, Structure};
 use std::alloc::{AllocError, Allocator};
 
 /// Puts a file together from items. The file grows at the end of a vector of the caller's.

@@ -3,9 +3,9 @@ ghost use Rattle.ftp_repr.specs.Items.{given_signs};
 ghost use Rattle.ftp_repr.specs.Sending.{sender_form, has_sent_end, still_to_send};
 ghost use Rattle.ftp_repr.specs.declared.item.Item.TheVariants.{EndFile};
 
-use ftp_representation::{Kind, Structure};
 use crate::item::Item;
 use crate::run::plain_run;
+use ftp_representation::{Kind, Structure};
 
 const LINE_END: [u8; 2] = [13, 10];
 

@@ -23,6 +23,38 @@ fn wire_sizes_of_type_a_and_i(rt: HostRuntime) {
     assert_eq!(&rt; SIZES.iter().position(|row| !has_sizes(row)), None);
 }
 
+/// Counts of octets about those that are looked at at once.
+const COUNTS: &[usize] = &[0, 31, 32, 33, 64, 65];
+
+const LETTERS: [u8; 65] = [0x61; 65];
+
+/// Whether so many octets have their sizes, with this one at a place of them.
+fn has_size_with(count: usize, octet: u8, place: usize) -> bool {
+    let mut octets = LETTERS;
+    if place < octets.len() {
+        octets[place] = octet;
+    }
+    let (front, _) = octets.split_at(count.min(octets.len()));
+    let size = front.len() as u64;
+    wire_size(Kind::Ascii, front) == size + 1 && wire_size(Kind::Image, front) == size
+}
+
+/// Whether so many octets have their sizes, with a CR or an LF at each place.
+fn has_sizes_with(count: usize) -> bool {
+    let (letters, _) = LETTERS.split_at(count.min(LETTERS.len()));
+    wire_size(Kind::Ascii, letters) == letters.len() as u64
+        && (0..count).all(|place| has_size_with(count, 0x0D, place))
+        && (0..count).all(|place| has_size_with(count, 0x0A, place))
+}
+
+#[test]
+fn sizes_with_a_line_end_at_each_place(rt: HostRuntime) {
+    assert_eq!(&rt;
+        COUNTS.iter().position(|count| !has_sizes_with(*count)),
+        None
+    );
+}
+
 /// Octets, how many of them go as they are in each of `FORMS`, and how many stand before an octet 255.
 type Run<'a> = (&'a [u8], [usize; 4], usize);
 
