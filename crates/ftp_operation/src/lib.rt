@@ -11,6 +11,3 @@ pub use account::{Account, Accounts, Login, SameUser};
 pub use answer::Answer;
 pub use op::{How, Op};
 pub use sendable::{can_be_sent, is_number};
-
-#[cfg(test)]
-mod tests;

@@ -1,91 +1,106 @@
 //! The limits of octets and of nodes, by single operations on one tree.
 use super::rows::{IMAGE, accounts, login, text};
 use super::said::number_of;
-use ftp_direct::{Accounts, Login, Op, direct};
+use ftp_direct::{Op, direct};
 use ftp_facts::{Moment, Text};
 use ftp_tree::MemTree;
-use std::alloc::Global;
+use std::alloc::{AllocError, Global};
 use std::test::Fail;
 
-/// A tree, and who works on it.
-#[derive(Drop)]
-struct Session {
-    tree: MemTree<Global>,
-    accounts: Accounts<Global>,
-    login: Login<Global>,
-}
-
-fn work(alloc: Global) -> Result<Session, Fail> {
-    Ok(Session {
-        tree: MemTree::new(alloc),
-        accounts: accounts(alloc)?.ok_or("accounts")?,
-        login: login(alloc, b"anonymous", b"")?.ok_or("login")?,
-    })
-}
-
 /// The code that refuses an operation, or the number that it answers; 0 for any other answer.
-fn code_of(alloc: Global, work: &mut Session, op: Op<Text<Global>>) -> Result<u64, Fail> {
-    let mut list = Vec::new(alloc);
-    list.push((op, Moment::new(1000).ok_or("moment")?))?;
-    let answers = direct(
-        &alloc,
-        &mut work.tree,
-        &work.accounts,
-        &work.login,
-        list.as_slice(),
-    )?;
-    let answer = answers.as_slice().first().ok_or("answer")?;
-    Ok(number_of(answer).unwrap_or(0))
+fn code_of(alloc: Global, tree: &mut MemTree<Global>, op: Op<Text<Global>>) -> Result<u64, Fail> {
+    let accounts = accounts(alloc)?.ok_or("accounts")?;
+    let login = login(alloc, b"anonymous", b"")?.ok_or("login")?;
+    let moment = Moment::new(1000).ok_or("moment")?;
+    let answers = direct(&alloc, tree, &accounts, &login, &[(op, moment)])?;
+    Ok(answers.as_slice().first().and_then(number_of).unwrap_or(0))
 }
 
-fn put(alloc: Global, work: &mut Session, path: &[u8], count: usize) -> Result<u64, Fail> {
+/// A file, how many octets are put there, or `None` where its size is asked for, and the answer.
+type Step = (&'static [u8], Option<usize>, u64);
+
+fn step_of(
+    alloc: Global,
+    path: &[u8],
+    count: Option<usize>,
+) -> Result<Op<Text<Global>>, AllocError> {
+    let path = text(alloc, path)?;
+    let Some(count) = count else {
+        return Ok(Op::Size(path, IMAGE));
+    };
     let octets = Vec::from_elem(alloc, b'x', count)?;
-    let octets = Text::copy_of(alloc, octets.as_slice())?;
-    code_of(alloc, work, Op::Put(text(alloc, path)?, octets, IMAGE))
+    Ok(Op::Put(path, text(alloc, octets.as_slice())?, IMAGE))
 }
 
-fn size(alloc: Global, work: &mut Session, path: &[u8]) -> Result<u64, Fail> {
-    code_of(alloc, work, Op::Size(text(alloc, path)?, IMAGE))
+/// The first step that is not answered as it says, on an empty tree.
+fn first_other(alloc: Global, steps: &[Step]) -> Result<Option<usize>, Fail> {
+    let mut tree = MemTree::new(alloc);
+    let mut at = 0usize;
+    for (path, count, expected) in steps {
+        let op = step_of(alloc, *path, *count)?;
+        if code_of(alloc, &mut tree, op)? != *expected {
+            return Ok(Some(at));
+        }
+        at = at.saturating_add(1);
+    }
+    Ok(None)
 }
+
+const ONE_FILE: &'static [Step] = &[
+    (b"f", Some(3), 0),
+    (b"f", Some(16_777_217), 552),
+    (b"f", Some(16_777_217), 552),
+    (b"f", None, 3),
+    (b"f", Some(16_777_216), 0),
+    (b"f", None, 16_777_216),
+];
 
 #[test]
 fn a_file_has_its_limit(rt: HostRuntime) -> Result<(), Fail> {
-    let alloc = rt.alloc();
-    let mut work = work(alloc)?;
-    assert_eq!(&rt; put(alloc, &mut work, b"f", 3)?, 0);
-    assert_eq!(&rt; put(alloc, &mut work, b"f", 16_777_217)?, 552);
-    assert_eq!(&rt; put(alloc, &mut work, b"f", 16_777_217)?, 552);
-    assert_eq!(&rt; size(alloc, &mut work, b"f")?, 3);
-    assert_eq!(&rt; put(alloc, &mut work, b"f", 16_777_216)?, 0);
-    assert_eq!(&rt; size(alloc, &mut work, b"f")?, 16_777_216);
+    assert!(&rt; first_other(rt.alloc(), ONE_FILE)? == None);
     Ok(())
 }
 
+const ALL_FILES: &'static [Step] = &[
+    (b"f", Some(16_777_216), 0),
+    (b"g", Some(16_777_216), 0),
+    (b"h", Some(16_777_216), 0),
+    (b"i", Some(16_777_216), 0),
+    (b"j", Some(1), 552),
+    (b"i", Some(16_777_215), 0),
+    (b"j", Some(1), 0),
+];
+
 #[test]
 fn all_files_have_their_limit(rt: HostRuntime) -> Result<(), Fail> {
-    let alloc = rt.alloc();
-    let mut work = work(alloc)?;
-    assert_eq!(&rt; put(alloc, &mut work, b"f", 16_777_216)?, 0);
-    assert_eq!(&rt; put(alloc, &mut work, b"g", 16_777_216)?, 0);
-    assert_eq!(&rt; put(alloc, &mut work, b"h", 16_777_216)?, 0);
-    assert_eq!(&rt; put(alloc, &mut work, b"i", 16_777_216)?, 0);
-    assert_eq!(&rt; put(alloc, &mut work, b"j", 1)?, 552);
-    assert_eq!(&rt; put(alloc, &mut work, b"i", 16_777_215)?, 0);
-    assert_eq!(&rt; put(alloc, &mut work, b"j", 1)?, 0);
+    assert!(&rt; first_other(rt.alloc(), ALL_FILES)? == None);
     Ok(())
+}
+
+/// Makes so many directories; the number of the first that is refused.
+fn first_refused(
+    alloc: Global,
+    tree: &mut MemTree<Global>,
+    count: u32,
+) -> Result<Option<u32>, Fail> {
+    for n in 0..count {
+        let name = format!(in alloc; "d{n}")?;
+        let op = Op::MakeDir(text(alloc, name.as_bytes())?);
+        if code_of(alloc, tree, op)? != 0 {
+            return Ok(Some(n));
+        }
+    }
+    Ok(None)
 }
 
 #[test]
 fn all_nodes_have_their_limit(rt: HostRuntime) -> Result<(), Fail> {
     let alloc = rt.alloc();
-    let mut work = work(alloc)?;
-    for n in 0..4096u32 {
-        let name = format!(in alloc; "d{n}")?;
-        let op = Op::MakeDir(text(alloc, name.as_bytes())?);
-        assert_eq!(&rt; code_of(alloc, &mut work, op)?, 0, "node {n}");
-    }
-    let op = Op::MakeDir(text(alloc, b"d")?);
-    assert_eq!(&rt; code_of(alloc, &mut work, op)?, 550);
-    assert_eq!(&rt; put(alloc, &mut work, b"f", 0)?, 452);
+    let mut tree = MemTree::new(alloc);
+    assert!(&rt; first_refused(alloc, &mut tree, 4096)? == None);
+    let dir = Op::MakeDir(text(alloc, b"d")?);
+    assert!(&rt; code_of(alloc, &mut tree, dir)? == 550);
+    let file = step_of(alloc, b"f", Some(0))?;
+    assert!(&rt; code_of(alloc, &mut tree, file)? == 452);
     Ok(())
 }

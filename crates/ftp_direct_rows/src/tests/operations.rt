@@ -22,7 +22,7 @@ const RECORDS: How = How {
     extended: false,
 };
 
-const DIRECTORIES: [Row; 22] = [
+const DIRECTORIES: &'static [Row] = &[
     (Op::Where, b"/"),
     (Op::MakeDir(b"d"), b"/d"),
     (Op::MakeDir(b"/d"), b"550"),
@@ -50,13 +50,13 @@ const DIRECTORIES: [Row; 22] = [
 #[test]
 fn directories_answer_as_their_rows(rt: HostRuntime) -> Result<(), Fail> {
     assert_eq!(&rt;
-        answers(rt.alloc(), b"guest", b"secret", &DIRECTORIES)?,
+        answers(rt.alloc(), b"guest", b"secret", DIRECTORIES)?,
         None
     );
     Ok(())
 }
 
-const FILES: [Row; 24] = [
+const FILES: &'static [Row] = &[
     (Op::Put(b"f", b"0123456789", IMAGE), b"done"),
     (Op::Get(b"f", IMAGE), b"0123456789"),
     (Op::Modified(b"f"), b"1000"),
@@ -85,11 +85,11 @@ const FILES: [Row; 24] = [
 
 #[test]
 fn files_answer_as_their_rows(rt: HostRuntime) -> Result<(), Fail> {
-    assert_eq!(&rt; answers(rt.alloc(), b"anonymous", b"", &FILES)?, None);
+    assert_eq!(&rt; answers(rt.alloc(), b"anonymous", b"", FILES)?, None);
     Ok(())
 }
 
-const LISTINGS: [Row; 16] = [
+const LISTINGS: &'static [Row] = &[
     (Op::Put(b"x", b"abc", IMAGE), b"done"),
     (Op::MakeDir(b"d"), b"/d"),
     (Op::Put(b"d/y", b"", IMAGE), b"done"),
@@ -116,13 +116,13 @@ const LISTINGS: [Row; 16] = [
 
 #[test]
 fn listings_answer_as_their_rows(rt: HostRuntime) -> Result<(), Fail> {
-    assert_eq!(&rt; answers(rt.alloc(), b"guest", b"secret", &LISTINGS)?, None);
+    assert_eq!(&rt; answers(rt.alloc(), b"guest", b"secret", LISTINGS)?, None);
     Ok(())
 }
 
 const LONG_PATH: &'static [u8] = &[b'a'; 901];
 
-const UNSENT: [Row; 8] = [
+const UNSENT: &'static [Row] = &[
     (Op::Where, b"530"),
     (Op::Up, b"530"),
     (Op::ChangeDir(b""), b"bad"),
@@ -135,8 +135,8 @@ const UNSENT: [Row; 8] = [
 
 #[test]
 fn what_cannot_be_sent_is_told_before_the_login(rt: HostRuntime) -> Result<(), Fail> {
-    assert_eq!(&rt; answers(rt.alloc(), b"guest", b"wrong", &UNSENT)?, None);
-    assert_eq!(&rt; answers(rt.alloc(), b"nobody", b"secret", &UNSENT)?, None);
+    assert_eq!(&rt; answers(rt.alloc(), b"guest", b"wrong", UNSENT)?, None);
+    assert_eq!(&rt; answers(rt.alloc(), b"nobody", b"secret", UNSENT)?, None);
     Ok(())
 }
 
@@ -144,7 +144,7 @@ const LONG_NAME: &'static [u8] = &[b'a'; 256];
 
 const NAME: &'static [u8] = &[b'a'; 255];
 
-const LONG_NAMES: [Row; 9] = [
+const LONG_NAMES: &'static [Row] = &[
     (Op::ChangeDir(LONG_NAME), b"550"),
     (Op::MakeDir(LONG_NAME), b"550"),
     (Op::Get(LONG_NAME, IMAGE), b"550"),
@@ -158,9 +158,6 @@ const LONG_NAMES: [Row; 9] = [
 
 #[test]
 fn a_component_of_256_octets_acts_as_absent(rt: HostRuntime) -> Result<(), Fail> {
-    assert_eq!(&rt;
-        answers(rt.alloc(), b"guest", b"secret", &LONG_NAMES)?,
-        None
-    );
+    assert_eq!(&rt; answers(rt.alloc(), b"guest", b"secret", LONG_NAMES)?, None);
     Ok(())
 }

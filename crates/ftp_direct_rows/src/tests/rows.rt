@@ -5,7 +5,7 @@ use ftp_facts::{Moment, Text};
 use ftp_mode::Mode;
 use ftp_repr::{Kind, Structure};
 use ftp_tree::{MemTree, Tree};
-use std::alloc::{AllocError, Global};
+use std::alloc::{AllocError, Allocator, Global};
 use std::test::Fail;
 
 /// An operation, and what it answers.
@@ -20,7 +20,7 @@ pub(crate) const IMAGE: How = How {
     extended: false,
 };
 
-pub(crate) fn text(alloc: Global, octets: &[u8]) -> Result<Text<Global>, AllocError> {
+pub(crate) fn text<A: Allocator>(alloc: A, octets: &[u8]) -> Result<Text<A>, AllocError> {
     Text::copy_of(alloc, octets)
 }
 
@@ -47,7 +47,10 @@ fn texts(op: &Op<&'static [u8]>) -> (&'static [u8], &'static [u8]) {
 }
 
 /// The operation with texts of its own.
-fn owned(alloc: Global, op: &Op<&'static [u8]>) -> Result<Op<Text<Global>>, AllocError> {
+pub(crate) fn owned<A: Allocator + Copy>(
+    alloc: A,
+    op: &Op<&'static [u8]>,
+) -> Result<Op<Text<A>>, AllocError> {
     let (path, other) = texts(op);
     let path = text(alloc, path)?;
     let other = text(alloc, other)?;
@@ -73,7 +76,7 @@ fn owned(alloc: Global, op: &Op<&'static [u8]>) -> Result<Op<Text<Global>>, Allo
 }
 
 /// `guest` with the password `secret`, and `anonymous` without one.
-pub(crate) fn accounts(alloc: Global) -> Result<Option<Accounts<Global>>, AllocError> {
+pub(crate) fn accounts<A: Allocator + Copy>(alloc: A) -> Result<Option<Accounts<A>>, AllocError> {
     let mut list = Vec::new(alloc);
     list.push(Account {
         user: text(alloc, b"guest")?,
@@ -86,16 +89,19 @@ pub(crate) fn accounts(alloc: Global) -> Result<Option<Accounts<Global>>, AllocE
     Ok(Accounts::new(list).ok())
 }
 
-pub(crate) fn login(
-    alloc: Global,
+pub(crate) fn login<A: Allocator + Copy>(
+    alloc: A,
     user: &[u8],
     pass: &[u8],
-) -> Result<Option<Login<Global>>, AllocError> {
+) -> Result<Option<Login<A>>, AllocError> {
     Ok(Login::new(text(alloc, user)?, text(alloc, pass)?))
 }
 
 /// The operations, the first at second 1,000 and each later one a second on.
-fn list_of(alloc: Global, rows: &[Row]) -> Result<Vec<(Op<Text<Global>>, Moment)>, Fail> {
+fn list_of<A: Allocator + Copy>(
+    alloc: A,
+    rows: &[Row],
+) -> Result<Vec<(Op<Text<A>>, Moment), A>, Fail> {
     let mut list = Vec::new(alloc);
     let mut second = 1000u64;
     for (op, _) in rows {
@@ -106,9 +112,9 @@ fn list_of(alloc: Global, rows: &[Row]) -> Result<Vec<(Op<Text<Global>>, Moment)
 }
 
 /// The first row that is not answered as it says.
-fn first_other(
+pub(crate) fn first_other<A: Allocator>(
     alloc: Global,
-    answers: &[Answer<Global>],
+    answers: &[Answer<A>],
     rows: &[Row],
 ) -> Result<Option<usize>, Fail> {
     let mut at = 0usize;
@@ -125,6 +131,20 @@ fn first_other(
     }
 }
 
+/// What `direct` makes of the rows' operations, on a tree, by a user with a password; `ample` is for what it is called with.
+pub(crate) fn run<A: Allocator + Copy, T: Tree<A>>(
+    ample: A,
+    alloc: A,
+    tree: &mut T,
+    user: (&[u8], &[u8]),
+    rows: &[Row],
+) -> Result<Result<Vec<Answer<A>, A>, AllocError>, Fail> {
+    let accounts = accounts(ample)?.ok_or("accounts")?;
+    let login = login(ample, user.0, user.1)?.ok_or("login")?;
+    let list = list_of(ample, rows)?;
+    Ok(direct(&alloc, tree, &accounts, &login, list.as_slice()))
+}
+
 /// The first row that is not answered as it says, on a tree, by a user with a password.
 pub(crate) fn answers_on<T: Tree<Global>>(
     alloc: Global,
@@ -133,10 +153,7 @@ pub(crate) fn answers_on<T: Tree<Global>>(
     pass: &[u8],
     rows: &[Row],
 ) -> Result<Option<usize>, Fail> {
-    let accounts = accounts(alloc)?.ok_or("accounts")?;
-    let login = login(alloc, user, pass)?.ok_or("login")?;
-    let list = list_of(alloc, rows)?;
-    let answers = direct(&alloc, tree, &accounts, &login, list.as_slice())?;
+    let answers = run(alloc, alloc, tree, (user, pass), rows)??;
     first_other(alloc, answers.as_slice(), rows)
 }
 

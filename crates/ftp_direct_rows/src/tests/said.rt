@@ -1,11 +1,15 @@
 //! What an answer says, in one line or a line for each item.
 use ftp_direct::Answer;
 use ftp_facts::write_entry;
-use std::alloc::Global;
+use std::alloc::{Allocator, Global};
 use std::test::Fail;
 
 /// Whether an answer says this.
-pub(crate) fn says(alloc: Global, answer: &Answer<Global>, expected: &[u8]) -> Result<bool, Fail> {
+pub(crate) fn says<A: Allocator>(
+    alloc: Global,
+    answer: &Answer<A>,
+    expected: &[u8],
+) -> Result<bool, Fail> {
     if let Some(octets) = octets_of(answer) {
         return Ok(octets == expected);
     }
@@ -16,7 +20,7 @@ pub(crate) fn says(alloc: Global, answer: &Answer<Global>, expected: &[u8]) -> R
     Ok(text.as_slice() == expected)
 }
 
-fn octets_of(answer: &Answer<Global>) -> Option<&[u8]> {
+fn octets_of<A: Allocator>(answer: &Answer<A>) -> Option<&[u8]> {
     match answer {
         Answer::Done => Some(b"done".as_slice()),
         Answer::BadOperation => Some(b"bad".as_slice()),
@@ -26,7 +30,7 @@ fn octets_of(answer: &Answer<Global>) -> Option<&[u8]> {
 }
 
 /// The number that it says, or the code of its refusal.
-pub(crate) fn number_of(answer: &Answer<Global>) -> Option<u64> {
+pub(crate) fn number_of<A: Allocator>(answer: &Answer<A>) -> Option<u64> {
     match answer {
         Answer::Number(number) => Some(*number),
         Answer::Stamp(moment) => Some(moment.seconds),
@@ -41,7 +45,7 @@ fn decimal(alloc: Global, number: u64) -> Result<Vec<u8>, Fail> {
 }
 
 /// The line of an entry, or a line for each entry or name.
-fn lines_of(alloc: Global, answer: &Answer<Global>) -> Result<Vec<u8>, Fail> {
+fn lines_of<A: Allocator>(alloc: Global, answer: &Answer<A>) -> Result<Vec<u8>, Fail> {
     let mut out = Vec::new(alloc);
     match answer {
         Answer::Entry(entry) => write_entry(entry, &mut out)?,

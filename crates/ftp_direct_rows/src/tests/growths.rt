@@ -1,0 +1,86 @@
+//! Each growth that `direct` asks for is refused in turn.
+use super::rows::{IMAGE, Row, first_other, run};
+use ftp_direct::Op;
+use ftp_refusing::Refusing;
+use ftp_tree::{MemTree, Path, Tree};
+use std::alloc::Global;
+use std::test::Fail;
+
+/// A heap that refuses one growth.
+type Heap<'a> = &'a Refusing<Global>;
+
+/// Each operation that takes memory, and what it answers.
+const LIST: &'static [Row] = &[
+    (Op::MakeDir(b"d"), b"/d"),
+    (Op::Put(b"d/f", b"abc", IMAGE), b"done"),
+    (Op::ChangeDir(b"d"), b"done"),
+    (Op::Where, b"/d"),
+    (Op::Append(b"f", b"de", IMAGE), b"done"),
+    (Op::PutFrom(b"f", 4, b"f", IMAGE), b"done"),
+    (Op::Get(b"f", IMAGE), b"abcdf"),
+    (Op::GetFrom(b"f", 1, IMAGE), b"bcdf"),
+    (Op::Size(b"f", IMAGE), b"5"),
+    (Op::Modified(b"f"), b"1005"),
+    (
+        Op::Facts(b"f"),
+        b"Type=file;Size=5;Modify=19700101001645;Perm=adfrw; /d/f",
+    ),
+    (
+        Op::List(b"", IMAGE),
+        b"Type=file;Size=5;Modify=19700101001645;Perm=adfrw; f\n",
+    ),
+    (Op::Names(b"", IMAGE), b"f\n"),
+    (Op::Up, b"done"),
+    (Op::Rename(b"d", b"e"), b"done"),
+    (Op::Delete(b"e/f"), b"done"),
+    (Op::RemoveDir(b"e"), b"done"),
+];
+
+/// The octets of the file in each directory, where one is, as some of the operations leave them.
+const SIZES: &'static [(Option<u64>, Option<u64>)] = &[
+    (None, None),
+    (Some(3), None),
+    (Some(5), None),
+    (None, Some(5)),
+];
+
+/// How many octets the file at a path has, where one stands there.
+fn size(alloc: Global, tree: &MemTree<Heap<'_>>, text: &[u8]) -> Result<Option<u64>, Fail> {
+    let path = Path::root(alloc).resolve(alloc, text).ok().ok_or("path")?;
+    Ok(tree.size(&path))
+}
+
+/// Whether the files are as some of the operations leave them.
+fn is_begun(alloc: Global, tree: &MemTree<Heap<'_>>) -> Result<bool, Fail> {
+    let sizes = (size(alloc, tree, b"/d/f")?, size(alloc, tree, b"/e/f")?);
+    Ok(SIZES.iter().any(|allowed| *allowed == sizes))
+}
+
+/// Whether the run is as it has to be: whole where no growth is refused, and else given up with some of it done.
+fn is_as_due<'a>(
+    alloc: Global,
+    ample: Heap<'a>,
+    heap: Heap<'a>,
+    refused: bool,
+) -> Result<bool, Fail> {
+    let mut tree = MemTree::new(heap);
+    match run(ample, heap, &mut tree, (b"guest", b"secret"), LIST)? {
+        Ok(answers) => Ok(!refused && first_other(alloc, answers.as_slice(), LIST)?.is_none()),
+        Err(_) => Ok(refused && is_begun(alloc, &tree)?),
+    }
+}
+
+#[test]
+fn each_growth_refused_in_turn(rt: HostRuntime) -> Result<(), Fail> {
+    let alloc = rt.alloc();
+    let ample = Refusing::new(alloc, 0);
+    let counted = Refusing::new(alloc, 0);
+    assert!(&rt; is_as_due(alloc, &ample, &counted, false)?);
+    let growths = 0u64.wrapping_sub(counted.left());
+    assert!(&rt; 40 <= growths && growths <= 400, "growths {growths}");
+    for refused in 1..=growths {
+        let heap = Refusing::new(alloc, refused);
+        assert!(&rt; is_as_due(alloc, &ample, &heap, true)?, "growth {refused}");
+    }
+    Ok(())
+}

@@ -1,2 +1,0 @@
-mod accounts;
-mod sending;
