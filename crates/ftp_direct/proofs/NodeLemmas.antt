@@ -1,18 +1,17 @@
 -- What the reading calls of a tree say of the node that stands at a path.
-use Rattle.std.proofs.Common.{◌≡◌, ℕ, ◌≤◌, Bool, true, false, not, nat_le, List, [], length, Option, Some, None, is_some, refl, ap, sym, ◌∙◌, ◌∷◌, if◌then◌else◌}
-use Rattle.std.proofs.lemmas.Bool.Decides.{nat_tests}
+use Rattle.std.proofs.Common.{◌≡◌, ℕ, Bool, true, false, not, nat_le, List, [], length, Option, Some, None, is_some, refl, ap, sym, ◌∙◌, ◌∷◌}
 use Rattle.std.proofs.Math.Dec.{leb-zero}
 use mathlib.Core.Bool.{false≢true, true≢false}
 use Rattle.ftp_path.specs.Path.{fits, resolved, Names, is_within}
 use Rattle.std.specs.Option.{option_map, unwrap_or}
 use Rattle.ftp_tree.specs.Tree.{Node, Dir, File, Table, node_at, kind_of, kind_at, octets_of, moment_of, of_node, octets_at, size_at, stamp_at, octets_or_none, directory_refusal, front_answer, front_refusal, whenever, or_else, source_answer, source_refusal, target_refusal, rename_refusal}
 use Rattle.ftp_tree.specs.declared.fault.TreeFault.{TreeFault}
-use Rattle.ftp_tree.specs.declared.fault.TreeFault.TheVariants.{Absent, WrongKind, Busy, TooBig}
+use Rattle.ftp_tree.specs.declared.fault.TreeFault.TheVariants.{Absent, WrongKind, Busy}
 use Rattle.ftp_tree.specs.declared.tree.NodeKind.{NodeKind}
 use Rattle.ftp_tree.specs.declared.tree.NodeKind.TheVariants as Kinds
 use Rattle.ftp_operation.specs.declared.op.Op.TheVariants as Ops
 use Rattle.ftp_operation.specs.Answer.{Refused, Stamp}
-use Rattle.ftp_direct.specs.Direct.{absent_refusal, busy_refusal, due, here, is_file}
+use Rattle.ftp_direct.specs.Direct.{absent_refusal, due, here, is_file}
 use Rattle.ftp_direct.specs.Run.{Gives}
 use Rattle.ftp_direct.proofs.RefusalLemmas.{gives_refused, gives_done, there_some, there_none}
 

@@ -1,5 +1,5 @@
 -- What a file put at a path answers.
-use Rattle.std.proofs.Common.{◌≡◌, ℕ, ◌+◌, ◌≤◌, Bool, true, false, not, nat_le, List, ◌++◌, length, take, Option, Some, None, refl, ap, sym, ◌∙◌, arith, length-append, if◌then◌else◌}
+use Rattle.std.proofs.Common.{◌≡◌, ℕ, ◌+◌, ◌≤◌, true, not, nat_le, List, ◌++◌, length, take, Option, Some, None, refl, ap, sym, ◌∙◌, arith, length-append, if◌then◌else◌}
 use Rattle.std.proofs.lemmas.Bool.{le-leb, leb-true}
 use Rattle.std.proofs.lemmas.List.{length-take-le}
 use Rattle.ftp_path.specs.Path.{fits, Names}

@@ -1,11 +1,10 @@
 -- A call that the tree refused: what it makes of an operation.
-use Rattle.std.proofs.Common.{◌≡◌, ◌≢◌, ℕ, ◌⊎◌, inl, inr, List, Option, Some, None, Result, Ok, Err, IfOk, OnOk, is_some, refl, ap, sym, ◌∙◌, subst, Bool, true, false, ◌∷◌, [], if◌then◌else◌}
+use Rattle.std.proofs.Common.{◌≡◌, ◌≢◌, ℕ, inl, inr, List, Option, Some, None, Result, Ok, Err, IfOk, OnOk, is_some, refl, ap, sym, ◌∙◌, subst, Bool, true, false, ◌∷◌, [], if◌then◌else◌}
 use mathlib.Core.Bool.{false≢true, true≢false}
-use Rattle.std.specs.Option.{option_or}
 use Rattle.ftp_tree.specs.Change.{IsRefused}
 use Rattle.ftp_tree.proofs.CountLemmas.{next_count-moves}
 use Rattle.ftp_path.specs.Path.{Names}
-use Rattle.ftp_tree.specs.Tree.{Table, Node, Dir, File, or_else, whenever, directory_refusal, empty_refusal, remove_answer, file_refusal, source_answer, make_refusal, remove_refusal, delete_refusal, source_refusal, target_refusal, rename_refusal, room_refusal, octets_refusal, install_refusal}
+use Rattle.ftp_tree.specs.Tree.{Table, Node, Dir, File, or_else, whenever, directory_refusal, empty_refusal, remove_answer, file_refusal, source_answer, make_refusal, remove_refusal, delete_refusal, source_refusal, target_refusal, rename_refusal}
 use Rattle.ftp_tree.specs.declared.fault.TreeFault.{TreeFault}
 use Rattle.ftp_tree.specs.declared.fault.TreeFault.TheVariants.{Absent, Exists, NotEmpty, WrongKind, TooBig, Full, Busy, BadOffset, Device, Memory}
 use Rattle.ftp_operation.specs.declared.answer.Answer.{Answer}
@@ -100,7 +99,7 @@ answers : (refusal : Option TreeFault) (fault : TreeFault) (code before after : 
 answers None fault code before after table new cwd due said (same, inl (memory, kept)) other never is e = absurd (other memory)
 answers None fault code before after table new cwd due said (same, inr (device, moved)) other never is e = record {
   steady = λ kept. absurd (next_count-moves before (sym kept ∙ moved));
-  failed = λ ne. (e ∙ ap (λ f. Refused (told f code)) device, ap (λ t. here t cwd) same);
+  failed = λ ne. (moved, (e ∙ ap (λ f. Refused (told f code)) device, ap (λ t. here t cwd) same));
 }
 answers (Some why) fault code before after table new cwd due said (same, (reason, kept)) other never is e =
     let ours : fault ≢ Device = λ d. never (ap Some (sym reason ∙ d)) in

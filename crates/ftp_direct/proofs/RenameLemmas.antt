@@ -1,12 +1,12 @@
 -- What a move answers: what cannot be moved is refused first, and then the new name.
-use Rattle.std.proofs.Common.{◌≡◌, ℕ, Bool, true, false, List, Option, Some, None, is_some, refl, ap, sym, ◌∙◌, if◌then◌else◌}
+use Rattle.std.proofs.Common.{◌≡◌, ℕ, Bool, true, false, List, Some, None, is_some, ap, sym, ◌∙◌, if◌then◌else◌}
 use Rattle.ftp_path.specs.Path.{fits, resolved, Names}
 use Rattle.ftp_tree.specs.Tree.{Table, moved, or_else, source_refusal, target_refusal, rename_refusal}
 use Rattle.ftp_tree.specs.declared.fault.TreeFault.{TreeFault}
 use Rattle.ftp_tree.specs.declared.fault.TreeFault.TheVariants.{TooBig}
 use Rattle.ftp_operation.specs.declared.op.Op.TheVariants as Ops
 use Rattle.ftp_operation.specs.Answer.{Done, Refused}
-use Rattle.ftp_direct.specs.Direct.{busy_refusal, due, here, limited, or_code, refusal, refused_name, refused_there}
+use Rattle.ftp_direct.specs.Direct.{busy_refusal, due, here, limited, or_code, refusal, refused_name}
 use Rattle.ftp_direct.specs.Run.{Gives}
 use Rattle.ftp_direct.proofs.NodeLemmas.{rename_free}
 use Rattle.ftp_direct.proofs.RefusalLemmas.{gives_refused, gives_done, there_some, there_none}

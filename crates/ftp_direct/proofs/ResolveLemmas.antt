@@ -1,5 +1,5 @@
 -- Where some texts lead.
-use Rattle.std.proofs.Common.{◌≡◌, ℕ, true, List, [], ◌∷◌, refl}
+use Rattle.std.proofs.Common.{◌≡◌, ℕ, List, [], ◌∷◌, refl}
 use Rattle.ftp_path.specs.Path.{parent, resolved}
 
 pub up_parent : (here : List (List ℕ)) → resolved here (46 ∷ 46 ∷ []) ≡ parent here

@@ -1,7 +1,8 @@
 -- One operation, and operations one after another.
-use Rattle.std.proofs.Common.{◌≡◌, ◌≢◌, ℕ, Bool, true, false, List, [], ◌∷◌, ◌++◌, Option, Some, None, Result, Ok, Err, IfOk, IfErr, ◌+◌, ◌<◌, ◌≤◌, zero, suc, length, take, get_or, add-one, arith, refl, ap, sym, ◌∙◌, subst, if◌then◌else◌}
+use Rattle.std.proofs.Common.{◌≡◌, ℕ, Vec, Bool, true, false, List, [], ◌∷◌, ◌++◌, Some, Result, Ok, Err, IfOk, IfErr, ◌+◌, ◌%◌, ◌^◌, ◌==◌, ◌<◌, ◌≤◌, zero, suc, length, take, get_or, add-one, arith, refl, ap, sym, ◌∙◌, subst, if◌then◌else◌}
 use Rattle.std.specs.Prelude.{map}
-use Rattle.std.proofs.lemmas.List.{map-append, take_all}
+use Rattle.std.proofs.lemmas.List.{map-append, take_all, length-map, length-take}
+use Rattle.std.proofs.lemmas.Bool.Decides.{Decides-eqb, not_from_Decides}
 use Rattle.ftp_facts.specs.declared.moment.Moment.{Moment}
 use Rattle.ftp_path.specs.Path.{Names}
 use Rattle.ftp_tree.specs.Tree.{Table}
@@ -10,7 +11,8 @@ use Rattle.ftp_operation.specs.declared.answer.Answer.{Answer}
 use Rattle.ftp_operation.specs.Answer.{Said, BadOperation, Refused, said_of}
 use Rattle.ftp_operation.specs.Operation.{can_be_sent}
 use Rattle.ftp_direct.specs.Direct.{State, answer, answers, chosen, code_of, done, due, here, refusal, standing, start}
-use Rattle.ftp_direct.specs.Run.{AreSteady, Gives, IsAnswer, Ran, Runs, Turn, order_of, orders_of, said_in}
+use Rattle.ftp_tree.specs.Change.{next_count}
+use Rattle.ftp_direct.specs.Run.{Gives, IsAnswer, Ran, Turn, answer_of, failures_of, moved_on, order_of, orders_of, run}
 use Rattle.ftp_direct.proofs.RefusalLemmas.{still}
 
 -- ---- one operation
@@ -47,75 +49,133 @@ known_due result before after table new cwd at known op moment sent is so =
 
 -- ---- operations one after another
 
-pub answers_step : (state : State) (op : Op (List ℕ)) (moment : ℕ) (orders : List (Op (List ℕ) × ℕ))
+answers_step : (state : State) (op : Op (List ℕ)) (moment : ℕ) (orders : List (Op (List ℕ) × ℕ))
     → answers state ((op, moment) ∷ orders) ≡ ((answer state op moment).0 ∷ (answers (answer state op moment).1 orders).0, (answers (answer state op moment).1 orders).1)
 unfolding answers
 answers_step state op moment orders = refl
 
-pub answers_none : (state : State) → answers state [] ≡ ([], state)
+answers_none : (state : State) → answers state [] ≡ ([], state)
 unfolding answers
 answers_none state = refl
 
-pub steady : (count after : ℕ) (old new : State) (turns : List Turn) → AreSteady count turns → Runs count old turns after new
-    → (map said_in turns ≡ (answers old (map order_of turns)).0) × (new ≡ (answers old (map order_of turns)).1)
-steady count after old new [] all runs =
-    (ap (λ p. p.0) (sym (answers_none old)), runs.1 ∙ ap (λ p. p.1) (sym (answers_none old)))
-steady count after old new (turn ∷ turns) all runs =
-    let state = runs.0 in
-    let orders = map order_of turns in
-    let now = answer old turn.op turn.moment in
-    let first : Gives now turn.said state = runs.1.steady all.0 in
-    let From : ℕ → Type 0 = λ n. Runs n state turns after new in
-    let rest = steady count after state new turns all.1 (subst From all.0 runs.2) in
-    let step = answers_step old turn.op turn.moment orders in (
-      ap (λ s. s ∷ map said_in turns) first.0 ∙ ap (λ r. now.0 ∷ r) (rest.0 ∙ ap (λ s. (answers s orders).0) first.1) ∙ ap (λ p. p.0) (sym step),
-      rest.1 ∙ ap (λ s. (answers s orders).1) first.1 ∙ ap (λ p. p.1) (sym step),
-    )
+-- turns at none of which the device fails are the operations one after another
+run_answers : (old : State) (turns : List Turn) → failures_of turns ≡ 0 → run old turns ≡ answers old (map order_of turns)
+run_answers old [] none = sym (answers_none old)
+run_answers old (turn ∷ turns) none = by turn.fails refl (run_answers (answer old turn.op turn.moment).1 turns)
+  where
+    counted : {fails : Bool} → turn.fails ≡ fails → failures_of (turn ∷ turns) ≡ (if fails then suc (failures_of turns) else failures_of turns)
+    counted is = ap (λ b. if b then suc (failures_of turns) else failures_of turns) is
 
--- one more turn behind a run
-run_more : (before middle after : ℕ) (old state new : State) (turns : List Turn) (op : Op (List ℕ)) (moment : ℕ) (said : Said) → Runs before old turns middle state
-    → IsAnswer middle after (answer state op moment) state said new
-    → Runs before old (turns ++ record { op = op; moment = moment; said = said; count = after } ∷ []) after new
-run_more before middle after old state new [] op moment said runs is =
-    let From : ℕ → Type 0 = λ n. IsAnswer n after (answer state op moment) state said new in
-    let At : State → Type 0 = λ s. IsAnswer before after (answer s op moment) s said new in
-    (new, subst At runs.1 (subst From runs.0 is), (refl, refl))
-run_more before middle after old state new (turn ∷ turns) op moment said runs is =
-    (runs.0, runs.1, run_more turn.count middle after runs.0 state new turns op moment said runs.2 is)
+    by : (fails : Bool) → turn.fails ≡ fails
+        → (failures_of turns ≡ 0 → run (answer old turn.op turn.moment).1 turns ≡ answers (answer old turn.op turn.moment).1 (map order_of turns))
+        → run old (turn ∷ turns) ≡ answers old (map order_of (turn ∷ turns))
+    by true is rest_of = absurd (omega (arith, sym none ∙ counted is))
+    by false is rest_of =
+        let now = answer old turn.op turn.moment in
+        let first : answer_of old turn ≡ now = ap (λ b. if b then (Refused 451, old) else now) is in
+        let rest = rest_of (sym (counted is) ∙ none) in
+        ap (λ a. (a.0 ∷ (run a.1 turns).0, (run a.1 turns).1)) first ∙ ap (λ r. (now.0 ∷ r.0, r.1)) rest ∙ sym (answers_step old turn.op turn.moment (map order_of turns))
+
+-- a count that moved on by fewer than 2^64 is the same just where it moved on by none
+moved_sum : (failures count : ℕ) → moved_on (suc failures) count ≡ (count + suc failures) % 2 ^ 64
+moved_sum zero count = refl
+moved_sum (suc failures) count = ap next_count (moved_sum failures count) ∙ omega arith
+
+none_moved : (failures count : ℕ) → failures < 2 ^ 64 → count ≡ moved_on failures count → failures ≡ 0
+none_moved zero count within same = refl
+none_moved (suc failures) count within same = absurd (omega (arith, within, same ∙ moved_sum failures count))
+
+failures_within : (turns : List Turn) → failures_of turns ≤ length turns
+failures_within [] = omega arith
+failures_within (turn ∷ turns) = by turn.fails (failures_within turns)
+  where
+    by : (fails : Bool) → failures_of turns ≤ length turns → (if fails then suc (failures_of turns) else failures_of turns) ≤ suc (length turns)
+    by true within = omega (arith, within)
+    by false within = omega (arith, within)
+
+pub steady : (count : ℕ) (old : State) (orders : List (Op (List ℕ) × ℕ)) (said : List Said) (table : Table) → length orders < 2 ^ 64 → Ran count old orders said count table
+    → (said ≡ (answers old orders).0) × (table ≡ (answers old orders).1.table)
+steady count old orders said table short ran =
+    let long : length ran.turns ≡ length orders = sym (length-map ran.turns order_of) ∙ ap length ran.ordered in
+    let none = none_moved (failures_of ran.turns) count (omega (arith, failures_within ran.turns, long, short)) ran.counts in
+    let is : run old ran.turns ≡ answers old orders = run_answers old ran.turns none ∙ ap (answers old) ran.ordered in
+    (sym ran.says ∙ ap (λ r. r.0) is, sym ran.leaves ∙ ap (λ r. r.1.table) is)
+
+-- one more turn behind others
+run_more : (old : State) (turns : List Turn) (turn : Turn)
+    → run old (turns ++ turn ∷ []) ≡ ((run old turns).0 ++ (answer_of (run old turns).1 turn).0 ∷ [], (answer_of (run old turns).1 turn).1)
+run_more old [] turn = refl
+run_more old (first ∷ turns) turn =
+    let now = answer_of old first in
+    ap (λ r. (now.0 ∷ r.0, r.1)) (run_more now.1 turns turn)
+
+failures_more : (turns : List Turn) (turn : Turn) → failures_of (turns ++ turn ∷ []) ≡ (if turn.fails then suc (failures_of turns) else failures_of turns)
+failures_more [] turn = refl
+failures_more (first ∷ turns) turn =
+    ap (λ n. if first.fails then suc n else n) (failures_more turns turn) ∙ by first.fails turn.fails
+  where
+    by : (one other : Bool)
+        → (if one then suc (if other then suc (failures_of turns) else failures_of turns) else (if other then suc (failures_of turns) else failures_of turns))
+        ≡ (if other then suc (if one then suc (failures_of turns) else failures_of turns) else (if one then suc (failures_of turns) else failures_of turns))
+    by true true = refl
+    by true false = refl
+    by false true = refl
+    by false false = refl
 
 -- a run so far
 pub record RunsTo (before : ℕ) (old : State) (orders : List (Op (List ℕ) × ℕ)) (said : List Said) (after : ℕ) (new : State) : Type 0 where
   pub turns : List Turn
   pub ordered : map order_of turns ≡ orders
-  pub says : map said_in turns ≡ said
-  pub runs : Runs before old turns after new
+  pub says : (run old turns).0 ≡ said
+  pub leaves : (run old turns).1 ≡ new
+  pub counts : after ≡ moved_on (failures_of turns) before
 
 pub runs_none : (count : ℕ) (state : State) → RunsTo count state [] [] count state
-runs_none count state = record { turns = []; ordered = refl; says = refl; runs = (refl, refl) }
+runs_none count state = record { turns = []; ordered = refl; says = refl; leaves = refl; counts = refl }
+
+-- one more turn, and what it says and leaves
+turn_more : (before middle after : ℕ) (old state new : State) (orders : List (Op (List ℕ) × ℕ)) (said : List Said) (turn : Turn) (one : Said)
+    → RunsTo before old orders said middle state → (answer_of state turn).0 ≡ one → (answer_of state turn).1 ≡ new
+    → after ≡ (if turn.fails then next_count middle else middle)
+    → RunsTo before old (orders ++ order_of turn ∷ []) (said ++ one ∷ []) after new
+turn_more before middle after old state new orders said turn one so_far says leaves counts =
+    let is = run_more old so_far.turns turn in record {
+      turns = so_far.turns ++ turn ∷ [];
+      ordered = map-append order_of so_far.turns (turn ∷ []) ∙ ap (λ o. o ++ order_of turn ∷ []) so_far.ordered;
+      says = ap (λ r. r.0) is ∙ ap (λ s. (run old so_far.turns).0 ++ (answer_of s turn).0 ∷ []) so_far.leaves ∙ ap (λ s. s ++ (answer_of state turn).0 ∷ []) so_far.says
+          ∙ ap (λ o. said ++ o ∷ []) says;
+      leaves = ap (λ r. r.1) is ∙ ap (λ s. (answer_of s turn).1) so_far.leaves ∙ leaves;
+      counts = counts ∙ ap (λ n. if turn.fails then next_count n else n) so_far.counts ∙ by turn.fails ∙ ap (λ n. moved_on n before) (sym (failures_more so_far.turns turn));
+    }
+  where
+    by : (fails : Bool) → (if fails then next_count (moved_on (failures_of so_far.turns) before) else moved_on (failures_of so_far.turns) before)
+        ≡ moved_on (if fails then suc (failures_of so_far.turns) else failures_of so_far.turns) before
+    by true = refl
+    by false = refl
 
 pub runs_more : (before middle after : ℕ) (old state new : State) (orders : List (Op (List ℕ) × ℕ)) (said : List Said) (op : Op (List ℕ)) (moment : ℕ) (one : Said)
     → RunsTo before old orders said middle state → IsAnswer middle after (answer state op moment) state one new
     → RunsTo before old (orders ++ (op, moment) ∷ []) (said ++ one ∷ []) after new
-runs_more before middle after old state new orders said op moment one so_far is =
-    let turn : Turn = record { op = op; moment = moment; said = one; count = after } in
-    record {
-      turns = so_far.turns ++ turn ∷ [];
-      ordered = map-append order_of so_far.turns (turn ∷ []) ∙ ap (λ o. o ++ (op, moment) ∷ []) so_far.ordered;
-      says = map-append said_in so_far.turns (turn ∷ []) ∙ ap (λ s. s ++ one ∷ []) so_far.says;
-      runs = run_more before middle after old state new so_far.turns op moment one so_far.runs is;
-    }
+runs_more before middle after old state new orders said op moment one so_far is = by (after == middle) refl
+  where
+    by : (same : Bool) → (after == middle) ≡ same → RunsTo before old (orders ++ (op, moment) ∷ []) (said ++ one ∷ []) after new
+    by true same =
+        let kept : after ≡ middle = (Decides-eqb after middle).0 same in
+        let gives = is.steady kept in
+        turn_more before middle after old state new orders said (record { op = op; moment = moment; fails = false }) one so_far (sym gives.0) (sym gives.1) kept
+    by false same =
+        let failed = is.failed (not_from_Decides (after == middle) (Decides-eqb after middle) same) in
+        turn_more before middle after old state new orders said (record { op = op; moment = moment; fails = true }) one so_far (sym failed.1.0) (sym failed.1.1) failed.0
 
 pub ran : (before after count : ℕ) (old new : State) (orders : List (Op (List ℕ) × ℕ)) (said : List Said) (table : Table)
     → RunsTo before old orders said after new → count ≡ after → new.table ≡ table → Ran before old orders said count table
-ran before after count old new orders said table so_far is left =
-    let P : ℕ → Type 0 = λ n. Runs before old so_far.turns n new in
-    record { turns = so_far.turns; new = new; ordered = so_far.ordered; says = so_far.says; runs = subst P (sym is) so_far.runs; left = left }
-
-pub ran_as : (before after : ℕ) (old : State) (orders others : List (Op (List ℕ) × ℕ)) (said : List Said) (table : Table) → orders ≡ others
-    → Ran before old orders said after table → Ran before old others said after table
-ran_as before after old orders others said table same is =
-    let P : List (Op (List ℕ) × ℕ) → Type 0 = λ orders. Ran before old orders said after table in
-    subst P same is
+ran before after count old new orders said table so_far is left = record {
+  turns = so_far.turns;
+  ordered = so_far.ordered;
+  says = so_far.says;
+  leaves = ap (λ s. s.table) so_far.leaves ∙ left;
+  counts = is ∙ so_far.counts;
+}
 
 pub orders_more : (list : List (Op (List ℕ) × Moment)) (i : ℕ) (order : Op (List ℕ) × Moment) → i < length list → order ≡ get_or list i order
     → take (i + 1) (orders_of list) ≡ take i (orders_of list) ++ (order.0, order.1.seconds) ∷ []
@@ -133,7 +193,8 @@ runs_as before after old new orders others said same first second so_far = recor
   turns = so_far.turns;
   ordered = so_far.ordered ∙ first;
   says = so_far.says ∙ second;
-  runs = so_far.runs;
+  leaves = so_far.leaves;
+  counts = so_far.counts;
 }
 
 -- one more operation of a list
@@ -168,3 +229,18 @@ whole before after old known other new list i said past same so_far =
     let P : Bool → Type 0 = λ known. Ran before (start old known) (orders_of list) said after new.table in
     let all : take i (orders_of list) ≡ orders_of list = take_all i (orders_of list) (omega (arith, orders_len list)) in
     subst P same (ran before after after (start old known) new (orders_of list) said new.table (runs_as before after (start old known) new _ _ _ _ all refl so_far) refl refl)
+
+-- ---- a tree whose device never fails
+
+pub steady_all : {A B E : Type 0} (result : Result (Vec (Answer A) B) E) (old : State) (list : List (Op (List ℕ) × Moment)) (table : Table) → length list < 2 ^ 64
+    → IfOk result (λ all. Ran 0 old (orders_of list) (map said_of all.items) 0 table)
+    → IfOk result (λ all. (map said_of all.items ≡ (answers old (orders_of list)).0) × (table ≡ (answers old (orders_of list)).1.table))
+steady_all (Ok all) old list table short whole = steady 0 old (orders_of list) (map said_of all.items) table (omega (arith, orders_len list, short)) whole
+steady_all (Err fault) old list table short whole = tt
+
+pub steady_begun : {T E : Type 0} (result : Result T E) (old : State) (list : List (Op (List ℕ) × Moment)) (table : Table) → length list < 2 ^ 64
+    → IfErr result (λ _. Begun 0 old list 0 table)
+    → IfErr result (λ _. (count : ℕ) × (table ≡ (answers old (take count (orders_of list))).1.table))
+steady_begun (Ok value) old list table short begun = tt
+steady_begun (Err fault) old list table short (count, said, part) =
+    (count, (steady 0 old (take count (orders_of list)) said table (omega (arith, length-take count (orders_of list), orders_len list, short)) part).1)

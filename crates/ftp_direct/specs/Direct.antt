@@ -1,12 +1,11 @@
 -- The operations of a user, run directly on a map from paths to files and directories: the answer and the change of each, and a
 -- list of them in order. This is what a session of client and server is measured against; no command, reply or connection
 -- stands in it (RFC 959, section 4.1; RFC 3659).
-use Rattle.std.specs.Prelude.{ℕ, ◌+◌, ◌-◌, ◌==◌, ◌&&◌, ◌||◌, Bool, true, false, not, nat_le, nat_eq, codes, List, [], ◌∷◌, ◌++◌, length, take, drop, map, Option, Some, None, is_some, if◌then◌else◌}
+use Rattle.std.specs.Prelude.{ℕ, ◌+◌, ◌==◌, ◌&&◌, ◌||◌, Bool, true, false, not, nat_le, nat_eq, codes, List, [], ◌∷◌, ◌++◌, length, take, drop, Option, Some, None, if◌then◌else◌}
 use Rattle.std.specs.Option.{option_map, option_or, unwrap_or}
-use Rattle.std.specs.List.{filter, filter_map, list_any, ends_with}
-use Rattle.std.specs.Cmp.Lexicographic.{pointwise}
-use Rattle.ftp_path.specs.Path.{parent, fits, resolved, text_of, is_slash, Names, is_within}
-use Rattle.ftp_tree.specs.Tree.{Node, Dir, File, Table, node_at, octets_at, octets_or_none, stamp_at, children, or_else, whenever, directory_refusal, made, removed, installed, moved, make_refusal, remove_refusal, delete_refusal, source_refusal, target_refusal, room_refusal, octets_refusal, front_refusal}
+use Rattle.std.specs.List.{filter_map, ends_with}
+use Rattle.ftp_path.specs.Path.{parent, fits, resolved, text_of, Names, is_within}
+use Rattle.ftp_tree.specs.Tree.{Node, Dir, File, Table, node_at, octets_or_none, stamp_at, children, or_else, whenever, directory_refusal, made, removed, installed, moved, make_refusal, remove_refusal, delete_refusal, source_refusal, target_refusal, room_refusal, octets_refusal, front_refusal}
 use Rattle.ftp_tree.specs.declared.fault.TreeFault.{TreeFault}
 use Rattle.ftp_tree.specs.declared.fault.TreeFault.TheVariants as Faults
 use Rattle.ftp_repr.specs.Ascii.{asc}

@@ -14,4 +14,4 @@ mod sizes;
 
 pub use direct_run::direct;
 pub use ftp_operation::{Account, Accounts, Answer, How, Login, Op, SameUser};
-pub use laws::steady_run;
+pub use laws::{direct_in_memory, steady_run};

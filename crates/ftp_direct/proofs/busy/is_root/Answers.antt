@@ -1,4 +1,4 @@
-use Rattle.std.proofs.Common.{rules, ap, ◌∙◌, sym}
+use Rattle.std.proofs.Common.{rules}
 use Rattle.ftp_direct.proofs.BelowLemmas.{root-text}
 use Rattle.ftp_direct.proofs.busy.is_root.Goals as goal
 

@@ -1,4 +1,4 @@
-use Rattle.std.proofs.Common.{◌∙◌, ap, sym}
+use Rattle.std.proofs.Common.{◌∙◌, sym}
 use Rattle.ftp_direct.proofs.RunLemmas.{bad_operation, unknown_login, known_due}
 use Rattle.ftp_direct.proofs.direct_run.answer.Goals as goal
 

@@ -1,6 +1,4 @@
-use Rattle.std.proofs.Common.{◌∙◌, ap, refl, sym, arith, ◌+◌, []}
-use Rattle.std.specs.Prelude.{map}
-use Rattle.ftp_operation.specs.Answer.{said_of}
+use Rattle.std.proofs.Common.{refl, sym, arith, ◌+◌, []}
 use Rattle.ftp_direct.proofs.RunLemmas.{begun, runs_none, stepped, whole}
 use Rattle.ftp_direct.proofs.direct_run.direct.Goals as goal
 

@@ -1,4 +1,4 @@
-use Rattle.std.proofs.Common.{◌≡◌, ◌∙◌, ◌+◌, ap, length, take}
+use Rattle.std.proofs.Common.{◌∙◌, ◌+◌, ap, length, take}
 use Rattle.std.proofs.Math.Seq.{take-length}
 use Rattle.ftp_tree.specs.Tree.{octets_or_none}
 use Rattle.ftp_direct.specs.Direct.{chosen, here, put, put_refusal}

@@ -1,4 +1,4 @@
-use Rattle.std.proofs.Common.{◌≡◌, ◌++◌, ◌∙◌, ap, sym, take, length, nat_le}
+use Rattle.std.proofs.Common.{◌≡◌, ◌++◌, ◌∙◌, ap, sym, take, nat_le}
 use Rattle.ftp_tree.specs.Tree.{octets_or_none}
 use Rattle.ftp_direct.specs.Direct.{here}
 use Rattle.ftp_direct.proofs.RefusalLemmas.{if_refused}

@@ -1,5 +1,4 @@
-use Rattle.std.proofs.Common.{◌∙◌, ◌+◌, ap, length, take, zero-add, []}
-use Rattle.ftp_tree.specs.Tree.{octets_or_none}
+use Rattle.std.proofs.Common.{◌∙◌, ap, length, zero-add, []}
 use Rattle.ftp_direct.specs.Direct.{chosen, here, put, put_refusal}
 use Rattle.ftp_direct.proofs.RefusalLemmas.{if_due}
 use Rattle.ftp_direct.proofs.files.put.Goals as goal

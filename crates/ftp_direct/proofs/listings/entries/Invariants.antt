@@ -1,7 +1,5 @@
-use Rattle.std.proofs.Common.{◌≡◌, map, take, IsTrue}
-use Rattle.std.specs.List.{filter_map, list_all}
-use Rattle.ftp_path.specs.Path.{is_name}
-use Rattle.ftp_tree.specs.Tree.{children}
+use Rattle.std.proofs.Common.{◌≡◌, map, take}
+use Rattle.std.specs.List.{filter_map}
 use Rattle.ftp_operation.specs.Answer.{listed_of}
 use Rattle.ftp_direct.specs.Direct.{entry_in}
 use Rattle.ftp_direct.proofs.listings.entries.Given as goal

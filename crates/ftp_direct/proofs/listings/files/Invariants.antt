@@ -1,4 +1,4 @@
-use Rattle.std.proofs.Common.{◌≡◌, take, IsTrue}
+use Rattle.std.proofs.Common.{◌≡◌, take}
 use Rattle.std.specs.List.{filter_map}
 use Rattle.ftp_direct.specs.Direct.{file_in}
 use Rattle.ftp_direct.proofs.listings.files.Given as goal

@@ -1,4 +1,4 @@
-use Rattle.std.proofs.Common.{◌∙◌, ap, sym}
+use Rattle.std.proofs.Common.{◌∙◌, ap}
 use Rattle.ftp_direct.specs.Direct.{here}
 use Rattle.ftp_direct.proofs.RefusalLemmas.{if_refused, rename-no, still}
 use Rattle.ftp_direct.proofs.RenameLemmas.{rename_held, rename_unfit, rename_refused, rename_done}

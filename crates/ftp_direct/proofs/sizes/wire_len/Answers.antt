@@ -1,4 +1,4 @@
-use Rattle.std.proofs.Common.{◌∙◌, arith}
+use Rattle.std.proofs.Common.{arith}
 use Rattle.ftp_tree.specs.Tree.{octets_or_none}
 use Rattle.ftp_direct.proofs.SizeLemmas.{size_step, piece_within}
 use Rattle.ftp_direct.proofs.sizes.wire_len.Goals as goal

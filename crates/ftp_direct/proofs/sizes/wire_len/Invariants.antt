@@ -1,4 +1,4 @@
-use Rattle.std.proofs.Common.{◌≡◌, ◌≤◌, ◌-◌, ◌^◌, min, length, take}
+use Rattle.std.proofs.Common.{◌≡◌, ◌≤◌, ◌-◌, ◌^◌, min, take}
 use Rattle.ftp_tree.specs.Tree.{octets_or_none}
 use Rattle.ftp_direct.specs.Direct.{size_in}
 use Rattle.ftp_direct.proofs.sizes.wire_len.Given as goal
