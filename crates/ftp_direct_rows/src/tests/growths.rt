@@ -2,7 +2,7 @@
 use super::rows::{IMAGE, Row, first_other, run};
 use ftp_direct::Op;
 use ftp_refusing::Refusing;
-use ftp_tree::{MemTree, Path, Tree};
+use ftp_tree::{MemTree, Path, Tree, is_path_text};
 use std::alloc::Global;
 use std::test::Fail;
 
@@ -46,6 +46,9 @@ const SIZES: &'static [(Option<u64>, Option<u64>)] = &[
 
 /// How many octets the file at a path has, where one stands there.
 fn size(alloc: Global, tree: &MemTree<Heap<'_>>, text: &[u8]) -> Result<Option<u64>, Fail> {
+    if !is_path_text(text) {
+        return Ok(None);
+    }
     let path = Path::root(alloc).resolve(alloc, text).ok().ok_or("path")?;
     Ok(tree.size(&path))
 }
