@@ -22,9 +22,16 @@ is_path_octet octet = nat_le 32 octet && not (octet == 127)
 abbrev pub is_text : List ℕ → Bool
 is_text octets = is_utf8 octets && list_all is_path_octet octets
 
--- a pathname as it comes in a command: 1 to 900 octets (own choice) of such a text
+-- the most octets of a pathname, and of a name (own choices)
+abbrev pub text_limit : ℕ
+text_limit = 900
+
+abbrev pub name_limit : ℕ
+name_limit = 255
+
+-- a pathname as it comes in a command: such a text, not empty and within the limit
 abbrev pub is_path_text : List ℕ → Bool
-is_path_text text = nat_le 1 (length text) && nat_le (length text) 900 && is_text text
+is_path_text text = nat_le 1 (length text) && nat_le (length text) text_limit && is_text text
 
 abbrev pub IsPathText : List ℕ → Type 0
 IsPathText text = IsTrue (is_path_text text)
@@ -53,9 +60,9 @@ is_above component = pointwise nat_eq component (dot ∷ dot ∷ [])
 abbrev pub is_component : List ℕ → Bool
 is_component component = not (is_here component) && not (is_above component) && is_part component
 
--- a name: such a component, of at most 255 octets (own choice)
+-- a name: such a component, within the limit
 abbrev pub is_name : List ℕ → Bool
-is_name name = is_component name && nat_le (length name) 255
+is_name name = is_component name && nat_le (length name) name_limit
 
 -- the directory that a path stands in; the root's is the root
 unfoldable pub parent : List (List ℕ) → List (List ℕ)
@@ -83,9 +90,9 @@ unfoldable pub text_of : List (List ℕ) → List ℕ
 text_of [] = slash ∷ []
 text_of (name ∷ names) = joined (name ∷ names)
 
--- the limits of a path (own choice): names of at most 255 octets, a canonical text of at most 900
+-- a path within the limits: each name, and the canonical text
 unfoldable pub fits : List (List ℕ) → Bool
-fits path = list_all (λ name. nat_le (length name) 255) path && nat_le (length (text_of path)) 900
+fits path = list_all (λ name. nat_le (length name) name_limit) path && nat_le (length (text_of path)) text_limit
 
 -- ---- paths beside each other
 

@@ -4,8 +4,6 @@ ghost use Rattle.std.specs.List.{list_all};
 ghost use Rattle.std.specs.Str.{is_utf8};
 ghost use Rattle.ftp_path.specs.Path.{IsPathText, is_path_octet, is_text, is_name_octet, is_part, is_here, is_above, is_component, is_name, is_rooted};
 
-use simdutf8::is_utf8_baseline;
-
 /// The most octets of a path text and of a canonical text (own choice).
 pub(crate) const TEXT_LIMIT: usize = 900;
 
@@ -95,7 +93,7 @@ fn is_part(octets: &[u8]) -> bool
 fn is_utf8(octets: &[u8]) -> bool
     ensures { result ≡ is_utf8 octets.now }
 {
-    is_utf8_baseline(octets)
+    simdutf8::is_utf8(octets)
 }
 
 fn are_path_octets(octets: &[u8]) -> bool
