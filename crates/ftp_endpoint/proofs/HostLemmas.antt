@@ -7,7 +7,7 @@ use Rattle.std.specs.Str.Parse.{AllDigits, digits_value}
 use Rattle.std.proofs.lemmas.Int.Digits.{digits_value-lt, digits_value_more, digits_more}
 use Rattle.std.proofs.lemmas.List.Sums.{prefix_len_is}
 use Rattle.std.proofs.Math.Nat.{pow-le-pow_right}
-use Rattle.ftp_endpoint.specs.Host.{BeginsWithGroups, IsGroup, IsFilled, NoSome, NoneFilled, NoneWritten, ReadsSome, Stops, Written, octets_of, front_hex, behind_hex, is_hex}
+use Rattle.ftp_endpoint.specs.Host.{BeginsWithGroups, IsGroup, IsFilled, NoneFilled, NoneWritten, ReadsSome, Stops, Written, octets_of, front_hex, behind_hex, is_hex}
 
 pub group_lt : (ds : List ℕ) → AllDigits 16 ds → length ds ≤ 4 → digits_value 16 ds < 16 ^ 4
 group_lt ds all short =
@@ -74,7 +74,10 @@ more_groups text n [] next rest is value behind some h = absurd (omega arith)
 more_groups text n (m ∷ ms) next rest is value behind some h = (is, value, (next, behind, h))
 
 -- eight groups, one after the other
-pub eight : (xs : List ℕ) → length xs ≡ 8 → octets_of xs ≡ (get_or xs 0 0 / 256) ∷ (get_or xs 0 0 % 256) ∷ (get_or xs 1 0 / 256) ∷ (get_or xs 1 0 % 256) ∷ (get_or xs 2 0 / 256) ∷ (get_or xs 2 0 % 256) ∷ (get_or xs 3 0 / 256) ∷ (get_or xs 3 0 % 256) ∷ (get_or xs 4 0 / 256) ∷ (get_or xs 4 0 % 256) ∷ (get_or xs 5 0 / 256) ∷ (get_or xs 5 0 % 256) ∷ (get_or xs 6 0 / 256) ∷ (get_or xs 6 0 % 256) ∷ (get_or xs 7 0 / 256) ∷ (get_or xs 7 0 % 256) ∷ []
+pub eight : (xs : List ℕ) → length xs ≡ 8
+    → (let at : ℕ → ℕ = λ k. get_or xs k 0 in
+        octets_of xs ≡ (at 0 / 256) ∷ (at 0 % 256) ∷ (at 1 / 256) ∷ (at 1 % 256) ∷ (at 2 / 256) ∷ (at 2 % 256) ∷ (at 3 / 256) ∷ (at 3 % 256)
+            ∷ (at 4 / 256) ∷ (at 4 % 256) ∷ (at 5 / 256) ∷ (at 5 % 256) ∷ (at 6 / 256) ∷ (at 6 % 256) ∷ (at 7 / 256) ∷ (at 7 % 256) ∷ [])
 eight [] len = absurd (omega arith)
 eight (a ∷ []) len = absurd (omega arith)
 eight (a ∷ b ∷ []) len = absurd (omega arith)
@@ -135,9 +138,6 @@ filled_length front behind groups e h =
     let zeros : length {A = ℕ} (replicate (suc h.zeros) 0) ≡ suc h.zeros = length-replicate {A = ℕ} (suc h.zeros) 0 in
     omega (arith, whole, outer, inner, zeros, e)
 
-pub none_filled : (front behind : List ℕ) → NoSome behind 0 → NoneFilled front behind
-none_filled front behind none groups e h = none h.back [] (omega (arith, filled_length front behind groups e h)) (inl refl) h.after
-
 pub none_filled_by : (front behind now rest : List ℕ) → ReadsSome behind [] now rest → (rest ≡ [] → length front + length now < 8 → ⊥) → NoneFilled front behind
 none_filled_by front behind now rest reads wrong groups e h =
     let same = same_groups behind reads.0 h.back rest [] reads.2 reads.3 h.after (inl refl) in
@@ -157,11 +157,6 @@ is_filled front behind now rest all reads end short is =
     let Q : List ℕ → Type 0 = λ x. BeginsWithGroups behind reads.0 x in
     let after : BeginsWithGroups behind now [] = subst P (sym reads.1) (subst Q end reads.2) in
     (omega (arith, ap length groups_are, outer, inner, many), record { zeros = zeros; back = now; after = after; groups_are = groups_are })
-
-pub none_written : (text : List ℕ) → NoSome text 0 → NoneWritten text
-none_written text none groups e (inl h) = none groups [] (omega arith) (inl refl) h
-none_written text none groups e (inr h) =
-    none h.front (58 ∷ 58 ∷ h.behind) (omega (arith, filled_length h.front h.behind groups e h.filled)) (inr (h.behind, refl)) h.before
 
 -- the groups end with the text
 pub none_whole : (text now rest : List ℕ) → ReadsSome text [] now rest → rest ≡ [] → (length now ≡ 8 → ⊥) → NoneWritten text
@@ -199,10 +194,6 @@ is_short text now rest behind groups reads end filled =
     let P : List ℕ → Type 0 = λ x. BeginsWithGroups text x (58 ∷ 58 ∷ behind) in
     let Q : List ℕ → Type 0 = λ x. BeginsWithGroups text reads.0 x in
     inr (record { front = now; behind = behind; before = subst P (sym reads.1) (subst Q end reads.2); filled = filled })
-
-pub two_colons : (rest : List ℕ) → Stops rest → (rest ≡ [] → ⊥) → (behind : List ℕ) × (rest ≡ 58 ∷ 58 ∷ behind)
-two_colons rest (inl e) some = absurd (some e)
-two_colons rest (inr h) some = h
 
 -- nothing read before
 pub from_new : (text before now rest : List ℕ) → before ≡ [] → ReadsSome text before now rest → ReadsSome text [] now rest

@@ -6,7 +6,7 @@ use Rattle.std.specs.List.{prefix_len}
 use Rattle.std.specs.Str.Parse.{AllDigits, digits_value}
 use Rattle.std.proofs.lemmas.Bool.Decides.{nat_tests}
 use Rattle.std.proofs.lemmas.Int.Digits.{digits_value-lt, digits_value_more, digits_more}
-use Rattle.std.proofs.lemmas.List.Sums.{prefix_len_is, prefix_len-le-length}
+use Rattle.std.proofs.lemmas.List.Sums.{prefix_len_is}
 use Rattle.std.proofs.lemmas.Str.{digit_value_digit}
 use Rattle.std.proofs.lemmas.Str.Parse.{digit_at, digit_from_value}
 use Rattle.std.proofs.Math.Nat.{pow-le-pow_right}
@@ -55,9 +55,6 @@ run_is text n within all stops = sym (prefix_len_is is_ascii_digit text n 0 with
 
 pub run_whole : (text : List ℕ) (n : ℕ) → length text ≤ n → ((k : ℕ) → k < n → is_ascii_digit (get_or text k 0) ≡ true) → length text ≡ prefix_len is_ascii_digit text
 run_whole text n past all = run_is text (length text) (omega arith) (λ k lt. all k (omega arith)) (λ lt. absurd (omega arith))
-
-pub run_within : (text : List ℕ) → prefix_len is_ascii_digit text ≤ length text
-run_within text = prefix_len-le-length is_ascii_digit text
 
 -- a run of digits before an octet that is none
 pub run_before : (ds : List ℕ) (d : ℕ) (more : List ℕ) → AllDigits 10 ds → is_ascii_digit d ≡ false → prefix_len is_ascii_digit (ds ++ d ∷ more) ≡ length ds

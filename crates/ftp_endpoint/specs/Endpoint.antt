@@ -3,7 +3,7 @@ use Rattle.std.specs.Prelude.{◌≡◌, ◌+◌, ◌*◌, ◌≤◌, ℕ, List,
 use Rattle.std.specs.Char.{is_ascii_digit}
 use Rattle.ftp_endpoint.specs.declared.endpoint.Endpoint.{Endpoint}
 use Rattle.ftp_endpoint.specs.declared.host.Host.TheVariants.{V4}
-use Rattle.ftp_endpoint.specs.Number.{SaysNumber, SaysOctet, SaysPort, front_digits, behind_digits}
+use Rattle.ftp_endpoint.specs.Number.{SaysNumber, SaysOctet, SaysPort, behind_digits, closing, comma, front_digits, opening}
 
 -- the text begins with these numbers, each a whole run of digits, joined by the separator; the rest is behind them
 abbrev pub BeginsWith : ℕ → List ℕ → List ℕ → List ℕ → Type 0
@@ -21,7 +21,7 @@ pub record BeginsWithSix (text : List ℕ) (endpoint : Endpoint) (rest : List �
   pub h4 : ℕ
   pub p1 : ℕ
   pub p2 : ℕ
-  pub numbers : BeginsWith 44 text (h1 ∷ h2 ∷ h3 ∷ h4 ∷ p1 ∷ p2 ∷ []) rest
+  pub numbers : BeginsWith comma text (h1 ∷ h2 ∷ h3 ∷ h4 ∷ p1 ∷ p2 ∷ []) rest
   pub value : endpoint ≡ record { host = V4 (h1 ∷ h2 ∷ h3 ∷ h4 ∷ []); port = 256 * p1 + p2 }
 
 -- the text is the six numbers of this endpoint, and nothing else
@@ -37,14 +37,14 @@ pub record ClosesWithPort (d : ℕ) (text : List ℕ) (port : ℕ) : Type 0 wher
   pub digits : List ℕ
   pub more : List ℕ
   pub number : SaysPort digits port
-  pub text_is : text ≡ digits ++ d ∷ 41 ∷ more
+  pub text_is : text ≡ digits ++ d ∷ closing ∷ more
 
 -- the text begins with (<d><d><d>port<d>) of this port (RFC 2428, section 3)
 pub record BeginsWithPort (text : List ℕ) (port : ℕ) : Type 0 where
   pub d : ℕ
   pub rest : List ℕ
   pub delimiter : IsDelimiter d
-  pub text_is : text ≡ 40 ∷ d ∷ d ∷ d ∷ rest
+  pub text_is : text ≡ opening ∷ d ∷ d ∷ d ∷ rest
   pub closes : ClosesWithPort d rest port
 
 -- the text ends with this port between two delimiters; what is before them is the address

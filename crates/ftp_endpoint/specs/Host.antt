@@ -6,6 +6,7 @@ use Rattle.std.specs.Str.Parse.{IsNumeral, digits_value}
 use Rattle.ftp_endpoint.specs.declared.host.Host.{Host}
 use Rattle.ftp_endpoint.specs.declared.host.Host.TheVariants.{V4, V6}
 use Rattle.ftp_endpoint.specs.Endpoint.{BeginsWith, HasShape}
+use Rattle.ftp_endpoint.specs.Number.{colon, point}
 use Rattle.ftp_endpoint.specs.declared.endpoint.Endpoint.{Endpoint}
 use Rattle.ftp_endpoint.specs.declared.fault.EndpointFault.{EndpointFault}
 use Rattle.ftp_endpoint.specs.declared.fault.EndpointFault.TheVariants.{BadText, Protocol}
@@ -16,7 +17,7 @@ pub record SaysV4 (text octets : List ℕ) : Type 0 where
   pub b : ℕ
   pub c : ℕ
   pub d : ℕ
-  pub numbers : BeginsWith 46 text (a ∷ b ∷ c ∷ d ∷ []) []
+  pub numbers : BeginsWith point text (a ∷ b ∷ c ∷ d ∷ []) []
   pub value : octets ≡ a ∷ b ∷ c ∷ d ∷ []
 
 -- a group: one to four hexadecimal digits
@@ -40,7 +41,7 @@ BeginsWithGroups text (n ∷ []) rest =
     IsGroup (front_hex text) × (n ≡ digits_value 16 (front_hex text)) × (behind_hex text ≡ rest)
 BeginsWithGroups text (n ∷ m ∷ ns) rest =
     IsGroup (front_hex text) × (n ≡ digits_value 16 (front_hex text))
-    × ((next : List ℕ) × (behind_hex text ≡ 58 ∷ next) × BeginsWithGroups next (m ∷ ns) rest)
+    × ((next : List ℕ) × (behind_hex text ≡ colon ∷ next) × BeginsWithGroups next (m ∷ ns) rest)
 
 -- behind "::" come other groups, or none; it stands for one zero group or more
 pub record IsFilled (front behind groups : List ℕ) : Type 0 where
@@ -53,7 +54,7 @@ pub record IsFilled (front behind groups : List ℕ) : Type 0 where
 pub record IsShortened (text groups : List ℕ) : Type 0 where
   pub front : List ℕ
   pub behind : List ℕ
-  pub before : BeginsWithGroups text front (58 ∷ 58 ∷ behind)
+  pub before : BeginsWithGroups text front (colon ∷ colon ∷ behind)
   pub filled : IsFilled front behind groups
 
 -- eight groups, written out or shortened
@@ -99,7 +100,7 @@ RefusesExtended text BadText = (¬ IsOtherProtocol text) × ((endpoint : Endpoin
 
 -- where a reading of groups may stop: at the end, or before "::"
 abbrev pub Stops : List ℕ → Type 0
-Stops rest = (rest ≡ []) ⊎ ((behind : List ℕ) × (rest ≡ 58 ∷ 58 ∷ behind))
+Stops rest = (rest ≡ []) ⊎ ((behind : List ℕ) × (rest ≡ colon ∷ colon ∷ behind))
 
 -- one group or more was read behind those of before, up to where a reading may stop
 abbrev pub ReadsGroups : List ℕ → List ℕ → List ℕ → List ℕ → Type 0

@@ -1,12 +1,36 @@
 -- Decimal numbers, as arguments and replies have them (RFC 959, section 5.3.2).
-use Rattle.std.specs.Prelude.{◌≡◌, ◌≤◌, ℕ, List, length, take, drop}
+use Rattle.std.specs.Prelude.{◌≡◌, ◌<◌, ◌≤◌, ◌^◌, ℕ, List, length, take, drop}
 use Rattle.std.specs.Char.{is_ascii_digit}
 use Rattle.std.specs.List.{prefix_len}
 use Rattle.std.specs.Str.Parse.{IsNumeral, digits_value}
 
--- a number: 1 to 18 decimal digits, leading zeros too (own choice: a limit)
+-- the octets between numbers and around them: `,`, `.`, `:`, `(` and `)`
+abbrev pub comma : ℕ
+comma = 44
+
+abbrev pub point : ℕ
+point = 46
+
+abbrev pub colon : ℕ
+colon = 58
+
+abbrev pub opening : ℕ
+opening = 40
+
+abbrev pub closing : ℕ
+closing = 41
+
+-- the most digits that a number has (own choice)
+abbrev pub digit_limit : ℕ
+digit_limit = 18
+
+-- a number of at most so many digits
+abbrev pub IsShort : ℕ → Type 0
+IsShort n = n < 10 ^ digit_limit
+
+-- a number: 1 to 18 decimal digits, leading zeros too
 abbrev pub IsNumber : List ℕ → Type 0
-IsNumber text = IsNumeral 10 text × (length text ≤ 18)
+IsNumber text = IsNumeral 10 text × (length text ≤ digit_limit)
 
 -- an octet's number: one to three decimal digits, 0 to 255
 abbrev pub IsOctet : List ℕ → Type 0

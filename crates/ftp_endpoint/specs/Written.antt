@@ -2,6 +2,7 @@
 use Rattle.std.specs.Prelude.{◌≡◌, ◌+◌, ◌*◌, ◌/◌, ◌%◌, ◌<◌, ℕ, List, [], ◌∷◌, ◌++◌, length, map, decimal, if◌then◌else◌, nat_lt, codes}
 use Rattle.std.specs.Char.{digit_char}
 use Rattle.std.specs.List.{AllByRecursion, join_with_byte}
+use Rattle.ftp_endpoint.specs.Number.{colon, comma, point}
 use Rattle.ftp_endpoint.specs.declared.endpoint.Endpoint.{Endpoint}
 use Rattle.ftp_endpoint.specs.declared.host.Host.{Host}
 use Rattle.ftp_endpoint.specs.declared.host.Host.TheVariants.{V4, V6}
@@ -12,7 +13,7 @@ numbers_text separator octets = join_with_byte separator (map decimal octets)
 
 -- h1,h2,h3,h4,p1,p2; of a host of IPv6 there is no such text
 abbrev pub six_of : Host → ℕ → List ℕ
-six_of (V4 octets) port = numbers_text 44 octets ++ (44 ∷ (decimal (port / 256) ++ (44 ∷ decimal (port % 256))))
+six_of (V4 octets) port = numbers_text comma octets ++ (comma ∷ (decimal (port / 256) ++ (comma ∷ decimal (port % 256))))
 six_of (V6 octets) port = []
 
 abbrev pub six_text : Endpoint → List ℕ
@@ -33,8 +34,8 @@ groups_of (a ∷ b ∷ octets) = (a * 256 + b) ∷ groups_of octets
 
 -- |1|dotted decimal|port| or |2|eight groups|port|, written without "::" (own choice)
 abbrev pub address_text : Host → List ℕ
-address_text (V4 octets) = codes "|1|" ++ numbers_text 46 octets
-address_text (V6 octets) = codes "|2|" ++ join_with_byte 58 (map hex (groups_of octets))
+address_text (V4 octets) = codes "|1|" ++ numbers_text point octets
+address_text (V6 octets) = codes "|2|" ++ join_with_byte colon (map hex (groups_of octets))
 
 abbrev pub extended_text : Endpoint → List ℕ
 extended_text endpoint = address_text endpoint.host ++ (codes "|" ++ (decimal endpoint.port ++ codes "|"))

@@ -1,10 +1,16 @@
 // Decimal numbers, as arguments and replies have them.
-ghost use Rattle.std.specs.Prelude.{◌≡◌, ◌+◌, ◌*◌, ◌^◌, ◌<◌, ◌≤◌, IfSome, IfNone, length, take};
+ghost use Rattle.std.specs.Prelude.{◌≡◌, ◌+◌, ◌*◌, ◌<◌, ◌≤◌, IfSome, IfNone, length, take};
 ghost use Rattle.std.specs.Char.{is_ascii_digit};
 ghost use Rattle.std.specs.List.{prefix_len};
 ghost use Rattle.std.specs.Option.{SomeIff};
 ghost use Rattle.std.specs.Str.Parse.{AllDigits, IsNumeral, digits_value};
-ghost use Rattle.ftp_endpoint.specs.Number.{IsNumber, IsOctet, IsPort, SaysOctet, behind_digits, front_digits};
+ghost use Rattle.ftp_endpoint.specs.Number.{IsNumber, IsOctet, IsPort, IsShort, SaysOctet, behind_digits, digit_limit, front_digits};
+
+/// The most digits that a number has (own choice).
+pub const DIGIT_LIMIT: usize = 18;
+
+/// A number below it has at most that many digits.
+pub const NUMBER_LIMIT: u64 = 1_000_000_000_000_000_000;
 
 /// The decimal digits that a text begins with, as many as stand there, and what is behind them.
 pub fn split_digits(text: &[u8]) -> (&[u8], &[u8])
@@ -30,9 +36,9 @@ fn digits_in_front(text: &[u8]) -> usize
 /// Reads a number of 1 to 18 decimal digits, leading zeros too.
 pub fn number(text: &[u8]) -> Option<u64>
     ensures says { SomeIff result (IsNumber text.now) (digits_value 10 text.now) }
-    ensures bound { IfSome result (λ n. n < 10 ^ 18) }
+    ensures bound { IfSome result (λ n. IsShort n) }
 {
-    if text.is_empty() || text.len() > 18 {
+    if text.is_empty() || text.len() > DIGIT_LIMIT {
         return None;
     }
     value(text)
@@ -40,9 +46,9 @@ pub fn number(text: &[u8]) -> Option<u64>
 
 // The number that decimal digits write.
 fn value(text: &[u8]) -> Option<u64>
-    requires { length text.now ≤ 18 }
+    requires { length text.now ≤ digit_limit }
     ensures says { SomeIff result (AllDigits 10 text.now) (digits_value 10 text.now) }
-    ensures bound { IfSome result (λ n. n < 10 ^ 18) }
+    ensures bound { IfSome result (λ n. IsShort n) }
 {
     let mut value = 0u64;
     for c in text {

@@ -10,7 +10,7 @@ mod host;
 pub mod laws;
 mod writing;
 
-pub use decimal::{number, octet, octet_in_front, port, split_digits};
+pub use decimal::{DIGIT_LIMIT, NUMBER_LIMIT, number, octet, octet_in_front, port, split_digits};
 pub use endpoint::{Endpoint, after, is_delimiter, port_in_front, six_in_front, six_numbers};
 pub use extended::extended_endpoint;
 pub use fault::EndpointFault;

@@ -2,6 +2,7 @@
 ghost use Rattle.std.specs.Prelude.{◌≡◌, ◌+◌, ◌*◌, ◌/◌, ◌%◌, ◌<◌, ◌≤◌, ◌++◌, [], ◌∷◌, IfNone, IfSome, codes, decimal, if◌then◌else◌, length, map};
 ghost use Rattle.std.specs.Char.{digit_char};
 ghost use Rattle.std.specs.List.{join_with_byte};
+ghost use Rattle.ftp_endpoint.specs.Number.{colon};
 ghost use Rattle.ftp_endpoint.specs.Written.{IsV4, address_text, extended_text, groups_of, hex, numbers_text, six_text};
 
 use crate::endpoint::Endpoint;
@@ -119,7 +120,7 @@ fn two(a: u8, b: u8, c: u8, d: u8) -> [u16; 2]
 fn put_groups(groups: &[u16], line: &mut Line)
     requires few { length groups.now ≤ 8 }
     requires room { length line.old.items ≤ 8 }
-    ensures text { line.new.items ≡ line.old.items ++ join_with_byte 58 (map hex groups.now) }
+    ensures text { line.new.items ≡ line.old.items ++ join_with_byte colon (map hex groups.now) }
     ensures bound { length line.new.items ≤ length line.old.items + 40 }
 {
     for (i, group) in groups.iter().enumerate() {
