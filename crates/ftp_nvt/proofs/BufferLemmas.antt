@@ -114,23 +114,6 @@ run_reads old new plain is at same count text none free fits = record {
       lines-append-inside old.limit octets plain none (subst (λ n. n + length plain ≤ old.limit) before.0.counted fits) ∙ sym (append-nil (lines old.limit octets));
 }
 
--- the first octet past the limit
-pub full_steps : {A : Type 0} (old new : LineBuffer A) (octet : ℕ) → IsOpen old.stage → old.count ≡ old.limit → new.limit ≡ old.limit
-    → new.stage ≡ (if octet == 10 then Start else Past) → Steps old octet TooLong new
-full_steps old new octet is_open full same at = record {
-  limit = same;
-  stands = λ rest stands.
-      let here = within old.stage old.limit old.count old.text.items rest is_open stands in
-      elim (decided (octet == 10)) [
-        | inl e ↦ rw e (at_place Start new.stage new.limit new.count new.text.items [] (sym (at ∙ ap (λ b. if b then Start else Past) e)) refl)
-        | inr e ↦ rw e (at_place Past new.stage new.limit new.count new.text.items (rest ++ octet ∷ []) (sym (at ∙ ap (λ b. if b then Start else Past) e)) (omega (arith, here.counted, full, same, length-append rest (octet ∷ []))))
-      ];
-  said = λ rest stands.
-      let here = within old.stage old.limit old.count old.text.items rest is_open stands in
-      let now : (length rest == old.limit) ≡ true = eq-eqb _ _ (sym here.counted ∙ full) in
-      rw now refl;
-}
-
 below_settled : (limit : ℕ) (rest : List ℕ) (octet : ℕ) → length rest < limit → settled limit rest octet ≡ (if octet == 10 then line (text_of (without_return rest)) ∷ [] else [])
 below_settled limit rest octet less =
     let other : (length rest == limit) ≡ false = ne_eqb _ _ (λ e. omega arith) in
@@ -205,10 +188,6 @@ octet_steps old new octet is_open no_nul no_end less same at count text = record
 pub step_as : {A : Type 0} (old new : LineBuffer A) (octet told : ℕ) (event said : Event) → told ≡ octet → said ≡ event → Steps old octet event new → Steps old told said new
 step_as old new octet told event said same is step =
     subst (λ o. Steps old o said new) (sym same) (subst (λ e. Steps old octet e new) (sym is) step)
-
--- lines told in equal words
-pub Reads-as : {A : Type 0} (old new : LineBuffer A) (taken : List ℕ) (added told : List NvtEvent) → told ≡ added → Reads old taken added new → Reads old taken told new
-Reads-as old new taken added told is hears = let P : List NvtEvent → Type 0 = λ l. Reads old taken l new in subst P (sym is) hears
 
 -- the rest of a line that was too long, and its LF
 pub skip_through : {A : Type 0} (old new : LineBuffer A) (piece : List ℕ) (at : ℕ) → old.stage ≡ Past → new.stage ≡ Start → new.limit ≡ old.limit

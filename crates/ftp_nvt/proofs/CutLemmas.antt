@@ -288,10 +288,6 @@ all_take P octets zero within each = tt
 all_take P [] (suc n) within each = tt
 all_take P (octet ∷ octets) (suc n) within each = (each 0 (omega arith), all_take P octets n (omega arith) (λ k less. each (suc k) (omega arith)))
 
-pub is_false : (b : Bool) → (b ≡ true → ⊥) → b ≡ false
-is_false true = λ no. absurd (no refl)
-is_false false = λ no. refl
-
 -- the first octet of a piece
 pub take_first : (piece : List ℕ) → 0 < length piece → take 1 piece ≡ get_or piece 0 0 ∷ []
 take_first [] some = absurd (lt_irrefl 0 some)

@@ -28,14 +28,6 @@ Hears-trans a b c xs ys first second before later = record {
       ∙ append_assoc (events (limit_of a) octets) first second;
 }
 
--- an ear that stays as it is has heard nothing more
-pub Hears-nil : {A : Type 0} (ear : Ear A) → Hears ear [] [] ear
-Hears-nil ear = record {
-  limit = refl;
-  heard = λ octets h. subst (λ l. HasHeard ear l) (sym (append-nil octets)) h;
-  said = λ octets h. ap (events (limit_of ear)) (append-nil octets) ∙ sym (append-nil (events (limit_of ear) octets));
-}
-
 -- what an ear heard of a piece's front and of its rest
 pub Hears-rest : {A : Type 0} (a b c : Ear A) (piece rest : List ℕ) (taken more : ℕ) (first second : List NvtEvent) → rest ≡ drop taken piece
     → Hears a (take taken piece) first b → Hears b (take more rest) second c → Hears a (take (taken + more) piece) (first ++ second) c
