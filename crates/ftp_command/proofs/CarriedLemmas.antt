@@ -6,7 +6,9 @@ use Rattle.std.specs.List.{list_all, join_with_byte, AllByRecursion}
 use Rattle.std.specs.Str.Parse.{AllDigits}
 use Rattle.std.proofs.lemmas.Bool.Decides.{nat_tests}
 use Rattle.std.proofs.lemmas.List.Sums.{sum_by-cons}
-use Rattle.ftp_command.specs.Argument.{IsPassword, is_name_octet, IsPath, is_path_octet}
+use Rattle.ftp_command.proofs.PathLemmas.{path_plain, path_short}
+use Rattle.ftp_path.specs.Path.{IsPathText, is_path_octet}
+use Rattle.ftp_command.specs.Argument.{IsPassword, is_name_octet}
 use Rattle.ftp_command.specs.Line.{spaced, line_of, is_no_feed, IsWords, IsLine, IsStated, IsTyped}
 use Rattle.ftp_command.specs.declared.command.Command.{Command}
 use Rattle.ftp_command.specs.declared.command.Command.TheVariants as command
@@ -165,8 +167,8 @@ extended_fits endpoint typed =
 
 -- ---- texts of arguments
 
-path_plain : (c : ℕ) → is_path_octet c ≡ true → is_plain c ≡ true
-path_plain c is = grind (arith, nat_tests)
+octet_plain : (c : ℕ) → is_path_octet c ≡ true → is_plain c ≡ true
+octet_plain c is = grind (arith, nat_tests)
 
 name_plain : (c : ℕ) → is_name_octet c ≡ true → is_plain c ≡ true
 name_plain c is =
@@ -178,8 +180,8 @@ all_plain : (p : ℕ → Bool) → ((c : ℕ) → p c ≡ true → is_plain c �
 all_plain p gives [] is = tt
 all_plain p gives (c ∷ text) is = let parts = both (p c) (list_all p text) is in (gives c parts.0, all_plain p gives text parts.1)
 
-path_fits : (text : List ℕ) → IsPath text → Fits 900 text
-path_fits text is = record { plain = all_plain is_path_octet path_plain text is.2; short = is.1 }
+path_fits : (text : List ℕ) → IsPathText text → Fits 900 text
+path_fits text is = record { plain = all_plain is_path_octet octet_plain text (path_plain text is); short = path_short text is }
 
 password_fits : (text : List ℕ) → IsPassword text → Fits 255 text
 password_fits text is = record { plain = all_plain is_name_octet name_plain text is.1; short = is.0 }
@@ -201,7 +203,7 @@ behind_verb verb rest n is fits small = line_fits (4 + n) (verb ++ rest) (omega 
 alone_line : (verb : List ℕ) → IsWord verb → IsLine (verb ++ [])
 alone_line verb is = behind_verb verb [] 0 is (record { plain = tt; short = omega arith }) (omega arith)
 
-path_line : (verb value : List ℕ) → IsWord verb → IsPath value → IsLine (verb ++ spaced value)
+path_line : (verb value : List ℕ) → IsWord verb → IsPathText value → IsLine (verb ++ spaced value)
 path_line verb value is path = behind_verb verb (spaced value) 901 is (spaced_fits 900 value (path_fits value path)) (omega arith)
 
 password_line : (verb value : List ℕ) → IsWord verb → IsPassword value → IsLine (verb ++ spaced value)

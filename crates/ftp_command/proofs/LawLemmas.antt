@@ -29,6 +29,7 @@ use Rattle.ftp_command.specs.declared.verb.Verb.{Verb}
 use Rattle.ftp_command.specs.declared.verb.Verb.TheVariants as verb
 use Rattle.ftp_endpoint.proofs.EndpointLemmas.{six_same}
 use Rattle.ftp_endpoint.proofs.OnceLemmas.{no_other_protocol, same_extended, same_number}
+use Rattle.ftp_command.proofs.PathLemmas.{path_some}
 use Rattle.ftp_command.proofs.VerbLemmas.{one_verb}
 
 -- two texts that differ
@@ -38,8 +39,8 @@ differ xs ys e h = false≢true (sym h ∙ (bytes_eq-Decides xs ys).1 e)
 -- values of one text are one value
 same_path : (text : List ℕ) (v w : Option (List ℕ)) → SaysPathOrNone text v → SaysPathOrNone text w → v ≡ w
 same_path text None None h k = refl
-same_path text None (Some p) h k = let e : p ≡ [] = sym k.0 ∙ h in absurd (omega (arith, ap length e, k.1.0))
-same_path text (Some p) None h k = let e : p ≡ [] = sym h.0 ∙ k in absurd (omega (arith, ap length e, h.1.0))
+same_path text None (Some p) h k = let e : p ≡ [] = sym k.0 ∙ h in absurd (omega (arith, ap length e, path_some p k.1))
+same_path text (Some p) None h k = let e : p ≡ [] = sym h.0 ∙ k in absurd (omega (arith, ap length e, path_some p h.1))
 same_path text (Some p) (Some q) h k = ap Some (sym h.0 ∙ k.0)
 
 same_words : (text : List ℕ) (v w : Option (List ℕ)) → SaysTextOrNone text v → SaysTextOrNone text w → v ≡ w

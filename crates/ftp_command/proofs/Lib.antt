@@ -2,6 +2,7 @@ pub mod VerbLemmas
 pub mod ArgumentLemmas
 pub mod SettingLemmas
 pub mod CommandLemmas
+pub mod PathLemmas
 pub mod LawLemmas
 pub mod RoundTripLemmas
 pub mod StatedLemmas

@@ -5,7 +5,8 @@ use Rattle.std.specs.List.{list_all, position_or_len}
 use Rattle.std.proofs.lemmas.Bool.{false≢true}
 use Rattle.std.proofs.lemmas.List.Sums.{sum_by-cons}
 use Rattle.std.proofs.lemmas.List.{length-map}
-use Rattle.ftp_command.specs.Argument.{IsPath, SaysSizes, argument, begins_with, behind_word, is_space, trimmed, without, without_options, word}
+use Rattle.ftp_path.specs.Path.{IsPathText}
+use Rattle.ftp_command.specs.Argument.{SaysSizes, argument, begins_with, behind_word, is_space, trimmed, without, without_options, word}
 use Rattle.ftp_command.specs.Command.{Says, verb_of}
 use Rattle.ftp_command.specs.Line.{IfShort, IsLine, IsListed, IsShort, IsStated, IsWords, is_no_feed}
 use Rattle.ftp_endpoint.specs.Number.{SaysNumber}
@@ -152,7 +153,7 @@ no_option zero (x ∷ xs) h = absurd (omega arith)
 no_option (suc n) [] h = refl
 no_option (suc n) (x ∷ xs) h = no_option-by n x xs (eqb x 45) refl (λ e. no_option n (behind_word (x ∷ xs)) (omega (arith, shorter x xs e)))
 
-is_listed : (a path : List ℕ) → (without_options a ≡ path) × IsPath path → IsListed path
+is_listed : (a path : List ℕ) → (without_options a ≡ path) × IsPathText path → IsListed path
 is_listed a path h = (h.1, sym (ap (begins_with 45) h.0) ∙ no_option (length a) a (omega arith))
 
 is_short : (text : List ℕ) (n : ℕ) → SaysNumber text n → n < 10 ^ 18

@@ -1,5 +1,5 @@
 -- What the arguments of commands are, and what they say (RFC 959, sections 4.1 and 5.3.2; RFC 2428; RFC 3659).
-use Rattle.std.specs.Prelude.{◌≡◌, ◌≢◌, ◌⊎◌, ◌≤◌, ℕ, zero, suc, Bool, false, not, ◌==◌, ◌&&◌, nat_le, if◌then◌else◌, List, [], ◌∷◌, length, drop, IsTrue, Option, Some, None, codes}
+use Rattle.std.specs.Prelude.{◌≡◌, ◌≢◌, ◌⊎◌, ◌≤◌, ℕ, zero, suc, Bool, false, not, ◌==◌, ◌&&◌, if◌then◌else◌, List, [], ◌∷◌, length, drop, IsTrue, Option, Some, None, codes}
 use Rattle.std.specs.Char.{is_ascii_alphabetic, to_ascii_lowercase}
 use Rattle.std.specs.List.{list_all, prefix_len, before_first, after_first}
 use Rattle.ftp_representation.specs.declared.representation.Kind.{Kind}
@@ -11,6 +11,7 @@ use Rattle.ftp_command.specs.declared.command.Passive.TheVariants.{Any, Ipv4, Ip
 use Rattle.ftp_representation.specs.declared.representation.Structure.{Structure}
 use Rattle.ftp_representation.specs.declared.representation.Structure.TheVariants.{File, Record}
 use Rattle.ftp_endpoint.specs.Number.{SaysNumber, front_digits, behind_digits}
+use Rattle.ftp_path.specs.Path.{IsPathText}
 use Rattle.ftp_command.specs.Verb.{SameLetters}
 
 abbrev pub is_space : ℕ → Bool
@@ -33,14 +34,6 @@ abbrev pub trimmed : List ℕ → List ℕ
 trimmed [] = []
 trimmed (c ∷ cs) = if list_all is_space (c ∷ cs) then [] else c ∷ trimmed cs
 
--- an octet of a path: 32 to 126
-abbrev pub is_path_octet : ℕ → Bool
-is_path_octet c = nat_le 32 c && nat_le c 126
-
--- a path text: 1 to 900 octets
-abbrev pub IsPath : List ℕ → Type 0
-IsPath text = (1 ≤ length text) × (length text ≤ 900) × IsTrue (list_all is_path_octet text)
-
 -- an octet of a user name or a password: no CR, LF or NUL
 abbrev pub is_name_octet : ℕ → Bool
 is_name_octet c = not (c == 0) && not (c == 10) && not (c == 13)
@@ -56,7 +49,7 @@ IsName text = (1 ≤ length text) × IsPassword text
 -- a path, or no argument
 abbrev pub SaysPathOrNone : List ℕ → Option (List ℕ) → Type 0
 SaysPathOrNone text None = text ≡ []
-SaysPathOrNone text (Some path) = (text ≡ path) × IsPath path
+SaysPathOrNone text (Some path) = (text ≡ path) × IsPathText path
 
 -- words, or no argument
 abbrev pub SaysTextOrNone : List ℕ → Option (List ℕ) → Type 0
@@ -72,10 +65,13 @@ abbrev pub begins_with : ℕ → List ℕ → Bool
 begins_with c [] = false
 begins_with c (x ∷ xs) = x == c
 
+abbrev pub hyphen : ℕ
+hyphen = 45
+
 -- a text without its leading words that begin with '-', each with the spaces after it, n of them at most
 abbrev pub without : ℕ → List ℕ → List ℕ
 without zero text = text
-without (suc n) text = if begins_with 45 text then without n (behind_word text) else text
+without (suc n) text = if begins_with hyphen text then without n (behind_word text) else text
 
 -- the argument of LIST and NLST without its options: all leading words that begin with '-' (own choice)
 abbrev pub without_options : List ℕ → List ℕ

@@ -1,6 +1,7 @@
 -- Which line says which command, and how a line is refused (RFC 959, sections 4.1, 4.2 and 5.3).
 use Rattle.std.specs.Prelude.{◌≡◌, ◌≤◌, ℕ, List, length, IsTrue, is_some}
-use Rattle.ftp_command.specs.Argument.{IsBlank, IsName, IsOtherFamily, IsOtherKind, IsOtherMode, IsOtherStructure, IsPassword, IsPath, SaysKind, SaysMode, SaysPassive, SaysPathOrNone, SaysSizes, SaysStructure, SaysTextOrNone, argument, trimmed, without_options, word}
+use Rattle.ftp_path.specs.Path.{IsPathText}
+use Rattle.ftp_command.specs.Argument.{IsBlank, IsName, IsOtherFamily, IsOtherKind, IsOtherMode, IsOtherStructure, IsPassword, SaysKind, SaysMode, SaysPassive, SaysPathOrNone, SaysSizes, SaysStructure, SaysTextOrNone, argument, trimmed, without_options, word}
 use Rattle.ftp_endpoint.specs.Endpoint.{SaysSix}
 use Rattle.ftp_endpoint.specs.Host.{IsOtherProtocol, SaysExtended}
 use Rattle.ftp_endpoint.specs.Number.{SaysNumber}
@@ -82,7 +83,7 @@ abbrev pub Argues : List ℕ → Command (List ℕ) → Type 0
 Argues a (command.User value) = (a ≡ value) × IsName value
 Argues a (command.Pass value) = (a ≡ value) × IsPassword value
 Argues a (command.Acct value) = (trimmed a ≡ value) × (1 ≤ length value)
-Argues a (command.Cwd value) = (a ≡ value) × IsPath value
+Argues a (command.Cwd value) = (a ≡ value) × IsPathText value
 Argues a command.Cdup = IsBlank a
 Argues a command.Rein = IsBlank a
 Argues a command.Quit = IsBlank a
@@ -93,24 +94,24 @@ Argues a (command.Epsv value) = SaysPassive (trimmed a) value
 Argues a (command.Repr value) = SaysKind (trimmed a) value
 Argues a (command.Stru value) = SaysStructure (trimmed a) value
 Argues a (command.Mode value) = SaysMode (trimmed a) value
-Argues a (command.Retr value) = (a ≡ value) × IsPath value
-Argues a (command.Stor value) = (a ≡ value) × IsPath value
-Argues a (command.Appe value) = (a ≡ value) × IsPath value
+Argues a (command.Retr value) = (a ≡ value) × IsPathText value
+Argues a (command.Stor value) = (a ≡ value) × IsPathText value
+Argues a (command.Appe value) = (a ≡ value) × IsPathText value
 Argues a (command.Allo octets longest) = SaysSizes (trimmed a) octets longest
 Argues a (command.Rest value) = SaysNumber (trimmed a) value
-Argues a (command.Rnfr value) = (a ≡ value) × IsPath value
-Argues a (command.Rnto value) = (a ≡ value) × IsPath value
+Argues a (command.Rnfr value) = (a ≡ value) × IsPathText value
+Argues a (command.Rnto value) = (a ≡ value) × IsPathText value
 Argues a command.Abor = IsBlank a
-Argues a (command.Dele value) = (a ≡ value) × IsPath value
-Argues a (command.Rmd value) = (a ≡ value) × IsPath value
-Argues a (command.Mkd value) = (a ≡ value) × IsPath value
+Argues a (command.Dele value) = (a ≡ value) × IsPathText value
+Argues a (command.Rmd value) = (a ≡ value) × IsPathText value
+Argues a (command.Mkd value) = (a ≡ value) × IsPathText value
 Argues a command.Pwd = IsBlank a
 Argues a (command.List value) = SaysPathOrNone (without_options a) value
 Argues a (command.Nlst value) = SaysPathOrNone (without_options a) value
 Argues a (command.Mlst value) = SaysPathOrNone a value
 Argues a (command.Mlsd value) = SaysPathOrNone a value
-Argues a (command.Size value) = (a ≡ value) × IsPath value
-Argues a (command.Mdtm value) = (a ≡ value) × IsPath value
+Argues a (command.Size value) = (a ≡ value) × IsPathText value
+Argues a (command.Mdtm value) = (a ≡ value) × IsPathText value
 Argues a command.Syst = IsBlank a
 Argues a command.Stat = IsBlank a
 Argues a (command.Help value) = SaysTextOrNone (trimmed a) value

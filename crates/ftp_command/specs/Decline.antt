@@ -1,6 +1,7 @@
 -- How a parameter is refused, and which arguments are copied.
 use Rattle.std.specs.Prelude.{◌≤◌, ℕ, List, length}
-use Rattle.ftp_command.specs.Argument.{IsName, IsPassword, IsPath, trimmed, without_options}
+use Rattle.ftp_path.specs.Path.{IsPathText}
+use Rattle.ftp_command.specs.Argument.{IsName, IsPassword, trimmed, without_options}
 use Rattle.ftp_command.specs.Command.{HoldsText, Says}
 use Rattle.ftp_command.specs.declared.command.Command.{Command}
 use Rattle.ftp_command.specs.declared.verb.Verb.{Verb}
@@ -25,21 +26,21 @@ abbrev pub NeedsCopy : List ℕ → Verb → Type 0
 NeedsCopy a verb.User = IsName a
 NeedsCopy a verb.Pass = IsPassword a
 NeedsCopy a verb.Acct = 1 ≤ length (trimmed a)
-NeedsCopy a verb.Cwd = IsPath a
-NeedsCopy a verb.Retr = IsPath a
-NeedsCopy a verb.Stor = IsPath a
-NeedsCopy a verb.Appe = IsPath a
-NeedsCopy a verb.Rnfr = IsPath a
-NeedsCopy a verb.Rnto = IsPath a
-NeedsCopy a verb.Dele = IsPath a
-NeedsCopy a verb.Rmd = IsPath a
-NeedsCopy a verb.Mkd = IsPath a
-NeedsCopy a verb.List = IsPath (without_options a)
-NeedsCopy a verb.Nlst = IsPath (without_options a)
-NeedsCopy a verb.Mlst = IsPath a
-NeedsCopy a verb.Mlsd = IsPath a
-NeedsCopy a verb.Size = IsPath a
-NeedsCopy a verb.Mdtm = IsPath a
+NeedsCopy a verb.Cwd = IsPathText a
+NeedsCopy a verb.Retr = IsPathText a
+NeedsCopy a verb.Stor = IsPathText a
+NeedsCopy a verb.Appe = IsPathText a
+NeedsCopy a verb.Rnfr = IsPathText a
+NeedsCopy a verb.Rnto = IsPathText a
+NeedsCopy a verb.Dele = IsPathText a
+NeedsCopy a verb.Rmd = IsPathText a
+NeedsCopy a verb.Mkd = IsPathText a
+NeedsCopy a verb.List = IsPathText (without_options a)
+NeedsCopy a verb.Nlst = IsPathText (without_options a)
+NeedsCopy a verb.Mlst = IsPathText a
+NeedsCopy a verb.Mlsd = IsPathText a
+NeedsCopy a verb.Size = IsPathText a
+NeedsCopy a verb.Mdtm = IsPathText a
 NeedsCopy a verb.Help = 1 ≤ length (trimmed a)
 NeedsCopy a verb.Opts = 1 ≤ length (trimmed a)
 NeedsCopy a verb = ⊥

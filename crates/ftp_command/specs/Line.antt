@@ -1,7 +1,8 @@
 -- The line that is written for a command, and the commands that have one.
-use Rattle.std.specs.Prelude.{◌≡◌, ◌+◌, ◌^◌, ◌<◌, ◌≤◌, ◌==◌, ℕ, Bool, false, not, List, [], ◌∷◌, ◌++◌, length, count_by, decimal, IsTrue, Option, Some, None, codes}
+use Rattle.std.specs.Prelude.{◌≡◌, ◌+◌, ◌≤◌, ◌==◌, ℕ, Bool, false, not, List, [], ◌∷◌, ◌++◌, length, count_by, decimal, IsTrue, Option, Some, None, codes}
 use Rattle.std.specs.List.{list_all}
-use Rattle.ftp_command.specs.Argument.{IsName, IsPassword, IsPath, begins_with, trimmed}
+use Rattle.ftp_path.specs.Path.{IsPathText}
+use Rattle.ftp_command.specs.Argument.{IsName, IsPassword, begins_with, hyphen, trimmed}
 use Rattle.ftp_command.specs.Command.{verb_of}
 use Rattle.ftp_command.specs.Verb.{letters}
 use Rattle.ftp_command.specs.declared.command.Command.{Command}
@@ -14,6 +15,7 @@ use Rattle.ftp_command.specs.declared.command.Passive.{Passive}
 use Rattle.ftp_command.specs.declared.command.Passive.TheVariants.{Any, Ipv4, Ipv6, Only}
 use Rattle.ftp_representation.specs.declared.representation.Structure.{Structure}
 use Rattle.ftp_representation.specs.declared.representation.Structure.TheVariants.{File, Record}
+pub use Rattle.ftp_endpoint.specs.Number.{IsShort}
 use Rattle.ftp_endpoint.specs.Written.{IsTypedEndpoint, IsV4, extended_text, six_text}
 
 -- SP and an argument, or nothing where it is empty
@@ -95,29 +97,29 @@ line_of command = letters (verb_of command) ++ tail_of command
 abbrev pub is_no_feed : ℕ → Bool
 is_no_feed c = not (c == 10)
 
--- words that a line of 1,024 octets can hold behind a verb of four letters: some, no LF, no SP at the end;
+-- the most octets that a line has on a control connection, its end included (own choice)
+abbrev pub line_limit : ℕ
+line_limit = 1024
+
+-- words that a line of so many octets can hold behind a verb of four letters: some, no LF, no SP at the end;
 -- a CR goes as CR NUL, and CR LF ends the line
 abbrev pub IsWords : List ℕ → Type 0
 IsWords words =
     (1 ≤ length words) × (trimmed words ≡ words) × IsTrue (list_all is_no_feed words)
-    × (length words + count_by (λ c. c == 13) words + 7 ≤ 1024)
+    × (length words + count_by (λ c. c == 13) words + 7 ≤ line_limit)
 
--- a line without its end that a control connection can carry: no LF, and with CR NUL for CR, and CR LF, at most
--- 1,024 octets
+-- a line without its end that a control connection can carry: no LF, and with CR NUL for CR, and CR LF, within
+-- the limit
 abbrev pub IsLine : List ℕ → Type 0
-IsLine line = IsTrue (list_all is_no_feed line) × (length line + count_by (λ c. c == 13) line + 2 ≤ 1024)
+IsLine line = IsTrue (list_all is_no_feed line) × (length line + count_by (λ c. c == 13) line + 2 ≤ line_limit)
 
 -- a path that LIST would not take for an option
 abbrev pub IsListed : List ℕ → Type 0
-IsListed path = IsPath path × (begins_with 45 path ≡ false)
+IsListed path = IsPathText path × (begins_with hyphen path ≡ false)
 
 abbrev pub IfGiven : (List ℕ → Type 0) → Option (List ℕ) → Type 0
 IfGiven P None = Unit {0}
 IfGiven P (Some text) = P text
-
--- a number of 18 digits at most
-abbrev pub IsShort : ℕ → Type 0
-IsShort n = n < 10 ^ 18
 
 abbrev pub IfShort : Option ℕ → Type 0
 IfShort None = Unit {0}
@@ -128,7 +130,7 @@ abbrev pub IsStated : Command (List ℕ) → Type 0
 IsStated (command.User value) = IsName value
 IsStated (command.Pass value) = IsPassword value
 IsStated (command.Acct value) = IsWords value
-IsStated (command.Cwd value) = IsPath value
+IsStated (command.Cwd value) = IsPathText value
 IsStated command.Cdup = Unit {0}
 IsStated command.Rein = Unit {0}
 IsStated command.Quit = Unit {0}
@@ -139,24 +141,24 @@ IsStated (command.Epsv value) = Unit {0}
 IsStated (command.Repr value) = Unit {0}
 IsStated (command.Stru value) = Unit {0}
 IsStated (command.Mode value) = Unit {0}
-IsStated (command.Retr value) = IsPath value
-IsStated (command.Stor value) = IsPath value
-IsStated (command.Appe value) = IsPath value
+IsStated (command.Retr value) = IsPathText value
+IsStated (command.Stor value) = IsPathText value
+IsStated (command.Appe value) = IsPathText value
 IsStated (command.Allo octets longest) = IsShort octets × IfShort longest
 IsStated (command.Rest value) = IsShort value
-IsStated (command.Rnfr value) = IsPath value
-IsStated (command.Rnto value) = IsPath value
+IsStated (command.Rnfr value) = IsPathText value
+IsStated (command.Rnto value) = IsPathText value
 IsStated command.Abor = Unit {0}
-IsStated (command.Dele value) = IsPath value
-IsStated (command.Rmd value) = IsPath value
-IsStated (command.Mkd value) = IsPath value
+IsStated (command.Dele value) = IsPathText value
+IsStated (command.Rmd value) = IsPathText value
+IsStated (command.Mkd value) = IsPathText value
 IsStated command.Pwd = Unit {0}
 IsStated (command.List value) = IfGiven IsListed value
 IsStated (command.Nlst value) = IfGiven IsListed value
-IsStated (command.Mlst value) = IfGiven IsPath value
-IsStated (command.Mlsd value) = IfGiven IsPath value
-IsStated (command.Size value) = IsPath value
-IsStated (command.Mdtm value) = IsPath value
+IsStated (command.Mlst value) = IfGiven IsPathText value
+IsStated (command.Mlsd value) = IfGiven IsPathText value
+IsStated (command.Size value) = IsPathText value
+IsStated (command.Mdtm value) = IsPathText value
 IsStated command.Syst = Unit {0}
 IsStated command.Stat = Unit {0}
 IsStated (command.Help value) = IfGiven IsWords value

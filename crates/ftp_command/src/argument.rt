@@ -1,7 +1,7 @@
 // The parts of a line, and the texts that arguments are.
 ghost use Rattle.std.specs.Prelude.{◌≡◌, ◌↔◌, ◌≤◌, IsTrue, length, take, not};
 ghost use Rattle.std.specs.List.{list_all, position_or_len, prefix_len};
-ghost use Rattle.ftp_command.specs.Argument.{IsBlank, IsName, IsPassword, IsPath, argument, begins_with, behind_word, is_name_octet, is_path_octet, is_space, trimmed, without_options, word};
+ghost use Rattle.ftp_command.specs.Argument.{IsBlank, IsName, IsPassword, argument, begins_with, behind_word, hyphen, is_name_octet, is_space, trimmed, without_options, word};
 
 /// Cuts a line at its first SP: the word, and the argument, which is empty where there is no SP.
 pub(crate) fn split_line(line: &[u8]) -> (&[u8], &[u8])
@@ -77,19 +77,6 @@ fn trimmed_len(text: &[u8]) -> usize
     end
 }
 
-/// Whether a text is a path: 1 to 900 octets of 32 to 126.
-pub(crate) fn is_path(text: &[u8]) -> bool
-    ensures { IsTrue result ↔ IsPath text.now }
-{
-    !text.is_empty() && text.len() <= 900 && are_path_octets(text)
-}
-
-fn are_path_octets(text: &[u8]) -> bool
-    ensures { result ≡ list_all is_path_octet text.now }
-{
-    text.iter().all(|c| 32 <= *c && *c <= 126)
-}
-
 /// Whether a text is a password: at most 255 octets, none of them CR, LF or NUL.
 pub(crate) fn is_password(text: &[u8]) -> bool
     ensures { IsTrue result ↔ IsPassword text.now }
@@ -122,7 +109,7 @@ pub(crate) fn drop_options(text: &[u8]) -> &[u8]
 }
 
 pub(crate) fn begins_option(text: &[u8]) -> bool
-    ensures { result ≡ begins_with 45 text.now }
+    ensures { result ≡ begins_with hyphen text.now }
 {
     match text {
         [first, ..] => *first == b'-',

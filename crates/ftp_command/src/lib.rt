@@ -18,6 +18,7 @@ pub use fault::CommandFault;
 pub use ftp_endpoint::{Endpoint, Host};
 pub use ftp_representation::{Kind, Mode, Structure};
 pub use laws::{one_meaning, only_stated, round_trip};
+pub use line::LINE_LIMIT;
 pub use reading::read;
 pub use text::Text;
 pub use verb::{Verb, verb_of};

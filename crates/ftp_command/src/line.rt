@@ -1,7 +1,8 @@
 // The line of a command, made on the stack: a line that is written has at most 1,024 octets.
 ghost use Rattle.std.specs.Prelude.{◌≡◌, ◌+◌, ◌*◌, ◌/◌, ◌%◌, ◌^◌, ◌<◌, ◌≤◌, ◌++◌, ℕ, List, [], ◌∷◌, codes, decimal, length};
 ghost use Rattle.ftp_command.specs.Command.{verb_of};
-ghost use Rattle.ftp_command.specs.Line.{IsStated, line_of as line_text, longest_text, passive_text as passive_words, spaced, tail_of};
+ghost use Rattle.ftp_command.specs.Line.{IsStated, line_of as line_text, line_limit, longest_text, passive_text as passive_words, spaced, tail_of};
+ghost use Rattle.ftp_path.specs.Path.{IsPathText};
 ghost use Rattle.ftp_endpoint.specs.Written.{IsV4, extended_text, six_text};
 
 use crate::command::{Command, Passive};
@@ -13,7 +14,10 @@ use ftp_representation::{Kind, Mode, Structure};
 use itoa::Buffer;
 use std::alloc::Allocator;
 
-type Line = ArrayVec<u8, 1024>;
+/// The most octets that a line has on a control connection, its end included (own choice).
+pub const LINE_LIMIT: usize = 1024;
+
+type Line = ArrayVec<u8, LINE_LIMIT>;
 
 /// The line of a command that one stands for.
 pub(crate) fn line_of<A: Allocator>(command: &Command<Text<A>>) -> Line
@@ -81,21 +85,21 @@ fn put_tail<A: Allocator>(command: &Command<Text<A>>, line: &mut Line)
         Command::User(text) => put_spaced(text.octets(), line),
         Command::Pass(text) => put_spaced(text.octets(), line),
         Command::Acct(text) => put_spaced(text.octets(), line),
-        Command::Cwd(text) => put_spaced(text.octets(), line),
-        Command::Retr(text) => put_spaced(text.octets(), line),
-        Command::Stor(text) => put_spaced(text.octets(), line),
-        Command::Appe(text) => put_spaced(text.octets(), line),
-        Command::Rnfr(text) => put_spaced(text.octets(), line),
-        Command::Rnto(text) => put_spaced(text.octets(), line),
-        Command::Dele(text) => put_spaced(text.octets(), line),
-        Command::Rmd(text) => put_spaced(text.octets(), line),
-        Command::Mkd(text) => put_spaced(text.octets(), line),
-        Command::List(Some(text)) => put_spaced(text.octets(), line),
-        Command::Nlst(Some(text)) => put_spaced(text.octets(), line),
-        Command::Mlst(Some(text)) => put_spaced(text.octets(), line),
-        Command::Mlsd(Some(text)) => put_spaced(text.octets(), line),
-        Command::Size(text) => put_spaced(text.octets(), line),
-        Command::Mdtm(text) => put_spaced(text.octets(), line),
+        Command::Cwd(path) => put_path(path.octets(), line),
+        Command::Retr(path) => put_path(path.octets(), line),
+        Command::Stor(path) => put_path(path.octets(), line),
+        Command::Appe(path) => put_path(path.octets(), line),
+        Command::Rnfr(path) => put_path(path.octets(), line),
+        Command::Rnto(path) => put_path(path.octets(), line),
+        Command::Dele(path) => put_path(path.octets(), line),
+        Command::Rmd(path) => put_path(path.octets(), line),
+        Command::Mkd(path) => put_path(path.octets(), line),
+        Command::List(Some(path)) => put_path(path.octets(), line),
+        Command::Nlst(Some(path)) => put_path(path.octets(), line),
+        Command::Mlst(Some(path)) => put_path(path.octets(), line),
+        Command::Mlsd(Some(path)) => put_path(path.octets(), line),
+        Command::Size(path) => put_path(path.octets(), line),
+        Command::Mdtm(path) => put_path(path.octets(), line),
         Command::Help(Some(text)) => put_spaced(text.octets(), line),
         Command::Opts(text) => put_spaced(text.octets(), line),
         Command::Port(endpoint) => put_six(*endpoint, line),
@@ -143,9 +147,18 @@ fn put_sizes(octets: u64, longest: Option<u64>, line: &mut Line)
     }
 }
 
+// SP and a path.
+fn put_path(path: &[u8], line: &mut Line)
+    requires path { IsPathText path.now }
+    requires room { length line.old.items ≤ 4 }
+    ensures { line.new.items ≡ line.old.items ++ spaced path.now }
+{
+    put_spaced(path, line)
+}
+
 // SP and a text, or nothing where it is empty.
 fn put_spaced(text: &[u8], line: &mut Line)
-    requires { length line.old.items + length text.now + 1 ≤ 1024 }
+    requires { length line.old.items + length text.now + 1 ≤ line_limit }
     ensures { line.new.items ≡ line.old.items ++ spaced text.now }
 {
     if !text.is_empty() {
@@ -155,14 +168,14 @@ fn put_spaced(text: &[u8], line: &mut Line)
 }
 
 fn put(text: &[u8], line: &mut Line)
-    requires { length line.old.items + length text.now ≤ 1024 }
+    requires { length line.old.items + length text.now ≤ line_limit }
     ensures { line.new.items ≡ line.old.items ++ text.now }
 {
     line.try_extend_from_slice(text).unwrap()
 }
 
 fn put_decimal(number: u64, line: &mut Line)
-    requires { length line.old.items + 20 ≤ 1024 }
+    requires { length line.old.items + 20 ≤ line_limit }
     ensures text { line.new.items ≡ line.old.items ++ decimal number }
     ensures bound { length line.new.items ≤ length line.old.items + 20 }
 {

@@ -1,6 +1,7 @@
 // Reading a command line.
 ghost use Rattle.std.specs.Prelude.{Ok, Err, ◌≡◌, ◌⊎◌, ◌≤◌, ℕ, List, [], IfErr, IfOk, IfSome, IfNone, IsTrue, OnOk, Option, length};
-ghost use Rattle.ftp_command.specs.Argument.{IsBlank, IsName, IsPassword, IsPath, SaysPathOrNone, SaysSizes, SaysTextOrNone, argument, trimmed, without_options, word};
+ghost use Rattle.ftp_command.specs.Argument.{IsBlank, IsName, IsPassword, SaysPathOrNone, SaysSizes, SaysTextOrNone, argument, trimmed, without_options, word};
+ghost use Rattle.ftp_path.specs.Path.{IsPathText};
 ghost use Rattle.ftp_command.specs.Command.{Argues, Declined, HoldsText, Refuses, Says, verb_of};
 ghost use Rattle.ftp_command.specs.Decline.{NeedsCopy, SaysText};
 ghost use Rattle.ftp_endpoint.specs.Endpoint.{SaysSix};
@@ -9,13 +10,14 @@ ghost use Rattle.ftp_command.specs.Verb.{Names};
 ghost use Rattle.ftp_command.specs.declared.command.Command.{Command};
 ghost use Rattle.ftp_command.specs.declared.fault.CommandFault.{CommandFault};
 
-use crate::argument::{drop_options, is_blank, is_name, is_password, is_path, split_line, trim};
+use crate::argument::{drop_options, is_blank, is_name, is_password, split_line, trim};
 use crate::command::Command;
 use crate::fault::CommandFault;
 use crate::setting::{extended, kind, mode, passive, sizes, structure};
 use crate::text::Text;
 use crate::verb::{Verb, verb_of};
 use ftp_endpoint::{Endpoint, number, six_numbers};
+use ftp_path::is_path_text;
 use std::alloc::Allocator;
 
 /// Reads a line without its end as a command (RFC 959, sections 4.1 and 5.3).
@@ -137,10 +139,10 @@ fn space(text: &[u8]) -> Result<(u64, Option<u64>), CommandFault>
 
 // A path text.
 fn path<A: Allocator>(alloc: A, argument: &[u8]) -> Result<Text<A>, CommandFault>
-    ensures ok { IfOk result (λ text. (argument.now ≡ text) × IsPath text) }
-    ensures err { IfErr result (λ fault. ((fault ≡ CommandFault.Memory) × IsPath argument.now) ⊎ ((fault ≡ CommandFault.BadArgument) × (¬ IsPath argument.now))) }
+    ensures ok { IfOk result (λ text. (argument.now ≡ text) × IsPathText text) }
+    ensures err { IfErr result (λ fault. ((fault ≡ CommandFault.Memory) × IsPathText argument.now) ⊎ ((fault ≡ CommandFault.BadArgument) × (¬ IsPathText argument.now))) }
 {
-    if !is_path(argument) {
+    if !is_path_text(argument) {
         return Err(CommandFault::BadArgument);
     }
     own(alloc, argument)
@@ -196,12 +198,12 @@ fn words_or_none<A: Allocator>(alloc: A, text: &[u8]) -> Result<Option<Text<A>>,
 // A path text, or nothing.
 fn path_or_none<A: Allocator>(alloc: A, text: &[u8]) -> Result<Option<Text<A>>, CommandFault>
     ensures ok { IfOk result (λ path. SaysPathOrNone text.now path) }
-    ensures err { IfErr result (λ fault. ((fault ≡ CommandFault.Memory) × IsPath text.now) ⊎ ((fault ≡ CommandFault.BadArgument) × (¬ ((text.now ≡ []) ⊎ IsPath text.now)))) }
+    ensures err { IfErr result (λ fault. ((fault ≡ CommandFault.Memory) × IsPathText text.now) ⊎ ((fault ≡ CommandFault.BadArgument) × (¬ ((text.now ≡ []) ⊎ IsPathText text.now)))) }
 {
     if text.is_empty() {
         return Ok(None);
     }
-    if !is_path(text) {
+    if !is_path_text(text) {
         return Err(CommandFault::BadArgument);
     }
     match own(alloc, text) {

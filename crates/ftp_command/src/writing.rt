@@ -1,17 +1,19 @@
 // Writing a command line.
 ghost use Rattle.std.specs.Prelude.{◌≡◌, ◌⊎◌, ◌↔◌, ◌+◌, ◌*◌, ◌≤◌, ◌++◌, ◌==◌, IfErr, IsTrue, OnOk, Option, count_by, decimal, length};
 ghost use Rattle.std.specs.List.{list_all};
-ghost use Rattle.ftp_command.specs.Argument.{IsPath, begins_with, trimmed};
+ghost use Rattle.ftp_command.specs.Argument.{begins_with, trimmed};
+ghost use Rattle.ftp_path.specs.Path.{IsPathText};
 ghost use Rattle.ftp_command.specs.Command.{verb_of};
 ghost use Rattle.ftp_command.specs.Line.{IfGiven, IfShort, IsListed, IsStated, IsWords, is_no_feed, line_of as line_text};
 ghost use Rattle.ftp_endpoint.specs.Written.{IsV4};
 
-use crate::argument::{begins_option, is_name, is_password, is_path, trim};
+use crate::argument::{begins_option, is_name, is_password, trim};
 use crate::command::Command;
 use crate::fault::CommandFault;
-use crate::line::line_of;
+use crate::line::{LINE_LIMIT, line_of};
 use crate::text::Text;
-use ftp_endpoint::Host;
+use ftp_endpoint::{Host, NUMBER_LIMIT};
+use ftp_path::is_path_text;
 use std::alloc::Allocator;
 
 /// Writes a command as a line without its end: the verb in capitals, and SP and the argument where there is one.
@@ -47,48 +49,45 @@ fn is_stated<A: Allocator>(command: &Command<Text<A>>) -> bool
         Command::Acct(words) => are_words(words.octets()),
         Command::Opts(words) => are_words(words.octets()),
         Command::Help(Some(words)) => are_words(words.octets()),
-        Command::Cwd(path) => is_path(path.octets()),
-        Command::Retr(path) => is_path(path.octets()),
-        Command::Stor(path) => is_path(path.octets()),
-        Command::Appe(path) => is_path(path.octets()),
-        Command::Rnfr(path) => is_path(path.octets()),
-        Command::Rnto(path) => is_path(path.octets()),
-        Command::Dele(path) => is_path(path.octets()),
-        Command::Rmd(path) => is_path(path.octets()),
-        Command::Mkd(path) => is_path(path.octets()),
-        Command::Size(path) => is_path(path.octets()),
-        Command::Mdtm(path) => is_path(path.octets()),
-        Command::Mlst(Some(path)) => is_path(path.octets()),
-        Command::Mlsd(Some(path)) => is_path(path.octets()),
+        Command::Cwd(path) => is_path_text(path.octets()),
+        Command::Retr(path) => is_path_text(path.octets()),
+        Command::Stor(path) => is_path_text(path.octets()),
+        Command::Appe(path) => is_path_text(path.octets()),
+        Command::Rnfr(path) => is_path_text(path.octets()),
+        Command::Rnto(path) => is_path_text(path.octets()),
+        Command::Dele(path) => is_path_text(path.octets()),
+        Command::Rmd(path) => is_path_text(path.octets()),
+        Command::Mkd(path) => is_path_text(path.octets()),
+        Command::Size(path) => is_path_text(path.octets()),
+        Command::Mdtm(path) => is_path_text(path.octets()),
+        Command::Mlst(Some(path)) => is_path_text(path.octets()),
+        Command::Mlsd(Some(path)) => is_path_text(path.octets()),
         Command::List(Some(path)) => is_listed(path.octets()),
         Command::Nlst(Some(path)) => is_listed(path.octets()),
         Command::Port(endpoint) => matches!(endpoint.host, Host::V4(_)),
         Command::Eprt(endpoint) => endpoint.port > 0,
-        Command::Rest(place) => *place < MOST,
-        Command::Allo(octets, None) => *octets < MOST,
-        Command::Allo(octets, Some(longest)) => *octets < MOST && *longest < MOST,
+        Command::Rest(place) => *place < NUMBER_LIMIT,
+        Command::Allo(octets, None) => *octets < NUMBER_LIMIT,
+        Command::Allo(octets, Some(longest)) => *octets < NUMBER_LIMIT && *longest < NUMBER_LIMIT,
         _ => true,
     }
 }
-
-// Below it a number has at most 18 digits.
-const MOST: u64 = 1_000_000_000_000_000_000;
 
 // Whether a path is one that LIST would not take for an option.
 fn is_listed(path: &[u8]) -> bool
     ensures { IsTrue result ↔ IsListed path.now }
 {
-    is_path(path) && !begins_option(path)
+    is_path_text(path) && !begins_option(path)
 }
 
 // Whether words fit a line of 1,024 octets behind a verb of four letters and SP.
 fn are_words(words: &[u8]) -> bool
     ensures { IsTrue result ↔ IsWords words.now }
 {
-    if words.is_empty() || words.len() > 1024 {
+    if words.is_empty() || words.len() > LINE_LIMIT {
         return false;
     }
-    is_trimmed(words) && has_no_feed(words) && words.len() + returns(words) + 7 <= 1024
+    is_trimmed(words) && has_no_feed(words) && words.len() + returns(words) + 7 <= LINE_LIMIT
 }
 
 // Whether words do not end with SP.

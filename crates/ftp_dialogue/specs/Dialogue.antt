@@ -3,6 +3,7 @@
 use Rattle.std.specs.Prelude.{◌≡◌, ℕ, List, [], ◌∷◌, ◌++◌, Bool, true, false, ◌||◌, flat_map, Option, Some, None, if◌then◌else◌}
 use Rattle.std.specs.List.{list_any}
 use Rattle.ftp_command.specs.Command.{Refuses, Says}
+pub use Rattle.ftp_command.specs.Line.{line_limit}
 use Rattle.ftp_command.specs.declared.command.Command.{Command}
 use Rattle.ftp_command.specs.declared.command.Command.TheVariants as Commands
 use Rattle.ftp_command.specs.declared.fault.CommandFault.{CommandFault}
@@ -149,10 +150,6 @@ replies state (asked ∷ rest) =
 abbrev pub after : State → List Asked → State
 after state [] = state
 after state (asked ∷ rest) = after (turn state asked).0 rest
-
--- a line has at most 1,024 octets, its end included (own choice)
-abbrev pub line_limit : ℕ
-line_limit = 1024
 
 -- all that is written: the greeting, and then the answers
 abbrev pub transcript : List Asked → List ℕ

@@ -1,6 +1,6 @@
 -- How a session answers one line.
 use Rattle.std.specs.Prelude.{◌≡◌, ℕ, List}
-use Rattle.ftp_command.specs.Argument.{IsPath}
+use Rattle.ftp_path.specs.Path.{IsPathText}
 use Rattle.ftp_command.specs.declared.command.Command.{Command}
 use Rattle.ftp_command.specs.declared.command.Command.TheVariants.{Mkd}
 use Rattle.ftp_nvt.specs.Lines.{line}
@@ -15,5 +15,5 @@ pub record TurnsLine (text : List ℕ) (old : State) (reply : Reply (List (List 
 
 -- the text of MKD is a path
 abbrev pub IsPathOfMkd : Command (List ℕ) → Type 0
-IsPathOfMkd (Mkd text) = IsPath text
+IsPathOfMkd (Mkd text) = IsPathText text
 IsPathOfMkd other = Unit {0}

@@ -8,14 +8,12 @@ ghost use Rattle.ftp_dialogue.specs.Replies.{is_refusal, reply_line};
 use crate::reply::Reply;
 use crate::session::Session;
 use crate::text::Text;
+use ftp_command::LINE_LIMIT;
 use ftp_nvt::{Ear, Event};
 use ftp_pieces::{Failed, TURNS};
 use ftp_tree::Path;
 use std::alloc::Allocator;
 use std::io::{Read, Write};
-
-/// The most octets of a line, its end included.
-const LINE_LIMIT: usize = 1024;
 
 /// The most octets that are read at a time.
 const PIECE_LIMIT: usize = 4096;

@@ -4,7 +4,7 @@ use Rattle.std.specs.Prelude.{codes}
 use Rattle.std.specs.Char.{to_ascii_lowercase, is_ascii_alphabetic}
 use Rattle.std.specs.List.{list_all}
 use Rattle.std.specs.Str.Parse.{digits_value}
-use Rattle.ftp_command.specs.Argument.{IsBlank, is_space, IsName, IsPassword, is_name_octet, IsPath, is_path_octet, SaysPathOrNone, SaysTextOrNone, SaysPassive, IsOtherFamily, SaysLocal, SaysKind, SaysEbcdic, IsOtherKind, SaysStructure, SaysMode, SaysLongest, SaysSizes, argument, trimmed, without_options, word}
+use Rattle.ftp_command.specs.Argument.{IsBlank, is_space, IsName, IsPassword, is_name_octet, SaysPathOrNone, SaysTextOrNone, SaysPassive, IsOtherFamily, SaysLocal, SaysKind, SaysEbcdic, IsOtherKind, SaysStructure, SaysMode, SaysLongest, SaysSizes, argument, trimmed, without_options, word}
 use Rattle.ftp_command.specs.Command.{verb_of, Argues, IsNotDone, IsOtherParameter, IsOtherNetwork}
 use Rattle.ftp_command.specs.Verb.{letters, old_letters, SameLetters, Names}
 use Rattle.ftp_command.specs.declared.command.Command.{Command}
@@ -24,6 +24,7 @@ use Rattle.ftp_endpoint.specs.Endpoint.{SaysSix}
 use Rattle.ftp_endpoint.specs.Host.{SaysExtended}
 use Rattle.ftp_endpoint.specs.Number.{SaysNumber, front_digits, behind_digits}
 use Rattle.ftp_endpoint.specs.declared.endpoint.Endpoint.{Endpoint}
+use Rattle.ftp_path.specs.Path.{IsPathText, is_path_text}
 use Rattle.ftp_protocol.specs.server.Machine.{IsRead, ReadingExists}
 use Rattle.ftp_protocol.specs.declared.heard.Heard.{Heard}
 use Rattle.ftp_protocol.specs.declared.heard.Heard.TheVariants.{Bad, Asks}
@@ -35,8 +36,8 @@ use Rattle.ftp_protocol.proofs.EndpointsDecided.{six, extended, other_protocol, 
 blank : (a : List ℕ) → Decided (IsBlank a)
 blank a = is_true (list_all is_space a)
 
-path : (a : List ℕ) → Decided (IsPath a)
-path a = and_both (at_most 1 (length a)) (at_most (length a) 900) (is_true (list_all is_path_octet a))
+path : (a : List ℕ) → Decided (IsPathText a)
+path a = is_true (is_path_text a)
 
 password : (a : List ℕ) → Decided (IsPassword a)
 password a = and_then (at_most (length a) 255) (is_true (list_all is_name_octet a))
@@ -47,13 +48,13 @@ name a = and_then (at_most 1 (length a)) (password a)
 path_or_none : (a : List ℕ) → Decided ((value : Option (List ℕ)) × SaysPathOrNone a value)
 path_or_none a = yes_if (λ either. to either) (λ some. from some.0 some.1) (or_else (same_text a []) (path a))
   where
-    to : (a ≡ []) ⊎ IsPath a → (value : Option (List ℕ)) × SaysPathOrNone a value
+    to : (a ≡ []) ⊎ IsPathText a → (value : Option (List ℕ)) × SaysPathOrNone a value
     to (inl e) = (None, e)
     to (inr is) = (Some a, (refl, is))
 
-    from : (value : Option (List ℕ)) → SaysPathOrNone a value → (a ≡ []) ⊎ IsPath a
+    from : (value : Option (List ℕ)) → SaysPathOrNone a value → (a ≡ []) ⊎ IsPathText a
     from None says = inl says
-    from (Some text) says = inr (subst IsPath (sym says.0) says.1)
+    from (Some text) says = inr (subst IsPathText (sym says.0) says.1)
 
 text_or_none : (a : List ℕ) → Decided ((value : Option (List ℕ)) × SaysTextOrNone a value)
 text_or_none a = yes_if (λ either. to either) (λ some. from some.0 some.1) (or_else (same_text a []) (at_most 1 (length a)))
@@ -228,7 +229,7 @@ abbrev Row : List ℕ → Verb → Type 0
 Row a verb.User = IsName a
 Row a verb.Pass = IsPassword a
 Row a verb.Acct = 1 ≤ length (trimmed a)
-Row a verb.Cwd = IsPath a
+Row a verb.Cwd = IsPathText a
 Row a verb.Cdup = IsBlank a
 Row a verb.Smnt = ⊥
 Row a verb.Rein = IsBlank a
@@ -240,25 +241,25 @@ Row a verb.Epsv = (value : Passive) × SaysPassive (trimmed a) value
 Row a verb.Repr = (value : Kind) × SaysKind (trimmed a) value
 Row a verb.Stru = (value : Structure) × SaysStructure (trimmed a) value
 Row a verb.Mode = (value : Mode) × SaysMode (trimmed a) value
-Row a verb.Retr = IsPath a
-Row a verb.Stor = IsPath a
+Row a verb.Retr = IsPathText a
+Row a verb.Stor = IsPathText a
 Row a verb.Stou = ⊥
-Row a verb.Appe = IsPath a
+Row a verb.Appe = IsPathText a
 Row a verb.Allo = (octets : ℕ) × (longest : Option ℕ) × SaysSizes (trimmed a) octets longest
 Row a verb.Rest = (value : ℕ) × SaysNumber (trimmed a) value
-Row a verb.Rnfr = IsPath a
-Row a verb.Rnto = IsPath a
+Row a verb.Rnfr = IsPathText a
+Row a verb.Rnto = IsPathText a
 Row a verb.Abor = IsBlank a
-Row a verb.Dele = IsPath a
-Row a verb.Rmd = IsPath a
-Row a verb.Mkd = IsPath a
+Row a verb.Dele = IsPathText a
+Row a verb.Rmd = IsPathText a
+Row a verb.Mkd = IsPathText a
 Row a verb.Pwd = IsBlank a
 Row a verb.List = (value : Option (List ℕ)) × SaysPathOrNone (without_options a) value
 Row a verb.Nlst = (value : Option (List ℕ)) × SaysPathOrNone (without_options a) value
 Row a verb.Mlst = (value : Option (List ℕ)) × SaysPathOrNone a value
 Row a verb.Mlsd = (value : Option (List ℕ)) × SaysPathOrNone a value
-Row a verb.Size = IsPath a
-Row a verb.Mdtm = IsPath a
+Row a verb.Size = IsPathText a
+Row a verb.Mdtm = IsPathText a
 Row a verb.Site = ⊥
 Row a verb.Syst = IsBlank a
 Row a verb.Stat = IsBlank a
@@ -364,7 +365,7 @@ row_of : (a : List ℕ) (said : Command (List ℕ)) → Argues a said → Row a 
 row_of a (command.User value) says = subst IsName (sym says.0) says.1
 row_of a (command.Pass value) says = subst IsPassword (sym says.0) says.1
 row_of a (command.Acct value) says = has_octet (trimmed a) value says.0 says.1
-row_of a (command.Cwd value) says = subst IsPath (sym says.0) says.1
+row_of a (command.Cwd value) says = subst IsPathText (sym says.0) says.1
 row_of a command.Cdup says = says
 row_of a command.Rein says = says
 row_of a command.Quit says = says
@@ -375,24 +376,24 @@ row_of a (command.Epsv value) says = (value, says)
 row_of a (command.Repr value) says = (value, says)
 row_of a (command.Stru value) says = (value, says)
 row_of a (command.Mode value) says = (value, says)
-row_of a (command.Retr value) says = subst IsPath (sym says.0) says.1
-row_of a (command.Stor value) says = subst IsPath (sym says.0) says.1
-row_of a (command.Appe value) says = subst IsPath (sym says.0) says.1
+row_of a (command.Retr value) says = subst IsPathText (sym says.0) says.1
+row_of a (command.Stor value) says = subst IsPathText (sym says.0) says.1
+row_of a (command.Appe value) says = subst IsPathText (sym says.0) says.1
 row_of a (command.Allo octets longest) says = (octets, longest, says)
 row_of a (command.Rest value) says = (value, says)
-row_of a (command.Rnfr value) says = subst IsPath (sym says.0) says.1
-row_of a (command.Rnto value) says = subst IsPath (sym says.0) says.1
+row_of a (command.Rnfr value) says = subst IsPathText (sym says.0) says.1
+row_of a (command.Rnto value) says = subst IsPathText (sym says.0) says.1
 row_of a command.Abor says = says
-row_of a (command.Dele value) says = subst IsPath (sym says.0) says.1
-row_of a (command.Rmd value) says = subst IsPath (sym says.0) says.1
-row_of a (command.Mkd value) says = subst IsPath (sym says.0) says.1
+row_of a (command.Dele value) says = subst IsPathText (sym says.0) says.1
+row_of a (command.Rmd value) says = subst IsPathText (sym says.0) says.1
+row_of a (command.Mkd value) says = subst IsPathText (sym says.0) says.1
 row_of a command.Pwd says = says
 row_of a (command.List value) says = (value, says)
 row_of a (command.Nlst value) says = (value, says)
 row_of a (command.Mlst value) says = (value, says)
 row_of a (command.Mlsd value) says = (value, says)
-row_of a (command.Size value) says = subst IsPath (sym says.0) says.1
-row_of a (command.Mdtm value) says = subst IsPath (sym says.0) says.1
+row_of a (command.Size value) says = subst IsPathText (sym says.0) says.1
+row_of a (command.Mdtm value) says = subst IsPathText (sym says.0) says.1
 row_of a command.Syst says = says
 row_of a command.Stat says = says
 row_of a (command.Help value) says = (value, says)

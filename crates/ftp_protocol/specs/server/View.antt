@@ -3,6 +3,7 @@
 use Rattle.std.specs.Prelude.{ℕ, Bool, true, false, List, [], Option}
 use Rattle.ftp_endpoint.specs.declared.host.Host.{Host}
 use Rattle.ftp_path.specs.Path.{Names}
+pub use Rattle.ftp_command.specs.Line.{line_limit}
 use Rattle.ftp_tree.specs.Tree.{Table}
 use Rattle.ftp_direct.specs.Direct.{State}
 use Rattle.ftp_operation.specs.declared.account.Account.{Account}
@@ -59,10 +60,6 @@ pub record View : Type 0 where
   pub ear : Ear
   pub waiting : Option (Heard (List ℕ))
   pub owed : List ℕ
-
--- the most octets of a command line, its end included (own choice)
-abbrev pub line_limit : ℕ
-line_limit = 1024
 
 -- all facts are in force at the start (RFC 3659, section 7.9)
 abbrev pub all_facts : Facts
