@@ -1,11 +1,11 @@
 -- What an unfinished line has read, step by step.
-use Rattle.std.proofs.Common.{◌≡◌, ◌≢◌, ℕ, ◌+◌, ◌-◌, ◌<◌, ◌≤◌, List, [], ◌∷◌, ◌++◌, true, false, ◌==◌, ◌&&◌, ◌⊎◌, inl, inr, refl, ap, sym, subst, ◌∙◌, append_assoc, append-nil, arith, length, length-append, take, ne_eqb, eq-eqb}
+use Rattle.std.proofs.Common.{◌≡◌, ◌≢◌, ℕ, ◌+◌, ◌-◌, ◌<◌, ◌≤◌, List, [], ◌∷◌, ◌++◌, true, false, ◌==◌, ◌&&◌, ◌⊎◌, inl, inr, refl, ap, sym, subst, ◌∙◌, append_assoc, append-nil, arith, length, length-append, take, ne_eqb}
 use Rattle.std.specs.Prelude.{nat_le, if◌then◌else◌}
 use Rattle.ftp_nvt.specs.Lines.{NvtEvent, line, cut, last_octet, text_behind, text_of, without_return, lines, settled}
 use Rattle.ftp_nvt.specs.Event.{event_list}
 use Rattle.ftp_nvt.specs.LineBuffer.{IsWithin, StandsAt, Stands, HasRead, Reads, Steps}
 use Rattle.ftp_nvt.specs.declared.event.Event.{Event}
-use Rattle.ftp_nvt.specs.declared.event.Event.TheVariants.{More, Line, TooLong}
+use Rattle.ftp_nvt.specs.declared.event.Event.TheVariants.{More, Line}
 use Rattle.ftp_nvt.specs.declared.line.Stage.{Stage}
 use Rattle.ftp_nvt.specs.declared.line.Stage.TheVariants.{Start, Inside, AfterReturn, Past}
 use Rattle.ftp_nvt.specs.declared.line.LineBuffer.{LineBuffer}

@@ -4,3 +4,5 @@ pub mod EarLemmas
 pub mod LineLemmas
 pub mod TelnetLemmas
 pub mod Theorems
+pub mod FoldLemmas
+pub mod ReaderLemmas

@@ -33,7 +33,7 @@ use Rattle.ftp_protocol.specs.declared.client.Standing.{Standing}
 use Rattle.ftp_protocol.specs.declared.client.Standing.TheVariants as Stands
 use Rattle.ftp_protocol.specs.declared.client.Step.{Step}
 use Rattle.ftp_protocol.specs.declared.client.Step.TheVariants as Steps
-use Rattle.ftp_protocol.proofs.EarLemmas.{ends}
+use Rattle.ftp_nvt.proofs.FoldLemmas.{ends}
 use Rattle.ftp_protocol.proofs.ClientBounds.{Low, same, falls, both, if_low, one_if, one_close, tells_low, fails_low, strange_low, tells_read_low, goes_step, goes_on_low, begins_low}
 
 -- ---- the login

@@ -12,12 +12,10 @@ pub mod ClientTexts
 pub mod CommandsInFlight
 pub mod DecoderLemmas
 pub mod Deciding
-pub mod EarLemmas
 pub mod EndpointsDecided
 pub mod HonestLemmas
 pub mod LineInFlight
 pub mod LinesDecided
-pub mod ReaderLemmas
 pub mod ReadingLemmas
 pub mod RepliesInFlight
 pub mod ReplyLines

@@ -1,22 +1,9 @@
-//! What holds of the line reader and of the decoder: functions that do nothing, whose contracts are laws.
-ghost use Rattle.ftp_protocol.specs.Ear.{AnswerIsDropped, EarGivesEvents, LineIsHeard, ReaderIsEar};
+//! What holds of lines in flight and of the decoder: functions that do nothing, whose contracts are laws.
+ghost use Rattle.ftp_protocol.specs.Ear.{AnswerIsDropped, LineIsHeard};
 ghost use Rattle.ftp_protocol.specs.Decoder.{DecodesWhatIsSettled, WireGivesFile, MarkedWireGivesFile, FrontGivesFront, MarkedFrontGivesFront};
 ghost use Rattle.ftp_protocol.specs.client.InFlight as client;
 ghost use Rattle.ftp_protocol.specs.server.InFlight as server;
 ghost use Rattle.ftp_protocol.specs.server.Machine.{OneReading, ReadingExists, ReadsStated};
-
-use ftp_nvt::Ear;
-use std::alloc::Allocator;
-
-/// The ear gives, octet by octet, what all octets say.
-pub fn ear()
-    ensures { EarGivesEvents }
-{}
-
-/// The reader of a control connection is seen as the ear behind what it has heard.
-pub fn reader<A: Allocator>(reader: &Ear<A>)
-    ensures { ReaderIsEar reader.now }
-{}
 
 /// A decoder has settled what the wire settles that came, and the one text of a file, ended, gives the file.
 pub fn decoder()

@@ -1,4 +1,4 @@
--- The reader of `ftp_nvt`, seen as the ear behind what it has heard.
+-- An ear, seen as the fold behind what it has heard.
 use Rattle.std.proofs.Common.{◌≡◌, ℕ, ◌≤◌, inl, inr, List, [], ◌∷◌, ◌++◌, ◌==◌, refl, sym, ap, subst, ◌∙◌, append_assoc, append-nil, arith, length, lt_irrefl}
 use Rattle.std.specs.Prelude.{if◌then◌else◌}
 use Rattle.std.specs.List.{flat_map}
@@ -12,8 +12,8 @@ use Rattle.ftp_nvt.specs.declared.line.Stage.TheVariants.{Start, Inside, AfterRe
 use Rattle.ftp_nvt.specs.declared.telnet.Place.{Place}
 use Rattle.ftp_nvt.specs.declared.telnet.Place.TheVariants as At
 use Rattle.ftp_repr.specs.Machine.{after}
-use Rattle.ftp_protocol.specs.Ear.{Unfinished, no_line, liner, line_at, Ear, quiet, ear, ReaderIsEar}
-use Rattle.ftp_protocol.proofs.EarLemmas.{Stands, StandsBehind, same_line, stands_nil, say_all, first_stands}
+use Rattle.ftp_nvt.specs.Fold.{Unfinished, no_line, liner, line_at, Ear, quiet, ear, ReaderIsEar}
+use Rattle.ftp_nvt.proofs.FoldLemmas.{Stands, StandsBehind, same_line, stands_nil, say_all, first_stands}
 
 -- what is kept of a line stands where the buffer does
 line_stands : (stage : Stage) (limit count : ℕ) (text rest : List ℕ) → count ≤ limit → StandsAt stage limit count text rest → Stands limit (line_at stage count text) rest

@@ -1,4 +1,4 @@
--- The ear over all octets.
+-- The fold over all octets.
 use Rattle.std.proofs.Common.{◌≡◌, ℕ, ◌+◌, ◌-◌, ◌<◌, ◌≤◌, ◌⊎◌, inl, inr, List, [], ◌∷◌, ◌++◌, Bool, true, false, ◌==◌, ◌&&◌, refl, sym, ap, subst, ◌∙◌, append-nil, arith, length, length-append, map, take, eq-eqb, ne_eqb, eqb-true, lt_irrefl, le-leb, ◌≢◌}
 use Rattle.std.specs.Prelude.{nat_le, if◌then◌else◌}
 use Rattle.std.specs.List.{flat_map}
@@ -11,7 +11,7 @@ use Rattle.ftp_nvt.specs.declared.telnet.Place.TheVariants as At
 use Rattle.ftp_nvt.proofs.CutLemmas.{decided, no_leb, lines-append-octet, text_behind-append, last_octet-append, rest-append-octet, text_of-return, rest-nil}
 use Rattle.ftp_nvt.proofs.LineLemmas.{lines_added-is, lines_added-nil, events_behind-append}
 use Rattle.ftp_repr.specs.Machine.{after, gives}
-use Rattle.ftp_protocol.specs.Ear.{Unfinished, no_line, past_limit, skipping, text_with, longer, ended_text, within_step, within_out, line_step, line_out, liner, unit_says, ear, EarGivesEvents}
+use Rattle.ftp_nvt.specs.Fold.{Unfinished, no_line, past_limit, skipping, text_with, longer, ended_text, within_step, within_out, line_step, line_out, liner, unit_says, ear, EarGivesEvents}
 
 -- ---- the unfinished line
 
