@@ -79,6 +79,20 @@ fn verbs_and_their_texts(rt: HostRuntime) {
     assert!(rt; wrong_row(rt.alloc(), VERBS).is_none());
 }
 
+/// Paths are UTF-8 without control octets (RFC 2640, section 3.1).
+const PATHS: &[Row] = &[
+    (b"MKD \xC3\xA9", Ok(b"MKD \xC3\xA9")),
+    (b"MKD \xC3", BAD),
+    (b"MKD \xC0\xAF", BAD),
+    (b"MKD \xED\xA0\x80", BAD),
+    (b"MKD \x7F", BAD),
+];
+
+#[test]
+fn paths_in_utf8(rt: HostRuntime) {
+    assert!(rt; wrong_row(rt.alloc(), PATHS).is_none());
+}
+
 const PARAMETERS: &[Row] = &[
     (b"PORT 127,0,0,1,007,138", Ok(b"PORT 127,0,0,1,7,138")),
     (b"PORT 10,0,0,9,0,0  ", Ok(b"PORT 10,0,0,9,0,0")),
