@@ -76,8 +76,8 @@ more_groups text n (m ∷ ms) next rest is value behind some h = (is, value, (ne
 -- eight groups, one after the other
 pub eight : (xs : List ℕ) → length xs ≡ 8
     → (let at : ℕ → ℕ = λ k. get_or xs k 0 in
-        octets_of xs ≡ (at 0 / 256) ∷ (at 0 % 256) ∷ (at 1 / 256) ∷ (at 1 % 256) ∷ (at 2 / 256) ∷ (at 2 % 256) ∷ (at 3 / 256) ∷ (at 3 % 256)
-            ∷ (at 4 / 256) ∷ (at 4 % 256) ∷ (at 5 / 256) ∷ (at 5 % 256) ∷ (at 6 / 256) ∷ (at 6 % 256) ∷ (at 7 / 256) ∷ (at 7 % 256) ∷ [])
+    octets_of xs ≡ (at 0 / 256) ∷ (at 0 % 256) ∷ (at 1 / 256) ∷ (at 1 % 256) ∷ (at 2 / 256) ∷ (at 2 % 256) ∷ (at 3 / 256) ∷ (at 3 % 256)
+    ∷ (at 4 / 256) ∷ (at 4 % 256) ∷ (at 5 / 256) ∷ (at 5 % 256) ∷ (at 6 / 256) ∷ (at 6 % 256) ∷ (at 7 / 256) ∷ (at 7 % 256) ∷ [])
 eight [] len = absurd (omega arith)
 eight (a ∷ []) len = absurd (omega arith)
 eight (a ∷ b ∷ []) len = absurd (omega arith)
