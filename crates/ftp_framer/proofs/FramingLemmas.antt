@@ -4,12 +4,12 @@ use Rattle.std.specs.Prelude.{if◌then◌else◌, ◌==◌, false}
 use Rattle.std.specs.List.{AllByRecursion}
 use Rattle.std.proofs.lemmas.List.{take_more_set, drop_more, drop-map, length-take-le}
 use Rattle.ftp_repr.specs.Machine.{gives}
-use Rattle.ftp_repr.specs.Signs.{Sign, octet, end_file}
+use Rattle.ftp_repr.specs.Signs.{Sign, octet}
 use Rattle.ftp_framer.specs.declared.framer.Stage.{Stage}
 use Rattle.ftp_framer.specs.declared.framer.Stage.TheVariants.{Copying, Free, Held, Filling, AtRecord, Leaving, Last, Closed}
 use Rattle.std.proofs.lemmas.Bool.{false≢true}
 use Rattle.ftp_framer.specs.declared.framer.Framer.{Framer}
-use Rattle.ftp_framer.specs.Writing.{closed, copying, free, writer, write_step, write_out}
+use Rattle.ftp_framer.specs.Writing.{copying, free, writer, write_step, write_out}
 use Rattle.ftp_framer.specs.Framing.{writing, owed_block, owed_octets, still_to_write, is_open, IsClear, Takes, Waits, AreRun}
 
 -- an octet goes into the room
@@ -57,11 +57,6 @@ waits_text f g x more clear waits =
     ∙ ap (λ l. l ++ gives writer (write_step (writing f) x) more) (sym waits.gives)
     ∙ append_assoc (owed_octets g) (write_out (writing g) x) (gives writer (write_step (writing f) x) more)
     ∙ ap (λ s. owed_octets g ++ (write_out (writing g) x ++ gives writer s more)) (sym waits.state)
-
--- behind the end of file nothing is written
-pub closed_text : (f : Framer) (more : List Sign) → writing f ≡ closed → still_to_write f more ≡ still_to_write f (end_file ∷ more)
-closed_text f more shut =
-    ap (λ s. owed_octets f ++ gives writer s more) shut ∙ ap (λ s. owed_octets f ++ gives writer s (end_file ∷ more)) (sym shut)
 
 pub next_octet : (f : Framer) (piece : List ℕ) (n : ℕ) (more : List Sign) → n < length piece
     → still_to_write f (map octet (drop n piece) ++ more) ≡ still_to_write f (octet (get_or piece n 0) ∷ (map octet (drop (n + 1) piece) ++ more))

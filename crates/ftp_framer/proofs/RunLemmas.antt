@@ -1,7 +1,7 @@
 -- Runs of octets: out of a block by slices, and into one.
 use Rattle.std.proofs.Common.{◌≡◌, ◌≢◌, ℕ, zero, suc, ◌+◌, ◌-◌, ◌≤◌, List, [], ◌∷◌, ◌++◌, length, take, drop, map, false, ◌==◌, refl, ap, sym, ◌∙◌, arith, append_assoc, append-nil, length-append}
 use Rattle.std.proofs.lemmas.Bool.{ne_eqb}
-use Rattle.std.proofs.lemmas.List.{drop-drop, drop-map, map-append, take-append-drop}
+use Rattle.std.proofs.lemmas.List.{drop-map, map-append, take-append-drop}
 use Rattle.ftp_repr.specs.Machine.{after, gives}
 use Rattle.ftp_repr.specs.Signs.{Sign, octet}
 use Rattle.ftp_repr.proofs.MachineLemmas.{gives-append}
@@ -18,15 +18,6 @@ block_rest d xs zero h = absurd (omega arith)
 block_rest d xs (suc zero) h = absurd (omega arith)
 block_rest d xs (suc (suc zero)) h = absurd (omega arith)
 block_rest d xs (suc (suc (suc n))) h = let same : n ≡ suc (suc (suc n)) - 3 = omega arith in ap (λ k. drop k xs) same
-
--- a slice goes into the room
-pub slice_step : (new old xs front rest : List ℕ) (at k first : ℕ) → take (at + k) new ≡ take at old ++ front → front ++ drop k rest ≡ rest → rest ≡ drop first xs
-    → take (at + k) new ++ drop (first + k) xs ≡ take at old ++ drop first xs
-slice_step new old xs front rest at k first moved cut is =
-    ap (λ l. l ++ drop (first + k) xs) moved
-    ∙ append_assoc (take at old) front (drop (first + k) xs)
-    ∙ ap (λ l. take at old ++ (front ++ l)) (sym (drop-drop k first xs) ∙ ap (drop k) (sym is))
-    ∙ ap (λ l. take at old ++ l) (cut ∙ is)
 
 -- COUNTS
 

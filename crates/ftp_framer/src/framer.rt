@@ -1,10 +1,11 @@
-ghost use Rattle.std.specs.Prelude.{◌≡◌, ◌≢◌, ◌+◌, ◌/◌, ◌%◌, ◌<◌, ◌≤◌, ◌⊎◌, ◌↔◌, ◌++◌, ℕ, List, [], ◌∷◌, length, take, drop, map, slice_index, ◌-◌, IsTrue, IsFalse, true, false};
+ghost use Rattle.std.specs.Prelude.{◌≡◌, ◌≢◌, ◌+◌, ◌/◌, ◌%◌, ◌<◌, ◌≤◌, ◌⊎◌, ◌↔◌, ◌++◌, ℕ, List, [], ◌∷◌, length, take, drop, map, slice_index, ◌-◌, IsTrue, IsFalse, true, false, Some, None};
 ghost use Rattle.ftp_repr.specs.Signs.{Sign, octet as sign, end_record, end_file};
-ghost use Rattle.ftp_repr.specs.Items.{signs};
+ghost use Rattle.ftp_repr.specs.Items.{signs, given_signs};
 ghost use Rattle.ftp_framer.specs.Block.{block_text, marker_text};
 ghost use Rattle.ftp_framer.specs.Writing.{blank, with_marks, is_due, due_text, marked, counted_on, counted_far, IsCount, IsFar, writer, write_step, closed};
 ghost use Rattle.ftp_framer.specs.Framing.{writing, counting, owed_block, owed_octets, still_to_write, is_open, IsClear, Takes, Waits, AreRun, Fills, TakesRun};
 
+use crate::descriptor::{END_OF_FILE, END_OF_RECORD, GOES_ON, RESTART_MARKER};
 use arrayvec::ArrayVec;
 use ftp_repr::{Item, first_ff};
 use ftp_representation::{Mode, Structure};
@@ -12,9 +13,36 @@ use itoa::Buffer;
 
 /// How much of an item was taken, and how many octets of the room were made.
 #[derive(Clone, Copy, Debug, PartialEq, Eq)]
-pub struct Moved {
+pub struct Written {
     pub taken: usize,
     pub made: usize,
+}
+
+impl Written {
+    /// What is left of the item, or nothing: it is to be put again.
+    pub fn rest<'a>(self, item: Item<'a>) -> Option<Item<'a>>
+        requires { self.taken ≤ length (signs item) }
+        ensures rest { given_signs result ≡ drop self.taken (signs item.entry) }
+
+        // Of the end of file all is left, or it was taken.
+        ensures end { item.entry ≡ Item.EndFile → (result ≡ Some Item.EndFile) ⊎ ((result ≡ None) × (self.taken ≡ 1)) }
+    {
+        match item {
+            Item::Octets(octets) => {
+                let (_, rest) = octets.split_at(self.taken);
+                if rest.is_empty() {
+                    return None;
+                }
+                Some(Item::Octets(rest))
+            }
+            Item::EndRecord | Item::EndFile => {
+                if self.taken == 0 {
+                    return Some(item);
+                }
+                None
+            }
+        }
+    }
 }
 
 /// Where in its text a framer stands.
@@ -98,7 +126,7 @@ impl Framer {
     ///
     /// `taken` counts octets of the item; of an end it is 1 once the end needs no further call. `made` counts the
     /// octets of the room that were written. Behind the end of file items are taken and nothing is written.
-    pub fn put(&mut self, item: Item<'_>, room: &mut [u8]) -> Moved
+    pub fn put(&mut self, item: Item<'_>, room: &mut [u8]) -> Written
         ensures within { (result.taken ≤ length (signs item.entry)) × (result.made ≤ length room.old) }
         ensures text { (more : List Sign) → still_to_write self.old (signs item.entry ++ more)
             ≡ take result.made room.new ++ still_to_write self.new (drop result.taken (signs item.entry) ++ more) }
@@ -109,7 +137,7 @@ impl Framer {
     {
         let first = self.pour(room, 0);
         if !self.is_clear() {
-            return Moved {
+            return Written {
                 taken: 0,
                 made: first,
             };
@@ -119,12 +147,12 @@ impl Framer {
             Item::EndRecord => {
                 let taken = usize::from(self.end_record());
                 let made = self.pour(room, first);
-                Moved { taken, made }
+                Written { taken, made }
             }
             Item::EndFile => {
                 self.end_file();
                 let made = self.pour(room, first);
-                Moved {
+                Written {
                     taken: usize::from(self.is_clear()),
                     made,
                 }
@@ -319,7 +347,7 @@ impl Framer {
             }
             Stage::Filling => self.fill(octet),
             Stage::AtRecord => {
-                self.stage = Stage::Leaving(128, 0);
+                self.stage = Stage::Leaving(END_OF_RECORD, 0);
                 false
             }
             Stage::Leaving(_, _) | Stage::Last(_, _) | Stage::Closed => true,
@@ -355,7 +383,7 @@ impl Framer {
             return false;
         }
         if self.block.len() == BLOCK_LIMIT {
-            self.stage = Stage::Leaving(0, 0);
+            self.stage = Stage::Leaving(GOES_ON, 0);
             return false;
         }
         self.block.push(octet);
@@ -435,7 +463,7 @@ impl Framer {
         ensures owes { self.new.owed.items ≡ due_text (counting self.old.marks) }
         ensures marks { counting self.new.marks ≡ marked (counting self.old.marks) }
     {
-        self.stage = Stage::Leaving(0, 0);
+        self.stage = Stage::Leaving(GOES_ON, 0);
         if let Marks::Counted(_, count) = self.marks {
             self.marks = Marks::Counted(count, count);
             self.put_marker(count);
@@ -452,7 +480,7 @@ impl Framer {
     {
         let mut buffer = Buffer::new();
         let text = buffer.format(count).as_bytes();
-        self.owed.push(16);
+        self.owed.push(RESTART_MARKER);
         self.owed.push(0);
         self.owed.push(text.len() as u8);
         let _ = self.owed.try_extend_from_slice(text);
@@ -472,7 +500,7 @@ impl Framer {
             }
             Stage::Filling => self.stage = Stage::AtRecord,
             Stage::AtRecord => {
-                self.stage = Stage::Leaving(128, 0);
+                self.stage = Stage::Leaving(END_OF_RECORD, 0);
                 return false;
             }
             Stage::Copying | Stage::Leaving(_, _) | Stage::Last(_, _) | Stage::Closed => {}
@@ -490,8 +518,8 @@ impl Framer {
             Stage::Copying => self.stage = Stage::Closed,
             Stage::Free => self.close(2),
             Stage::Held => self.close(3),
-            Stage::Filling => self.stage = Stage::Last(64, 0),
-            Stage::AtRecord => self.stage = Stage::Last(192, 0),
+            Stage::Filling => self.stage = Stage::Last(END_OF_FILE, 0),
+            Stage::AtRecord => self.stage = Stage::Last(END_OF_RECORD | END_OF_FILE, 0),
             Stage::Leaving(_, _) | Stage::Last(_, _) | Stage::Closed => {}
         }
     }
@@ -508,7 +536,7 @@ impl Framer {
 
     /// Takes octets that go into the block or, as they are, into the room; where none stands in front, the first octet or
     /// what goes before it.
-    fn put_octets(&mut self, piece: &[u8], room: &mut [u8], at: usize) -> Moved
+    fn put_octets(&mut self, piece: &[u8], room: &mut [u8], at: usize) -> Written
         requires clear { IsClear self.old }
         requires within { at ≤ length room.old }
         ensures within { (result.taken ≤ length piece.now) × (at ≤ result.made) × (result.made ≤ length room.old) }
@@ -520,14 +548,14 @@ impl Framer {
         if fills > 0 {
             let (front, _) = piece.split_at(fills);
             self.fill_run(front);
-            return Moved {
+            return Written {
                 taken: fills,
                 made: at,
             };
         }
         let run = self.copy_run(piece, room, at);
         if run > 0 {
-            return Moved {
+            return Written {
                 taken: run,
                 made: at + run,
             };
@@ -568,7 +596,7 @@ impl Framer {
     }
 
     /// Takes the first octet, or decides what goes before it.
-    fn put_first(&mut self, piece: &[u8], room: &mut [u8], at: usize) -> Moved
+    fn put_first(&mut self, piece: &[u8], room: &mut [u8], at: usize) -> Written
         requires clear { IsClear self.old }
         requires within { at ≤ length room.old }
         ensures within { (result.taken ≤ length piece.now) × (at ≤ result.made) × (result.made ≤ length room.old) }
@@ -577,14 +605,14 @@ impl Framer {
         ensures some { at < length room.old → 0 < length piece.now → at < result.taken + result.made }
     {
         if piece.is_empty() {
-            return Moved { taken: 0, made: at };
+            return Written { taken: 0, made: at };
         }
         if self.octet(piece[0]) {
             let made = self.pour(room, at);
-            return Moved { taken: 1, made };
+            return Written { taken: 1, made };
         }
         let made = self.pour(room, at);
-        Moved { taken: 0, made }
+        Written { taken: 0, made }
     }
 }
 

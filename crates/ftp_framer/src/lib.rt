@@ -2,9 +2,9 @@
 //! markers (RFC 959, sections 3.4 and 3.5).
 #![tactic(auto)]
 
+pub mod descriptor;
 mod framer;
-mod laws;
+pub mod laws;
 
-pub use framer::{Framer, Moved};
+pub use framer::{Framer, Written};
 pub use ftp_representation::Mode;
-pub use laws::one_text;

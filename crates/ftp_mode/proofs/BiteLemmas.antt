@@ -5,17 +5,15 @@ use Rattle.std.proofs.Math.Seq.{take-add}
 use Rattle.ftp_repr.specs.Machine.{after, gives}
 use Rattle.ftp_repr.proofs.MachineLemmas.{after-append, gives-append}
 use Rattle.ftp_mode.specs.declared.deframer.Deframer.{Deframer}
-use Rattle.ftp_mode.specs.declared.deframer.Gave.{Gave}
 use Rattle.ftp_mode.specs.declared.deframer.Bite.{Bite}
 use Rattle.ftp_mode.specs.declared.step.Part.{Part}
 use Rattle.ftp_mode.specs.declared.deframer.State.{State}
-use Rattle.ftp_mode.specs.declared.deframer.State.TheVariants.{Plain, Outside, Escaped, Head, High, Low, Inside, Marking, Ended, Failed}
-use Rattle.ftp_mode.specs.declared.fault.FrameFault.{FrameFault}
+use Rattle.ftp_mode.specs.declared.deframer.State.TheVariants.{Plain, Outside, Inside, Ended}
 use Rattle.ftp_framer.specs.Said.{Said, octets_said}
 use Rattle.ftp_framer.specs.Block.{ends_of}
 use Rattle.ftp_framer.specs.Count.{count_on}
 use Rattle.ftp_mode.specs.Reading.{Reading, IsGoing, going, Place, plain, outside, inside, after_block, reader}
-use Rattle.ftp_mode.specs.Deframing.{reading_of, reading, owed, last_marker, gave_said, part_said, Moves, Bites, Reads, Refuses, FailsAt, Hears}
+use Rattle.ftp_mode.specs.Deframing.{reading_of, reading, owed, last_marker, gave_said, part_said, Moves, Bites, Refuses, FailsAt, Hears}
 use Rattle.ftp_mode.proofs.ReaderRuns.{run_after, run_gives, plain_runs, outside_runs, ended_after, ended_gives, short_after, short_gives, full_after, full_gives}
 
 pub plain_moves : (s t : State) (n m : ℕ) (a b w : List ℕ) → 0 < length w → s ≡ Plain → t ≡ s → m ≡ count_on n (length w)
@@ -74,19 +72,9 @@ moves_take a b c piece at n said first then =
     let P : List ℕ → Type 0 = λ l. Moves a c l said in
     subst P (sym (take-add at n piece)) (moves_more a b c (take at piece) (take n (drop at piece)) said first then)
 
-pub moves_none : (a b : Reading) (piece : List ℕ) → b ≡ a → Moves a b (take 0 piece) []
-moves_none a b piece same = record { state = same; says = refl }
-
 first_one : (piece : List ℕ) → 0 < length piece → take 1 piece ≡ get_or piece 0 0 ∷ []
 first_one [] some = absurd (omega arith)
 first_one (c ∷ piece) some = refl
-
--- one octet in front of a piece
-pub one_bite : (old new : Deframer) (piece : List ℕ) (gave : Gave) → 0 < length piece → Reads old (get_or piece 0 0) gave new
-    → Moves (reading old) (reading new) (take 1 piece) (gave_said gave (take 1 piece) (last_marker new) ++ owed new)
-one_bite old new piece gave some reads =
-    let P : List ℕ → Type 0 = λ l. Moves (reading old) (reading new) l (gave_said gave l (last_marker new) ++ owed new) in
-    subst P (sym (first_one piece some)) (record { state = reads.state; says = reads.says ∙ sym (append-nil _) })
 
 pub refused_at : (old mid new : Deframer) (piece : List ℕ) (at : ℕ) (fault : _) → at < length piece → owed old ≡ [] → owed mid ≡ []
     → Moves (reading old) (reading mid) (take at piece) [] → Refuses mid (get_or (drop at piece) 0 0) fault new → FailsAt old piece (at + 1) fault new
@@ -102,13 +90,6 @@ refused_at old mid new piece at fault less owes owed_mid moves refuses =
       quiet = ap (λ l. l ++ gives reader (reading old) (take (at + 1) piece)) owes ∙ sym all.says;
       owes = refuses.owes ∙ owed_mid;
     }
-
--- a run that was lent
-pub octets_bite : (old new : Deframer) (piece : List ℕ) (n : ℕ) (said : List Said) → said ≡ octets_said (take n piece) ++ owed new
-    → Moves (reading old) (reading new) (take n piece) said
-    → Moves (reading old) (reading new) (take n piece) (octets_said (take n piece) ++ owed new)
-octets_bite old new piece n said e moves =
-    let P : List Said → Type 0 = λ l. Moves (reading old) (reading new) (take n piece) l in subst P e moves
 
 -- a bite behind octets that gave nothing
 pub next_bite : (old mid new : Deframer) (piece rest : List ℕ) (at : ℕ) (bite : Bite) → rest ≡ drop at piece → Moves (reading old) (reading mid) (take at piece) []
@@ -150,19 +131,6 @@ going_by s t n text is same =
 
 pub closed_going : (r : Reading) (n : ℕ) (p : Place) → r ≡ going n p → IsGoing r
 closed_going r n p e = let P : Reading → Type 0 = λ x. IsGoing x in subst P (sym e) tt
-
--- a reader that did not fail
-pub state_going : (s : State) (n : ℕ) (text : List ℕ) → ((fault : FrameFault) → s ≡ Failed fault → ⊥) → IsGoing (reading_of s n text)
-state_going Plain n text h = tt
-state_going Outside n text h = tt
-state_going Escaped n text h = tt
-state_going Head n text h = tt
-state_going (High d) n text h = tt
-state_going (Low d high) n text h = tt
-state_going (Inside d more) n text h = tt
-state_going (Marking d more) n text h = tt
-state_going Ended n text h = tt
-state_going (Failed fault) n text h = h fault refl
 
 pub same_going : (r s : Reading) → s ≡ r → IsGoing r → IsGoing s
 same_going r s e h = let P : Reading → Type 0 = λ x. IsGoing x in subst P (sym e) h

@@ -23,12 +23,6 @@ use Rattle.ftp_mode.proofs.UnitLemmas.{units_moves, text_moves}
 use Rattle.ftp_mode.proofs.CutLemmas.{cut_moves, fault_moves}
 use Rattle.ftp_mode.proofs.ShapeLemmas.{Shape, is_open, is_text, is_bad, IsBad, shape_of}
 
--- an open wire leaves the reader where no connection ends well, but for stream mode and file structure
-abbrev pub IsEarly : Mode → Structure → Reading → Type 0
-IsEarly Stream File r = is_complete r
-IsEarly Stream Record r = at_end r ≡ failed EndedEarly
-IsEarly Blocks s r = at_end r ≡ failed EndedEarly
-
 -- where a reader stands behind an open wire, and what it said
 pub record Stands (m : Mode) (s : Structure) (w : List ℕ) (said : List Said) : Type 0 where
   pub count : ℕ

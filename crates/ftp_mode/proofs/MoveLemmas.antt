@@ -21,9 +21,6 @@ moves_append a b c xs ys s t first second = record {
       ∙ sym (gives-append reader a xs ys);
 }
 
-pub count_count : (n a b : ℕ) → count_on (count_on n a) b ≡ count_on n (a + b)
-count_count n a b = omega arith
-
 -- octets counted one by one
 abbrev pub counted : ℕ → List ℕ → ℕ
 counted n [] = n

@@ -2,12 +2,13 @@ ghost use Rattle.std.specs.Prelude.{◌≡◌, ◌≢◌, ◌+◌, ◌<◌, ◌�
 ghost use Rattle.ftp_framer.specs.Block.{ends_of};
 ghost use Rattle.ftp_framer.specs.Count.{count_on};
 ghost use Rattle.ftp_mode.specs.Reading.{Reading, start, at_end, broken_state, going, failed, after_block, is_complete};
-ghost use Rattle.ftp_mode.specs.Deframing.{reading, owed, last_marker, part_said, Hears, Fails, Bites, Reads, Refuses, IsControl};
+ghost use Rattle.ftp_mode.specs.Deframing.{reading, owed, last_marker, part_said, gave_said, Hears, Fails, Bites, Reads, Refuses, IsControl};
 
 use crate::fault::FrameFault;
 use crate::step::{Part, Step};
 use arrayvec::ArrayVec;
 use ftp_framer::Mode;
+use ftp_framer::descriptor::{END_OF_FILE, END_OF_RECORD, RESTART_MARKER, SUSPECTED_ERRORS};
 use ftp_repr::{Structure, first_ff};
 
 /// Where in a text the next octet stands.
@@ -113,22 +114,10 @@ impl Deframer {
                 Ok(bite) => bite,
                 Err(fault) => return Err(fault),
             };
+            let (octets, _) = rest.split_at(bite.taken);
             at += bite.taken;
-            match bite.gave {
-                Gave::Octets => {
-                    let (octets, _) = rest.split_at(bite.taken);
-                    return Ok(Step {
-                        taken: at,
-                        part: Part::Data(octets),
-                    });
-                }
-                Gave::Marker => {
-                    return Ok(Step {
-                        taken: at,
-                        part: Part::Marker,
-                    })
-                }
-                Gave::Nothing => {}
+            if let Some(part) = part_of(bite.gave, octets) {
+                return Ok(Step { taken: at, part });
             }
             if let Some(part) = self.owed_part() {
                 return Ok(Step { taken: at, part });
@@ -215,7 +204,11 @@ impl Deframer {
             State::Plain => Ok(self.all(piece, Gave::Octets)),
             State::Ended => Ok(self.all(piece, Gave::Nothing)),
             State::Outside => Ok(self.outside(piece)),
-            State::Inside(descriptor, more) => Ok(self.inside(piece, descriptor, more)),
+            State::Inside(descriptor, before_last) => Ok(self.inside(
+                piece,
+                descriptor,
+                before_last,
+            )),
             State::Escaped
             | State::Head
             | State::High(_)
@@ -277,13 +270,13 @@ impl Deframer {
     }
 
     /// Takes the data of a block.
-    fn inside(&mut self, piece: &[u8], descriptor: u8, more: u16) -> Bite
+    fn inside(&mut self, piece: &[u8], descriptor: u8, before_last: u16) -> Bite
         requires some { 0 < length piece.now }
         requires owes { owed self.old ≡ [] }
-        requires place { self.old.state ≡ State.Inside descriptor more }
+        requires place { self.old.state ≡ State.Inside descriptor before_last }
         ensures { Bites self.old piece.now result self.new }
     {
-        let left = usize::from(more) + 1;
+        let left = usize::from(before_last) + 1;
         if piece.len() < left {
             self.moved(piece.len());
             self.state = State::Inside(descriptor, (left - piece.len() - 1) as u16);
@@ -307,8 +300,8 @@ impl Deframer {
         ensures place { self.new.place ≡ self.old.place }
         ensures marker { last_marker self.new ≡ last_marker self.old }
     {
-        let record = descriptor & 128 != 0;
-        if descriptor & 64 != 0 {
+        let record = descriptor & END_OF_RECORD != 0;
+        if descriptor & END_OF_FILE != 0 {
             self.state = State::Ended;
             self.owed = if record { Owed::Both } else { Owed::File };
         } else {
@@ -333,7 +326,11 @@ impl Deframer {
                 Ok(Gave::Nothing)
             }
             State::Low(descriptor, high) => self.count(descriptor, high, octet),
-            State::Marking(descriptor, more) => self.marker_octet(descriptor, more, octet),
+            State::Marking(descriptor, before_last) => self.marker_octet(
+                descriptor,
+                before_last,
+                octet,
+            ),
             State::Failed(fault) => Err(fault),
             State::Plain | State::Outside | State::Inside(_, _) | State::Ended => Ok(Gave::Nothing),
         }
@@ -382,7 +379,7 @@ impl Deframer {
         ensures err { IfErr result (λ fault. Refuses self.old octet fault self.new) }
     {
         let place = self.place;
-        if octet & 32 != 0 {
+        if octet & SUSPECTED_ERRORS != 0 {
             return Err(self.fail(FrameFault::Suspect(place)));
         }
         self.moved(1);
@@ -400,7 +397,7 @@ impl Deframer {
         let place = self.place;
         let count = u16::from(high) * 256 + u16::from(low);
         self.moved(1);
-        if descriptor & 16 != 0 {
+        if descriptor & RESTART_MARKER != 0 {
             if count == 0 || count > 255 {
                 return Err(self.fail(FrameFault::BadMarker(place.saturating_sub(2))));
             }
@@ -414,9 +411,14 @@ impl Deframer {
         Ok(Gave::Nothing)
     }
 
-    fn marker_octet(&mut self, descriptor: u8, more: u8, octet: u8) -> Result<Gave, FrameFault>
+    fn marker_octet(
+        &mut self,
+        descriptor: u8,
+        before_last: u8,
+        octet: u8,
+    ) -> Result<Gave, FrameFault>
         requires owes { owed self.old ≡ [] }
-        requires place { self.old.state ≡ State.Marking descriptor more }
+        requires place { self.old.state ≡ State.Marking descriptor before_last }
         ensures ok { IfOk result (λ gave. Reads self.old octet gave self.new) }
         ensures err { IfErr result (λ fault. Refuses self.old octet fault self.new) }
     {
@@ -426,11 +428,24 @@ impl Deframer {
         }
         self.moved(1);
         self.marker.push(octet);
-        if more == 0 {
+        if before_last == 0 {
             self.close(descriptor);
             return Ok(Gave::Marker);
         }
-        self.state = State::Marking(descriptor, more - 1);
+        self.state = State::Marking(descriptor, before_last - 1);
         Ok(Gave::Nothing)
+    }
+}
+
+/// The part that a few octets gave, or none.
+fn part_of<'a>(gave: Gave, octets: &'a [u8]) -> Option<Part<'a>>
+    ensures some { IfSome result (λ part. (text : List ℕ) → part_said part text ≡ gave_said gave octets.now text) }
+    ensures full { 0 < length octets.now → IfSome result (λ part. (text : List ℕ) → 0 < length (part_said part text)) }
+    ensures none { IfNone result (gave ≡ Gave.Nothing) }
+{
+    match gave {
+        Gave::Nothing => None,
+        Gave::Octets => Some(Part::Data(octets)),
+        Gave::Marker => Some(Part::Marker),
     }
 }

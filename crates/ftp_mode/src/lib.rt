@@ -4,11 +4,10 @@
 
 mod deframer;
 mod fault;
-mod laws;
+pub mod laws;
 mod step;
 
 pub use deframer::Deframer;
 pub use fault::FrameFault;
-pub use ftp_framer::{Framer, Mode, Moved, one_text};
-pub use laws::{early, faults, front, reads, reads_again, round_trip, settles};
+pub use ftp_framer::{Framer, Mode, Written};
 pub use step::{Part, Step};

@@ -85,12 +85,12 @@ impl<A: Allocator> Sending<A> {
     {
         let mut rest = item;
         for _ in 0..TURNS {
-            let moved = self.framer.put(rest, &mut self.room);
-            let (made, _) = self.room.split_at(moved.made);
+            let written = self.framer.put(rest, &mut self.room);
+            let (made, _) = self.room.split_at(written.made);
             if self.made.extend_from_slice(made).is_err() {
                 return Err(Failed);
             }
-            match rest_of(rest, moved.taken) {
+            match written.rest(rest) {
                 Some(left) => rest = left,
                 None => return Ok(()),
             }
@@ -131,29 +131,6 @@ fn framer_of(form: Representation, marks: bool) -> Framer
         framer.mark(0);
     }
     framer
-}
-
-/// What is left of an item, so many of whose signs were taken.
-fn rest_of<'a>(item: Item<'a>, taken: usize) -> Option<Item<'a>>
-    requires { taken ≤ length (signs item) }
-    ensures rest { given_signs result ≡ drop taken (signs item.entry) }
-    ensures end { item.entry ≡ EndFile → (result ≡ Some EndFile) ⊎ ((result ≡ None) × (taken ≡ 1)) }
-{
-    match item {
-        Item::Octets(octets) => {
-            let (_, rest) = octets.split_at(taken);
-            if rest.is_empty() {
-                return None;
-            }
-            Some(Item::Octets(rest))
-        }
-        Item::EndRecord | Item::EndFile => {
-            if taken == 0 {
-                return Some(item);
-            }
-            None
-        }
-    }
 }
 
 /// Writes a file as the octets of a data connection, or reads it from them, and gives the exit status (RFC 959, sections

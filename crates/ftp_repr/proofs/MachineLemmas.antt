@@ -1,6 +1,5 @@
 -- A machine over rows that are cut.
-use Rattle.std.proofs.Common.{◌≡◌, List, [], ◌∷◌, ◌++◌, map, refl, ap, sym, ◌∙◌, append_assoc}
-use Rattle.std.specs.List.{AllByRecursion}
+use Rattle.std.proofs.Common.{◌≡◌, List, [], ◌∷◌, ◌++◌, refl, ap, sym, ◌∙◌, append_assoc}
 use Rattle.ftp_repr.specs.Machine.{Machine, after, gives, IsFront}
 
 pub after-append : {S I O : Type 0} (m : Machine S I O) (s : S) (xs ys : List I) → after m s (xs ++ ys) ≡ after m (after m s xs) ys
@@ -18,20 +17,3 @@ gives-append m s (x ∷ xs) ys =
 pub gives-front : {S I O : Type 0} (m : Machine S I O) (s : S) (xs ys : List I) → IsFront xs ys → IsFront (gives m s xs) (gives m s ys)
 gives-front m s xs ys front =
     (gives m (after m s xs) front.0, sym (gives-append m s xs front.0) ∙ ap (gives m s) front.1)
-
--- a sign that keeps the state and gives one item
-pub record Quiet {S I O : Type 0} (m : Machine S I O) (f : I → O) (s : S) (x : I) : Type 0 where
-  pub stays : m.step s x ≡ s
-  pub same : m.out s x ≡ f x ∷ []
-
--- a row of such
-pub after_quiet : {S I O : Type 0} (m : Machine S I O) (f : I → O) (s : S) (xs : List I) → AllByRecursion (Quiet m f s) xs → after m s xs ≡ s
-after_quiet m f s [] all = refl
-after_quiet m f s (x ∷ xs) all = ap (λ t. after m t xs) all.0.stays ∙ after_quiet m f s xs all.1
-
-pub gives_quiet : {S I O : Type 0} (m : Machine S I O) (f : I → O) (s : S) (xs : List I) → AllByRecursion (Quiet m f s) xs → gives m s xs ≡ map f xs
-gives_quiet m f s [] all = refl
-gives_quiet m f s (x ∷ xs) all =
-    ap (λ l. l ++ gives m (m.step s x) xs) all.0.same
-    ∙ ap (λ t. f x ∷ gives m t xs) all.0.stays
-    ∙ ap (λ l. f x ∷ l) (gives_quiet m f s xs all.1)

@@ -4,7 +4,7 @@
 
 mod fault;
 mod item;
-mod laws;
+pub mod laws;
 mod receiver;
 mod run;
 mod sender;
@@ -14,7 +14,6 @@ mod skipping;
 pub use fault::ReprFault;
 pub use ftp_representation::{Kind, Structure};
 pub use item::Item;
-pub use laws::{files, front, line_ends, places, records, round_trip, runs};
 pub use receiver::Receiver;
 pub use run::{first_ff, plain_run};
 pub use sender::Sender;

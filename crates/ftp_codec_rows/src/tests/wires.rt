@@ -71,25 +71,6 @@ pub const ASCII_RECORD_BLOCK: How = How {
     start: None,
 };
 
-/// What is left of an item, so many of whose signs were taken.
-fn rest_of<'a>(item: Item<'a>, taken: usize) -> Option<Item<'a>> {
-    match item {
-        Item::Octets(octets) => {
-            let (_, rest) = octets.split_at(taken.min(octets.len()));
-            if rest.is_empty() {
-                return None;
-            }
-            Some(Item::Octets(rest))
-        }
-        Item::EndRecord | Item::EndFile => {
-            if taken == 1 {
-                return None;
-            }
-            Some(item)
-        }
-    }
-}
-
 /// Puts an item until it is taken, into rooms of this size.
 fn put_item(
     framer: &mut Framer,
@@ -101,10 +82,10 @@ fn put_item(
     let mut rest = item;
     for _ in 0..100_000 {
         let (front, _) = space.split_at_mut(room.min(4096));
-        let moved = framer.put(rest, front);
-        let (made, _) = front.split_at(moved.made);
+        let written = framer.put(rest, front);
+        let (made, _) = front.split_at(written.made);
         wire.extend_from_slice(made)?;
-        match rest_of(rest, moved.taken) {
+        match written.rest(rest) {
             Some(left) => rest = left,
             None => return Ok(()),
         }

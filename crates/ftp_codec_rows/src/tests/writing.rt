@@ -2,7 +2,7 @@ use super::wires::{
     ASCII_BLOCK, ASCII_RECORD_BLOCK, ASCII_RECORD_STREAM, ASCII_STREAM, FILE_BLOCK, FILE_STREAM,
     How, RECORD_BLOCK, RECORD_STREAM, goes_as,
 };
-use ftp_framer::{Framer, Mode, Moved};
+use ftp_framer::{Framer, Mode, Written};
 use ftp_repr::{Item, Structure};
 use std::alloc::Global;
 use std::test::Fail;
@@ -222,14 +222,14 @@ fn an_end_is_taken_once_it_is_out(rt: HostRuntime) {
     let (none, some) = room.split_at_mut(0);
     assert_eq!(&rt;
         framer.put(Item::EndFile, none),
-        Moved { taken: 0, made: 0 }
+        Written { taken: 0, made: 0 }
     );
     assert_eq!(&rt;
         framer.put(Item::EndFile, some),
-        Moved { taken: 1, made: 2 }
+        Written { taken: 1, made: 2 }
     );
     assert_eq!(&rt;
         framer.put(Item::Octets(b"x"), some),
-        Moved { taken: 1, made: 0 }
+        Written { taken: 1, made: 0 }
     );
 }

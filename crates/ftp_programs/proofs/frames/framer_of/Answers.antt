@@ -12,8 +12,8 @@ returns-then-has_markers-clause-text c = λ file fits.
 pub returns-else-marks-clause-text : goal.returns-else-marks-clause-text
 returns-else-marks-clause-text c = λ file fits.
     text_plain c.args.form c.args.marks c.new-framer.result c.new-framer.ensures.state
-        (elim c.else-marks.branch [
-          else-marks-via-then-marks+else-has_markers w ↦ has_none c.args.marks (has_markers c.args.form) (sym w.if-has_markers.ensures)
-        | else-marks-via-else-marks w ↦ ap (λ asked. asked && has_markers c.args.form) w.if-marks.false
-        ])
-        file
+    (elim c.else-marks.branch [
+      | else-marks-via-then-marks+else-has_markers w ↦ has_none c.args.marks (has_markers c.args.form) (sym w.if-has_markers.ensures)
+      | else-marks-via-else-marks w ↦ ap (λ asked. asked && has_markers c.args.form) w.if-marks.false
+    ])
+    file

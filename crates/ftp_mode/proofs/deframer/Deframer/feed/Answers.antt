@@ -1,9 +1,8 @@
 use Rattle.std.proofs.Common.{◌≡◌, ◌++◌, ◌+◌, ◌<◌, List, ℕ, [], length, take, get_or, sym, ap, subst, ◌∙◌, arith, inl, append-nil}
 use Rattle.std.proofs.lemmas.List.{length-take-le}
-use Rattle.ftp_mode.specs.declared.step.Part.TheVariants.{Data, Marker}
-use Rattle.ftp_framer.specs.Said.{Said, octets_said}
+use Rattle.ftp_framer.specs.Said.{Said}
 use Rattle.ftp_mode.specs.Deframing.{reading, owed, last_marker, part_said, gave_said, Moves, Refuses}
-use Rattle.ftp_mode.proofs.BiteLemmas.{next_bite, next_within, heard, said_some, same_going, owes_some, refused_at}
+use Rattle.ftp_mode.proofs.BiteLemmas.{next_bite, next_within, heard, same_going, owes_some, refused_at}
 use Rattle.ftp_mode.proofs.deframer.Deframer.feed.Goals as goal
 
 pub returns-in-Err : goal.returns-in-Err
@@ -18,43 +17,25 @@ returns-in-Err c =
       );
     }
 
-pub returns-in-Octets : goal.returns-in-Octets
-returns-in-Octets c =
+pub returns-in-Some-part_of : goal.returns-in-Some-part_of
+returns-in-Some-part_of c =
     let old = c.args.self.now in
     let new = c.bite.new.self in
     let rest = c.split_at.result.1.now in
     let bite = c.in-Ok.bite in
     let bites = c.in-Ok.ensures.ok in
-    let front : c.split_at-in-Octets.result.0.now ≡ take bite.taken rest = c.split_at-in-Octets.ensures.front in
-    let gave : gave_said bite.gave (take bite.taken rest) (last_marker new) ≡ octets_said (take bite.taken rest) = ap (λ g. gave_said g (take bite.taken rest) (last_marker new)) c.in-Octets.is in
-    let some : 0 < length (octets_said c.split_at-in-Octets.result.0.now) =
-    said_some c.split_at-in-Octets.result.0.now (omega (arith, bites.some, length-take-le bite.taken rest bites.within, ap length front)) in
+    let part = c.in-Some-part_of.part in
+    let front : c.split_at-in-loop-at.result.0.now ≡ take bite.taken rest = c.split_at-in-loop-at.ensures.front in
+    let some : 0 < length c.split_at-in-loop-at.result.0.now = omega (arith, bites.some, length-take-le bite.taken rest bites.within, ap length front) in
+    let gave : part_said part (last_marker new) ≡ gave_said bite.gave (take bite.taken rest) (last_marker new) =
+    c.in-Some-part_of.ensures.some (last_marker new) ∙ ap (λ l. gave_said bite.gave l (last_marker new)) front in
     record {
-      ok = heard old new c.args.piece.now (c.loop-at.at + bite.taken) (Data c.split_at-in-Octets.result.0) (gave_said bite.gave (take bite.taken rest) (last_marker new) ++ owed new)
+      ok = heard old new c.args.piece.now (c.loop-at.at + bite.taken) part (gave_said bite.gave (take bite.taken rest) (last_marker new) ++ owed new)
           (next_within c.loop-at.self new c.args.piece.now rest c.loop-at.at bite c.split_at.ensures.back c.loop-at-test.true bites)
           c.loop-at.invariant.owed_before
           (next_bite old c.loop-at.self new c.args.piece.now rest c.loop-at.at bite c.split_at.ensures.back c.loop-at.invariant.quiet bites)
-          (ap (λ l. octets_said l ++ owed new) front ∙ ap (λ l. l ++ owed new) (sym gave))
-          some
-          bites.fine;
-      err = tt;
-    }
-
-pub returns-in-Marker : goal.returns-in-Marker
-returns-in-Marker c =
-    let old = c.args.self.now in
-    let new = c.bite.new.self in
-    let rest = c.split_at.result.1.now in
-    let bite = c.in-Ok.bite in
-    let bites = c.in-Ok.ensures.ok in
-    let gave : gave_said bite.gave (take bite.taken rest) (last_marker new) ≡ part_said Marker (last_marker new) = ap (λ g. gave_said g (take bite.taken rest) (last_marker new)) c.in-Marker.is in
-    record {
-      ok = heard old new c.args.piece.now (c.loop-at.at + bite.taken) Marker (gave_said bite.gave (take bite.taken rest) (last_marker new) ++ owed new)
-          (next_within c.loop-at.self new c.args.piece.now rest c.loop-at.at bite c.split_at.ensures.back c.loop-at-test.true bites)
-          c.loop-at.invariant.owed_before
-          (next_bite old c.loop-at.self new c.args.piece.now rest c.loop-at.at bite c.split_at.ensures.back c.loop-at.invariant.quiet bites)
-          (ap (λ l. l ++ owed new) (sym gave))
-          (omega arith)
+          (ap (λ l. l ++ owed new) gave)
+          (c.in-Some-part_of.ensures.full some (last_marker new))
           bites.fine;
       err = tt;
     }
@@ -68,7 +49,7 @@ returns-in-Some-owed_part c =
     let bite = c.in-Ok.bite in
     let bites = c.in-Ok.ensures.ok in
     let part = c.in-Some-owed_part.part in
-    let gave : gave_said bite.gave (take bite.taken rest) (last_marker mid) ++ owed mid ≡ owed mid = ap (λ g. gave_said g (take bite.taken rest) (last_marker mid) ++ owed mid) c.in-Nothing.is in
+    let gave : gave_said bite.gave (take bite.taken rest) (last_marker mid) ++ owed mid ≡ owed mid = ap (λ g. gave_said g (take bite.taken rest) (last_marker mid) ++ owed mid) c.in_default-part_of.ensures.none in
     let P : List Said → Type 0 = λ l. Moves (reading old) (reading mid) (take (c.loop-at.at + bite.taken) c.args.piece.now) l in
     let moves : P (owed mid) = subst P gave (next_bite old c.loop-at.self mid c.args.piece.now rest c.loop-at.at bite c.split_at.ensures.back c.loop-at.invariant.quiet bites) in
     record {
@@ -92,7 +73,7 @@ loop-at-preserved c =
     let none : owed mid ≡ [] = c.in_default-owed_part.ensures.none in
     let same : c.owed_part-in-loop-at.new.self ≡ mid = c.in_default-owed_part.ensures.owes in
     let gave : gave_said bite.gave (take bite.taken rest) (last_marker mid) ++ owed mid ≡ [] =
-    ap (λ g. gave_said g (take bite.taken rest) (last_marker mid) ++ owed mid) c.in-Nothing.is ∙ none in
+    ap (λ g. gave_said g (take bite.taken rest) (last_marker mid) ++ owed mid) c.in_default-part_of.ensures.none ∙ none in
     let P : List Said → Type 0 = λ l. Moves (reading old) (reading mid) (take (c.loop-at.at + bite.taken) c.args.piece.now) l in
     let moves : P [] = subst P gave (next_bite old c.loop-at.self mid c.args.piece.now rest c.loop-at.at bite c.split_at.ensures.back c.loop-at.invariant.quiet bites) in
     record {

@@ -16,7 +16,7 @@ returns-then-piece-left c =
     let n = length piece in
     let front = take n piece in
     let rest = c.from-left.result + 1 - n - 1 in
-    let more : c.from-left.result ≡ c.args.more = c.from-left.ensures in
+    let more : c.from-left.result ≡ c.args.before_last = c.from-left.ensures in
     let less : n < c.from-left.result + 1 = c.if-piece-left.true in
     let len : length front ≡ n = length-take-le n piece (omega arith) in
     let place : mid.place ≡ count_on old.place (length front) = c.moved.ensures.place ∙ ap (count_on old.place) (sym len) in
@@ -27,7 +27,7 @@ returns-then-piece-left c =
       fine = tt;
       some = c.requires.some;
       within = omega arith;
-      moves = subst Q said (short_moves old.state old.place mid.place c.args.descriptor c.args.more rest (last_marker old) (last_marker mid) front
+      moves = subst Q said (short_moves old.state old.place mid.place c.args.descriptor c.args.before_last rest (last_marker old) (last_marker mid) front
           (omega (arith, c.requires.some, len)) c.requires.place (omega (arith, more, less, len)) (omega (arith, more, len)) place);
     }
 
@@ -38,7 +38,7 @@ returns c =
     let piece = c.args.piece.now in
     let n = c.from-left.result + 1 in
     let front = take n piece in
-    let more : c.from-left.result ≡ c.args.more = c.from-left.ensures in
+    let more : c.from-left.result ≡ c.args.before_last = c.from-left.ensures in
     let len : length front ≡ n = length-take-le n piece c.if-piece-left.false in
     let place : c.moved-2.new.self.place ≡ count_on old.place (length front) = c.moved-2.ensures.place ∙ ap (count_on old.place) (sym len) in
     let said : octets_said front ++ ends_of c.args.descriptor ≡ octets_said front ++ owed new = ap (λ l. octets_said front ++ l) (sym c.close.ensures.owes) in
@@ -47,6 +47,6 @@ returns c =
       fine = closed_going (reading new) _ _ c.close.ensures.state;
       some = omega arith;
       within = c.if-piece-left.false;
-      moves = subst Q said (full_moves old.state (reading new) old.place c.moved-2.new.self.place c.args.descriptor c.args.more (last_marker old) front
+      moves = subst Q said (full_moves old.state (reading new) old.place c.moved-2.new.self.place c.args.descriptor c.args.before_last (last_marker old) front
           c.requires.place (omega (arith, more, len)) c.close.ensures.state place);
     }
