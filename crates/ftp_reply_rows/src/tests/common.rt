@@ -1,5 +1,5 @@
 //! Replies and lines for the tests.
-use ftp_reply::{Lines, Reader, Reply};
+use ftp_reply::{Lines, Reader, Reply, ReplyFault};
 use std::alloc::{Allocator, Global};
 
 /// A reply from its line.
@@ -22,6 +22,17 @@ pub fn reply_with(alloc: Global, code: u16, texts: &[&[u8]]) -> Option<Reply<Glo
         return None;
     }
     Some(Reply { code, lines })
+}
+
+/// Whether a reply ends with the line.
+pub fn hears<A: Allocator + Clone>(
+    reader: &mut Reader<A>,
+    line: &[u8],
+) -> Result<bool, ReplyFault> {
+    match reader.line(line) {
+        Ok(reply) => Ok(reply.is_some()),
+        Err(fault) => Err(fault),
+    }
 }
 
 pub fn texts_are<A: Allocator>(reply: &Reply<A>, texts: &[&[u8]]) -> bool {

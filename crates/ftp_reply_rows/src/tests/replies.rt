@@ -1,7 +1,7 @@
 //! Lines and the replies that they are: rows of RFC 959, section 4.2, and the limits.
-use super::common::{long_line, texts_are};
-use ftp_reply::{Reader, Reply, ReplyFault};
-use std::alloc::{Allocator, Global};
+use super::common::{hears, long_line, texts_are};
+use ftp_reply::{Reader, ReplyFault};
+use std::alloc::Global;
 
 /// Lines, and the code and texts of the reply that they are.
 const REPLIES: &[(&[&[u8]], u16, &[&[u8]])] = &[
@@ -58,26 +58,19 @@ const LIMITS: &[(usize, usize, usize, bool)] = &[
     (65, 8192, 0, false),
 ];
 
-/// The reply that the lines are to the reader, where the last of them ends it and none before.
-fn heard<A: Allocator + Clone>(reader: &mut Reader<A>, lines: &[&[u8]]) -> Option<Reply<A>> {
-    let mut last = None;
-    for line in lines {
-        if last.is_some() {
-            return None;
-        }
-        match reader.line(line) {
-            Ok(reply) => last = reply,
-            Err(_) => return None,
+/// Whether the lines are to the reader the reply of that code and these texts, and none is one before the last.
+fn is_heard(reader: &mut Reader<Global>, lines: &[&[u8]], code: u16, texts: &[&[u8]]) -> bool {
+    let Some((last, begun)) = lines.split_last() else {
+        return false;
+    };
+    for line in begun {
+        if hears(reader, line) != Ok(false) {
+            return false;
         }
     }
-    last
-}
-
-/// Whether the lines are to the reader the reply of that code and these texts.
-fn is_heard(reader: &mut Reader<Global>, lines: &[&[u8]], code: u16, texts: &[&[u8]]) -> bool {
-    match heard(reader, lines) {
-        Some(reply) => reply.code == code && texts_are(&reply, texts),
-        None => false,
+    match reader.line(last) {
+        Ok(Some(reply)) => reply.code == code && texts_are(&reply, texts),
+        _ => false,
     }
 }
 
@@ -100,64 +93,89 @@ fn replies_of_rfc_959_section_4_2(rt: HostRuntime) {
 /// Whether a reader with one reply behind it is stopped by the line, and stays so.
 fn stops(alloc: Global, line: &[u8]) -> bool {
     let mut reader = Reader::new(alloc);
-    reader.line(b"220 Ready").is_ok()
-        && reader.line(line).err() == Some(ReplyFault::BadCode)
-        && reader.line(b"200 Ok").err() == Some(ReplyFault::Failed)
-        && reader.line(line).err() == Some(ReplyFault::Failed)
+    hears(&mut reader, b"220 Ready") == Ok(true)
+        && hears(&mut reader, line) == Err(ReplyFault::BadCode)
+        && hears(&mut reader, b"200 Ok") == Err(ReplyFault::Failed)
+        && hears(&mut reader, line) == Err(ReplyFault::Failed)
 }
 
-#[test]
-fn lines_that_begin_no_reply(rt: HostRuntime) {
-    let alloc = rt.alloc();
-    assert!(rt; NO_REPLIES.iter().all(|line| stops(alloc, line)));
-}
-
-/// The fault that the reader has at one of the empty lines between the first and the last of so many.
-fn fault_of_empty_lines(reader: &mut Reader<Global>, lines: usize) -> Option<ReplyFault> {
-    for _ in 2..lines {
-        let fault = reader.line(b"").err();
-        if fault.is_some() {
-            return fault;
+/// The first line that doesn't stop a reader.
+fn first_not_stopping(alloc: Global) -> Option<&'static [u8]> {
+    for line in NO_REPLIES {
+        if !stops(alloc, line) {
+            return Some(line);
         }
     }
     None
 }
 
-/// Whether a reply of so many lines keeps the limits, or is TooMany at its last line or before.
-fn keeps_limits(alloc: Global, lines: usize, first: usize, last: usize) -> Option<bool> {
-    let mut reader = Reader::new(alloc);
-    let first = long_line(alloc, b"211-", first)?;
-    let last = long_line(alloc, b"211 ", last)?;
-    let fault = reader
-        .line(&first)
-        .err()
-        .or(fault_of_empty_lines(&mut reader, lines))
-        .or(reader.line(&last).err());
-    match (fault, reader.line(b"200 Ok").err()) {
-        (None, None) => Some(true),
-        (Some(ReplyFault::TooMany), Some(ReplyFault::Failed)) => Some(false),
-        _ => None,
+#[test]
+fn lines_that_begin_no_reply(rt: HostRuntime) {
+    assert!(rt; first_not_stopping(rt.alloc()).is_none());
+}
+
+/// What the reader answers to a line of the mark and so many octets: whether a reply ends with it.
+fn hears_long(
+    reader: &mut Reader<Global>,
+    alloc: Global,
+    mark: &[u8],
+    octets: usize,
+) -> Result<bool, ReplyFault> {
+    match long_line(alloc, mark, octets) {
+        Some(line) => hears(reader, &line),
+        None => Err(ReplyFault::Memory),
     }
 }
 
-fn is_limit(alloc: Global, (lines, first, last, fits): &(usize, usize, usize, bool)) -> bool {
-    keeps_limits(alloc, *lines, *first, *last) == Some(*fits)
+/// What the reader answers to the last of so many lines, those between the first and the last empty, or its first fault.
+fn hears_all(
+    reader: &mut Reader<Global>,
+    alloc: Global,
+    (lines, first, last, _): &(usize, usize, usize, bool),
+) -> Result<bool, ReplyFault> {
+    hears_long(reader, alloc, b"211-", *first)?;
+    for _ in 2..*lines {
+        hears(reader, b"")?;
+    }
+    hears_long(reader, alloc, b"211 ", *last)
+}
+
+/// Whether a reply keeps the limits as the row says, or is TooMany at its last line or before.
+fn is_limit(alloc: Global, row: &(usize, usize, usize, bool)) -> bool {
+    let mut reader = Reader::new(alloc);
+    let answer = hears_all(&mut reader, alloc, row);
+    let next = hears(&mut reader, b"200 Ok");
+    if row.3 {
+        answer == Ok(true) && next == Ok(true)
+    } else {
+        answer == Err(ReplyFault::TooMany) && next == Err(ReplyFault::Failed)
+    }
+}
+
+/// How many rows hold, up to the first that does not.
+fn limits_kept(alloc: Global) -> usize {
+    let mut kept = 0usize;
+    for row in LIMITS {
+        if !is_limit(alloc, row) {
+            return kept;
+        }
+        kept = kept.wrapping_add(1);
+    }
+    kept
 }
 
 #[test]
 fn limits_of_lines_and_octets(rt: HostRuntime) {
-    let alloc = rt.alloc();
-    assert!(rt; LIMITS.iter().all(|row| is_limit(alloc, row)));
+    assert_eq!(&rt; limits_kept(rt.alloc()), LIMITS.len());
 }
 
-/// The fault of a reply of one line with so many octets.
-fn fault_of_one_line(alloc: Global, octets: usize) -> Option<ReplyFault> {
-    let line = long_line(alloc, b"200 ", octets)?;
-    Reader::new(alloc).line(&line).err()
+/// What a new reader answers to one line of so many octets.
+fn hears_one(alloc: Global, octets: usize) -> Result<bool, ReplyFault> {
+    hears_long(&mut Reader::new(alloc), alloc, b"200 ", octets)
 }
 
 #[test]
 fn a_reply_of_one_line_has_8192_octets_at_most(rt: HostRuntime) {
-    assert!(rt; fault_of_one_line(rt.alloc(), 8192).is_none());
-    assert!(rt; fault_of_one_line(rt.alloc(), 8193) == Some(ReplyFault::TooMany));
+    assert!(rt; hears_one(rt.alloc(), 8192) == Ok(true));
+    assert!(rt; hears_one(rt.alloc(), 8193) == Err(ReplyFault::TooMany));
 }
