@@ -25,10 +25,6 @@ use Rattle.ftp_direct.proofs.ResolveLemmas.{dot_here}
 pub name_component : (name : List ℕ) → is_name name ≡ true → is_component name ≡ true
 name_component name named = (and_parts (is_component name) (nat_le (length name) 255) named).0
 
-pub name_some : (name : List ℕ) → is_name name ≡ true → name ≢ []
-name_some [] named e = false≢true (name_component [] named)
-name_some (octet ∷ name) named e = cc
-
 pub name_text : (name : List ℕ) → is_name name ≡ true → is_path_text name ≡ true
 name_text = name-text
 
@@ -61,11 +57,6 @@ child_is path name named =
 
 pub place_here : (cwd : Names) (text : List ℕ) → (length text == 0) ≡ true → resolved cwd (46 ∷ []) ≡ place cwd text
 place_here cwd text empty = dot_here cwd ∙ ap (λ b. if b then cwd else resolved cwd text) (sym empty)
-
-pub text_some : (path : Names) → text_of path ≢ []
-unfolding text_of
-text_some [] e = cc
-text_some (name ∷ names) e = cc
 
 -- ---- entries
 

@@ -1,9 +1,9 @@
 // Operations that list.
-ghost use Rattle.std.specs.Prelude.{◌≡◌, ◌≢◌, ◌<◌, ◌++◌, [], IsTrue, IfOk, IfSome, OnOk, MatchOption, false, map, option_and_then, option_map, true};
+ghost use Rattle.std.specs.Prelude.{◌≡◌, ◌<◌, ◌++◌, IsTrue, IfOk, IfSome, OnOk, MatchOption, false, map, option_and_then, option_map, true};
 ghost use Rattle.std.specs.List.{filter_map, list_all};
 ghost use Rattle.std.specs.Option.{ForSome, option_to_list};
 ghost use Rattle.ftp_facts.specs.Fact.{IsValue};
-ghost use Rattle.ftp_path.specs.Path.{fits, is_component, is_name};
+ghost use Rattle.ftp_path.specs.Path.{IsPathText, fits, is_component, is_name};
 ghost use Rattle.ftp_tree.specs.Tree.{Dir, children, size_at};
 ghost use Rattle.ftp_operation.specs.Answer.{listed_of, said_of};
 ghost use Rattle.ftp_direct.specs.Direct.{behind, due, entries_in, entry_at, entry_in, file_in, here, listing_code, names_for, perm_of, place, size_fact};
@@ -119,7 +119,7 @@ fn entry<A: Allocator + Clone, T: Tree<A>>(
     name: &[u8],
 ) -> Result<Entry<A>, AllocError>
     requires path { IsTrue (list_all is_component path.now) }
-    requires name { name.now ≢ [] }
+    requires name { IsPathText name.now }
     ensures { IfOk result (λ entry. listed_of entry ≡ entry_at (T.table tree.now) path.now name.now) }
 {
     let name = Text::copy_of(alloc.clone()?, name)?;

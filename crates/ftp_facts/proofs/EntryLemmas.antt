@@ -3,13 +3,15 @@ use Rattle.std.proofs.Common.{◌≡◌, ◌≢◌, ℕ, ◌<◌, ◌^◌, List,
 use Rattle.std.specs.Option.{ForSome}
 use Rattle.std.specs.Result.{IsErrAnd}
 use Rattle.ftp_facts.specs.declared.fault.FactFault.{FactFault}
-use Rattle.ftp_facts.specs.declared.fault.FactFault.TheVariants.{NoSpace, BadFact, BadMoment, Memory}
+use Rattle.ftp_facts.specs.declared.fault.FactFault.TheVariants.{NoSpace, BadFact, BadMoment, Memory, BadName}
 use Rattle.std.specs.List.{find}
 use Rattle.std.proofs.lemmas.List.Elements.{All-head, All-tail, All-cons, All-nil}
 use Rattle.std.specs.Str.Parse.{digits_value}
 use Rattle.std.proofs.lemmas.Str.Parse.{digits_value_short}
 use Rattle.ftp_facts.specs.Fact.{Fact, IsFact, Lacks, IsValue, IsNumber, SaysSize, AreFacts, HasValue, facts_text, first_value, is_named, space, equals, semicolon}
-use Rattle.ftp_facts.specs.Entry.{HasParts, NoParts, SaysFact, IsMoment, IsSound, Refuses}
+use Rattle.ftp_path.specs.Path.{IsPathText}
+use Rattle.ftp_facts.specs.declared.moment.Moment.{Moment}
+use Rattle.ftp_facts.specs.Entry.{HasParts, NamesMoment, NoParts, SaysFact, IsMoment, IsSound, Refuses}
 use Rattle.ftp_facts.proofs.FactLemmas.{Lacks-middle, Lacks-front, Lacks-back, cut-same, facts_after, nonempty, own}
 
 -- octets are the facts of one list
@@ -96,6 +98,7 @@ NoParts-refuses line NoSpace denies = denies
 NoParts-refuses line BadFact denies = (denies.0, λ name kind size modify perm sound. denies.1 name kind size modify perm sound.parts)
 NoParts-refuses line BadMoment denies = absurd denies
 NoParts-refuses line Memory denies = absurd denies
+NoParts-refuses line BadName denies = absurd denies
 
 -- and so are one without a pathname and one whose Size is no number
 pub no_name : (line name : List ℕ) (kind size modify perm : Option (List ℕ)) → HasParts line name kind size modify perm → name ≡ [] → Refuses line BadFact
@@ -111,6 +114,25 @@ pub no_moment : (line name : List ℕ) (kind size modify perm : Option (List ℕ
 no_moment line name kind size None perm sound denies = absurd (denies (λ text e. cc))
 no_moment line name kind size (Some modify) perm sound denies =
     (name, kind, size, modify, perm, sound, λ is. denies (λ text e. let same : text ≡ modify = cc in rw same is))
+
+-- and so is a pathname that is no path text
+pub no_path_text : (line name : List ℕ) (kind size modify perm : Option (List ℕ)) → HasParts line name kind size modify perm → name ≢ [] → ForSome size IsNumber → ForSome modify IsMoment → ¬ (IsPathText name) → Refuses line BadName
+no_path_text line name kind size modify perm parts named sized moment other =
+    (name, kind, size, modify, perm, record { parts = parts; named = named; sized = sized }, moment, other)
+
+-- a path text is not empty
+pub path_text-some : (text : List ℕ) → IsPathText text → text ≢ []
+path_text-some [] is = λ e. absurd (none is)
+  where
+    none : IsPathText [] → ⊥
+    none is = let never : false ≡ true = is in cc
+path_text-some (c ∷ text) is = λ e. cc
+
+-- a Modify that says a moment, or none that is there
+pub SaysFact-moment : (text : Option (List ℕ)) (modify : Option Moment) → SaysFact NamesMoment text modify → ForSome text IsMoment
+SaysFact-moment None modify says = λ t e. cc
+SaysFact-moment (Some text) None says = absurd says
+SaysFact-moment (Some text) (Some moment) says = λ t e. let same : t ≡ text = cc in rw same (moment.seconds, says)
 
 -- what says a size is a number below 10 ^ 18
 pub SaysFact-number : (text : Option (List ℕ)) (size : Option ℕ) → SaysFact SaysSize text size → ForSome text IsNumber

@@ -2,11 +2,12 @@
 use Rattle.std.specs.Prelude.{◌≡◌, ◌≢◌, ℕ, List, [], ◌∷◌, ◌++◌, All, Option, Some, None, option_map, true, ⊤, codes, decimal}
 use Rattle.std.specs.Option.{ForSome}
 use Rattle.ftp_facts.specs.declared.fault.FactFault.{FactFault}
-use Rattle.ftp_facts.specs.declared.fault.FactFault.TheVariants.{NoSpace, BadFact, BadMoment, Memory}
+use Rattle.ftp_facts.specs.declared.fault.FactFault.TheVariants.{NoSpace, BadFact, BadMoment, Memory, BadName}
 use Rattle.ftp_facts.specs.declared.moment.Moment.{Moment}
 use Rattle.ftp_facts.specs.declared.entry.Kind.{Kind}
 use Rattle.ftp_facts.specs.declared.entry.Kind.TheVariants.{File, Dir, CurrentDir, ParentDir, Other}
 use Rattle.ftp_facts.specs.declared.entry.Entry.{Entry}
+use Rattle.ftp_path.specs.Path.{IsPathText}
 use Rattle.ftp_facts.specs.Moment.{SaysMoment, moment_digits}
 use Rattle.ftp_facts.specs.Fact.{Fact, IsFact, Lacks, IsNumber, SaysSize, IsOtherWord, facts_text, first_value, given, is_word, space, file_word, dir_word, current_word, parent_word}
 
@@ -30,6 +31,7 @@ NoParts line BadFact =
     × ((name : List ℕ) (kind size modify perm : Option (List ℕ)) → ¬ (HasParts line name kind size modify perm))
 NoParts line BadMoment = ⊥
 NoParts line Memory = ⊥
+NoParts line BadName = ⊥
 
 -- the value of a Type names this type: one of the four words, whose letters have no case, or another
 abbrev pub NamesKind : {A : Type 0} → List ℕ → Kind A → Type 0
@@ -50,13 +52,13 @@ SaysFact Says None (Some value) = ⊥
 SaysFact Says (Some text) None = ⊥
 SaysFact Says (Some text) (Some value) = Says text value
 
--- The line says a pathname, and what its facts say: the text of its Type, a number, a moment and the text
+-- The line says a pathname that is a path text, and what its facts say: the text of its Type, a number, a moment and the text
 -- of its Perm, each where there is such a fact.
 pub record Says (line name : List ℕ) (kind : Option (List ℕ)) (size : Option ℕ) (modify : Option Moment) (perm : Option (List ℕ)) : Type 0 where
   pub size_text : Option (List ℕ)
   pub modify_text : Option (List ℕ)
   pub parts : HasParts line name kind size_text modify_text perm
-  pub named : name ≢ []
+  pub named : IsPathText name
   pub size_said : SaysFact SaysSize size_text size
   pub modify_said : SaysFact NamesMoment modify_text modify
 
@@ -76,7 +78,7 @@ pub record IsSound (line name : List ℕ) (kind size modify perm : Option (List 
   pub named : name ≢ []
   pub sized : ForSome size IsNumber
 
--- The line meets this fault and none before it. Memory is refused only where the line has no fault.
+-- The line meets this fault and none of a lower number, want of memory aside: that comes only where the line has no fault.
 abbrev pub Refuses : List ℕ → FactFault → Type 0
 Refuses line NoSpace = Lacks line space
 Refuses line BadFact =
@@ -88,6 +90,9 @@ Refuses line BadMoment =
 Refuses line Memory =
     (name : List ℕ) × (kind : Option (List ℕ)) × (size : Option ℕ) × (modify : Option Moment)
     × (perm : Option (List ℕ)) × Says line name kind size modify perm
+Refuses line BadName =
+    (name : List ℕ) × (kind : Option (List ℕ)) × (size : Option (List ℕ)) × (modify : Option (List ℕ))
+    × (perm : Option (List ℕ)) × IsSound line name kind size modify perm × ForSome modify IsMoment × (¬ (IsPathText name))
 
 -- the word of a type
 abbrev pub word_of : {A : Type 0} → Kind A → List ℕ

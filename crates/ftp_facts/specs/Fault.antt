@@ -1,7 +1,7 @@
 -- The faults as programs print them.
 use Rattle.std.specs.Prelude.{ℕ, List, codes}
 use Rattle.ftp_facts.specs.declared.fault.FactFault.{FactFault}
-use Rattle.ftp_facts.specs.declared.fault.FactFault.TheVariants.{NoSpace, BadFact, BadMoment, Memory}
+use Rattle.ftp_facts.specs.declared.fault.FactFault.TheVariants.{NoSpace, BadFact, BadMoment, Memory, BadName}
 
 -- the number and the name of a fault
 abbrev pub fault_text : FactFault → List ℕ
@@ -9,3 +9,4 @@ fault_text NoSpace = codes "F1 NoSpace"
 fault_text BadFact = codes "F2 BadFact"
 fault_text BadMoment = codes "F3 BadMoment"
 fault_text Memory = codes "F4 Memory"
+fault_text BadName = codes "F5 BadName"

@@ -1,6 +1,7 @@
 //! An entry of a listing.
-ghost use Rattle.std.specs.Prelude.{◌≡◌, ◌≢◌, ℕ, List, [], ◌<◌, Some};
+ghost use Rattle.std.specs.Prelude.{◌≡◌, ℕ, List, ◌<◌, Some};
 ghost use Rattle.std.specs.Option.{ForSome};
+ghost use Rattle.ftp_path.specs.Path.{IsPathText};
 ghost use Rattle.ftp_facts.specs.Fact.{IsValue, IsOtherWord};
 ghost use Rattle.ftp_facts.specs.declared.entry.Kind.TheVariants.{Other};
 
@@ -25,13 +26,14 @@ pub enum Kind<A: Allocator> {
 /// An entry of a machine listing: a pathname and the facts that are given (RFC 3659, section 7.2).
 #[derive(Debug, Drop)]
 pub struct Entry<A: Allocator> {
+    /// A path text.
     pub name: Text<A>,
     pub kind: Option<Kind<A>>,
     /// In octets.
     pub size: Option<u64>,
     pub modify: Option<Moment>,
     pub perm: Option<Text<A>>,
-    pub ghost named: { name ≢ [] },
+    pub ghost named: { IsPathText name },
     pub ghost kind_fits: { (word : List ℕ) → kind ≡ Some (Other word) → IsOtherWord word },
     pub ghost size_fits: { ForSome size (λ n. n < 1_000_000_000_000_000_000) },
     pub ghost perm_fits: { ForSome perm IsValue },

@@ -15,6 +15,9 @@ pub enum FactFault {
     /// Memory was refused.
     #[error("F4 Memory")]
     Memory,
+    /// The pathname is no path text.
+    #[error("F5 BadName")]
+    BadName,
 }
 
 impl FactFault {
@@ -30,6 +33,7 @@ impl FactFault {
             FactFault::BadFact => "F2 BadFact",
             FactFault::BadMoment => "F3 BadMoment",
             FactFault::Memory => "F4 Memory",
+            FactFault::BadName => "F5 BadName",
         }
     }
 }

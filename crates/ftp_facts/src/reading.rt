@@ -1,16 +1,19 @@
 //! From a line to an entry.
-ghost use Rattle.std.specs.Prelude.{◌≡◌, ◌≢◌, [], ◌<◌, IfOk, IfErr};
+ghost use Rattle.std.specs.Prelude.{◌≡◌, ◌<◌, IfOk, IfErr};
 ghost use Rattle.std.specs.Option.{ForSome, option_copied};
+ghost use Rattle.ftp_path.specs.Path.{IsPathText};
 ghost use Rattle.ftp_facts.specs.Fact.{IsNumber, IsValue, SaysSize};
 ghost use Rattle.ftp_facts.specs.Entry.{HasParts, NoParts, NamesKind, NamesMoment, SaysFact, IsMoment, Says, SaysEntry, Refuses};
 
 use crate::facts::{is_word, size_of, split_at_octet, value_of};
 use crate::{Entry, FactFault, Kind, Moment, Text, moment_of_text};
+use ftp_path::is_path_text;
 use std::alloc::{AllocError, Allocator};
 
 /// Reads a line of a listing, without its end (RFC 3659, section 7.2).
 ///
-/// Of several faults the first of [`FactFault`] is given; the whole line is always read. Memory is asked for last.
+/// Of several faults the one with the lowest number is given; the whole line is always read. Memory is asked for last, so
+/// that `Memory` comes only where there is no other fault.
 pub fn read_entry<A: Allocator + Clone>(alloc: A, line: &[u8]) -> Result<Entry<A>, FactFault>
     ensures says { IfOk result (SaysEntry line.now) }
     ensures refuses { IfErr result (Refuses line.now) }
@@ -41,13 +44,17 @@ fn see(line: &[u8]) -> Result<Seen<'_>, FactFault>
     if parts.name.is_empty() {
         return Err(FactFault::BadFact);
     }
-    Ok(Seen {
+    let seen = Seen {
         name: parts.name,
         kind: parts.kind,
         size: read_size(parts.size)?,
         modify: read_modify(parts.modify)?,
         perm: parts.perm,
-    })
+    };
+    if !is_path_text(seen.name) {
+        return Err(FactFault::BadName);
+    }
+    Ok(seen)
 }
 
 /// What stands in a line.
@@ -107,7 +114,7 @@ fn read_modify(text: Option<&[u8]>) -> Result<Option<Moment>, FactFault>
 
 /// The entry that owns what was seen.
 fn keep<A: Allocator + Clone>(alloc: A, seen: Seen<'_>) -> Result<Entry<A>, AllocError>
-    requires named { seen.name.now ≢ [] }
+    requires named { IsPathText seen.name.now }
     requires kind { ForSome (option_copied seen.kind) IsValue }
     requires size { ForSome seen.size (λ n. n < 1_000_000_000_000_000_000) }
     requires perm { ForSome (option_copied seen.perm) IsValue }

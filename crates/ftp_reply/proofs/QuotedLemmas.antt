@@ -1,13 +1,12 @@
 -- A quoted path has one end and one text.
-use Rattle.std.proofs.Common.{◌≡◌, ◌≢◌, ◌==◌, ℕ, ◌<◌, Bool, true, false, ◌⊎◌, inl, inr, if◌then◌else◌, [], ◌∷◌, ◌++◌, length, All, refl, ap, sym, ◌∙◌, subst, append_assoc, append-nil, arith, eqb-true, eq-eqb}
+use Rattle.std.proofs.Common.{◌≡◌, ◌≢◌, ◌==◌, ◌&&◌, ℕ, ◌<◌, ◌≤◌, Bool, true, false, ◌⊎◌, inl, inr, if◌then◌else◌, [], ◌∷◌, ◌++◌, length, All, refl, ap, sym, ◌∙◌, subst, append_assoc, append-nil, arith, eqb-true, eq-eqb}
+use Rattle.std.specs.Prelude.{nat_le}
+use Rattle.std.proofs.lemmas.Bool.Decides.{nat_tests}
 use Rattle.std.proofs.lemmas.List.{length-append}
 use Rattle.ftp_reply.proofs.FirstLemmas.{first_once}
+use Rattle.ftp_path.specs.Path.{IsPathText}
 use Rattle.ftp_reply.specs.Lines.{Text}
 use Rattle.ftp_reply.specs.Values.{doubled_octet, doubled, Closes, Quotes}
-
--- the text has its end
-abbrev pub IsClosed : Text → Type 0
-IsClosed text = (path : Text) × (behind : Text) × Closes text path behind
 
 pub doubled_as : (x : ℕ) (b : Bool) → (x == 34) ≡ b → ((x ≡ 34) × (doubled_octet x ≡ 34 ∷ 34 ∷ [])) ⊎ ((x ≢ 34) × (doubled_octet x ≡ x ∷ []))
 doubled_as x true e = inl (eqb-true x 34 e, ap (λ (b : Bool). if b then 34 ∷ 34 ∷ [] else x ∷ []) e)
@@ -60,30 +59,55 @@ closes_less text x rest (y ∷ path) behind e c =
 pub nothing_open : (path behind : Text) → Closes [] path behind → ⊥
 nothing_open path behind c = let n = length-append (doubled path) (34 ∷ behind) in let e = ap length c.text_is in omega arith
 
--- octets read so far, in front of the path that the rest closes
+-- octets read so far: the path is they and what the rest closes
 pub record ReadsOn (text path rest : Text) : Type 0 where
-  pub closed : IsClosed rest
   pub back : (more behind : Text) → Closes rest more behind → Closes text (path ++ more) behind
+  pub forth : (whole behind : Text) → Closes text whole behind → (more : Text) × (whole ≡ path ++ more) × Closes rest more behind
 
-pub reads_first : (text : Text) → IsClosed text → ReadsOn text [] text
-reads_first text closed = record { closed = closed; back = λ more behind c. c }
+pub reads_first : (text : Text) → ReadsOn text [] text
+reads_first text = record { back = λ more behind c. c; forth = λ whole behind c. (whole, refl, c) }
 
 pub reads_more : (text path rest : Text) (x : ℕ) (rest' : Text) → rest ≡ doubled_octet x ++ rest' → ReadsOn text path rest → ReadsOn text (path ++ x ∷ []) rest'
-reads_more text path rest x rest' e r =
-    let l = closes_less rest x rest' r.closed.0 r.closed.1 e r.closed.2 in
-    record {
-      closed = (l.less, r.closed.1, l.closes);
-      back = λ more behind c. subst (λ (p : Text). Closes text p behind) (sym (append_assoc path (x ∷ []) more)) (r.back (x ∷ more) behind (closes_more rest x rest' more behind e c));
-    }
+reads_more text path rest x rest' e r = record {
+  back = λ more behind c. subst (λ (p : Text). Closes text p behind) (sym (append_assoc path (x ∷ []) more)) (r.back (x ∷ more) behind (closes_more rest x rest' more behind e c));
+  forth = λ whole behind c.
+      let f = r.forth whole behind c in
+      let l = closes_less rest x rest' f.0 behind e f.2 in
+      (l.less, f.1 ∙ ap (λ (p : Text). path ++ p) l.path_is ∙ sym (append_assoc path (x ∷ []) l.less), l.closes);
+}
 
 pub reads_end : (text path rest behind : Text) → ReadsOn text path rest → Closes rest [] behind → Closes text path behind
 reads_end text path rest behind r c = subst (λ (p : Text). Closes text p behind) (append-nil path) (r.back [] behind c)
 
--- what quotes a path has its end behind its first double quote
-pub quotes_closed : (text before inside path : Text) → text ≡ before ++ 34 ∷ inside → All (λ octet. octet ≢ 34) before → Quotes text path → IsClosed inside
-quotes_closed text before inside path e all q =
+-- where one octet more stands, the path is longer than what was read
+pub reads_past : (text path rest : Text) (x : ℕ) (rest' : Text) → rest ≡ doubled_octet x ++ rest' → ReadsOn text path rest → (whole behind : Text) → Closes text whole behind → length path < length whole
+reads_past text path rest x rest' e r whole behind c =
+    let f = r.forth whole behind c in
+    let l = closes_less rest x rest' f.0 behind e f.2 in
+    omega (arith, ap length f.1, ap length l.path_is, length-append path f.0)
+
+-- where nothing is left, nothing closes the text
+pub reads_out : (text path rest : Text) → rest ≡ [] → ReadsOn text path rest → (whole behind : Text) → Closes text whole behind → ⊥
+reads_out text path rest e r whole behind c =
+    let f = r.forth whole behind c in
+    nothing_open f.0 behind (subst (λ (xs : Text). Closes xs f.0 behind) e f.2)
+
+both : (a b : Bool) → (a && b) ≡ true → (a ≡ true) × (b ≡ true)
+both true b is = (refl, is)
+both false b is = absurd (let never : false ≡ true = is in cc)
+
+-- a path text has at most 900 octets
+pub path_text-short : (text : Text) → IsPathText text → length text ≤ 900
+path_text-short text is =
+    let sized : (nat_le 1 (length text) && nat_le (length text) 900) ≡ true = (both _ _ is).0 in
+    let short : nat_le (length text) 900 ≡ true = (both (nat_le 1 (length text)) (nat_le (length text) 900) sized).1 in
+    grind (arith, nat_tests)
+
+-- what quotes a path closes it behind its first double quote
+pub quotes_closes : (text before inside path : Text) → text ≡ before ++ 34 ∷ inside → All (λ octet. octet ≢ 34) before → Quotes text path → (behind : Text) × Closes inside path behind
+quotes_closes text before inside path e all q =
     let same : inside ≡ q.inside = first_once 34 before inside q.before q.inside all q.first (sym e ∙ q.text_is) in
-    (path, q.behind, subst (λ (xs : Text). Closes xs path q.behind) (sym same) q.closes)
+    (q.behind, subst (λ (xs : Text). Closes xs path q.behind) (sym same) q.closes)
 
 pub closed_quotes : (text before inside path behind : Text) → text ≡ before ++ 34 ∷ inside → All (λ octet. octet ≢ 34) before → Closes inside path behind → Quotes text path
 closed_quotes text before inside path behind e all c = record {

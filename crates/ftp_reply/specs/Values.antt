@@ -5,6 +5,7 @@ use Rattle.std.specs.List.{flat_map}
 use Rattle.ftp_endpoint.specs.declared.endpoint.Endpoint.{Endpoint}
 use Rattle.ftp_endpoint.specs.Endpoint.{BeginsWithSix, BeginsWithPort}
 use Rattle.ftp_endpoint.specs.Number.{SaysNumber}
+use Rattle.ftp_path.specs.Path.{IsPathText}
 use Rattle.ftp_reply.specs.Lines.{Text}
 use Rattle.ftp_reply.specs.declared.quoted.Front.{Front}
 use Rattle.ftp_reply.specs.declared.quoted.Front.TheVariants.{Octet, End, Nothing}
@@ -60,6 +61,11 @@ pub record Quotes (text path : Text) : Type 0 where
   pub text_is : text ≡ before ++ 34 ∷ inside
   pub first : All (λ octet. octet ≢ 34) before
   pub closes : Closes inside path behind
+
+-- the text names the path: it quotes it, and it is a path text
+pub record NamesPath (text path : Text) : Type 0 where
+  pub quoted : Quotes text path
+  pub is_path : IsPathText path
 
 -- a restart marker: 1 to 255 octets 33 to 126 (RFC 959, section 3.4.2; own limit)
 pub record IsMarker (text : Text) : Type 0 where

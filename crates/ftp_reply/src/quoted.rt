@@ -1,12 +1,14 @@
 //! The path between double quotes.
-ghost use Rattle.std.specs.Prelude.{◌≡◌, ◌≢◌, ◌⊎◌, ◌↔◌, ◌++◌, ◌∷◌, [], List, ℕ, All, IfOk, IfErr, IfSome, IfNone, IsErrOf, IsTrue};
+ghost use Rattle.std.specs.Prelude.{◌≡◌, ◌<◌, ◌⊎◌, ◌↔◌, List, ℕ, length, IfOk, IfErr, IfSome, IfNone, IsErrOf};
 ghost use Rattle.ftp_reply.specs.Lines.{joined};
-ghost use Rattle.ftp_reply.specs.Values.{Closes, Quotes, IsFront};
+ghost use Rattle.ftp_reply.specs.Values.{Closes, NamesPath, IsFront};
 
 use crate::fault::ReplyFault;
 use crate::first::cut_at;
 use crate::reply::Reply;
-use std::alloc::{AllocError, Allocator};
+use arrayvec::ArrayVec;
+use ftp_path::is_path_text;
+use std::alloc::Allocator;
 
 /// What stands in front of a quoted text.
 #[derive(Clone, Copy)]
@@ -19,58 +21,62 @@ enum Front<'a> {
     Nothing,
 }
 
-/// The path that the reply quotes: from the first double quote to the next that isn't doubled, a doubled one as one
-/// (RFC 959, section 4.1.3 and appendix II).
+/// The path that the reply names: from the first double quote to the next that isn't doubled, a doubled one as one
+/// (RFC 959, section 4.1.3 and appendix II), where that is a path text.
 ///
-/// `NoPath` where nothing is quoted.
+/// `NoPath` where nothing is quoted, or no path text is.
 pub fn quoted_of<A: Allocator, B: Allocator>(
     alloc: B,
     reply: &Reply<A>,
 ) -> Result<Vec<u8, B>, ReplyFault>
-    ensures ok { IfOk result (λ path. Quotes (joined reply.now.lines) path.items) }
-    ensures no_path { IsErrOf result ReplyFault.NoPath ↔ ((path : List ℕ) → Quotes (joined reply.now.lines) path → ⊥) }
+    ensures ok { IfOk result (λ path. NamesPath (joined reply.now.lines) path.items) }
+    ensures no_path { IsErrOf result ReplyFault.NoPath ↔ ((path : List ℕ) → NamesPath (joined reply.now.lines) path → ⊥) }
     ensures faults { IfErr result (λ fault. (fault ≡ ReplyFault.NoPath) ⊎ (fault ≡ ReplyFault.Memory)) }
 {
-    let Some((_, inside)) = cut_at(b'"', reply.text()) else {
+    let Some(path) = path_text_in(reply.text()) else {
         return Err(ReplyFault::NoPath);
     };
-    if !is_closed(inside) {
-        return Err(ReplyFault::NoPath);
-    }
-    match path_in(alloc, inside) {
+    match Vec::from_slice(alloc, path.as_slice()) {
         Ok(path) => Ok(path),
         Err(_) => Err(ReplyFault::Memory),
     }
 }
 
-/// Whether a quoted text has its end.
-fn is_closed(text: &[u8]) -> bool
-    ensures { IsTrue result ↔ ((path : List ℕ) × (behind : List ℕ) × Closes text.now path behind) }
+/// The path that a text names.
+fn path_text_in(text: &[u8]) -> Option<ArrayVec<u8, 900>>
+    ensures some { IfSome result (λ path. NamesPath text.now path.items) }
+    ensures none { IfNone result ((path : List ℕ) → NamesPath text.now path → ⊥) }
 {
-    let mut rest = text;
-    loop {
-        match front_of(rest) {
-            Front::Octet(_, behind) => rest = behind,
-            Front::End => return true,
-            Front::Nothing => return false,
-        }
+    let Some((_, inside)) = cut_at(b'"', text) else {
+        return None;
+    };
+    let Some(path) = path_in(inside) else {
+        return None;
+    };
+    if !is_path_text(path.as_slice()) {
+        return None;
     }
+    Some(path)
 }
 
-/// The path of a quoted text that has its end.
-fn path_in<B: Allocator>(alloc: B, text: &[u8]) -> Result<Vec<u8, B>, AllocError>
-    requires { (path : List ℕ) × (behind : List ℕ) × Closes text.now path behind }
-    ensures { IfOk result (λ path. (behind : List ℕ) × Closes text.now path.items behind) }
+/// The path of a quoted text, up to its end; `None` where it has none, or none within the octets of a path text.
+fn path_in(text: &[u8]) -> Option<ArrayVec<u8, 900>>
+    ensures some { IfSome result (λ path. (behind : List ℕ) × Closes text.now path.items behind) }
+    ensures none { IfNone result ((path behind : List ℕ) → Closes text.now path behind → 900 < length path) }
 {
-    let mut path = Vec::new(alloc);
+    let mut path = ArrayVec::new();
     let mut rest = text;
     loop {
         match front_of(rest) {
             Front::Octet(octet, behind) => {
-                path.push(octet)?;
+                if path.is_full() {
+                    return None;
+                }
+                path.push(octet);
                 rest = behind;
             }
-            Front::End | Front::Nothing => return Ok(path),
+            Front::End => return Some(path),
+            Front::Nothing => return None,
         }
     }
 }

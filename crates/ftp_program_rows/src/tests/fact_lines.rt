@@ -47,6 +47,8 @@ const WORKED: &[Row<'static>] = &[
     (b"Size=x; a\n", 1, b"F2 BadFact\n"),
     (b"Type=file; \n", 1, b"F2 BadFact\n"),
     (b"Modify=20000230000000; a\n", 1, b"F3 BadMoment\n"),
+    (b"Type=file; \xC3\n", 1, b"F5 BadName\n"),
+    (b"Type=file; \xC3\xA9\n", 0, b"Type=file; \xC3\xA9\n"),
     (
         b"Modify=19991231235960.25; a\n",
         0,

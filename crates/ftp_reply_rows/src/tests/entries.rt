@@ -1,5 +1,5 @@
 //! Lines of a listing, and what is written of the entries that they say.
-use ftp_facts::{FactFault, read_entry, write_entry};
+use ftp_facts::{Entry, FactFault, read_entry, write_entry};
 use std::alloc::Global;
 
 /// A line, and either the line that is written of its entry or its fault.
@@ -59,6 +59,10 @@ const ROWS: &[(&str, &str)] = &[
     ("  ", "  "),
     (" ", "F2 BadFact"),
     ("", "F1 NoSpace"),
+    ("Type=file; \u{E9}", "Type=file; \u{E9}"),
+    ("Type=file; a\u{7F}", "F5 BadName"),
+    ("Size=x; a\u{7F}", "F2 BadFact"),
+    ("Modify=x; a\u{7F}", "F3 BadMoment"),
     // values
     ("Type=; a", "Type=; a"),
     ("Perm=; a", "Perm=; a"),
@@ -79,13 +83,16 @@ const ROWS: &[(&str, &str)] = &[
     ("Modify=x;Size=y;a", "F1 NoSpace"),
 ];
 
+/// Whether the line of the entry is this.
+pub fn is_written(alloc: Global, entry: &Entry<Global>, line: &[u8]) -> bool {
+    let mut out = Vec::new(alloc);
+    write_entry(entry, &mut out).is_ok() && out.as_slice() == line
+}
+
 /// Whether the line is written again as the other says: what is written of its entry, or its fault.
 fn is_answered(alloc: Global, line: &str, expected: &str) -> bool {
     match read_entry(alloc, line.as_bytes()) {
-        Ok(entry) => {
-            let mut out = Vec::new(alloc);
-            write_entry(&entry, &mut out).is_ok() && out.as_slice() == expected.as_bytes()
-        }
+        Ok(entry) => is_written(alloc, &entry, expected.as_bytes()),
         Err(fault) => fault.text() == expected,
     }
 }
@@ -110,7 +117,30 @@ const FAULTS: &[(FactFault, &str)] = &[
     (FactFault::BadFact, "F2 BadFact"),
     (FactFault::BadMoment, "F3 BadMoment"),
     (FactFault::Memory, "F4 Memory"),
+    (FactFault::BadName, "F5 BadName"),
 ];
+
+/// Lines whose pathname is no path text: half an octet pair, an overlong one, a surrogate, a control, and nothing but an end.
+const BAD_NAMES: &[&[u8]] = &[
+    b" \xC3",
+    b"Type=file; a\xC0\xAF",
+    b" \xED\xA0\x80",
+    b"Size=1; a\x1Fb",
+    b" a\r",
+];
+
+fn is_bad_name(alloc: Global, line: &[u8]) -> bool {
+    match read_entry(alloc, line) {
+        Ok(_) => false,
+        Err(fault) => fault == FactFault::BadName,
+    }
+}
+
+#[test]
+fn names_that_are_no_path_text(rt: HostRuntime) {
+    let alloc = rt.alloc();
+    assert!(rt; BAD_NAMES.iter().all(|line| is_bad_name(alloc, line)));
+}
 
 /// Whether the fault is printed so, both ways.
 fn is_printed(alloc: Global, fault: FactFault, expected: &str) -> bool {

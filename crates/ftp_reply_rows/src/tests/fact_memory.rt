@@ -1,17 +1,31 @@
 //! Each growth refused in turn.
+use super::entries::is_written;
 use ftp_facts::laws::entry_comes_back;
-use ftp_facts::{FactFault, Text, read_entry, write_entry};
+use ftp_facts::{Entry, FactFault, Text, read_entry, write_entry};
 use ftp_refusing::Refusing;
-use std::alloc::Global;
-use std::test::Fail;
+use std::alloc::{Allocator, Global};
 
 const LINE: &[u8] = b"Type=OS.unix=slink:/x;Size=12;Modify=20000229235959;Perm=adfrw; a b";
+
+/// Why the line is not read; nothing where it is.
+fn fault_of<A: Allocator + Clone>(alloc: A, line: &[u8]) -> Option<FactFault> {
+    match read_entry(alloc, line) {
+        Ok(_) => None,
+        Err(fault) => Some(fault),
+    }
+}
 
 /// How many growths the reading of the line asks for, with memory for each.
 fn growths(alloc: Global, line: &[u8]) -> u64 {
     let heap = Refusing::new(alloc, 0);
-    let _entry = read_entry(&heap, line);
+    let _fault = fault_of(&heap, line);
     0u64.wrapping_sub(heap.left())
+}
+
+/// Why the line is not read where that growth is refused.
+fn refused_fault(alloc: Global, refused: u64) -> Option<FactFault> {
+    let heap = Refusing::new(alloc, refused);
+    fault_of(&heap, LINE)
 }
 
 #[test]
@@ -19,55 +33,103 @@ fn reading_is_refused_memory(rt: HostRuntime) {
     let count = growths(rt.alloc(), LINE);
     assert_eq!(&rt; count, 3);
     for refused in 1..=count {
-        let heap = Refusing::new(rt.alloc(), refused);
-        let fault = read_entry(&heap, LINE).err();
-        assert_eq!(&rt; fault, Some(FactFault::Memory), "growth {refused}");
+        assert_eq!(&rt;
+            refused_fault(rt.alloc(), refused),
+            Some(FactFault::Memory),
+            "growth {refused}"
+        );
     }
 }
 
+const BAD: &[&[u8]] = &[
+    b"x",
+    b"Type=y;Size=x; a",
+    b"Type=y; ",
+    b"Type=y;Modify=1; a",
+    b"Type=y; \xC3",
+];
+
 #[test]
 fn a_bad_line_asks_for_no_memory(rt: HostRuntime) {
-    let lines: [&[u8]; 4] = [
-        b"x",
-        b"Type=y;Size=x; a",
-        b"Type=y; ",
-        b"Type=y;Modify=1; a",
-    ];
-    for line in lines {
+    for line in BAD {
         assert_eq!(&rt; growths(rt.alloc(), line), 0);
     }
 }
 
-#[test]
-fn writing_is_refused_memory(rt: HostRuntime) -> Result<(), Fail> {
-    let entry = read_entry(rt.alloc(), LINE)?;
-    let mut refused = 0u64;
+/// Whether the octets are those of before where `Memory` is answered, and else the whole line behind them. Gives which.
+fn is_refused<A: Allocator>(entry: &Entry<Global>, out: &mut Vec<u8, A>) -> Option<bool> {
+    match write_entry(entry, out) {
+        Ok(()) if out.len() == LINE.len() + 2 => Some(false),
+        Err(FactFault::Memory) if out.as_slice() == b"ab".as_slice() => Some(true),
+        _ => None,
+    }
+}
+
+/// Whether writing behind two octets is refused where that growth is; nothing where it goes wrong.
+fn writing_is_refused(alloc: Global, entry: &Entry<Global>, growth: u64) -> Option<bool> {
+    let heap = Refusing::new(alloc, growth.wrapping_add(1));
+    match Vec::from_slice(&heap, b"ab") {
+        Ok(mut out) => is_refused(entry, &mut out),
+        Err(_) => None,
+    }
+}
+
+/// How many of the first nineteen growths refuse the writing of the entry; nothing where one goes wrong.
+fn refused_writings(alloc: Global, entry: &Entry<Global>) -> Option<u64> {
+    let mut count = 0u64;
     for growth in 1..20u64 {
-        let heap = Refusing::new(rt.alloc(), growth.wrapping_add(1));
-        let mut out = Vec::from_slice(&heap, b"ab")?;
-        match write_entry(&entry, &mut out) {
-            Ok(()) => assert_eq!(&rt; out.len(), LINE.len() + 2),
-            Err(fault) => {
-                refused = refused.wrapping_add(1);
-                assert_eq!(&rt; fault, FactFault::Memory);
-                assert_eq!(&rt; out.as_slice(), b"ab".as_slice());
-            }
+        match writing_is_refused(alloc, entry, growth) {
+            Some(true) => count = count.wrapping_add(1),
+            Some(false) => {}
+            None => return None,
         }
     }
-    assert!(&rt; refused > 1 && refused < 19);
-    Ok(())
+    Some(count)
+}
+
+fn refused_writings_of_line(alloc: Global) -> Option<u64> {
+    match read_entry(alloc, LINE) {
+        Ok(entry) => refused_writings(alloc, &entry),
+        Err(_) => None,
+    }
 }
 
 #[test]
-fn an_entry_comes_back_or_memory_is_refused(rt: HostRuntime) -> Result<(), Fail> {
-    let entry = read_entry(rt.alloc(), LINE)?;
-    let back = entry_comes_back(rt.alloc(), &entry)?;
-    let mut out = Vec::new(rt.alloc());
-    write_entry(&back, &mut out)?;
-    assert_eq!(&rt; out.as_slice(), LINE);
-    let text = Text::copy_of(rt.alloc(), b"kept")?;
-    assert_eq!(&rt; text.as_slice(), b"kept".as_slice());
+fn writing_is_refused_memory(rt: HostRuntime) {
+    let refused = refused_writings_of_line(rt.alloc()).unwrap_or(0);
+    assert!(&rt; refused > 1 && refused < 19);
+}
+
+fn is_back(alloc: Global, entry: &Entry<Global>) -> bool {
+    match entry_comes_back(alloc, entry) {
+        Ok(back) => is_written(alloc, &back, LINE),
+        Err(_) => false,
+    }
+}
+
+fn comes_back(alloc: Global) -> bool {
+    match read_entry(alloc, LINE) {
+        Ok(entry) => is_back(alloc, &entry),
+        Err(_) => false,
+    }
+}
+
+#[test]
+fn an_entry_comes_back(rt: HostRuntime) {
+    assert!(&rt; comes_back(rt.alloc()));
+}
+
+/// Whether these octets are kept; nothing where memory is refused.
+fn is_kept<A: Allocator>(alloc: A) -> Option<bool> {
+    match Text::copy_of(alloc, b"kept") {
+        Ok(text) => Some(text.as_slice() == b"kept".as_slice()),
+        Err(_) => None,
+    }
+}
+
+#[test]
+fn a_text_is_kept_or_memory_is_refused(rt: HostRuntime) {
+    assert!(&rt; is_kept(rt.alloc()) == Some(true));
     let heap = Refusing::new(rt.alloc(), 1);
-    assert!(&rt; Text::copy_of(&heap, b"kept").is_err());
-    Ok(())
+    assert!(&rt; is_kept(&heap).is_none());
 }

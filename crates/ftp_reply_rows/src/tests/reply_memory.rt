@@ -1,5 +1,5 @@
 //! Each growth refused in turn.
-use super::common::{reply_of, reply_with, texts_are};
+use super::common::{hears, reply_of, reply_with, texts_are};
 use ftp_refusing::Refusing;
 use ftp_reply::{Reader, Reply, ReplyFault, quoted_of, write};
 use std::alloc::{Allocator, Global};
@@ -7,27 +7,48 @@ use std::test::Fail;
 
 const LONG: [u8; 400] = [b'x'; 400];
 
-const GROWING: &[&[u8]] = &[b"211-x", &LONG, b"211 end"];
+const BEGUN: &[&[u8]] = &[b"211-x", &LONG];
 
-/// Hears the growing lines, each once more where memory was wanted. Gives how often it was; nothing where the reply
-/// is not theirs.
+/// Hears a line, once more where memory was wanted, which is counted.
+fn hears_again<A: Allocator + Clone>(
+    reader: &mut Reader<A>,
+    line: &[u8],
+    wanted: &mut u64,
+) -> Option<bool> {
+    let mut answer = hears(reader, line);
+    if answer == Err(ReplyFault::Memory) {
+        *wanted = wanted.wrapping_add(1);
+        answer = hears(reader, line);
+    }
+    answer.ok()
+}
+
+/// Whether the last line ends the reply, with all its texts.
+fn is_ended<A: Allocator + Clone>(reader: &mut Reader<A>) -> bool {
+    match reader.line(b"211 end") {
+        Ok(Some(reply)) => texts_are(&reply, &[b"x", &LONG, b"end"]),
+        _ => false,
+    }
+}
+
+/// Hears a growing reply, each line once more where memory was wanted. Gives how often it was; nothing where the reply is
+/// not of these lines.
 fn wanted<A: Allocator + Clone>(alloc: A) -> Option<u64> {
     let mut reader = Reader::new(alloc);
     let mut wanted = 0u64;
-    let mut reply = None;
-    for line in GROWING {
-        let mut answer = reader.line(line);
-        if matches!(answer, Err(ReplyFault::Memory)) {
-            wanted = wanted.wrapping_add(1);
-            answer = reader.line(line);
+    for line in BEGUN {
+        if hears_again(&mut reader, line, &mut wanted) != Some(false) {
+            return None;
         }
-        reply = answer.ok()?;
     }
-    if texts_are(&reply?, &[b"x", &LONG, b"end"]) {
-        Some(wanted)
-    } else {
-        None
+    if is_ended(&mut reader) {
+        return Some(wanted);
     }
+    // memory was wanted at the last line, and now is not
+    if is_ended(&mut reader) {
+        return Some(wanted.wrapping_add(1));
+    }
+    None
 }
 
 #[test]
@@ -75,6 +96,8 @@ fn want_of_memory_comes_after_no_path(rt: HostRuntime) -> Result<(), Fail> {
     let none = reply_of(rt.alloc(), b"257 \"/a-path-of-more-than-eight-octets").ok_or("no reply")?;
     let heap = Refusing::new(rt.alloc(), 1);
     assert!(rt; path_len(&heap, &none) == Err(ReplyFault::NoPath));
+    let other = reply_of(rt.alloc(), b"257 \"/\xC3\" created").ok_or("no reply")?;
+    assert!(rt; path_len(&heap, &other) == Err(ReplyFault::NoPath));
     Ok(())
 }
 

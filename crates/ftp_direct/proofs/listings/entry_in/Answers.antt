@@ -1,13 +1,15 @@
-use Rattle.std.proofs.Common.{◌∙◌, ap, sym}
+use Rattle.std.proofs.Common.{◌∙◌, ap, subst, sym}
+use Rattle.ftp_path.specs.Path.{IsPathText}
+use Rattle.ftp_path.proofs.TextLemmas.{name-text}
 use Rattle.ftp_direct.specs.Direct.{entry_at}
-use Rattle.ftp_direct.proofs.ListingLemmas.{name_text, name_some, entry_in_none, entry_in_some}
+use Rattle.ftp_direct.proofs.ListingLemmas.{name_text, entry_in_none, entry_in_some}
 use Rattle.ftp_direct.proofs.listings.entry_in.Goals as goal
 
 pub find-requires : goal.find-requires
 find-requires g c = name_text c.args.name.now c.requires.name
 
 pub entry-requires-clause-name : goal.entry-requires-clause-name
-entry-requires-clause-name g c = λ e. name_some c.args.name.now c.requires.name (sym c.as_slice.ensures ∙ e)
+entry-requires-clause-name g c = subst IsPathText (sym c.as_slice.ensures) (name-text c.args.name.now c.requires.name)
 
 pub returns-in_default : goal.returns-in_default
 returns-in_default g c = entry_in_none _ _ c.args.name.now c.requires.name (rw c.in_default.is at c.in_ok-child.ensures.found)

@@ -4,7 +4,7 @@ use Rattle.ftp_reply.proofs.quoted.path_in.Given as goal
 
 -- what is read so far, and what the rest has, is the path
 abbrev pub invariant-loop-octet : goal.invariant-loop-octet
-invariant-loop-octet g l = ReadsOn l.fn.text l.path.items l.rest
+invariant-loop-octet l = ReadsOn l.fn.text l.path.items l.rest
 
 abbrev pub decreases-loop-octet : goal.decreases-loop-octet
-decreases-loop-octet g l = length l.rest
+decreases-loop-octet l = length l.rest
