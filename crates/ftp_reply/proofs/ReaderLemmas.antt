@@ -72,8 +72,4 @@ no_place_never_passes Failed lines line faults.BadCode none p = let n : Failed �
 no_place_never_passes Between lines line faults.Failed none p = let n : Between ≡ Failed = none in cc
 no_place_never_passes (Begun code) lines line faults.Failed none p = let n : Begun code ≡ Failed = none in cc
 no_place_never_passes Failed lines line faults.Failed none p = let n : Stopped ≡ Reading p.heard = p.old_is in cc
-no_place_never_passes stage lines line faults.TooMany none p = none
-no_place_never_passes stage lines line faults.Memory none p = none
-no_place_never_passes stage lines line faults.NoEndpoint none p = none
-no_place_never_passes stage lines line faults.NoPath none p = none
-no_place_never_passes stage lines line faults.NoNumber none p = none
+no_place_never_passes stage lines line other none p = none

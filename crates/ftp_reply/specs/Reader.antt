@@ -52,15 +52,14 @@ pub record KeepsLimits (old : Standing) (line : Text) : Type 0 where
   pub fits : Fits (heard ++ line ∷ []) code lines
   pub within : AreWithin lines
 
--- why a line is refused, and where the reader stands then: as before for want of memory, else stopped
+-- why a line is refused, and where the reader stands then: as before for want of memory, else stopped; no other fault is one
+-- of a line
 abbrev pub Refuses : Standing → Text → ReplyFault → Standing → Type 0
 Refuses old line faults.BadCode new = BeginsNone old line × (new ≡ Stopped)
 Refuses old line faults.TooMany new = PassesLimits old line × (new ≡ Stopped)
 Refuses old line faults.Memory new = KeepsLimits old line × (new ≡ old)
 Refuses old line faults.Failed new = (old ≡ Stopped) × (new ≡ Stopped)
-Refuses old line faults.NoEndpoint new = ⊥
-Refuses old line faults.NoPath new = ⊥
-Refuses old line faults.NoNumber new = ⊥
+Refuses old line other new = ⊥
 
 -- the lines of a reply that this code opened, as they came
 abbrev pub lines_as_heard : ℕ → List Text → List Text
@@ -94,11 +93,7 @@ IsPlaced false heard code lines = Begins heard code lines
 abbrev pub HasNoPlace : Stage → Text → ReplyFault → Type 0
 HasNoPlace stage line faults.BadCode = (stage ≡ Between) × ((code : ℕ) (lines : List Text) → ¬ Fits (line ∷ []) code lines)
 HasNoPlace stage line faults.Failed = stage ≡ Failed
-HasNoPlace stage line faults.TooMany = ⊥
-HasNoPlace stage line faults.Memory = ⊥
-HasNoPlace stage line faults.NoEndpoint = ⊥
-HasNoPlace stage line faults.NoPath = ⊥
-HasNoPlace stage line faults.NoNumber = ⊥
+HasNoPlace stage line other = ⊥
 
 -- these lines are the replies one behind another, and then the rest
 abbrev pub AreHeard : List Text → List (ℕ × List Text) → List Text → Type 0
