@@ -8,6 +8,7 @@ use Rattle.std.specs.Str.{all_ascii_digits}
 use Rattle.std.proofs.lemmas.List.Elements.{All-nil, All-cons, All-head, All-tail}
 use Rattle.std.proofs.lemmas.List.Splits.{join_with_byte-slice_split, slice_split_at, slice_split-cons_yes, slice_split-cons_no}
 use Rattle.ftp_operation.specs.Answer.{Listed}
+use Rattle.ftp_path.specs.Path.{IsPathText}
 use Rattle.ftp_endpoint.specs.Number.{SaysNumber}
 use Rattle.ftp_facts.specs.Entry.{SaysFact}
 use Rattle.ftp_facts.specs.Fact.{Fact, IsFact, Lacks, facts_text, first_value, SaysSize}
@@ -207,14 +208,14 @@ entry_says line entry e =
     let tests = both _ _ first.0 in
     let second = then_is (facts_of step.0) (listed_by name) entry step.2 in
     let facts = split_says before second.0 (ap facts_of first.1 ∙ second.1) in
-    by_cut second.0 tests.0 (at_most 1 (length name) tests.1) facts (listed_says name second.0 entry second.2) (cut_first is_space line)
+    by_cut second.0 tests.0 tests.1 facts (listed_says name second.0 entry second.2) (cut_first is_space line)
   where
-    by_cut : (facts : List Fact) → list_any is_space line ≡ true → 1 ≤ length (after_first is_space line) → Facts facts (before_first is_space line)
+    by_cut : (facts : List Fact) → list_any is_space line ≡ true → IsPathText (after_first is_space line) → Facts facts (before_first is_space line)
         → (size modify : Option ℕ) × SaysFact SaysSize (first_value (codes "Size") facts) size × SaysFact SaysMoment (first_value (codes "Modify") facts) modify
         × (listed_as (after_first is_space line) facts size modify ≡ entry)
         → (Fails is_space line × (after_first is_space line ≡ [])) ⊎ IsCut is_space line → SaysListed line entry
-    by_cut facts any some are said (inl none) = absurd (let never : true ≡ false = sym any ∙ none_passes is_space line none.0 in cc)
-    by_cut facts any some are (size, modify, size_is, modify_is, entry_is) (inr cut) =
+    by_cut facts any sayable are said (inl none) = absurd (let never : true ≡ false = sym any ∙ none_passes is_space line none.0 in cc)
+    by_cut facts any sayable are (size, modify, size_is, modify_is, entry_is) (inr cut) =
         let space : cut.octet ≡ 32 = eqb-true cut.octet 32 cut.passes in
         let name : List ℕ = after_first is_space line in
         let P : List ℕ → Type 0 = λ l. Lacks l 32 in
@@ -232,7 +233,7 @@ entry_says line entry e =
             modify_is = refl;
             perm_is = refl;
           };
-          named = λ none. absurd (let zero_long : length name ≡ 0 = ap length none in omega (arith, some, zero_long));
+          named = sayable;
           kind = refl;
           size = size_is;
           modify = modify_is;
@@ -240,10 +241,6 @@ entry_says line entry e =
 
 same_listed : (x y : Listed) → x.name ≡ y.name → x.kind ≡ y.kind → x.size ≡ y.size → x.modify ≡ y.modify → x.perm ≡ y.perm → x ≡ y
 same_listed x y name kind size modify perm i = record { name = name i; kind = kind i; size = size i; modify = modify i; perm = perm i }
-
-some_octet : (text : List ℕ) → text ≢ [] → 1 ≤ length text
-some_octet [] other = absurd (other refl)
-some_octet (c ∷ text) other = omega arith
 
 says_entry : (line : List ℕ) (entry : Listed) → SaysListed line entry → entry_value line ≡ Some entry
 unfolding entry_value
@@ -253,10 +250,9 @@ says_entry line entry s =
     let whole : List ℕ = before ++ 32 ∷ entry.name in
     let cut = first_cut is_space before 32 entry.name (fails 32 before p.spaceless) refl in
     let any = one_passes is_space before 32 entry.name refl in
-    let P : List ℕ → Type 0 = λ l. nat_le 1 (length l) ≡ true in
-    let long : nat_le 1 (length (after_first is_space whole)) ≡ true = subst P (sym cut.1) (is_at_most 1 (length entry.name) (some_octet entry.name s.named)) in
+    let sayable : IsPathText (after_first is_space whole) = subst IsPathText (sym cut.1) s.named in
     let found : given (has_entry whole) (slice_split is_semicolon (before_first is_space whole)) ≡ Some (slice_split is_semicolon before) =
-    is_given (has_entry whole) (slice_split is_semicolon (before_first is_space whole)) (and_both _ _ any long) ∙ ap (λ l. Some (slice_split is_semicolon l)) cut.0 in
+    is_given (has_entry whole) (slice_split is_semicolon (before_first is_space whole)) (and_both _ _ any sayable) ∙ ap (λ l. Some (slice_split is_semicolon l)) cut.0 in
     let size : fact_value number_value (first_value (codes "Size") p.facts) ≡ Some entry.size = ap (fact_value number_value) p.size_is ∙ says_fact number_value SaysSize says_size s.size_text entry.size s.size in
     let modify : fact_value moment_value (first_value (codes "Modify") p.facts) ≡ Some entry.modify =
     ap (fact_value moment_value) p.modify_is ∙ says_fact moment_value SaysMoment (λ text moment f. (moment_is_read text moment).1 f) s.modify_text entry.modify s.modify in

@@ -6,7 +6,7 @@ use Rattle.ftp_protocol.specs.client.Calls.{starts, listening, listen_refused, d
 use Rattle.ftp_protocol.specs.client.Dialogue.{answered}
 use Rattle.ftp_protocol.specs.client.Listing.{moment_value}
 use Rattle.ftp_protocol.specs.client.Replies.{line_heard}
-use Rattle.ftp_protocol.specs.client.Values.{passive_value, extended_value, quoted_value, mark_value}
+use Rattle.ftp_protocol.specs.client.Values.{passive_value, extended_value, quoted_value, path_value, mark_value}
 use Rattle.ftp_protocol.specs.client.Rows.{ActiveDownload, ActiveReport, BrokenDownload, BrokenUpload, Endpoints, Judged, Login, LongGreeting, MarkRead, Moment, NotOpened, OtherHosts, OtherOrders, OwnCode, PassiveDownload, PassiveUpload, PassivePort, Quoted, Rename, TwoCodes, Unasked, Unsendable}
 
 pub login : Login
@@ -38,7 +38,7 @@ unfolding line_heard
 own_code = refl
 
 pub judged : Judged
-unfolding answered starts quoted_value
+unfolding answered starts quoted_value path_value path_on_literals
 judged = (refl, refl, refl, refl, refl, refl)
 
 pub two_codes : TwoCodes

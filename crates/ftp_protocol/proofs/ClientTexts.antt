@@ -6,9 +6,10 @@ use Rattle.std.specs.Option.{option_map, is_some, unwrap_or}
 use Rattle.std.proofs.lemmas.List.Elements.{All-nil, All-cons, All-head, All-tail}
 use Rattle.ftp_endpoint.specs.Number.{SaysNumber}
 use Rattle.ftp_framer.specs.Marker.{is_marker_octet}
-use Rattle.ftp_reply.specs.Values.{doubled_octet, doubled, Closes, Quotes, IsMarker, SaysMark}
-use Rattle.ftp_protocol.specs.client.Laws.{QuotedIsRead, MarkIsRead}
-use Rattle.ftp_protocol.specs.client.Values.{given, and_then, number_value, is_quote, closed_behind, quoted_value, is_marker, behind_text, is_space, mark_behind, mark_value}
+use Rattle.ftp_reply.specs.Values.{doubled_octet, doubled, Closes, Quotes, NamesPath, IsMarker, SaysMark}
+use Rattle.ftp_path.specs.Path.{is_path_text}
+use Rattle.ftp_protocol.specs.client.Laws.{QuotedIsRead, PathIsRead, MarkIsRead}
+use Rattle.ftp_protocol.specs.client.Values.{given, and_then, number_value, is_quote, closed_behind, quoted_value, path_value, is_marker, behind_text, is_space, mark_behind, mark_value}
 use Rattle.ftp_protocol.proofs.ClientNumbers.{given_is, is_given, both, and_both, at_most, is_at_most, number_is_read}
 use Rattle.ftp_protocol.proofs.ValueLemmas.{then_is, is_then, behind_is, is_behind, Fails, IsCut, cut_first, first_cut, none_passes, one_passes}
 
@@ -217,3 +218,17 @@ says_path text path q =
 
 pub quoted_is_read : QuotedIsRead
 quoted_is_read text path = (path_says text path, says_path text path)
+
+pub path_is_read : PathIsRead
+unfolding path_value
+path_is_read text path = (named, of_named)
+  where
+    named : and_then (quoted_value text) (λ quoted. given (is_path_text quoted) quoted) ≡ Some path → NamesPath text path
+    named e =
+        let step = then_is (quoted_value text) (λ quoted. given (is_path_text quoted) quoted) path e in
+        let last = given_is (is_path_text step.0) step.0 path step.2 in
+        let P : List ℕ → Type 0 = λ l. NamesPath text l in
+        subst P last.1 (record { quoted = path_says text step.0 step.1; is_path = last.0 })
+    of_named : NamesPath text path → and_then (quoted_value text) (λ quoted. given (is_path_text quoted) quoted) ≡ Some path
+    of_named names =
+        is_then (quoted_value text) (λ quoted. given (is_path_text quoted) quoted) path path (says_path text path names.quoted) (is_given (is_path_text path) path names.is_path)

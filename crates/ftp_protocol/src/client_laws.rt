@@ -1,15 +1,16 @@
 //! Laws of the functions by which a client reads replies: functions that do nothing, whose contracts are laws of `specs/client`.
-ghost use Rattle.ftp_protocol.specs.client.Laws.{EntryIsRead, ExtendedIsRead, LineIsHeard, MarkIsRead, MomentIsRead, NumberIsRead, PassiveIsRead, QuotedIsRead};
+ghost use Rattle.ftp_protocol.specs.client.Laws.{EntryIsRead, ExtendedIsRead, LineIsHeard, MarkIsRead, MomentIsRead, NumberIsRead, PassiveIsRead, PathIsRead, QuotedIsRead};
 
 /// A number is read just where the text says one.
 pub fn number()
     ensures { NumberIsRead }
 {}
 
-/// A marker's number, and a path in double quotes, are read just where the text says one.
+/// A marker's number, a text in double quotes, and a path text there, are read just where the text says one.
 pub fn texts()
     ensures mark { MarkIsRead }
-    ensures path { QuotedIsRead }
+    ensures quoted { QuotedIsRead }
+    ensures path { PathIsRead }
 {}
 
 /// The endpoint of a 227 and the port of a 229 are read just where the text names one.

@@ -17,7 +17,7 @@ use Rattle.ftp_protocol.specs.client.Listing.{moment_value, facts_in}
 use Rattle.ftp_protocol.specs.client.Moving.{flow_of, content_answer, broken_answer}
 use Rattle.ftp_protocol.specs.client.Plan.{asked_settings, first_step, next_step, settings_behind, command_of, is_extended}
 use Rattle.ftp_protocol.specs.client.Replies.{Verdict, Preliminary, Completion, Intermediate, Negative, Closing, Displaced, verdict_of}
-use Rattle.ftp_protocol.specs.client.Values.{passive_value, extended_value, quoted_value, number_value, mark_value}
+use Rattle.ftp_protocol.specs.client.Values.{passive_value, extended_value, path_value, number_value, mark_value}
 use Rattle.ftp_protocol.specs.client.View.{View, Job, Waiting, Doing, Moving, Transfer, Flow, Up, Down, stands, finishes, finishes_read, fails, strange}
 use Rattle.ftp_protocol.specs.declared.client.Ending.{Ending}
 use Rattle.ftp_protocol.specs.declared.client.Ending.TheVariants as Endings
@@ -99,8 +99,8 @@ joined_text texts = joined texts
 
 -- what an operation's own command is answered: a row an operation, and none where the text has no value that is asked for
 abbrev pub answer_in : Op (List ℕ) → List Text → Option Said
-answer_in Ops.Where texts = option_map Path (quoted_value (joined_text texts))
-answer_in (Ops.MakeDir path) texts = option_map Path (quoted_value (joined_text texts))
+answer_in Ops.Where texts = option_map Path (path_value (joined_text texts))
+answer_in (Ops.MakeDir path) texts = option_map Path (path_value (joined_text texts))
 answer_in (Ops.Size path how) texts = option_map Number (number_value (joined_text texts))
 answer_in (Ops.Modified path) texts = option_map Stamp (moment_value (joined_text texts))
 answer_in (Ops.Facts path) texts = option_map Entry (facts_in texts)

@@ -1,6 +1,6 @@
 -- What ties the functions that read replies, entries and moments to the relations of ftp_reply and ftp_facts: each function gives
 -- what the relation says, and nothing where it says nothing.
-use Rattle.std.specs.Prelude.{◌≡◌, ◌≢◌, ◌↔◌, ◌⊎◌, ℕ, List, [], Option, Some, option_map}
+use Rattle.std.specs.Prelude.{◌≡◌, ◌↔◌, ◌⊎◌, ℕ, List, [], Option, Some, option_map}
 use Rattle.ftp_endpoint.specs.Number.{SaysNumber}
 use Rattle.ftp_operation.specs.Answer.{Listed}
 use Rattle.ftp_facts.specs.Entry.{HasParts, SaysFact}
@@ -9,10 +9,11 @@ use Rattle.ftp_facts.specs.Moment.{SaysMoment}
 use Rattle.ftp_reply.specs.Lines.{Text, AreWithin}
 use Rattle.ftp_reply.specs.Reader.{Standing, Reading, GoesOn as ReaderGoesOn, Ends, BeginsNone, PassesLimits, lines_as_heard}
 use Rattle.ftp_reply.specs.Reply.{Begins}
-use Rattle.ftp_reply.specs.Values.{NamesEndpoint, NamesPort, Quotes, SaysMark}
+use Rattle.ftp_path.specs.Path.{IsPathText}
+use Rattle.ftp_reply.specs.Values.{NamesEndpoint, NamesPath, NamesPort, Quotes, SaysMark}
 use Rattle.ftp_protocol.specs.client.Listing.{moment_value, entry_value, kind_word}
 use Rattle.ftp_protocol.specs.client.Replies.{Gathered, Between, Begun, Heard, GoesOn, Says, Faulty, line_heard}
-use Rattle.ftp_protocol.specs.client.Values.{passive_value, extended_value, quoted_value, number_value, mark_value}
+use Rattle.ftp_protocol.specs.client.Values.{passive_value, extended_value, quoted_value, path_value, number_value, mark_value}
 
 -- ---- values
 
@@ -29,6 +30,9 @@ ExtendedIsRead = Reads extended_value NamesPort
 abbrev pub QuotedIsRead : Type 0
 QuotedIsRead = Reads quoted_value Quotes
 
+abbrev pub PathIsRead : Type 0
+PathIsRead = Reads path_value NamesPath
+
 abbrev pub NumberIsRead : Type 0
 NumberIsRead = Reads number_value SaysNumber
 
@@ -44,7 +48,7 @@ pub record SaysListed (line : List ℕ) (entry : Listed) : Type 0 where
   pub size_text : Option (List ℕ)
   pub modify_text : Option (List ℕ)
   pub parts : HasParts line entry.name kind_text size_text modify_text entry.perm
-  pub named : entry.name ≢ []
+  pub named : IsPathText entry.name
   pub kind : entry.kind ≡ option_map kind_word kind_text
   pub size : SaysFact SaysSize size_text entry.size
   pub modify : SaysFact SaysMoment modify_text entry.modify

@@ -7,6 +7,7 @@ use Rattle.std.specs.Char.{is_ascii_digit}
 use Rattle.std.specs.Str.Parse.{digits_value}
 use Rattle.ftp_facts.specs.Calendar.{days_in_month, day_number, second_of_day}
 use Rattle.ftp_facts.specs.Fact.{Fact, first_value, is_word, file_word, dir_word, current_word, parent_word}
+use Rattle.ftp_path.specs.Path.{is_path_text}
 use Rattle.ftp_operation.specs.Answer.{Listed}
 use Rattle.ftp_protocol.specs.client.Values.{given, and_then, is_space, number_value}
 
@@ -90,9 +91,9 @@ listed_by name facts =
     and_then (fact_value number_value (first_value (codes "Size") facts)) (λ size.
     option_map (listed_as name facts size) (fact_value moment_value (first_value (codes "Modify") facts)))
 
--- facts, SP and a pathname that is not empty: the first SP ends the facts
+-- facts, SP and a pathname that is a path text: the first SP ends the facts
 abbrev pub has_entry : List ℕ → Bool
-has_entry line = list_any is_space line && nat_le 1 (length (after_first is_space line))
+has_entry line = list_any is_space line && is_path_text (after_first is_space line)
 
 unfoldable pub entry_value : List ℕ → Option Listed
 entry_value line =

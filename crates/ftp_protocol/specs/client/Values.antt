@@ -9,6 +9,7 @@ use Rattle.ftp_endpoint.specs.Number.{front_digits, behind_digits}
 use Rattle.ftp_endpoint.specs.declared.endpoint.Endpoint.{Endpoint}
 use Rattle.ftp_endpoint.specs.declared.host.Host.TheVariants.{V4}
 use Rattle.ftp_framer.specs.Marker.{is_marker_octet}
+use Rattle.ftp_path.specs.Path.{is_path_text}
 
 -- a value where a condition holds
 abbrev pub given : {X : Type 0} → Bool → X → Option X
@@ -101,6 +102,10 @@ closed_behind quoted (c ∷ text) =
 -- from the first double quote to the next that isn't doubled (RFC 959, appendix II)
 unfoldable pub quoted_value : List ℕ → Option (List ℕ)
 quoted_value text = and_then (given (list_any is_quote text) (after_first is_quote text)) (closed_behind false)
+
+-- the quoted path, where it is a path text (own choice)
+unfoldable pub path_value : List ℕ → Option (List ℕ)
+path_value text = and_then (quoted_value text) (λ path. given (is_path_text path) path)
 
 -- ---- markers
 
