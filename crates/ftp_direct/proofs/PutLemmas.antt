@@ -22,13 +22,13 @@ pub put_len : (file octets content : List ℕ) (kept : ℕ) → kept ≤ length 
 put_len file octets content kept within is =
     ap length is ∙ length-append (take kept file) octets ∙ ap (λ n. n + length octets) (length-take-le kept file within)
 
-room_le : (table : Table) (path : Names) → room_at table path ≤ 16777216
+room_le : (table : Table) (path : Names) → room_at table path ≤ 67108864
 unfolding room_at
 room_le table path = omega arith
 
 octets_clear : (table : Table) (path : Names) (count : ℕ) → count ≤ room_at table path → octets_refusal table path count ≡ None
 octets_clear table path count le =
-    ap (λ b. or_else (whenever (not b) TooBig) (whenever (not (nat_le count (room_at table path))) Full)) (le-leb count 16777216 (omega (arith, room_le table path)))
+    ap (λ b. or_else (whenever (not b) TooBig) (whenever (not (nat_le count (room_at table path))) Full)) (le-leb count 67108864 (omega (arith, room_le table path)))
     ∙ ap (λ b. whenever (not b) Full) (le-leb count (room_at table path) le)
 
 pub install_clear : (table : Table) (path : Names) (count room : ℕ) → room_refusal table path ≡ None → room ≡ room_at table path → nat_le count room ≡ true

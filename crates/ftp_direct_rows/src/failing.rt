@@ -1,14 +1,14 @@
 // A tree whose device fails.
-ghost use Rattle.std.specs.Prelude.{◌≡◌, None, true, false};
+ghost use Rattle.std.specs.Prelude.{◌≡◌, true, false};
 ghost use Rattle.ftp_tree.specs.Change.{next_count};
-ghost use Rattle.ftp_tree.specs.Tree.{delete_refusal, install_refusal, make_refusal, root_alone};
+ghost use Rattle.ftp_tree.specs.Tree.{root_alone};
 
 use ftp_facts::Moment;
 use ftp_tree::{Content, MemTree, Name, NodeKind, Path, Tree, TreeFault};
 use std::alloc::Allocator;
 
-/// A tree in memory whose device fails once, at the change whose number it is given. Counted are the directories made, the
-/// files deleted and the files installed, where no reason refuses them; a directory is removed and a name changed as in memory.
+/// A tree in memory whose device fails once, at the change whose number it is given. Counted are the changes of every kind
+/// that no reason refuses.
 #[derive(Drop)]
 pub struct FailingTree<A: Allocator + Copy> {
     tree: MemTree<A>,
@@ -43,39 +43,6 @@ impl<A: Allocator + Copy> FailingTree<A> {
         self.left = 0;
         self.failures = next(self.failures);
         true
-    }
-
-    /// Whether no reason keeps a directory from being made at a path.
-    fn can_make<B: Allocator>(&self, path: &Path<B>) -> bool
-        ensures { result ≡ true → make_refusal self.now.tree path.now ≡ None }
-    {
-        match self.tree.kind(path) {
-            Some(_) => false,
-            None => match self.tree.room(path) {
-                Ok(_) => true,
-                Err(_) => false,
-            },
-        }
-    }
-
-    /// Whether no reason keeps what stands at a path from being deleted.
-    fn can_delete<B: Allocator>(&self, path: &Path<B>) -> bool
-        ensures { result ≡ true → delete_refusal self.now.tree path.now ≡ None }
-    {
-        match self.tree.kind(path) {
-            Some(NodeKind::File) => true,
-            Some(NodeKind::Dir) | None => false,
-        }
-    }
-
-    /// Whether no reason keeps a file of so many octets from being installed at a path.
-    fn can_install<B: Allocator>(&self, path: &Path<B>, count: u64) -> bool
-        ensures { result ≡ true → install_refusal self.now.tree path.now count ≡ None }
-    {
-        match self.tree.room(path) {
-            Ok(room) => count <= room,
-            Err(_) => false,
-        }
     }
 }
 
@@ -120,18 +87,21 @@ impl<A: Allocator + Copy> Tree<A> for FailingTree<A> {
     }
 
     fn make_dir<B: Allocator>(&mut self, path: &Path<B>) -> Result<(), TreeFault> {
-        if self.can_make(path) && self.fails() {
+        if self.tree.make_refusal(path).is_none() && self.fails() {
             return Err(TreeFault::Device);
         }
         self.tree.make_dir(path)
     }
 
     fn remove_dir<B: Allocator>(&mut self, path: &Path<B>) -> Result<(), TreeFault> {
+        if self.tree.remove_refusal(path).is_none() && self.fails() {
+            return Err(TreeFault::Device);
+        }
         self.tree.remove_dir(path)
     }
 
     fn delete<B: Allocator>(&mut self, path: &Path<B>) -> Result<(), TreeFault> {
-        if self.can_delete(path) && self.fails() {
+        if self.tree.delete_refusal(path).is_none() && self.fails() {
             return Err(TreeFault::Device);
         }
         self.tree.delete(path)
@@ -142,6 +112,9 @@ impl<A: Allocator + Copy> Tree<A> for FailingTree<A> {
         from: &Path<B>,
         to: &Path<C>,
     ) -> Result<(), TreeFault> {
+        if self.tree.rename_refusal(from, to).is_none() && self.fails() {
+            return Err(TreeFault::Device);
+        }
         self.tree.rename(from, to)
     }
 
@@ -151,7 +124,8 @@ impl<A: Allocator + Copy> Tree<A> for FailingTree<A> {
         content: &mut Content<A>,
         moment: Moment,
     ) -> Result<(), TreeFault> {
-        if self.can_install(path, content.len()) && self.fails() {
+        let refusal = self.tree.install_refusal(path, content.len());
+        if refusal.is_none() && self.fails() {
             return Err(TreeFault::Device);
         }
         self.tree.install(path, content, moment)

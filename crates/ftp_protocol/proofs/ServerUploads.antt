@@ -108,7 +108,7 @@ abbrev ascii : List ℕ → Decoder
 ascii w = decoder_of defaults w
 
 -- so many octets pass no limit
-fits_room : (table : Table) (room : ℕ) (d : Decoder) → room_at table f_path ≡ room → nat_le (0 + length d.content) 16777216 ≡ true
+fits_room : (table : Table) (room : ℕ) (d : Decoder) → room_at table f_path ≡ room → nat_le (0 + length d.content) 67108864 ≡ true
     → nat_le (0 + length d.content) room ≡ true → is_over table f_path 0 d ≡ false
 fits_room table room d is small fit = rw small (rw is (rw fit refl))
 

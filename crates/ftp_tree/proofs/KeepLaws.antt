@@ -16,11 +16,11 @@ use Rattle.ftp_path.proofs.KeyLemmas.{within-parts, within-append}
 use Rattle.ftp_tree.proofs.TableLemmas.{both-none, table_of-none, node_at-root}
 use Rattle.ftp_tree.proofs.LawLemmas.{same, false-where, parent-append, target-parts, rename-moves, children-stand}
 
-at-insert : (table : Table) (path : Names) (node : Node) (other : Names) → node_at (fin.insert table path node) other ≡ cond (eq_by_cmp path_cmp other path) (Some node) (node_at table other)
+pub at-insert : (table : Table) (path : Names) (node : Node) (other : Names) → node_at (fin.insert table path node) other ≡ cond (eq_by_cmp path_cmp other path) (Some node) (node_at table other)
 unfolding node_at
 at-insert table path node other = fin.get-insert path_total table path node other
 
-at-remove : (table : Table) (path other : Names) → node_at (fin.remove table path) other ≡ cond (eq_by_cmp path_cmp other path) None (node_at table other)
+pub at-remove : (table : Table) (path other : Names) → node_at (fin.remove table path) other ≡ cond (eq_by_cmp path_cmp other path) None (node_at table other)
 unfolding node_at
 at-remove table path other = fin.get-remove path_total table path other
 

@@ -1,28 +1,29 @@
 -- Laws of the tree's definitions, path by path.
 use Rattle.std.proofs.Common.{ℕ, zero, suc, ◌+◌, ◌-◌, ◌<◌, ◌≤◌, ◌≡◌, Bool, true, false, cond, Option, Some, None, is_some, List, [], ◌∷◌, ◌++◌, length, take, drop, get_or, refl, sym, ap, ◌∙◌, subst, arith}
 use Rattle.std.specs.Prelude.{map}
-use Rattle.std.specs.List.{filter, filter_map, cons_option, AllByRecursion, Contains}
-use Rattle.std.specs.Ordering.{eq_by_cmp, is_eq, ordering_then}
+use Rattle.std.specs.List.{filter, filter_map, cons_option, slice_get, AllByRecursion, Contains}
+use Rattle.std.specs.Ordering.{eq_by_cmp, is_eq, is_lt, nat_cmp, ordering_then}
 use Rattle.std.specs.declared.cmp.Ordering.{Ordering}
 use Rattle.std.specs.declared.cmp.Ordering.TheVariants.{Less, Equal, Greater}
 use Rattle.std.specs.Cmp.{tied_itself, nat_cmp_total}
-use Rattle.std.specs.Cmp.Lexicographic.{lists_total}
+use Rattle.std.specs.Cmp.Lexicographic.{lists_total, slice_cmp}
 use Rattle.std.specs.FinMap as fin
-use Rattle.std.specs.FinMap.Entries.{find}
-use Rattle.std.proofs.lemmas.Bool.{cond-true, cond-false, true≢false}
+use Rattle.std.specs.FinMap.{is_sorted}
+use Rattle.std.specs.FinMap.Entries.{find, below_all}
+use Rattle.std.proofs.lemmas.Bool.{and_parts, cond-true, cond-false, true≢false}
 use Rattle.std.proofs.lemmas.List.{append-nil, length-append, length-take, drop_at}
 use Rattle.ftp_path.specs.Path.{parent, Names, path_cmp, is_within, only_name, name_in, moved_path}
 use Rattle.ftp_tree.specs.Store.{Rows}
 use Rattle.ftp_tree.specs.Tree.{Node, Table, node_at, children, under, moved, IsTree, whenever, directory_refusal, source_refusal, target_refusal, rename_refusal}
 use Rattle.ftp_tree.specs.declared.fault.TreeFault.TheVariants.{Exists, WrongKind}
-use Rattle.ftp_tree.specs.Laws.{UnderStandsBelow, RenameMovesAll, ChildrenStand}
-use Rattle.ftp_tree.proofs.EntryLemmas.{path_total, path_same}
+use Rattle.ftp_tree.specs.Laws.{UnderStandsBelow, RenameMovesAll, ChildrenStand, NamesRise}
+use Rattle.ftp_tree.proofs.EntryLemmas.{path_total, path_same, less-from, true-from}
 use Rattle.ftp_path.proofs.KeyLemmas.{within-parts, within-append}
 use Rattle.ftp_tree.proofs.TableLemmas.{both-none, not-held}
 
 -- ---- paths with one front
 
-cmp-front : (front a b : Names) → path_cmp (front ++ a) (front ++ b) ≡ path_cmp a b
+pub cmp-front : (front a b : Names) → path_cmp (front ++ a) (front ++ b) ≡ path_cmp a b
 cmp-front [] a b = refl
 cmp-front (name ∷ front) a b = ap (λ r. ordering_then r (path_cmp (front ++ a) (front ++ b))) (tied_itself (lists_total nat_cmp_total) name) ∙ cmp-front front a b
 
@@ -42,11 +43,11 @@ false-where false never = refl
 apart : (above a b : Names) → is_within above a ≡ false → is_within above b ≡ true → eq_by_cmp path_cmp a b ≡ false
 apart above a b out inside = false-where _ (λ equal. true≢false (sym inside ∙ ap (is_within above) (sym (same a b equal)) ∙ out))
 
-apart-back : (above a b : Names) → is_within above a ≡ true → is_within above b ≡ false → eq_by_cmp path_cmp a b ≡ false
+pub apart-back : (above a b : Names) → is_within above a ≡ true → is_within above b ≡ false → eq_by_cmp path_cmp a b ≡ false
 apart-back above a b inside out = false-where _ (λ equal. true≢false (sym inside ∙ ap (is_within above) (same a b equal) ∙ out))
 
 -- the same rest behind two fronts
-eq-fronts : (first second a b : Names) → eq_by_cmp path_cmp (first ++ a) (first ++ b) ≡ eq_by_cmp path_cmp (second ++ a) (second ++ b)
+pub eq-fronts : (first second a b : Names) → eq_by_cmp path_cmp (first ++ a) (first ++ b) ≡ eq_by_cmp path_cmp (second ++ a) (second ++ b)
 eq-fronts first second a b = ap is_eq (cmp-front first a b ∙ sym (cmp-front second a b))
 
 -- ---- below a path
@@ -93,12 +94,12 @@ parent-append (first ∷ above) name rest =
     let less : length ((first ∷ above) ++ name ∷ rest) - 1 ≡ suc (length (above ++ name ∷ rest) - 1) = omega arith in
     ap (λ n. take n (first ∷ (above ++ name ∷ rest))) less ∙ ap (λ p. first ∷ p) (parent-append above name rest)
 
-parent-length : (path : Names) → length (parent path) ≤ length path - 1
+pub parent-length : (path : Names) → length (parent path) ≤ length path - 1
 unfolding parent
 parent-length path = omega (arith, length-take (length path - 1) path)
 
 -- where a path stands in a tree, so does each above it
-stands-above : (table : Table) → IsTree table → (n : ℕ) (above rest : Names) → length rest ≤ n → is_some (node_at table (above ++ rest)) ≡ true → is_some (node_at table above) ≡ true
+pub stands-above : (table : Table) → IsTree table → (n : ℕ) (above rest : Names) → length rest ≤ n → is_some (node_at table (above ++ rest)) ≡ true → is_some (node_at table above) ≡ true
 stands-above table tree n above [] short some = ap (λ p. is_some (node_at table p)) (sym (append-nil above)) ∙ some
 stands-above table tree zero above (name ∷ rest) short some = absurd (omega arith)
 stands-above table tree (suc n) above (name ∷ rest) short some =
@@ -161,11 +162,11 @@ module _ (from to : Names) (apart_from : is_within from to ≡ false) where
         | false ↦ λ out_e. ap (λ p. cond (eq_by_cmp path_cmp path p) (Some e.1) (find path_cmp path (all es))) (moved-out e.0 out_e) ∙ ap (cond (eq_by_cmp path_cmp path e.0) (Some e.1)) next
       ] refl
 
-get-moved : (table : Table) (from to path : Names) → node_at (moved table from to) path ≡ find path_cmp path (map (λ e. (moved_path from to e.0, e.1)) (fin.entries table))
+pub get-moved : (table : Table) (from to path : Names) → node_at (moved table from to) path ≡ find path_cmp path (map (λ e. (moved_path from to e.0, e.1)) (fin.entries table))
 unfolding node_at moved
 get-moved table from to path = fin.get-from_entries path_total (map (λ e. (moved_path from to e.0, e.1)) (fin.entries table)) path
 
-get-node : (table : Table) (path : Names) → find path_cmp path (fin.entries table) ≡ node_at table path
+pub get-node : (table : Table) (path : Names) → find path_cmp path (fin.entries table) ≡ node_at table path
 unfolding node_at
 get-node table path = sym (fin.get-entries table path)
 
@@ -211,7 +212,7 @@ only [] name is = cc
 only (first ∷ []) name is = cc
 only (first ∷ second ∷ rest) name is = cc
 
-of-name_in : (path other : Names) (name : List ℕ) → name_in path other ≡ Some name → other ≡ path ++ name ∷ []
+pub of-name_in : (path other : Names) (name : List ℕ) → name_in path other ≡ Some name → other ≡ path ++ name ∷ []
 unfolding name_in
 of-name_in path other name is =
     elim (is_within path other) as (λ b. is_within path other ≡ b → (cond b (only_name (drop (length path) other)) None) ≡ Some name → other ≡ path ++ name ∷ []) [
@@ -274,3 +275,58 @@ children-stand table path name =
       λ found. ap is_some (sym (get-node table (path ++ name ∷ []))) ∙ found-named path name (fin.entries table) (subst (λ l. Contains l name) here found),
       λ some. subst (λ l. Contains l name) (sym here) (named-found path name (fin.entries table) (ap is_some (get-node table (path ++ name ∷ [])) ∙ some)),
     )
+
+-- ---- their order
+
+then-equal : (r : Ordering) → ordering_then r Equal ≡ r
+then-equal Less = refl
+then-equal Equal = refl
+then-equal Greater = refl
+
+-- what is listed behind a path is named behind it
+named-behind : (x path : Names) (es : Rows) (place : ℕ) (name : List ℕ) → below_all path_cmp x es ≡ true → slice_get (names path es) place ≡ Some name → path_cmp x (path ++ name ∷ []) ≡ Less
+unfolding names
+named-behind x path [] place name below is = cc
+named-behind x path (e ∷ es) place name below is =
+    let both = and_parts (is_lt (path_cmp x e.0)) (below_all path_cmp x es) below in
+    let rest = λ (place : ℕ) (is : slice_get (names path es) place ≡ Some name). named-behind x path es place name both.1 is in
+    elim (name_in path e.0) as (λ o. name_in path e.0 ≡ o → slice_get (cons_option o (names path es)) place ≡ Some name → path_cmp x (path ++ name ∷ []) ≡ Less) [
+      | None ↦ λ other is. rest place is
+      | Some first ↦ λ here is. (elim place as (λ place. slice_get (first ∷ names path es) place ≡ Some name → path_cmp x (path ++ name ∷ []) ≡ Less) [
+        | zero ↦ λ is. ap (path_cmp x) (sym (of-name_in path e.0 name (here ∙ is))) ∙ less-from (path_cmp x e.0) both.0
+        | suc place ↦ λ is. rest place is
+      ]) is
+    ] refl is
+
+AreRising : List (List ℕ) → Type 0
+AreRising names = (place later : ℕ) (name other : List ℕ) → place < later → slice_get names place ≡ Some name → slice_get names later ≡ Some other → slice_cmp nat_cmp name other ≡ Less
+
+-- a name before names that rise
+rising-first : (first : List ℕ) (names : List (List ℕ)) → ((place : ℕ) (name : List ℕ) → slice_get names place ≡ Some name → slice_cmp nat_cmp first name ≡ Less) → AreRising names → AreRising (first ∷ names)
+unfolding AreRising
+rising-first first names before rest place zero name other less is at = absurd (omega arith)
+rising-first first names before rest zero (suc later) name other less is at =
+    ap (λ n. slice_cmp nat_cmp n other) (sym (some-is first name is)) ∙ before later other at
+  where
+    some-is : (a b : List ℕ) → ◌≡◌ {A = Option (List ℕ)} (Some a) (Some b) → a ≡ b
+    some-is a b is = cc
+rising-first first names before rest (suc place) (suc later) name other less is at = rest place later name other (omega arith) is at
+
+names-rise-rows : (path : Names) (es : Rows) → is_sorted path_cmp es ≡ true → AreRising (names path es)
+unfolding names AreRising
+names-rise-rows path [] sorted = λ place later name other less is at. cc
+names-rise-rows path (e ∷ es) sorted =
+    let both = and_parts (below_all path_cmp e.0 es) (is_sorted path_cmp es) sorted in
+    let rest = names-rise-rows path es both.1 in
+    elim (name_in path e.0) as (λ o. name_in path e.0 ≡ o → AreRising (cons_option o (names path es))) [
+      | None ↦ λ none. rest
+      | Some first ↦ λ here. rising-first first (names path es) (λ place name is.
+          sym (then-equal (slice_cmp nat_cmp first name)) ∙ sym (cmp-front path (first ∷ []) (name ∷ []))
+          ∙ ap (λ p. path_cmp p (path ++ name ∷ [])) (sym (of-name_in path e.0 first here)) ∙ named-behind e.0 path es place name both.0 is) rest
+    ] refl
+
+pub names-rise : NamesRise
+unfolding children AreRising
+names-rise table path place later name other less is at =
+    let here : children table path ≡ names path (fin.entries table) = names-keys path (fin.entries table) in
+    names-rise-rows path (fin.entries table) (true-from _ (fin.entries_sorted table)) place later name other less (ap (λ l. slice_get l place) (sym here) ∙ is) (ap (λ l. slice_get l later) (sym here) ∙ at)

@@ -3,4 +3,5 @@ pub mod CountLemmas
 pub mod EntryLemmas
 pub mod KeepLaws
 pub mod LawLemmas
+pub mod PartLemmas
 pub mod TableLemmas

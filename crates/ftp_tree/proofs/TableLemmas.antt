@@ -264,15 +264,15 @@ pub freed-le : (es : Rows) → is_in_order es ≡ true → (p : Names) → lengt
 freed-le es sorted [] = omega (arith, freed es sorted [], ap found_length (node_at-root es sorted))
 freed-le es sorted (name ∷ names) = omega (arith, freed es sorted (name ∷ names), ap found_length (node_at-name es sorted name names), found-le (name ∷ names) es)
 
-pub room_at-table : (es : Rows) → is_in_order es ≡ true → (p : Names) → room_at (table_of es) p ≡ min 16777216 (67108864 - (octets_of_rows es - length (octets_or_none (table_of es) p)))
+pub room_at-table : (es : Rows) → is_in_order es ≡ true → (p : Names) → room_at (table_of es) p ≡ min 67108864 (67108864 - (octets_of_rows es - length (octets_or_none (table_of es) p)))
 unfolding room_at
-room_at-table es sorted p = ap (λ n. min 16777216 (67108864 - (n - length (octets_or_none (table_of es) p)))) (octets-table es sorted)
+room_at-table es sorted p = ap (λ n. min 67108864 (67108864 - (n - length (octets_or_none (table_of es) p)))) (octets-table es sorted)
 
 -- ---- what each change keeps
 
-few-nodes : (es : Rows) → is_in_order es ≡ true → nodes_refusal (table_of es) ≡ None → length es + 1 ≤ 4096
+few-nodes : (es : Rows) → is_in_order es ≡ true → nodes_refusal (table_of es) ≡ None → length es + 1 ≤ 16384
 few-nodes es sorted none =
-    let few = leb-true (fin.len (table_of es)) 4096 (held (nat_le (fin.len (table_of es)) 4096) Full none) in
+    let few = leb-true (fin.len (table_of es)) 16384 (held (nat_le (fin.len (table_of es)) 16384) Full none) in
     omega (arith, len-table es sorted)
 
 -- the rows are kept as a tree is, and are this table
@@ -300,14 +300,14 @@ made-store es new (name ∷ names) store none is =
     }
 
 -- a file comes in the place of one, or anew where nodes are left
-room-nodes : (es : Rows) → is_in_order es ≡ true → length es ≤ 4096 → (name : List ℕ) (names : Names) (v : Node) → room_refusal (table_of es) (name ∷ names) ≡ None
-    → length (put path_cmp (name ∷ names) v es) ≤ 4096
+room-nodes : (es : Rows) → is_in_order es ≡ true → length es ≤ 16384 → (name : List ℕ) (names : Names) (v : Node) → room_refusal (table_of es) (name ∷ names) ≡ None
+    → length (put path_cmp (name ∷ names) v es) ≤ 16384
 unfolding room_refusal
 room-nodes es sorted few name names v none =
     let p = name ∷ names in
     let rising = rows-sorted es sorted in
     let found = node_at-name es sorted name names in
-    elim (node_at (table_of es) p) as (λ o. node_at (table_of es) p ≡ o → room_answer o (table_of es) p ≡ None → length (put path_cmp p v es) ≤ 4096) [
+    elim (node_at (table_of es) p) as (λ o. node_at (table_of es) p ≡ o → room_answer o (table_of es) p ≡ None → length (put path_cmp p v es) ≤ 16384) [
       | None ↦ λ there none. omega (arith, few-nodes es sorted (both-none _ _ none).1, length-put-le es rising p v)
       | Some node ↦ λ there none. omega (arith, length-put-same es rising p v (ap is_some (sym found ∙ there)))
     ] refl none
@@ -479,12 +479,12 @@ pub new-refusal : (table : Table) (path : Names) → directory_refusal (node_at 
 new-refusal table path above short =
     ap (λ o. or_else (or_else o (whenever (not (fits path)) TooBig)) (nodes_refusal table)) above ∙ ap (λ b. or_else (whenever (not b) TooBig) (nodes_refusal table)) short
 
-pub nodes-full : (es : Rows) → is_in_order es ≡ true → 4096 ≤ length es → nodes_refusal (table_of es) ≡ Some Full
+pub nodes-full : (es : Rows) → is_in_order es ≡ true → 16384 ≤ length es → nodes_refusal (table_of es) ≡ Some Full
 nodes-full es sorted full =
     let long = len-table es sorted in
-    ap (λ b. whenever (not b) Full) (lt-leb (fin.len (table_of es)) 4096 (omega arith))
+    ap (λ b. whenever (not b) Full) (lt-leb (fin.len (table_of es)) 16384 (omega arith))
 
-pub nodes-free : (es : Rows) → is_in_order es ≡ true → length es < 4096 → nodes_refusal (table_of es) ≡ None
+pub nodes-free : (es : Rows) → is_in_order es ≡ true → length es < 16384 → nodes_refusal (table_of es) ≡ None
 nodes-free es sorted free =
     let long = len-table es sorted in
-    ap (λ b. whenever (not b) Full) (le-leb (fin.len (table_of es)) 4096 (omega arith))
+    ap (λ b. whenever (not b) Full) (le-leb (fin.len (table_of es)) 16384 (omega arith))

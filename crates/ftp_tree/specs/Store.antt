@@ -8,7 +8,7 @@ use Rattle.std.specs.FinMap.Entries.{put}
 use Rattle.std.specs.Option.{unwrap_or}
 use Rattle.std.specs.declared.cmp.Ordering.TheVariants.{Less, Greater}
 use Rattle.ftp_path.specs.Path.{fits, Names, path_cmp, is_within, moved_path}
-use Rattle.ftp_tree.specs.Tree.{Node, Dir, File, Table, length_of, total_limit}
+use Rattle.ftp_tree.specs.Tree.{Node, Dir, File, Table, length_of, node_limit, total_limit}
 use Rattle.ftp_tree.specs.declared.entry.Entry.{Entry}
 use Rattle.ftp_tree.specs.declared.entry.Kept as kept
 use Rattle.ftp_tree.specs.declared.entry.Kept.TheVariants as variants
@@ -63,7 +63,7 @@ table_of entries = fin.from_sorted (([], Dir) ∷ entries)
 -- the entries are in order and within the limits
 pub record IsStore (entries : Rows) : Type 0 where
   pub sorted : IsTrue (is_in_order entries)
-  pub nodes : length entries ≤ 4096
+  pub nodes : length entries ≤ node_limit
   pub octets : octets_of_rows entries ≤ total_limit
 
 -- ---- places

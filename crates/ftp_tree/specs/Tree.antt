@@ -1,6 +1,6 @@
 -- The tree of a server, as a finite map from paths (lists of names) to directories and files; what may be changed, and what
 -- is refused. No command and no reply stands here (RFC 959, section 4.1.3; the limits are own choices).
-use Rattle.std.specs.Prelude.{◌≡◌, ℕ, ◌-◌, ◌||◌, not, min, List, [], ◌∷◌, length, drop, map, Bool, Option, Some, None, IsSome, is_some, nat_le, if◌then◌else◌}
+use Rattle.std.specs.Prelude.{◌≡◌, ℕ, ◌-◌, ◌||◌, not, min, List, [], ◌∷◌, ◌++◌, length, drop, map, Bool, Option, Some, None, IsSome, is_some, nat_le, if◌then◌else◌}
 use Rattle.std.specs.Option.{option_map, option_or, unwrap_or}
 use Rattle.std.specs.List.{filter, filter_map, list_all, sum_by}
 use Rattle.std.specs.FinMap as fin
@@ -101,9 +101,16 @@ installed table path octets moment = fin.insert table path (File octets moment)
 unfoldable pub moved : Table → Names → Names → Table
 moved table from to = fin.from_entries (map (λ entry. (moved_path from to entry.0, entry.1)) (fin.entries table))
 
+-- ---- a part of the map: what an account sees below its root
+
 -- the part of a map at or below a path, with that path taken off each path
 unfoldable pub under : Table → Names → Table
 under table path = fin.from_entries (map (λ entry. (drop (length path) entry.0, entry.1)) (filter (λ entry. is_within path entry.0) (fin.entries table)))
+
+-- the map with a part in the place of what stood at or below a path
+unfoldable pub with_part : Table → Names → Table → Table
+with_part table path part =
+    fin.from_entries (filter (λ entry. not (is_within path entry.0)) (fin.entries table) ++ map (λ entry. (path ++ entry.0, entry.1)) (fin.entries part))
 
 -- ---- what is refused, and why: the first reason that applies
 
@@ -130,9 +137,13 @@ directory_refusal (Some (File octets moment)) = Some WrongKind
 abbrev pub place_refusal : Table → Names → Option TreeFault
 place_refusal table path = or_else (directory_refusal (node_at table (parent path))) (whenever (not (fits path)) TooBig)
 
--- 4,096 nodes beside the root are all
+-- the most nodes beside the root (own choice)
+abbrev pub node_limit : ℕ
+node_limit = 16384
+
+-- so many are all
 abbrev pub nodes_refusal : Table → Option TreeFault
-nodes_refusal table = whenever (not (nat_le (fin.len table) 4096)) Full
+nodes_refusal table = whenever (not (nat_le (fin.len table) node_limit)) Full
 
 -- a directory is made where nothing is, in a directory, within the limits
 unfoldable pub make_refusal : Table → Names → Option TreeFault
@@ -196,7 +207,7 @@ room_refusal table path = room_answer (node_at table path) table path
 
 -- the most octets of a file, and of all files together (own choices)
 abbrev pub file_limit : ℕ
-file_limit = 16777216
+file_limit = 67108864
 
 abbrev pub total_limit : ℕ
 total_limit = 67108864

@@ -20,10 +20,10 @@ pub enum TreeFault {
     /// A file where a directory is needed, or the other way round; a path that would come below itself.
     #[error("what stands there is of the wrong kind")]
     WrongKind,
-    /// A name of over 255 octets, a canonical text of over 900, or a file of over 16,777,216.
+    /// A name of over 255 octets, a canonical text of over 900, or a file of over 67,108,864.
     #[error("too long")]
     TooBig,
-    /// 4,096 nodes stand beside the root, or all files together would pass 67,108,864 octets.
+    /// 16,384 nodes stand beside the root, or all files together would pass 67,108,864 octets.
     #[error("the tree is full")]
     Full,
     /// The root, or a directory in use.

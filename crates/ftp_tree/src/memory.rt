@@ -17,10 +17,10 @@ use std::alloc::{AllocError, Allocator};
 use std::marker::Model;
 
 /// The most nodes beside the root (own choice).
-const NODE_LIMIT: usize = 4_096;
+const NODE_LIMIT: usize = 16_384;
 
 /// The most octets of a file (own choice).
-const FILE_LIMIT: u64 = 16_777_216;
+const FILE_LIMIT: u64 = 67_108_864;
 
 /// The most octets of all files together (own choice).
 const TOTAL_LIMIT: u64 = 67_108_864;
@@ -229,9 +229,9 @@ impl<A: Allocator + Copy> MemTree<A> {
         None
     }
 
-    /// The first reason, memory aside, why no directory can be made at a path.
+    /// The first reason, memory and a device aside, why no directory can be made at a path.
     #[tactic(auto, unfolding(crate::specs::Tree::make_refusal))]
-    fn make_refusal<B: Allocator>(&self, path: &Path<B>) -> Option<TreeFault>
+    pub fn make_refusal<B: Allocator>(&self, path: &Path<B>) -> Option<TreeFault>
         ensures { result ≡ make_refusal self.now path.now }
     {
         match self.standing(path.key()) {
@@ -242,7 +242,7 @@ impl<A: Allocator + Copy> MemTree<A> {
 
     /// The same, why no directory can be removed.
     #[tactic(auto, unfolding(crate::specs::Tree::remove_refusal))]
-    fn remove_refusal<B: Allocator>(&self, path: &Path<B>) -> Option<TreeFault>
+    pub fn remove_refusal<B: Allocator>(&self, path: &Path<B>) -> Option<TreeFault>
         ensures { result ≡ remove_refusal self.now path.now }
     {
         if let Some(fault) = self.directory_refusal(path.key()) {
@@ -259,7 +259,7 @@ impl<A: Allocator + Copy> MemTree<A> {
 
     /// The same, why no file can be deleted.
     #[tactic(auto, unfolding(crate::specs::Tree::delete_refusal))]
-    fn delete_refusal<B: Allocator>(&self, path: &Path<B>) -> Option<TreeFault>
+    pub fn delete_refusal<B: Allocator>(&self, path: &Path<B>) -> Option<TreeFault>
         ensures { result ≡ delete_refusal self.now path.now }
     {
         match self.standing(path.key()) {
@@ -316,8 +316,9 @@ impl<A: Allocator + Copy> MemTree<A> {
         entry::moves_fit(self.entries.as_slice(), from, to)
     }
 
+    /// The same, why what stands at a path cannot be moved to another.
     #[tactic(auto, unfolding(crate::specs::Tree::rename_refusal))]
-    fn rename_refusal<B: Allocator, C: Allocator>(
+    pub fn rename_refusal<B: Allocator, C: Allocator>(
         &self,
         from: &Path<B>,
         to: &Path<C>,
@@ -344,7 +345,7 @@ impl<A: Allocator + Copy> MemTree<A> {
 
     /// The same, why no file of so many octets can.
     #[tactic(auto, unfolding(crate::specs::Tree::install_refusal))]
-    fn install_refusal<B: Allocator>(&self, path: &Path<B>, count: u64) -> Option<TreeFault>
+    pub fn install_refusal<B: Allocator>(&self, path: &Path<B>, count: u64) -> Option<TreeFault>
         ensures { result ≡ install_refusal self.now path.now count }
     {
         if let Some(fault) = self.room_refusal(path) {

@@ -50,7 +50,7 @@ pub trait Tree<A: Allocator>: Drop {
         ensures { option_map (λ name. name.octets.now) result ≡ slice_get (children (table self.now) path.now) place };
 
     /// The most octets that `install` takes at a path, or why it takes none: `WrongKind` where a directory stands there or a
-    /// file above, `Absent` where nothing stands above, `Full` where 4,096 nodes stand beside the root.
+    /// file above, `Absent` where nothing stands above, `Full` where 16,384 nodes stand beside the root.
     fn room<B: Allocator>(&self, path: &Path<B>) -> Result<u64, TreeFault>
         ensures room { IfOk result (λ count. (room_refusal (table self.now) path.now ≡ None) × (count ≡ room_at (table self.now) path.now)) }
         ensures refused { IfErr result (λ fault. room_refusal (table self.now) path.now ≡ Some fault) };
@@ -62,7 +62,7 @@ pub trait Tree<A: Allocator>: Drop {
     /// Makes a directory.
     ///
     /// Refused: `Exists` where something stands there, `Absent` where nothing stands above, `WrongKind` where a file does,
-    /// `Full` where 4,096 nodes stand beside the root.
+    /// `Full` where 16,384 nodes stand beside the root.
     fn make_dir<B: Allocator>(&mut self, path: &Path<B>) -> Result<(), TreeFault>
         ensures done { OnOk result (IsDone (make_refusal (table self.old) path.now) (made (table self.old) path.now) (table self.new) (failures self.old) (failures self.new)) }
         ensures refused { IfErr result (λ fault. IsRefused (make_refusal (table self.old) path.now) fault (table self.old) (table self.new) (failures self.old) (failures self.new)) };
@@ -96,7 +96,7 @@ pub trait Tree<A: Allocator>: Drop {
 
     /// Puts a file at a path, in the place of one that stands there. Its octets are taken out of the content.
     ///
-    /// Refused: as `room` says, then `TooBig` past 16,777,216 octets, `Full` where all files together would pass 67,108,864.
+    /// Refused: as `room` says, then `TooBig` past 67,108,864 octets, `Full` where all files together would pass 67,108,864.
     /// Refused, it leaves the content as it was.
     fn install<B: Allocator>(
         &mut self,

@@ -58,6 +58,24 @@ const DELETED: &'static [Row] = &[
     (Op::Get(b"f", IMAGE), b"550"),
 ];
 
+const REMOVED: &'static [Row] = &[
+    (Op::MakeDir(b"d"), b"/d"),
+    (Op::RemoveDir(b"d"), b"451"),
+    (Op::ChangeDir(b"d"), b"done"),
+    (Op::ChangeDir(b"/"), b"done"),
+    (Op::RemoveDir(b"d"), b"done"),
+    (Op::ChangeDir(b"d"), b"550"),
+];
+
+const RENAMED: &'static [Row] = &[
+    (Op::Put(b"f", b"abc", IMAGE), b"done"),
+    (Op::Rename(b"f", b"g"), b"451"),
+    (Op::Get(b"f", IMAGE), b"abc"),
+    (Op::Get(b"g", IMAGE), b"550"),
+    (Op::Rename(b"f", b"g"), b"done"),
+    (Op::Get(b"g", IMAGE), b"abc"),
+];
+
 /// What a reason of the map refuses does not come to the device.
 const REASONS: &'static [Row] = &[
     (Op::Delete(b"f"), b"550"),
@@ -76,6 +94,8 @@ const FAILING: &'static [(u64, &'static [Row])] = &[
     (2, OCTETS_BEHIND),
     (1, DIRECTORY),
     (2, DELETED),
+    (2, REMOVED),
+    (2, RENAMED),
     (1, REASONS),
 ];
 

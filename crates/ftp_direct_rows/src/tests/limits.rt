@@ -48,11 +48,11 @@ fn first_other(alloc: Global, steps: &[Step]) -> Result<Option<usize>, Fail> {
 
 const ONE_FILE: &'static [Step] = &[
     (b"f", Some(3), 0),
-    (b"f", Some(16_777_217), 552),
-    (b"f", Some(16_777_217), 552),
+    (b"f", Some(67_108_865), 552),
+    (b"f", Some(67_108_865), 552),
     (b"f", None, 3),
-    (b"f", Some(16_777_216), 0),
-    (b"f", None, 16_777_216),
+    (b"f", Some(67_108_864), 0),
+    (b"f", None, 67_108_864),
 ];
 
 #[test]
@@ -62,12 +62,10 @@ fn a_file_has_its_limit(rt: HostRuntime) -> Result<(), Fail> {
 }
 
 const ALL_FILES: &'static [Step] = &[
-    (b"f", Some(16_777_216), 0),
-    (b"g", Some(16_777_216), 0),
-    (b"h", Some(16_777_216), 0),
-    (b"i", Some(16_777_216), 0),
+    (b"f", Some(33_554_432), 0),
+    (b"g", Some(33_554_432), 0),
     (b"j", Some(1), 552),
-    (b"i", Some(16_777_215), 0),
+    (b"g", Some(33_554_431), 0),
     (b"j", Some(1), 0),
 ];
 
@@ -97,7 +95,7 @@ fn first_refused(
 fn all_nodes_have_their_limit(rt: HostRuntime) -> Result<(), Fail> {
     let alloc = rt.alloc();
     let mut tree = MemTree::new(alloc);
-    assert!(&rt; first_refused(alloc, &mut tree, 4096)? == None);
+    assert!(&rt; first_refused(alloc, &mut tree, 16_384)? == None);
     let dir = Op::MakeDir(text(alloc, b"d")?);
     assert!(&rt; code_of(alloc, &mut tree, dir)? == 550);
     let file = step_of(alloc, b"f", Some(0))?;

@@ -92,22 +92,25 @@ fn a_front_of_a_file_is_had(rt: HostRuntime) {
     assert!(&rt; all_answer(rt.alloc(), &mut tree, FRONTS));
 }
 
-const FILE_LIMIT: usize = 16_777_216;
+const FILE_LIMIT: usize = 67_108_864;
 
 fn is_old(alloc: Global, tree: &Memory) -> Result<(), TreeFault> {
     let path = place(alloc, b"/f")?;
     only_if(has(tree, &path, b"old", 1))
 }
 
-const TOO_LONG: &[Row] = &[(b"/f", Step::Install(FILE_LIMIT + 1), Err(TreeFault::TooBig))];
+const TOO_LONG: &[Row] = &[
+    (b"/f", Step::Install(FILE_LIMIT + 1), Err(TreeFault::TooBig)),
+    (b"/f", Step::Install(FILE_LIMIT + 1), Err(TreeFault::TooBig)),
+];
 
 const LONGEST: &[Row] = &[
     (b"/f", Step::Install(FILE_LIMIT), Ok(())),
-    (b"/f", Step::Size(Some(16_777_216)), Ok(())),
+    (b"/f", Step::Size(Some(67_108_864)), Ok(())),
 ];
 
 #[test]
-fn a_file_has_16777216_octets_at_most(rt: HostRuntime) {
+fn a_file_has_67108864_octets_at_most(rt: HostRuntime) {
     let mut tree = MemTree::new(rt.alloc());
     assert!(&rt; is_put(rt.alloc(), &mut tree, b"old", 1) == Ok(true));
     assert!(&rt; all_answer(rt.alloc(), &mut tree, TOO_LONG));
@@ -116,20 +119,20 @@ fn a_file_has_16777216_octets_at_most(rt: HostRuntime) {
 }
 
 const TOTALS: &[Row] = &[
-    (b"/a", Step::Install(FILE_LIMIT), Ok(())),
-    (b"/b", Step::Install(FILE_LIMIT), Ok(())),
-    (b"/c", Step::Install(FILE_LIMIT), Ok(())),
     (b"/d", Step::Install(FILE_LIMIT - 3), Ok(())),
     (b"/e", Step::Room(3), Ok(())),
-    (b"/d", Step::Room(16_777_216), Ok(())),
+    (b"/d", Step::Room(67_108_864), Ok(())),
     (b"/e", Step::Install(4), Err(TreeFault::Full)),
     (b"/e", Step::Install(3), Ok(())),
-    (b"/d", Step::Room(16_777_213), Ok(())),
+    (b"/d", Step::Room(67_108_861), Ok(())),
     (b"/d", Step::Install(FILE_LIMIT), Err(TreeFault::Full)),
     (b"/e", Step::Delete, Ok(())),
     (b"/d", Step::Install(FILE_LIMIT), Ok(())),
     (b"/e", Step::Room(0), Ok(())),
     (b"/e", Step::Install(0), Ok(())),
+    (b"/e", Step::Install(1), Err(TreeFault::Full)),
+    (b"/e", Step::Install(FILE_LIMIT), Err(TreeFault::Full)),
+    (b"/e", Step::Install(FILE_LIMIT + 1), Err(TreeFault::TooBig)),
     (b"/", Step::Room(0), Err(TreeFault::WrongKind)),
 ];
 

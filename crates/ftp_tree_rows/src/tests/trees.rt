@@ -67,13 +67,21 @@ fn names_in_utf8(rt: HostRuntime) {
     assert!(rt; all_answer(rt.alloc(), &mut tree, ACCENTS));
 }
 
-/// Makes 4,096 directories of two octets each.
-fn make_many(alloc: Global, tree: &mut MemTree<Global>) -> Result<(), TreeFault> {
+/// Makes 4,096 directories of three octets each, the first of them given.
+fn make_some(alloc: Global, tree: &mut MemTree<Global>, first: u8) -> Result<(), TreeFault> {
     for high in b'0'..=b'o' {
         for low in b'0'..=b'o' {
-            let path = place(alloc, &[high, low])?;
+            let path = place(alloc, &[first, high, low])?;
             tree.make_dir(&path)?;
         }
+    }
+    Ok(())
+}
+
+/// Makes 16,384 directories.
+fn make_many(alloc: Global, tree: &mut MemTree<Global>) -> Result<(), TreeFault> {
+    for first in b'1'..=b'4' {
+        make_some(alloc, tree, first)?;
     }
     Ok(())
 }
@@ -81,16 +89,16 @@ fn make_many(alloc: Global, tree: &mut MemTree<Global>) -> Result<(), TreeFault>
 const FULL: &[Row] = &[
     (b"/one more", Step::Make, Err(TreeFault::Full)),
     (b"/one more", Step::Install(1), Err(TreeFault::Full)),
-    (b"/oo", Step::Make, Err(TreeFault::Exists)),
+    (b"/4oo", Step::Make, Err(TreeFault::Exists)),
     (b"/a/b", Step::Make, Err(TreeFault::Absent)),
-    (b"/oo", Step::Remove, Ok(())),
+    (b"/4oo", Step::Remove, Ok(())),
     (b"/one more", Step::Install(1), Ok(())),
     (b"/one more", Step::Install(2), Ok(())),
-    (b"/oo", Step::Make, Err(TreeFault::Full)),
+    (b"/4oo", Step::Make, Err(TreeFault::Full)),
 ];
 
 #[test]
-fn beside_the_root_4096_nodes_fit(rt: HostRuntime) {
+fn beside_the_root_16384_nodes_fit(rt: HostRuntime) {
     let mut tree = MemTree::new(rt.alloc());
     assert!(&rt; make_many(rt.alloc(), &mut tree).is_ok());
     assert!(&rt; all_answer(rt.alloc(), &mut tree, FULL));

@@ -21,6 +21,6 @@ returns g c =
     let path = names_of c.args.key.now in
     let own : length c.octets.result.now ≡ length (octets_or_none (table_of es) path) = ap length (c.octets.ensures ∙ ap (λ table. octets_or_none table path) (sym c.self.view_is)) in
     let all : c.all_octets.result ≡ octets_of_rows es = c.all_octets.ensures ∙ ap (λ l. octets_of_rows (rows l)) c.as_slice.ensures.value in
-    c.min.ensures ∙ ap (λ n. min 16777216 (67108864 - (n - length c.octets.result.now))) all
-    ∙ ap (λ n. min 16777216 (67108864 - (octets_of_rows es - n))) own
+    c.min.ensures ∙ ap (λ n. min 67108864 (67108864 - (n - length c.octets.result.now))) all
+    ∙ ap (λ n. min 67108864 (67108864 - (octets_of_rows es - n))) own
     ∙ sym (room_at-table es c.self.invariant.sorted path) ∙ ap (λ table. room_at table path) c.self.view_is
