@@ -1,4 +1,3 @@
-pub mod BelowLemmas
 pub mod ListingLemmas
 pub mod NodeLemmas
 pub mod PieceLemmas

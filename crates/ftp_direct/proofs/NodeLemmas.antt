@@ -14,6 +14,8 @@ use Rattle.ftp_operation.specs.Answer.{Refused, Stamp}
 use Rattle.ftp_direct.specs.Direct.{absent_refusal, due, here, is_file}
 use Rattle.ftp_direct.specs.Run.{Gives}
 use Rattle.ftp_direct.proofs.RefusalLemmas.{gives_refused, gives_done, there_some, there_none}
+use Rattle.ftp_direct.specs.declared.refusal.Refusal.TheVariants.{Unavailable}
+use Rattle.ftp_direct.specs.Refusal.{code_of}
 
 -- by its kind
 abbrev directory_by : Option NodeKind → Option TreeFault
@@ -151,8 +153,8 @@ stamp_said table cwd text path seconds is fit some =
     (ap (λ stamp. Stamp (unwrap_or stamp 0)) (sym there) ∙ gives.0, gives.1)
 
 pub stamp_none : (table : Table) (cwd : Names) (text : List ℕ) (path : Names) → path ≡ resolved cwd text → fits path ≡ true
-    → None ≡ stamp_at table path → Gives (due (here table cwd) (Ops.Modified text) 0) (Refused 550) (here table cwd)
+    → None ≡ stamp_at table path → Gives (due (here table cwd) (Ops.Modified text) 0) (Refused (code_of Unavailable)) (here table cwd)
 stamp_none table cwd text path is fit none =
     let absent : stamp_at table (resolved cwd text) ≡ None = ap (stamp_at table) (sym is) ∙ sym none in
-    gives_refused (here table cwd) (Ops.Modified text) 0 550
+    gives_refused (here table cwd) (Ops.Modified text) 0 Unavailable
     (there_some _ _ (ap fits (sym is) ∙ fit) (front_stamp table (resolved cwd text) ∙ ap (λ stamp. not (is_some stamp)) absent))

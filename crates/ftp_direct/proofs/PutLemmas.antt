@@ -7,7 +7,7 @@ use Rattle.ftp_tree.specs.Tree.{Table, or_else, whenever, installed, room_refusa
 use Rattle.ftp_tree.specs.declared.fault.TreeFault.{TreeFault}
 use Rattle.ftp_tree.specs.declared.fault.TreeFault.TheVariants.{TooBig, Full}
 use Rattle.ftp_operation.specs.Answer.{Done}
-use Rattle.ftp_direct.specs.Direct.{chosen, here, or_code, put, put_refusal, refused_octets, refused_room}
+use Rattle.ftp_direct.specs.Direct.{chosen, here, or_refused, put, put_refusal, refused_octets, refused_room}
 use Rattle.ftp_direct.specs.Run.{Gives}
 
 pub none_never : (refusal : Option TreeFault) (why : TreeFault) → refusal ≡ None → refusal ≡ Some why → ⊥
@@ -47,8 +47,8 @@ pub put_done : (table : Table) (path cwd : Names) (count : ℕ) (content kept oc
 put_done table path cwd count content kept octets moment fit is long none =
     let both = parts table path (length content) none in
     let free : put_refusal (here table cwd) path count ≡ None =
-    ap (λ b. or_code (refused_room (if b then room_refusal table path else Some TooBig)) (refused_octets (octets_refusal table path count))) fit
-    ∙ ap (λ r. or_code (refused_room r) (refused_octets (octets_refusal table path count))) both.0
+    ap (λ b. or_refused (refused_room (if b then room_refusal table path else Some TooBig)) (refused_octets (octets_refusal table path count))) fit
+    ∙ ap (λ r. or_refused (refused_room r) (refused_octets (octets_refusal table path count))) both.0
     ∙ ap (λ n. refused_octets (octets_refusal table path n)) (sym long) ∙ ap refused_octets both.1 in
     let old = here table cwd in
     let done = put old path kept octets moment in

@@ -11,7 +11,10 @@ use Rattle.ftp_operation.specs.declared.answer.Answer.{Answer}
 use Rattle.ftp_operation.specs.Answer.{Said, Refused, said_of}
 use Rattle.ftp_operation.specs.declared.op.Op.{Op}
 use Rattle.ftp_direct.specs.Direct.{State, chosen, done, due, here, refusal, refused_there}
-use Rattle.ftp_direct.specs.Run.{Gives, IsAnswer, told}
+use Rattle.ftp_direct.specs.declared.refusal.Refusal.{Refusal}
+use Rattle.ftp_direct.specs.Refusal.{code_of, told}
+use Rattle.ftp_direct.specs.Run.{Gives, IsAnswer}
+use Rattle.ftp_direct.specs.declared.refusal.Refusal.TheVariants.{Unavailable}
 
 -- ---- a reason by the map is no failure of the device
 
@@ -77,61 +80,65 @@ pub rename-no : (table : Table) (from to : Names) → NoDevice (rename_refusal t
 unfolding rename_refusal
 rename-no table from to = or_else-no _ _ (source-no table from) (target-no table from to)
 
--- ---- the code by which it is told
+-- ---- how it is told
 
-told-other : (fault : TreeFault) (code : ℕ) → fault ≢ Device → told fault code ≡ code
-told-other Absent code other = refl
-told-other Exists code other = refl
-told-other NotEmpty code other = refl
-told-other WrongKind code other = refl
-told-other TooBig code other = refl
-told-other Full code other = refl
-told-other Busy code other = refl
-told-other BadOffset code other = refl
-told-other Device code other = absurd (other refl)
-told-other Memory code other = refl
+told-other : (fault : TreeFault) (way : Refusal) → fault ≢ Device → told fault way ≡ way
+told-other Absent way other = refl
+told-other Exists way other = refl
+told-other NotEmpty way other = refl
+told-other WrongKind way other = refl
+told-other TooBig way other = refl
+told-other Full way other = refl
+told-other Busy way other = refl
+told-other BadOffset way other = refl
+told-other Device way other = absurd (other refl)
+told-other Memory way other = refl
 
--- what a refused call leaves and says is the answer: where the map gave a reason the code was due
-answers : (refusal : Option TreeFault) (fault : TreeFault) (code before after : ℕ) (table new : Table) (cwd : Names) (due : Said × State) (said : Said)
+-- what a refused call leaves and says is the answer: where the map gave a reason that way was due
+answers : (refusal : Option TreeFault) (fault : TreeFault) (way : Refusal) (before after : ℕ) (table new : Table) (cwd : Names) (due : Said × State) (said : Said)
     → IsRefused refusal fault table new before after → fault ≢ Memory → NoDevice refusal
-    → ((why : TreeFault) → refusal ≡ Some why → Gives due (Refused code) (here table cwd)) → said ≡ Refused (told fault code)
+    → ((why : TreeFault) → refusal ≡ Some why → Gives due (Refused (code_of way)) (here table cwd)) → said ≡ Refused (code_of (told fault way))
     → IsAnswer before after due (here table cwd) said (here new cwd)
-answers None fault code before after table new cwd due said (same, inl (memory, kept)) other never is e = absurd (other memory)
-answers None fault code before after table new cwd due said (same, inr (device, moved)) other never is e = record {
+answers None fault way before after table new cwd due said (same, inl (memory, kept)) other never is e = absurd (other memory)
+answers None fault way before after table new cwd due said (same, inr (device, moved)) other never is e = record {
   steady = λ kept. absurd (next_count-moves before (sym kept ∙ moved));
-  failed = λ ne. (moved, (e ∙ ap (λ f. Refused (told f code)) device, ap (λ t. here t cwd) same));
+  failed = λ ne. (moved, (e ∙ ap (λ f. Refused (code_of (told f way))) device, ap (λ t. here t cwd) same));
 }
-answers (Some why) fault code before after table new cwd due said (same, (reason, kept)) other never is e =
+answers (Some why) fault way before after table new cwd due said (same, (reason, kept)) other never is e =
     let ours : fault ≢ Device = λ d. never (ap Some (sym reason ∙ d)) in
     let gives = is why refl in record {
-      steady = λ kept. (e ∙ ap Refused (told-other fault code ours) ∙ gives.0, ap (λ t. here t cwd) same ∙ gives.1);
+      steady = λ kept. (e ∙ ap (λ w. Refused (code_of w)) (told-other fault way ours) ∙ gives.0, ap (λ t. here t cwd) same ∙ gives.1);
       failed = λ ne. absurd (ne kept);
     }
 
-pub if_refused : {A E : Type 0} (result : Result (Answer A) E) (refusal : Option TreeFault) (fault : TreeFault) (code before after : ℕ) (table new : Table) (cwd : Names) (due : Said × State)
-    → IfOk result (λ answer. said_of answer ≡ Refused (told fault code)) → OnOk result (fault ≢ Memory)
+pub if_refused : {A E : Type 0} (result : Result (Answer A) E) (refusal : Option TreeFault) (fault : TreeFault) (way : Refusal) (before after : ℕ) (table new : Table) (cwd : Names) (due : Said × State)
+    → IfOk result (λ answer. said_of answer ≡ Refused (code_of (told fault way))) → OnOk result (fault ≢ Memory)
     → IsRefused refusal fault table new before after → NoDevice refusal
-    → ((why : TreeFault) → refusal ≡ Some why → Gives due (Refused code) (here table cwd))
+    → ((why : TreeFault) → refusal ≡ Some why → Gives due (Refused (code_of way)) (here table cwd))
     → IfOk result (λ answer. IsAnswer before after due (here table cwd) (said_of answer) (here new cwd))
-if_refused (Ok answer) refusal fault code before after table new cwd due e other refused never is =
-    answers refusal fault code before after table new cwd due (said_of answer) refused other never is e
-if_refused (Err why) refusal fault code before after table new cwd due e other refused never is = tt
+if_refused (Ok answer) refusal fault way before after table new cwd due e other refused never is =
+    answers refusal fault way before after table new cwd due (said_of answer) refused other never is e
+if_refused (Err why) refusal fault way before after table new cwd due e other refused never is = tt
 
 -- ---- what is due, by the refusal
 
-pub gives_refused : (state : State) (op : Op (List ℕ)) (moment code : ℕ) → refusal state op ≡ Some code → Gives (due state op moment) (Refused code) state
-gives_refused state op moment code is =
+pub gives_refused : (state : State) (op : Op (List ℕ)) (moment : ℕ) (why : Refusal) → refusal state op ≡ Some why → Gives (due state op moment) (Refused (code_of why)) state
+gives_refused state op moment why is =
     (ap (λ c. (chosen c state (done state op moment)).0) (sym is), ap (λ c. (chosen c state (done state op moment)).1) (sym is))
 
 pub gives_done : (state : State) (op : Op (List ℕ)) (moment : ℕ) → refusal state op ≡ None → Gives (due state op moment) (done state op moment).0 (done state op moment).1
 gives_done state op moment is =
     (ap (λ c. (chosen c state (done state op moment)).0) (sym is), ap (λ c. (chosen c state (done state op moment)).1) (sym is))
 
+-- the same, told by an answer
+pub as_told : (due : Said × State) (said other : Said) (new : State) → said ≡ other → Gives due other new → Gives due said new
+as_told due said other new is gives = (is ∙ gives.0, gives.1)
+
 -- where the tree was not called
 pub still : (count : ℕ) (due : Said × State) (state : State) (said : Said) → Gives due said state → IsAnswer count count due state said state
 still count due state said gives = record { steady = λ _. gives; failed = λ ne. absurd (ne refl) }
 
-pub there_some : (fit : Bool) (refusal : Option TreeFault) → fit ≡ true → is_some refusal ≡ true → refused_there (if fit then refusal else Some TooBig) ≡ Some 550
+pub there_some : (fit : Bool) (refusal : Option TreeFault) → fit ≡ true → is_some refusal ≡ true → refused_there (if fit then refusal else Some TooBig) ≡ Some Unavailable
 there_some false refusal fit some = absurd (false≢true fit)
 there_some true None fit some = absurd (false≢true some)
 there_some true (Some fault) fit some = refl
@@ -147,3 +154,9 @@ pub if_due : {A E : Type 0} (result : Result (Answer A) E) (before after : ℕ) 
 if_due result before after one other old new is so =
     let P : Said × State → Type 0 = λ due. IfOk result (λ answer. IsAnswer before after due old (said_of answer) new) in
     subst P is so
+
+-- what a call that leaves the tree alone gives
+pub if_gives : {A E : Type 0} (result : Result (Answer A) E) (count : ℕ) (due : Said × State) (old new : State) → IfOk result (λ answer. Gives due (said_of answer) new)
+    → IfOk result (λ answer. IsAnswer count count due old (said_of answer) new)
+if_gives (Ok answer) count due old new gives = record { steady = λ _. gives; failed = λ ne. absurd (ne refl) }
+if_gives (Err fault) count due old new gives = tt

@@ -6,27 +6,29 @@ use Rattle.ftp_tree.specs.declared.fault.TreeFault.{TreeFault}
 use Rattle.ftp_tree.specs.declared.fault.TreeFault.TheVariants.{TooBig}
 use Rattle.ftp_operation.specs.declared.op.Op.TheVariants as Ops
 use Rattle.ftp_operation.specs.Answer.{Done, Refused}
-use Rattle.ftp_direct.specs.Direct.{busy_refusal, due, here, limited, or_code, refusal, refused_name}
+use Rattle.ftp_direct.specs.Direct.{busy_refusal, due, here, limited, or_refused, refusal, refused_name}
 use Rattle.ftp_direct.specs.Run.{Gives}
 use Rattle.ftp_direct.proofs.NodeLemmas.{rename_free}
 use Rattle.ftp_direct.proofs.RefusalLemmas.{gives_refused, gives_done, there_some, there_none}
+use Rattle.ftp_direct.specs.declared.refusal.Refusal.TheVariants.{Unavailable, BadName}
+use Rattle.ftp_direct.specs.Refusal.{code_of}
 
 module _ (table : Table) (cwd : Names) (from to : List ℕ) where
   held : Names → Bool
   held path = is_some (or_else (source_refusal table path) (busy_refusal (here table cwd) path))
 
   -- what is held
-  refused_held : fits (resolved cwd from) ≡ true → held (resolved cwd from) ≡ true → refusal (here table cwd) (Ops.Rename from to) ≡ Some 550
+  refused_held : fits (resolved cwd from) ≡ true → held (resolved cwd from) ≡ true → refusal (here table cwd) (Ops.Rename from to) ≡ Some Unavailable
   unfolding held
   refused_held fit is =
-      ap (λ code. or_code code (refused_name (limited (resolved cwd to) (target_refusal table (resolved cwd from) (resolved cwd to))))) (there_some _ _ fit is)
+      ap (λ code. or_refused code (refused_name (limited (resolved cwd to) (target_refusal table (resolved cwd from) (resolved cwd to))))) (there_some _ _ fit is)
 
   -- else the new name alone refuses
   refused_named : fits (resolved cwd from) ≡ true → held (resolved cwd from) ≡ false
       → refusal (here table cwd) (Ops.Rename from to) ≡ refused_name (limited (resolved cwd to) (rename_refusal table (resolved cwd from) (resolved cwd to)))
   unfolding held
   refused_named fit free =
-      ap (λ code. or_code code (refused_name (limited (resolved cwd to) (target_refusal table (resolved cwd from) (resolved cwd to))))) (there_none _ _ fit free)
+      ap (λ code. or_refused code (refused_name (limited (resolved cwd to) (target_refusal table (resolved cwd from) (resolved cwd to))))) (there_none _ _ fit free)
       ∙ ap (λ refusal. refused_name (limited (resolved cwd to) refusal)) (sym (rename_free table (resolved cwd from) (resolved cwd to) _ free))
 
   module _ (path : Names) (is : path ≡ resolved cwd from) (fit : fits path ≡ true) where
@@ -34,18 +36,18 @@ module _ (table : Table) (cwd : Names) (from to : List ℕ) where
     fit_from = ap fits (sym is) ∙ fit
 
     pub rename_held : is_some (or_else (source_refusal table path) (busy_refusal (here table cwd) path)) ≡ true
-        → Gives (due (here table cwd) (Ops.Rename from to) 0) (Refused 550) (here table cwd)
+        → Gives (due (here table cwd) (Ops.Rename from to) 0) (Refused (code_of Unavailable)) (here table cwd)
     unfolding held
-    rename_held some = gives_refused _ (Ops.Rename from to) 0 550 (refused_held fit_from (ap held (sym is) ∙ some))
+    rename_held some = gives_refused _ (Ops.Rename from to) 0 Unavailable (refused_held fit_from (ap held (sym is) ∙ some))
 
     module _ (free : is_some (or_else (source_refusal table path) (busy_refusal (here table cwd) path)) ≡ false) where
       free_from : held (resolved cwd from) ≡ false
       unfolding held
       free_from = ap held (sym is) ∙ free
 
-      pub rename_unfit : fits (resolved cwd to) ≡ false → Gives (due (here table cwd) (Ops.Rename from to) 0) (Refused 553) (here table cwd)
+      pub rename_unfit : fits (resolved cwd to) ≡ false → Gives (due (here table cwd) (Ops.Rename from to) 0) (Refused (code_of BadName)) (here table cwd)
       rename_unfit long =
-          gives_refused _ (Ops.Rename from to) 0 553
+          gives_refused _ (Ops.Rename from to) 0 BadName
           (refused_named fit_from free_from ∙ ap (λ b. refused_name (if b then rename_refusal table (resolved cwd from) (resolved cwd to) else Some TooBig)) long)
 
       module _ (target : Names) (to_is : target ≡ resolved cwd to) (to_fit : fits target ≡ true) where
@@ -55,8 +57,8 @@ module _ (table : Table) (cwd : Names) (from to : List ℕ) where
             ∙ ap (λ b. refused_name (if b then rename_refusal table (resolved cwd from) (resolved cwd to) else Some TooBig)) (ap fits (sym to_is) ∙ to_fit)
             ∙ ap (λ p. refused_name (rename_refusal table p (resolved cwd to))) (sym is) ∙ ap (λ q. refused_name (rename_refusal table path q)) (sym to_is)
 
-        pub rename_refused : (why : TreeFault) → rename_refusal table path target ≡ Some why → Gives (due (here table cwd) (Ops.Rename from to) 0) (Refused 553) (here table cwd)
-        rename_refused why because = gives_refused _ (Ops.Rename from to) 0 553 (by_name ∙ ap refused_name because)
+        pub rename_refused : (why : TreeFault) → rename_refusal table path target ≡ Some why → Gives (due (here table cwd) (Ops.Rename from to) 0) (Refused (code_of BadName)) (here table cwd)
+        rename_refused why because = gives_refused _ (Ops.Rename from to) 0 BadName (by_name ∙ ap refused_name because)
 
         pub rename_done : rename_refusal table path target ≡ None → Gives (due (here table cwd) (Ops.Rename from to) 0) Done (here (moved table path target) cwd)
         rename_done none =

@@ -10,17 +10,19 @@ use Rattle.ftp_operation.specs.declared.op.Op.{Op}
 use Rattle.ftp_operation.specs.declared.answer.Answer.{Answer}
 use Rattle.ftp_operation.specs.Answer.{Said, BadOperation, Refused, said_of}
 use Rattle.ftp_operation.specs.Operation.{can_be_sent}
-use Rattle.ftp_direct.specs.Direct.{State, answer, answers, chosen, code_of, done, due, here, refusal, standing, start}
+use Rattle.ftp_direct.specs.Direct.{State, answer, answers, chosen, done, first_refusal, due, here, refusal, standing, start}
 use Rattle.ftp_tree.specs.Change.{next_count}
 use Rattle.ftp_direct.specs.Run.{Gives, IsAnswer, Ran, Turn, answer_of, failures_of, moved_on, order_of, orders_of, run}
 use Rattle.ftp_direct.proofs.RefusalLemmas.{still}
+use Rattle.ftp_direct.specs.declared.refusal.Refusal.TheVariants.{NotLoggedIn, LocalFault}
+use Rattle.ftp_direct.specs.Refusal.{code_of}
 
 -- ---- one operation
 
 as_answer : (state : State) (op : Op (List ℕ)) (moment : ℕ) (sent : Bool) → can_be_sent op ≡ sent
-    → answer state op moment ≡ (if sent then chosen (code_of state op) state (done state op moment) else (BadOperation, state))
+    → answer state op moment ≡ (if sent then chosen (first_refusal state op) state (done state op moment) else (BadOperation, state))
 unfolding answer
-as_answer state op moment sent is = ap (λ b. if b then chosen (code_of state op) state (done state op moment) else (BadOperation, state)) is
+as_answer state op moment sent is = ap (λ b. if b then chosen (first_refusal state op) state (done state op moment) else (BadOperation, state)) is
 
 gives_by : (one other : Said × State) → one ≡ other → Gives other other.0 other.1 → Gives one other.0 other.1
 gives_by one other is gives = (ap (λ p. p.0) (sym is), ap (λ p. p.1) (sym is))
@@ -31,12 +33,12 @@ bad_operation count state op moment unsent =
     let e = as_answer state op moment false unsent in
     still count _ state BadOperation (ap (λ p. p.0) (sym e), ap (λ p. p.1) (sym e))
 
-pub unknown_login : (count : ℕ) (table : Table) (cwd : Names) (known : Bool) (op : Op (List ℕ)) (moment : ℕ) → can_be_sent op ≡ true → known ≡ false
-    → IsAnswer count count (answer (standing table cwd known) op moment) (standing table cwd known) (Refused 530) (standing table cwd known)
-unknown_login count table cwd known op moment sent unknown =
+pub unknown_login : (count : ℕ) (table : Table) (cwd : Names) (known : Bool) (op : Op (List ℕ)) (moment : ℕ) (said : Said) → said ≡ Refused (code_of NotLoggedIn) → can_be_sent op ≡ true → known ≡ false
+    → IsAnswer count count (answer (standing table cwd known) op moment) (standing table cwd known) said (standing table cwd known)
+unknown_login count table cwd known op moment said told sent unknown =
     let state = standing table cwd known in
-    let e = as_answer state op moment true sent ∙ ap (λ b. chosen (if b then refusal state op else Some 530) state (done state op moment)) unknown in
-    still count _ state (Refused 530) (ap (λ p. p.0) (sym e), ap (λ p. p.1) (sym e))
+    let e = as_answer state op moment true sent ∙ ap (λ b. chosen (if b then refusal state op else Some NotLoggedIn) state (done state op moment)) unknown in
+    still count _ state said (told ∙ ap (λ p. p.0) (sym e), ap (λ p. p.1) (sym e))
 
 pub known_due : {A E : Type 0} (result : Result (Answer A) E) (before after : ℕ) (table new : Table) (cwd at : Names) (known : Bool) (op : Op (List ℕ)) (moment : ℕ)
     → can_be_sent op ≡ true → known ≡ true
@@ -72,7 +74,7 @@ run_answers old (turn ∷ turns) none = by turn.fails refl (run_answers (answer 
     by true is rest_of = absurd (omega (arith, sym none ∙ counted is))
     by false is rest_of =
         let now = answer old turn.op turn.moment in
-        let first : answer_of old turn ≡ now = ap (λ b. if b then (Refused 451, old) else now) is in
+        let first : answer_of old turn ≡ now = ap (λ b. if b then (Refused (code_of LocalFault), old) else now) is in
         let rest = rest_of (sym (counted is) ∙ none) in
         ap (λ a. (a.0 ∷ (run a.1 turns).0, (run a.1 turns).1)) first ∙ ap (λ r. (now.0 ∷ r.0, r.1)) rest ∙ sym (answers_step old turn.op turn.moment (map order_of turns))
 

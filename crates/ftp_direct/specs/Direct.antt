@@ -17,6 +17,9 @@ use Rattle.ftp_operation.specs.declared.op.How.{How}
 use Rattle.ftp_operation.specs.declared.op.Op.{Op}
 use Rattle.ftp_operation.specs.declared.op.Op.TheVariants as Ops
 use Rattle.ftp_operation.specs.Operation.{can_be_sent, is_number}
+use Rattle.ftp_direct.specs.declared.refusal.Refusal.{Refusal}
+use Rattle.ftp_direct.specs.declared.refusal.Refusal.TheVariants.{BadParameter, NotLoggedIn, Unavailable, TooMuch, BadName}
+use Rattle.ftp_direct.specs.Refusal.{code_of, name_refusal, listing_refusal}
 use Rattle.ftp_operation.specs.Answer.{Listed, Said, Done, Path, Octets, Number, Stamp, Entry, Entries, Names as NameList, Refused, BadOperation}
 
 -- the state: the map, the current directory, and whether the login is known
@@ -48,39 +51,31 @@ named_or_here state text = place state.cwd text
 abbrev pub limited : Names → Option TreeFault → Option TreeFault
 limited path refusal = if fits path then refusal else Some Faults.TooBig
 
--- ---- refusals, as the codes of RFC 959 (section 4.2) that tell them
+-- ---- refusals, as replies tell them
 
 -- by what stands there, or does not
-abbrev pub refused_there : Option TreeFault → Option ℕ
-refused_there refusal = option_map (λ fault. 550) refusal
+abbrev pub refused_there : Option TreeFault → Option Refusal
+refused_there refusal = option_map (λ fault. Unavailable) refusal
 
 -- by the new name
-abbrev pub refused_name : Option TreeFault → Option ℕ
-refused_name refusal = option_map (λ fault. 553) refusal
+abbrev pub refused_name : Option TreeFault → Option Refusal
+refused_name refusal = option_map (λ fault. BadName) refusal
 
 -- by the new name, or as all nodes are taken
-abbrev pub putting_code : TreeFault → ℕ
-putting_code Faults.Full = 452
-putting_code other = 553
-
-abbrev pub refused_room : Option TreeFault → Option ℕ
-refused_room refusal = option_map putting_code refusal
+abbrev pub refused_room : Option TreeFault → Option Refusal
+refused_room refusal = option_map name_refusal refusal
 
 -- by the octets
-abbrev pub refused_octets : Option TreeFault → Option ℕ
-refused_octets refusal = option_map (λ fault. 552) refusal
+abbrev pub refused_octets : Option TreeFault → Option Refusal
+refused_octets refusal = option_map (λ fault. TooMuch) refusal
 
--- of a listing: a file is no argument for it (RFC 3659, section 7.2.1)
-abbrev pub listing_code : TreeFault → ℕ
-listing_code Faults.WrongKind = 501
-listing_code other = 550
+-- of a listing
+abbrev pub refused_listing : Option TreeFault → Option Refusal
+refused_listing refusal = option_map listing_refusal refusal
 
-abbrev pub refused_listing : Option TreeFault → Option ℕ
-refused_listing refusal = option_map listing_code refusal
-
--- the first of two codes
-abbrev pub or_code : Option ℕ → Option ℕ → Option ℕ
-or_code first second = option_or first second
+-- the first of two
+abbrev pub or_refused : Option Refusal → Option Refusal → Option Refusal
+or_refused first second = option_or first second
 
 -- the current directory is at or below a path
 abbrev pub busy_refusal : State → Names → Option TreeFault
@@ -91,27 +86,27 @@ absent_refusal None = Some Faults.Absent
 absent_refusal (Some node) = None
 
 -- a file of so many octets at a path
-abbrev pub put_refusal : State → Names → ℕ → Option ℕ
-put_refusal state path count = or_code (refused_room (limited path (room_refusal state.table path))) (refused_octets (octets_refusal state.table path count))
+abbrev pub put_refusal : State → Names → ℕ → Option Refusal
+put_refusal state path count = or_refused (refused_room (limited path (room_refusal state.table path))) (refused_octets (octets_refusal state.table path count))
 
 -- an offset is past the end of the file there; an absent file has none
 abbrev pub is_past : State → Names → ℕ → Bool
 is_past state path offset = not (nat_le offset (length (octets_or_none state.table path)))
 
-abbrev pub past_refusal : State → Names → ℕ → Option ℕ
-past_refusal state path offset = if is_past state path offset then Some 553 else None
+abbrev pub past_refusal : State → Names → ℕ → Option Refusal
+past_refusal state path offset = if is_past state path offset then Some BadName else None
 
 abbrev pub is_as_it_is : Kind → Structure → Bool
 is_as_it_is Image Structures.File = true
 is_as_it_is kind structure = false
 
 -- an offset other than 0 is for octets that go as they are: TYPE I and STRU F (RFC 3659, section 5; own choice)
-abbrev pub offset_refusal : ℕ → How → Option ℕ
-offset_refusal offset how = if (offset == 0) || is_as_it_is how.kind how.structure then None else Some 504
+abbrev pub offset_refusal : ℕ → How → Option Refusal
+offset_refusal offset how = if (offset == 0) || is_as_it_is how.kind how.structure then None else Some BadParameter
 
 -- the first octets of the file that a text names are not had
-abbrev pub front_code : State → List ℕ → ℕ → Option ℕ
-front_code state text count = refused_there (limited (named state text) (front_refusal state.table (named state text) count))
+abbrev pub refused_front : State → List ℕ → ℕ → Option Refusal
+refused_front state text count = refused_there (limited (named state text) (front_refusal state.table (named state text) count))
 
 -- the octets that a transfer in this type would have, in file structure and stream mode (RFC 3659, section 4)
 abbrev pub size_in : Kind → List ℕ → ℕ
@@ -119,11 +114,11 @@ size_in Ascii octets = length (asc octets)
 size_in Image octets = length octets
 
 -- a number that is too long to be said (own choice)
-abbrev pub number_code : ℕ → Option ℕ
-number_code number = if is_number number then None else Some 550
+abbrev pub refused_number : ℕ → Option Refusal
+refused_number number = if is_number number then None else Some Unavailable
 
 -- the first reason by the map why an operation is refused, one row an operation
-abbrev pub refusal : State → Op (List ℕ) → Option ℕ
+abbrev pub refusal : State → Op (List ℕ) → Option Refusal
 refusal state Ops.Where = None
 refusal state (Ops.ChangeDir text) = refused_there (limited (named state text) (directory_refusal (node_at state.table (named state text))))
 refusal state Ops.Up = None
@@ -131,16 +126,16 @@ refusal state (Ops.MakeDir text) = refused_there (limited (named state text) (ma
 refusal state (Ops.RemoveDir text) = refused_there (limited (named state text) (or_else (remove_refusal state.table (named state text)) (busy_refusal state (named state text))))
 refusal state (Ops.Delete text) = refused_there (limited (named state text) (delete_refusal state.table (named state text)))
 refusal state (Ops.Rename text new) =
-    or_code (refused_there (limited (named state text) (or_else (source_refusal state.table (named state text)) (busy_refusal state (named state text)))))
+    or_refused (refused_there (limited (named state text) (or_else (source_refusal state.table (named state text)) (busy_refusal state (named state text)))))
     (refused_name (limited (named state new) (target_refusal state.table (named state text) (named state new))))
 refusal state (Ops.Put text octets how) = put_refusal state (named state text) (length octets)
 refusal state (Ops.Append text octets how) = put_refusal state (named state text) (length (octets_or_none state.table (named state text)) + length octets)
 refusal state (Ops.PutFrom text offset octets how) =
-    or_code (offset_refusal offset how) (or_code (past_refusal state (named state text) offset) (put_refusal state (named state text) (offset + length octets)))
-refusal state (Ops.Get text how) = front_code state text 0
-refusal state (Ops.GetFrom text offset how) = or_code (offset_refusal offset how) (front_code state text offset)
-refusal state (Ops.Size text how) = or_code (front_code state text 0) (number_code (size_in how.kind (octets_or_none state.table (named state text))))
-refusal state (Ops.Modified text) = front_code state text 0
+    or_refused (offset_refusal offset how) (or_refused (past_refusal state (named state text) offset) (put_refusal state (named state text) (offset + length octets)))
+refusal state (Ops.Get text how) = refused_front state text 0
+refusal state (Ops.GetFrom text offset how) = or_refused (offset_refusal offset how) (refused_front state text offset)
+refusal state (Ops.Size text how) = or_refused (refused_front state text 0) (refused_number (size_in how.kind (octets_or_none state.table (named state text))))
+refusal state (Ops.Modified text) = refused_front state text 0
 refusal state (Ops.Facts text) = refused_there (limited (named_or_here state text) (absent_refusal (node_at state.table (named_or_here state text))))
 refusal state (Ops.List text how) = refused_listing (limited (named_or_here state text) (directory_refusal (node_at state.table (named_or_here state text))))
 refusal state (Ops.Names text how) = refused_there (limited (named_or_here state text) (absent_refusal (node_at state.table (named_or_here state text))))
@@ -223,18 +218,18 @@ done state (Ops.Names text how) moment = (NameList (names_for state.table (named
 
 -- ---- operations in order
 
--- a refusal by a code, which changes nothing, or what is done
-abbrev pub chosen : Option ℕ → State → Said × State → Said × State
-chosen (Some code) state done = (Refused code, state)
+-- a refusal, which changes nothing, or what is done
+abbrev pub chosen : Option Refusal → State → Said × State → Said × State
+chosen (Some why) state done = (Refused (code_of why), state)
 chosen None state done = done
 
--- the first code: of a login that is not known, of the map
-abbrev pub code_of : State → Op (List ℕ) → Option ℕ
-code_of state op = if state.known then refusal state op else Some 530
+-- the first refusal: of a login that is not known, by the map
+abbrev pub first_refusal : State → Op (List ℕ) → Option Refusal
+first_refusal state op = if state.known then refusal state op else Some NotLoggedIn
 
 -- the answer of an operation at a moment, and the state after it: one that cannot be sent changes nothing, and so does a refused one
 unfoldable pub answer : State → Op (List ℕ) → ℕ → Said × State
-answer state op moment = if can_be_sent op then chosen (code_of state op) state (done state op moment) else (BadOperation, state)
+answer state op moment = if can_be_sent op then chosen (first_refusal state op) state (done state op moment) else (BadOperation, state)
 
 -- a list of operations, each with its moment: the answers, and the state after the last
 unfoldable pub answers : State → List (Op (List ℕ) × ℕ) → List Said × State

@@ -1,3 +1,3 @@
-pub mod Below
 pub mod Direct
+pub mod Refusal
 pub mod Run

@@ -3,10 +3,10 @@ use Rattle.std.specs.Prelude.{◌≡◌, ◌≢◌, ℕ, zero, suc, Bool, List, 
 use Rattle.ftp_facts.specs.declared.moment.Moment.{Moment}
 use Rattle.ftp_tree.specs.Tree.{Table}
 use Rattle.ftp_tree.specs.Change.{next_count}
-use Rattle.ftp_tree.specs.declared.fault.TreeFault.{TreeFault}
-use Rattle.ftp_tree.specs.declared.fault.TreeFault.TheVariants as Faults
 use Rattle.ftp_operation.specs.declared.op.Op.{Op}
 use Rattle.ftp_operation.specs.Answer.{Said, Refused}
+use Rattle.ftp_direct.specs.declared.refusal.Refusal.TheVariants.{LocalFault}
+use Rattle.ftp_direct.specs.Refusal.{code_of}
 use Rattle.ftp_direct.specs.Direct.{State, answer}
 
 -- an answer and a state, as they are due
@@ -17,12 +17,7 @@ Gives due said new = (said ≡ due.0) × (new ≡ due.1)
 -- it was, with the count moved on by one.
 pub record IsAnswer (before after : ℕ) (due : Said × State) (old : State) (said : Said) (new : State) : Type 0 where
   pub steady : after ≡ before → Gives due said new
-  pub failed : after ≢ before → (after ≡ next_count before) × Gives (Refused 451, old) said new
-
--- the code by which a refused call of the tree is told
-abbrev pub told : TreeFault → ℕ → ℕ
-told Faults.Device code = 451
-told fault code = code
+  pub failed : after ≢ before → (after ≡ next_count before) × Gives (Refused (code_of LocalFault), old) said new
 
 -- an operation, its moment, and whether the device fails at it
 pub record Turn : Type 0 where
@@ -35,7 +30,7 @@ order_of turn = (turn.op, turn.moment)
 
 -- its answer and the state after it: where the device fails, 451 and the state as it was
 abbrev pub answer_of : State → Turn → Said × State
-answer_of state turn = if turn.fails then (Refused 451, state) else answer state turn.op turn.moment
+answer_of state turn = if turn.fails then (Refused (code_of LocalFault), state) else answer state turn.op turn.moment
 
 -- turns one after another: the answers, and the state after the last
 abbrev pub run : State → List Turn → List Said × State

@@ -1,7 +1,5 @@
 // Operations one after another.
 ghost use Rattle.std.specs.Prelude.{◌≡◌, ℕ, IsTrue, IfOk, IfErr, List, OnErr, map, take};
-ghost use Rattle.std.specs.List.{list_all};
-ghost use Rattle.ftp_path.specs.Path.{is_component};
 ghost use Rattle.ftp_operation.specs.Account.{is_known};
 ghost use Rattle.ftp_operation.specs.Answer.{Said, said_of};
 ghost use Rattle.ftp_direct.specs.Direct.{answer, due, here, standing, start};
@@ -11,7 +9,7 @@ ghost use Rattle.ftp_direct.specs.Run.{IsAnswer, Ran, orders_of};
 use crate::files::{append, get, get_from, modified, put, put_from};
 use crate::listings::{facts, list, names};
 use crate::places::{change_dir, delete, go_up, make_dir, remove_dir, rename, say_where};
-use crate::refusal::NOT_LOGGED_IN;
+use crate::refusal::{Refusal, tell};
 use crate::sizes::size;
 use ftp_facts::{Moment, Text};
 use ftp_operation::{Accounts, Answer, Login, Op, can_be_sent};
@@ -52,17 +50,15 @@ fn answer<A: Allocator + Clone, T: Tree<A>>(
     op: &Op<Text<A>>,
     moment: Moment,
 ) -> Result<Answer<A>, AllocError>
-    requires { IsTrue (list_all is_component cwd.old) }
     ensures answer { IfOk result (λ said. let old = standing (T.table tree.old) cwd.old known in
         IsAnswer (T.failures tree.old) (T.failures tree.new) (answer old op.now moment.seconds) old (said_of said) (standing (T.table tree.new) cwd.new known)) }
-    ensures named { IsTrue (list_all is_component cwd.new) }
     ensures kept { OnErr result ((T.table tree.new ≡ T.table tree.old) × (T.failures tree.new ≡ T.failures tree.old)) }
 {
     if !can_be_sent(op) {
         return Ok(Answer::BadOperation);
     }
     if !known {
-        return Ok(Answer::Refused(NOT_LOGGED_IN));
+        return Ok(tell(Refusal::NotLoggedIn));
     }
     due(alloc, tree, cwd, op, moment)
 }
@@ -75,32 +71,30 @@ fn due<A: Allocator + Clone, T: Tree<A>>(
     op: &Op<Text<A>>,
     moment: Moment,
 ) -> Result<Answer<A>, AllocError>
-    requires sent { IsTrue (can_be_sent op.now) }
-    requires cwd { IsTrue (list_all is_component cwd.old) }
+    requires { IsTrue (can_be_sent op.now) }
     ensures answer { IfOk result (λ answer. let old = here (T.table tree.old) cwd.old in
         IsAnswer (T.failures tree.old) (T.failures tree.new) (due old op.now moment.seconds) old (said_of answer) (here (T.table tree.new) cwd.new)) }
-    ensures named { IsTrue (list_all is_component cwd.new) }
     ensures kept { OnErr result ((T.table tree.new ≡ T.table tree.old) × (T.failures tree.new ≡ T.failures tree.old)) }
 {
     match op {
-        Op::Where => say_where(alloc, tree, cwd),
+        Op::Where => say_where(alloc, cwd),
         Op::ChangeDir(text) => change_dir(alloc, tree, cwd, text),
-        Op::Up => go_up(alloc, tree, cwd),
+        Op::Up => go_up(alloc, cwd),
         Op::MakeDir(text) => make_dir(alloc, tree, cwd, text),
         Op::RemoveDir(text) => remove_dir(alloc, tree, cwd, text),
         Op::Delete(text) => delete(alloc, tree, cwd, text),
         Op::Rename(from, to) => rename(alloc, tree, cwd, from, to),
-        Op::Put(text, octets, how) => put(alloc, tree, cwd, text, octets, *how, moment),
-        Op::Append(text, octets, how) => append(alloc, tree, cwd, text, octets, *how, moment),
+        Op::Put(text, octets, _) => put(alloc, tree, cwd, text, octets, moment),
+        Op::Append(text, octets, _) => append(alloc, tree, cwd, text, octets, moment),
         Op::PutFrom(text, offset, octets, how) => put_from(
             alloc, tree, cwd, text, *offset, octets, *how, moment,
         ),
-        Op::Get(text, how) => get(alloc, tree, cwd, text, *how),
+        Op::Get(text, _) => get(alloc, tree, cwd, text),
         Op::GetFrom(text, offset, how) => get_from(alloc, tree, cwd, text, *offset, *how),
         Op::Size(text, how) => size(alloc, tree, cwd, text, *how),
         Op::Modified(text) => modified(alloc, tree, cwd, text),
         Op::Facts(text) => facts(alloc, tree, cwd, text),
-        Op::List(text, how) => list(alloc, tree, cwd, text, *how),
-        Op::Names(text, how) => names(alloc, tree, cwd, text, *how),
+        Op::List(text, _) => list(alloc, tree, cwd, text),
+        Op::Names(text, _) => names(alloc, tree, cwd, text),
     }
 }

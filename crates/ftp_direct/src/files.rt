@@ -3,12 +3,13 @@ ghost use Rattle.std.specs.Prelude.{◌≡◌, ◌+◌, ◌<◌, ◌≤◌, IsTr
 ghost use Rattle.ftp_path.specs.Path.{fits, resolved, Names};
 ghost use Rattle.ftp_tree.specs.Tree.{octets_or_none};
 ghost use Rattle.ftp_operation.specs.Answer.{said_of};
-ghost use Rattle.ftp_direct.specs.Direct.{chosen, due, front_code, here, is_as_it_is, offset_refusal, put, put_refusal, putting_code, size_in};
+ghost use Rattle.ftp_direct.specs.Direct.{chosen, due, refused_front, here, is_as_it_is, offset_refusal, put, put_refusal, size_in};
 ghost use Rattle.ftp_operation.specs.Operation.{is_path_text};
+ghost use Rattle.ftp_direct.specs.Refusal.{name_refusal};
 ghost use Rattle.ftp_direct.specs.Run.{Gives, IsAnswer};
 
 use crate::nodes::{has_front, len_at};
-use crate::refusal::{BAD_NAME, BAD_PARAMETER, NO_ROOM, TOO_MUCH, UNAVAILABLE, find, refused};
+use crate::refusal::{Refusal, find, refused, tell};
 use ftp_facts::{Moment, Text};
 use ftp_operation::{Answer, How, Op};
 use ftp_repr::{Kind, Structure};
@@ -25,17 +26,15 @@ pub(crate) fn put<A: Allocator + Clone, T: Tree<A>>(
     cwd: &Path<A>,
     text: &Text<A>,
     octets: &Text<A>,
-    how: How,
     moment: Moment,
 ) -> Result<Answer<A>, AllocError>
     requires { IsTrue (is_path_text text.now) }
-    ensures answer { IfOk result (λ answer. let old = here (T.table tree.old) cwd.now in
+    ensures answer { (how : How) → IfOk result (λ answer. let old = here (T.table tree.old) cwd.now in
         IsAnswer (T.failures tree.old) (T.failures tree.new) (due old (Op.Put text.now octets.now how) moment.seconds) old (said_of answer) (here (T.table tree.new) cwd.now)) }
     ensures kept { OnErr result ((T.table tree.new ≡ T.table tree.old) × (T.failures tree.new ≡ T.failures tree.old)) }
 {
-    let _how = how;
     let Some(path) = find(alloc, cwd, text)? else {
-        return Ok(Answer::Refused(BAD_NAME));
+        return Ok(tell(Refusal::BadName));
     };
     install(alloc, tree, &path, 0, octets, moment)
 }
@@ -47,17 +46,15 @@ pub(crate) fn append<A: Allocator + Clone, T: Tree<A>>(
     cwd: &Path<A>,
     text: &Text<A>,
     octets: &Text<A>,
-    how: How,
     moment: Moment,
 ) -> Result<Answer<A>, AllocError>
     requires { IsTrue (is_path_text text.now) }
-    ensures answer { IfOk result (λ answer. let old = here (T.table tree.old) cwd.now in
+    ensures answer { (how : How) → IfOk result (λ answer. let old = here (T.table tree.old) cwd.now in
         IsAnswer (T.failures tree.old) (T.failures tree.new) (due old (Op.Append text.now octets.now how) moment.seconds) old (said_of answer) (here (T.table tree.new) cwd.now)) }
     ensures kept { OnErr result ((T.table tree.new ≡ T.table tree.old) × (T.failures tree.new ≡ T.failures tree.old)) }
 {
-    let _how = how;
     let Some(path) = find(alloc, cwd, text)? else {
-        return Ok(Answer::Refused(BAD_NAME));
+        return Ok(tell(Refusal::BadName));
     };
     let kept = len_at(tree, &path);
     install(alloc, tree, &path, kept, octets, moment)
@@ -80,20 +77,20 @@ pub(crate) fn put_from<A: Allocator + Clone, T: Tree<A>>(
     ensures kept { OnErr result ((T.table tree.new ≡ T.table tree.old) × (T.failures tree.new ≡ T.failures tree.old)) }
 {
     if !takes_offset(offset, how) {
-        return Ok(Answer::Refused(BAD_PARAMETER));
+        return Ok(tell(Refusal::BadParameter));
     }
     let Some(path) = find(alloc, cwd, text)? else {
-        return Ok(Answer::Refused(BAD_NAME));
+        return Ok(tell(Refusal::BadName));
     };
     if offset > len_at(tree, &path) {
-        return Ok(Answer::Refused(BAD_NAME));
+        return Ok(tell(Refusal::BadName));
     }
     install(alloc, tree, &path, offset, octets, moment)
 }
 
 /// Whether octets can go from that place on in that representation.
 fn takes_offset(offset: u64, how: How) -> bool
-    ensures { offset_refusal offset how ≡ (if result then None else Some 504) }
+    ensures { offset_refusal offset how ≡ (if result then None else Some Refusal.BadParameter) }
 {
     offset == 0 || is_as_it_is(how.kind, how.structure)
 }
@@ -130,26 +127,26 @@ fn install<A: Allocator + Clone, T: Tree<A>>(
 {
     let room = match tree.room(path) {
         Ok(room) => room,
-        Err(fault) => return Ok(Answer::Refused(name_code(fault))),
+        Err(fault) => return Ok(tell(name_refusal(fault))),
     };
     if !has_room(room, kept, octets) {
-        return Ok(Answer::Refused(TOO_MUCH));
+        return Ok(tell(Refusal::TooMuch));
     }
     let mut content = front(alloc.clone()?, tree, path, kept)?;
     content.push(octets.as_slice())?;
     match tree.install(path, &mut content, moment) {
         Ok(()) => Ok(Answer::Done),
-        Err(fault) => refused(fault, TOO_MUCH),
+        Err(fault) => refused(fault, Refusal::TooMuch),
     }
 }
 
-/// The code by which a file's new path is refused.
-fn name_code(fault: TreeFault) -> u16
-    ensures { result ≡ putting_code fault }
+/// How a file's new path is refused.
+fn name_refusal(fault: TreeFault) -> Refusal
+    ensures { result ≡ name_refusal fault }
 {
     match fault {
-        TreeFault::Full => NO_ROOM,
-        _ => BAD_NAME,
+        TreeFault::Full => Refusal::NoRoom,
+        _ => Refusal::BadName,
     }
 }
 
@@ -167,14 +164,12 @@ pub(crate) fn get<A: Allocator + Clone, T: Tree<A>>(
     tree: &T,
     cwd: &Path<A>,
     text: &Text<A>,
-    how: How,
 ) -> Result<Answer<A>, AllocError>
     requires { IsTrue (is_path_text text.now) }
-    ensures { IfOk result (λ answer. let old = here (T.table tree.now) cwd.now in Gives (due old (Op.Get text.now how) 0) (said_of answer) old) }
+    ensures { (how : How) → IfOk result (λ answer. let old = here (T.table tree.now) cwd.now in Gives (due old (Op.Get text.now how) 0) (said_of answer) old) }
 {
-    let _how = how;
     let Some(path) = find_front(alloc, tree, cwd, text, 0)? else {
-        return Ok(Answer::Refused(UNAVAILABLE));
+        return Ok(tell(Refusal::Unavailable));
     };
     let octets = read(alloc.clone()?, tree, &path, 0)?;
     Ok(Answer::Octets(Text::copy_of(alloc.clone()?, octets.as_slice())?))
@@ -193,10 +188,10 @@ pub(crate) fn get_from<A: Allocator + Clone, T: Tree<A>>(
     ensures { IfOk result (λ answer. let old = here (T.table tree.now) cwd.now in Gives (due old (Op.GetFrom text.now offset how) 0) (said_of answer) old) }
 {
     if !takes_offset(offset, how) {
-        return Ok(Answer::Refused(BAD_PARAMETER));
+        return Ok(tell(Refusal::BadParameter));
     }
     let Some(path) = find_front(alloc, tree, cwd, text, offset)? else {
-        return Ok(Answer::Refused(UNAVAILABLE));
+        return Ok(tell(Refusal::Unavailable));
     };
     let octets = read(alloc.clone()?, tree, &path, offset)?;
     Ok(Answer::Octets(Text::copy_of(alloc.clone()?, octets.as_slice())?))
@@ -213,11 +208,11 @@ pub(crate) fn modified<A: Allocator + Clone, T: Tree<A>>(
     ensures { IfOk result (λ answer. let old = here (T.table tree.now) cwd.now in Gives (due old (Op.Modified text.now) 0) (said_of answer) old) }
 {
     let Some(path) = find(alloc, cwd, text)? else {
-        return Ok(Answer::Refused(UNAVAILABLE));
+        return Ok(tell(Refusal::Unavailable));
     };
     match tree.stamp(&path) {
         Some(moment) => Ok(Answer::Stamp(moment)),
-        None => Ok(Answer::Refused(UNAVAILABLE)),
+        None => Ok(tell(Refusal::Unavailable)),
     }
 }
 
@@ -230,8 +225,8 @@ pub(crate) fn find_front<A: Allocator + Clone, T: Tree<A>>(
     count: u64,
 ) -> Result<Option<Path<A>>, AllocError>
     requires { IsTrue (is_path_text text.now) }
-    ensures { IfOk result (λ found. let code = front_code (here (T.table tree.now) cwd.now) text.now count in
-        MatchOption found (code ≡ Some 550) (λ path. (path ≡ resolved cwd.now text.now) × (code ≡ None))) }
+    ensures { IfOk result (λ found. let refused = refused_front (here (T.table tree.now) cwd.now) text.now count in
+        MatchOption found (refused ≡ Some Refusal.Unavailable) (λ path. (path ≡ resolved cwd.now text.now) × (refused ≡ None))) }
 {
     let Some(path) = find(alloc, cwd, text)? else {
         return Ok(None);
@@ -271,26 +266,13 @@ fn front<A: Allocator, T: Tree<A>>(
     path: &Path<A>,
     count: u64,
 ) -> Result<Content<A>, AllocError>
-    requires { count ≤ length (octets_or_none (T.table tree.now) path.now) }
     ensures { IfOk result (λ content. content ≡ take count (octets_or_none (T.table tree.now) path.now)) }
 {
-    let mut content = Content::new(alloc);
-    while content.len() < count {
-        let at = content.len();
-        let piece = tree.piece(path, at, piece_len(count - at));
-        content.push(piece)?;
+    if count == 0 {
+        return Ok(Content::new(alloc));
     }
-    Ok(content)
-}
-
-/// How many octets are asked for where so many are wanted.
-fn piece_len(wanted: u64) -> usize
-    ensures most { result ≤ wanted }
-    ensures some { 0 < wanted → 0 < result }
-{
-    if wanted < PIECE as u64 {
-        wanted as usize
-    } else {
-        PIECE
+    match Content::of(alloc, tree, path, count) {
+        Ok(content) => Ok(content),
+        Err(_) => Err(AllocError),
     }
 }

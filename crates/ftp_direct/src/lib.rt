@@ -2,7 +2,6 @@
 //! (RFC 959, section 4.1; RFC 3659).
 #![tactic(auto)]
 
-mod busy;
 mod direct_run;
 mod files;
 mod laws;
@@ -15,3 +14,4 @@ mod sizes;
 pub use direct_run::direct;
 pub use ftp_operation::{Account, Accounts, Answer, How, Login, Op, SameUser};
 pub use laws::{direct_in_memory, steady_run};
+pub use refusal::Refusal;

@@ -1,18 +1,18 @@
 // Operations that list.
-ghost use Rattle.std.specs.Prelude.{◌≡◌, ◌<◌, ◌++◌, IsTrue, IfOk, IfSome, OnOk, MatchOption, false, map, option_and_then, option_map, true};
+ghost use Rattle.std.specs.Prelude.{◌≡◌, ◌<◌, ◌++◌, IsTrue, IfOk, OnOk, MatchOption, false, map, option_and_then, option_map, true};
 ghost use Rattle.std.specs.List.{filter_map, list_all};
 ghost use Rattle.std.specs.Option.{ForSome, option_to_list};
 ghost use Rattle.ftp_facts.specs.Fact.{IsValue};
-ghost use Rattle.ftp_path.specs.Path.{IsPathText, fits, is_component, is_name};
+ghost use Rattle.ftp_path.specs.Path.{IsPathText, fits, is_name};
 ghost use Rattle.ftp_tree.specs.Tree.{Dir, children, size_at};
 ghost use Rattle.ftp_operation.specs.Answer.{listed_of, said_of};
-ghost use Rattle.ftp_direct.specs.Direct.{behind, due, entries_in, entry_at, entry_in, file_in, here, listing_code, names_for, perm_of, place, size_fact};
+ghost use Rattle.ftp_direct.specs.Direct.{behind, due, entries_in, entry_at, entry_in, file_in, here, names_for, perm_of, place, size_fact};
 ghost use Rattle.ftp_operation.specs.Operation.{is_optional_text};
+ghost use Rattle.ftp_direct.specs.Refusal.{listing_refusal};
 ghost use Rattle.ftp_direct.specs.Run.{Gives};
 
-use crate::busy::is_root;
 use crate::nodes::{absent_fault, directory_fault, is_file};
-use crate::refusal::{BAD_ARGUMENT, UNAVAILABLE, find};
+use crate::refusal::{Refusal, find, tell};
 use ftp_facts::{Entry, Kind, Text};
 use ftp_operation::{Answer, How, Op, is_number};
 use ftp_tree::{Path, Tree, TreeFault};
@@ -25,15 +25,14 @@ pub(crate) fn facts<A: Allocator + Clone, T: Tree<A>>(
     cwd: &Path<A>,
     text: &Text<A>,
 ) -> Result<Answer<A>, AllocError>
-    requires text { IsTrue (is_optional_text text.now) }
-    requires cwd { IsTrue (list_all is_component cwd.now) }
+    requires { IsTrue (is_optional_text text.now) }
     ensures { IfOk result (λ answer. let old = here (T.table tree.now) cwd.now in Gives (due old (Op.Facts text.now) 0) (said_of answer) old) }
 {
     let Some(path) = find_here(alloc, cwd, text)? else {
-        return Ok(Answer::Refused(UNAVAILABLE));
+        return Ok(tell(Refusal::Unavailable));
     };
     if absent_fault(tree, &path).is_some() {
-        return Ok(Answer::Refused(UNAVAILABLE));
+        return Ok(tell(Refusal::Unavailable));
     }
     Ok(Answer::Entry(entry(alloc, tree, &path, path.text())?))
 }
@@ -44,29 +43,26 @@ pub(crate) fn list<A: Allocator + Clone, T: Tree<A>>(
     tree: &T,
     cwd: &Path<A>,
     text: &Text<A>,
-    how: How,
 ) -> Result<Answer<A>, AllocError>
-    requires text { IsTrue (is_optional_text text.now) }
-    requires cwd { IsTrue (list_all is_component cwd.now) }
-    ensures { IfOk result (λ answer. let old = here (T.table tree.now) cwd.now in Gives (due old (Op.List text.now how) 0) (said_of answer) old) }
+    requires { IsTrue (is_optional_text text.now) }
+    ensures { (how : How) → IfOk result (λ answer. let old = here (T.table tree.now) cwd.now in Gives (due old (Op.List text.now how) 0) (said_of answer) old) }
 {
-    let _how = how;
     let Some(path) = find_here(alloc, cwd, text)? else {
-        return Ok(Answer::Refused(UNAVAILABLE));
+        return Ok(tell(Refusal::Unavailable));
     };
     match directory_fault(tree, &path) {
         None => Ok(Answer::Entries(entries(alloc, tree, &path)?)),
-        Some(fault) => Ok(Answer::Refused(listing_code(fault))),
+        Some(fault) => Ok(tell(listing_refusal(fault))),
     }
 }
 
-/// The code by which a listing is refused.
-fn listing_code(fault: TreeFault) -> u16
-    ensures { result ≡ listing_code fault }
+/// How a listing is refused.
+fn listing_refusal(fault: TreeFault) -> Refusal
+    ensures { result ≡ listing_refusal fault }
 {
     match fault {
-        TreeFault::WrongKind => BAD_ARGUMENT,
-        _ => UNAVAILABLE,
+        TreeFault::WrongKind => Refusal::BadArgument,
+        _ => Refusal::Unavailable,
     }
 }
 
@@ -76,18 +72,15 @@ pub(crate) fn names<A: Allocator + Clone, T: Tree<A>>(
     tree: &T,
     cwd: &Path<A>,
     text: &Text<A>,
-    how: How,
 ) -> Result<Answer<A>, AllocError>
-    requires text { IsTrue (is_optional_text text.now) }
-    requires cwd { IsTrue (list_all is_component cwd.now) }
-    ensures { IfOk result (λ answer. let old = here (T.table tree.now) cwd.now in Gives (due old (Op.Names text.now how) 0) (said_of answer) old) }
+    requires { IsTrue (is_optional_text text.now) }
+    ensures { (how : How) → IfOk result (λ answer. let old = here (T.table tree.now) cwd.now in Gives (due old (Op.Names text.now how) 0) (said_of answer) old) }
 {
-    let _how = how;
     let Some(path) = find_here(alloc, cwd, text)? else {
-        return Ok(Answer::Refused(UNAVAILABLE));
+        return Ok(tell(Refusal::Unavailable));
     };
     if absent_fault(tree, &path).is_some() {
-        return Ok(Answer::Refused(UNAVAILABLE));
+        return Ok(tell(Refusal::Unavailable));
     }
     Ok(Answer::Names(pathnames(alloc, tree, &path, text)?))
 }
@@ -98,11 +91,9 @@ fn find_here<A: Allocator + Clone>(
     cwd: &Path<A>,
     text: &Text<A>,
 ) -> Result<Option<Path<A>>, AllocError>
-    requires text { IsTrue (is_optional_text text.now) }
-    requires cwd { IsTrue (list_all is_component cwd.now) }
-    ensures found { IfOk result (λ found. let path = place cwd.now text.now in
+    requires { IsTrue (is_optional_text text.now) }
+    ensures { IfOk result (λ found. let path = place cwd.now text.now in
         MatchOption found (fits path ≡ false) (λ is. (is ≡ path) × (fits is ≡ true))) }
-    ensures named { IfOk result (λ found. IfSome found (λ path. IsTrue (list_all is_component path))) }
 {
     if !text.as_slice().is_empty() {
         return find(alloc, cwd, text);
@@ -118,8 +109,7 @@ fn entry<A: Allocator + Clone, T: Tree<A>>(
     path: &Path<A>,
     name: &[u8],
 ) -> Result<Entry<A>, AllocError>
-    requires path { IsTrue (list_all is_component path.now) }
-    requires name { IsPathText name.now }
+    requires { IsPathText name.now }
     ensures { IfOk result (λ entry. listed_of entry ≡ entry_at (T.table tree.now) path.now name.now) }
 {
     let name = Text::copy_of(alloc.clone()?, name)?;
@@ -145,11 +135,10 @@ fn entry<A: Allocator + Clone, T: Tree<A>>(
 
 /// The permissions of a directory (RFC 3659, section 7.5.5).
 fn dir_perm<A: Allocator>(path: &Path<A>) -> &'static [u8]
-    requires { IsTrue (list_all is_component path.now) }
     ensures perm { result.now ≡ perm_of path.now Dir }
     ensures value { IsValue result.now }
 {
-    if is_root(path) { b"celmp" } else { b"cdeflmp" }
+    if path.key().is_empty() { b"celmp" } else { b"cdeflmp" }
 }
 
 /// The size of the file at a path, where it can be said.
@@ -169,7 +158,6 @@ fn entries<A: Allocator + Clone, T: Tree<A>>(
     tree: &T,
     path: &Path<A>,
 ) -> Result<Vec<Entry<A>, A>, AllocError>
-    requires { IsTrue (list_all is_component path.now) }
     ensures { IfOk result (λ entries. map listed_of entries.items ≡ entries_in (T.table tree.now) path.now) }
 {
     let names = names_in(alloc, tree, path)?;
@@ -187,8 +175,7 @@ fn entry_in<A: Allocator + Clone, T: Tree<A>>(
     path: &Path<A>,
     name: &Text<A>,
 ) -> Result<Option<Entry<A>>, AllocError>
-    requires path { IsTrue (list_all is_component path.now) }
-    requires name { IsTrue (is_name name.now) }
+    requires { IsTrue (is_name name.now) }
     ensures { IfOk result (λ entry. option_map listed_of entry ≡ entry_in (T.table tree.now) path.now name.now) }
 {
     let Some(child) = find(alloc, path, name)? else {
@@ -204,7 +191,6 @@ fn pathnames<A: Allocator + Clone, T: Tree<A>>(
     path: &Path<A>,
     text: &Text<A>,
 ) -> Result<Vec<Text<A>, A>, AllocError>
-    requires { IsTrue (list_all is_component path.now) }
     ensures { IfOk result (λ names. names.items ≡ names_for (T.table tree.now) path.now text.now) }
 {
     if !is_file(tree, path) {
@@ -222,7 +208,6 @@ fn files<A: Allocator + Clone, T: Tree<A>>(
     path: &Path<A>,
     text: &Text<A>,
 ) -> Result<Vec<Text<A>, A>, AllocError>
-    requires { IsTrue (list_all is_component path.now) }
     ensures { IfOk result (λ files. files.items ≡ filter_map (file_in (T.table tree.now) path.now text.now) (children (T.table tree.now) path.now)) }
 {
     let names = names_in(alloc, tree, path)?;
@@ -241,8 +226,7 @@ fn file_in<A: Allocator + Clone, T: Tree<A>>(
     text: &Text<A>,
     name: &Text<A>,
 ) -> Result<Option<Text<A>>, AllocError>
-    requires path { IsTrue (list_all is_component path.now) }
-    requires name { IsTrue (is_name name.now) }
+    requires { IsTrue (is_name name.now) }
     ensures { IfOk result (λ file. file ≡ file_in (T.table tree.now) path.now text.now name.now) }
 {
     let Some(child) = find(alloc, path, name)? else {

@@ -1,30 +1,27 @@
 // Operations on the current directory, on directories and on names.
 ghost use Rattle.std.specs.Prelude.{◌≡◌, IsTrue, IfOk, OnErr, is_some};
-ghost use Rattle.std.specs.List.{list_all};
-ghost use Rattle.ftp_path.specs.Path.{is_component};
 ghost use Rattle.ftp_operation.specs.Answer.{said_of};
-ghost use Rattle.ftp_tree.specs.Tree.{or_else, source_refusal};
+ghost use Rattle.ftp_path.specs.Path.{is_within};
+ghost use Rattle.ftp_tree.specs.Tree.{Table, or_else, source_refusal};
 ghost use Rattle.ftp_direct.specs.Direct.{busy_refusal, due, here};
 ghost use Rattle.ftp_operation.specs.Operation.{is_path_text};
 ghost use Rattle.ftp_direct.specs.Run.{Gives, IsAnswer};
 
-use crate::busy::is_busy;
 use crate::nodes::{absent_fault, directory_fault};
-use crate::refusal::{BAD_NAME, UNAVAILABLE, find, refused};
+use crate::refusal::{Refusal, find, refused, tell};
 use ftp_facts::Text;
 use ftp_operation::{Answer, Op};
+use ftp_path::key::is_within;
 use ftp_tree::{Path, Tree};
 use std::alloc::{AllocError, Allocator};
 
 /// Says which directory is the current one.
-pub(crate) fn say_where<A: Allocator + Clone, T: Tree<A>>(
+pub(crate) fn say_where<A: Allocator + Clone>(
     alloc: &A,
-    tree: &T,
     cwd: &Path<A>,
 ) -> Result<Answer<A>, AllocError>
-    ensures { IfOk result (λ answer. let old = here (T.table tree.now) cwd.now in Gives (due old Op.Where 0) (said_of answer) old) }
+    ensures { (table : Table) → IfOk result (λ answer. let old = here table cwd.now in Gives (due old Op.Where 0) (said_of answer) old) }
 {
-    let _tree = tree;
     Ok(Answer::Path(Text::copy_of(alloc.clone()?, cwd.text())?))
 }
 
@@ -38,14 +35,13 @@ pub(crate) fn change_dir<A: Allocator + Clone, T: Tree<A>>(
     requires { IsTrue (is_path_text text.now) }
     ensures answer { IfOk result (λ answer. let table = T.table tree.now in
         Gives (due (here table cwd.old) (Op.ChangeDir text.now) 0) (said_of answer) (here table cwd.new)) }
-    ensures named { IsTrue (list_all is_component cwd.old) → IsTrue (list_all is_component cwd.new) }
     ensures kept { OnErr result (cwd.new ≡ cwd.old) }
 {
     let Some(path) = find(alloc, cwd, text)? else {
-        return Ok(Answer::Refused(UNAVAILABLE));
+        return Ok(tell(Refusal::Unavailable));
     };
     if directory_fault(tree, &path).is_some() {
-        return Ok(Answer::Refused(UNAVAILABLE));
+        return Ok(tell(Refusal::Unavailable));
     }
     *cwd = path;
     Ok(Answer::Done)
@@ -53,16 +49,13 @@ pub(crate) fn change_dir<A: Allocator + Clone, T: Tree<A>>(
 
 /// Goes to the parent of the current directory; from the root nowhere.
 #[tactic(auto, using(crate::proofs::ResolveLemmas::up_parent))]
-pub(crate) fn go_up<A: Allocator + Clone, T: Tree<A>>(
+pub(crate) fn go_up<A: Allocator + Clone>(
     alloc: &A,
-    tree: &T,
     cwd: &mut Path<A>,
 ) -> Result<Answer<A>, AllocError>
-    ensures answer { IfOk result (λ answer. let table = T.table tree.now in Gives (due (here table cwd.old) Op.Up 0) (said_of answer) (here table cwd.new)) }
-    ensures named { IsTrue (list_all is_component cwd.old) → IsTrue (list_all is_component cwd.new) }
+    ensures answer { (table : Table) → IfOk result (λ answer. Gives (due (here table cwd.old) Op.Up 0) (said_of answer) (here table cwd.new)) }
     ensures kept { OnErr result (cwd.new ≡ cwd.old) }
 {
-    let _tree = tree;
     match cwd.resolve(alloc.clone()?, b"..") {
         Ok(path) => {
             *cwd = path;
@@ -85,12 +78,12 @@ pub(crate) fn make_dir<A: Allocator + Clone, T: Tree<A>>(
     ensures kept { OnErr result ((T.table tree.new ≡ T.table tree.old) × (T.failures tree.new ≡ T.failures tree.old)) }
 {
     let Some(path) = find(alloc, cwd, text)? else {
-        return Ok(Answer::Refused(UNAVAILABLE));
+        return Ok(tell(Refusal::Unavailable));
     };
     let made = Text::copy_of(alloc.clone()?, path.text())?;
     match tree.make_dir(&path) {
         Ok(()) => Ok(Answer::Path(made)),
-        Err(fault) => refused(fault, UNAVAILABLE),
+        Err(fault) => refused(fault, Refusal::Unavailable),
     }
 }
 
@@ -101,21 +94,20 @@ pub(crate) fn remove_dir<A: Allocator + Clone, T: Tree<A>>(
     cwd: &Path<A>,
     text: &Text<A>,
 ) -> Result<Answer<A>, AllocError>
-    requires text { IsTrue (is_path_text text.now) }
-    requires cwd { IsTrue (list_all is_component cwd.now) }
+    requires { IsTrue (is_path_text text.now) }
     ensures answer { IfOk result (λ answer. let old = here (T.table tree.old) cwd.now in
         IsAnswer (T.failures tree.old) (T.failures tree.new) (due old (Op.RemoveDir text.now) 0) old (said_of answer) (here (T.table tree.new) cwd.now)) }
     ensures kept { OnErr result ((T.table tree.new ≡ T.table tree.old) × (T.failures tree.new ≡ T.failures tree.old)) }
 {
     let Some(path) = find(alloc, cwd, text)? else {
-        return Ok(Answer::Refused(UNAVAILABLE));
+        return Ok(tell(Refusal::Unavailable));
     };
     if is_busy(&path, cwd) {
-        return Ok(Answer::Refused(UNAVAILABLE));
+        return Ok(tell(Refusal::Unavailable));
     }
     match tree.remove_dir(&path) {
         Ok(()) => Ok(Answer::Done),
-        Err(fault) => refused(fault, UNAVAILABLE),
+        Err(fault) => refused(fault, Refusal::Unavailable),
     }
 }
 
@@ -132,11 +124,11 @@ pub(crate) fn delete<A: Allocator + Clone, T: Tree<A>>(
     ensures kept { OnErr result ((T.table tree.new ≡ T.table tree.old) × (T.failures tree.new ≡ T.failures tree.old)) }
 {
     let Some(path) = find(alloc, cwd, text)? else {
-        return Ok(Answer::Refused(UNAVAILABLE));
+        return Ok(tell(Refusal::Unavailable));
     };
     match tree.delete(&path) {
         Ok(()) => Ok(Answer::Done),
-        Err(fault) => refused(fault, UNAVAILABLE),
+        Err(fault) => refused(fault, Refusal::Unavailable),
     }
 }
 
@@ -150,31 +142,35 @@ pub(crate) fn rename<A: Allocator + Clone, T: Tree<A>>(
 ) -> Result<Answer<A>, AllocError>
     requires old { IsTrue (is_path_text from.now) }
     requires new { IsTrue (is_path_text to.now) }
-    requires cwd { IsTrue (list_all is_component cwd.now) }
     ensures answer { IfOk result (λ answer. let old = here (T.table tree.old) cwd.now in
         IsAnswer (T.failures tree.old) (T.failures tree.new) (due old (Op.Rename from.now to.now) 0) old (said_of answer) (here (T.table tree.new) cwd.now)) }
     ensures kept { OnErr result ((T.table tree.new ≡ T.table tree.old) × (T.failures tree.new ≡ T.failures tree.old)) }
 {
     let Some(source) = find(alloc, cwd, from)? else {
-        return Ok(Answer::Refused(UNAVAILABLE));
+        return Ok(tell(Refusal::Unavailable));
     };
     if is_held(tree, &source, cwd) {
-        return Ok(Answer::Refused(UNAVAILABLE));
+        return Ok(tell(Refusal::Unavailable));
     }
     let Some(target) = find(alloc, cwd, to)? else {
-        return Ok(Answer::Refused(BAD_NAME));
+        return Ok(tell(Refusal::BadName));
     };
     match tree.rename(&source, &target) {
         Ok(()) => Ok(Answer::Done),
-        Err(fault) => refused(fault, BAD_NAME),
+        Err(fault) => refused(fault, Refusal::BadName),
     }
 }
 
 /// Whether nothing can be moved from a path: nothing stands there, or it is in use.
 fn is_held<A: Allocator, T: Tree<A>>(tree: &T, path: &Path<A>, cwd: &Path<A>) -> bool
-    requires path { IsTrue (list_all is_component path.now) }
-    requires cwd { IsTrue (list_all is_component cwd.now) }
     ensures { is_some (or_else (source_refusal (T.table tree.now) path.now) (busy_refusal (here (T.table tree.now) cwd.now) path.now)) ≡ result }
 {
     absent_fault(tree, path).is_some() || is_busy(path, cwd)
+}
+
+/// Whether the current directory is at or below a path.
+fn is_busy<A: Allocator>(path: &Path<A>, cwd: &Path<A>) -> bool
+    ensures { result ≡ is_within path.now cwd.now }
+{
+    is_within(path.key(), cwd.key())
 }

@@ -1,43 +1,71 @@
-// Why an operation is refused, as the code of the reply that tells it (RFC 959, section 4.2).
-ghost use Rattle.std.specs.Prelude.{◌≡◌, ◌≢◌, IsTrue, IfOk, IfErr, OnOk, OnErr, IfSome, MatchOption, true, false};
-ghost use Rattle.std.specs.List.{list_all};
-ghost use Rattle.ftp_path.specs.Path.{fits, is_component, resolved};
+// Why an operation is refused, and how a reply tells it (RFC 959, section 4.2).
+ghost use Rattle.std.specs.Prelude.{◌≡◌, ◌≢◌, IsTrue, IfOk, IfErr, OnOk, MatchOption, true, false};
+ghost use Rattle.ftp_path.specs.Path.{fits, resolved};
 ghost use Rattle.ftp_operation.specs.Answer.{Refused, said_of};
 ghost use Rattle.ftp_operation.specs.Operation.{is_path_text};
-ghost use Rattle.ftp_direct.specs.Run.{told};
+ghost use Rattle.ftp_direct.specs.Refusal.{code_of, told};
 
 use ftp_facts::Text;
 use ftp_operation::Answer;
 use ftp_tree::{Path, PathFault, TreeFault};
 use std::alloc::{AllocError, Allocator};
 
-pub(crate) const LOCAL_FAULT: u16 = 451;
+/// Why an operation is refused.
+#[derive(Clone, Copy)]
+pub enum Refusal {
+    /// The tree's device failed.
+    LocalFault,
+    /// All nodes are taken.
+    NoRoom,
+    /// A file is no directory to be listed.
+    BadArgument,
+    /// An offset that the representation does not have.
+    BadParameter,
+    NotLoggedIn,
+    /// What is named does not stand there, or may not be taken.
+    Unavailable,
+    /// The octets are too many.
+    TooMuch,
+    /// The new name may not be had, or the file there is not as long as it has to be.
+    BadName,
+}
 
-pub(crate) const NO_ROOM: u16 = 452;
+impl Refusal {
+    /// The code of the reply that tells it.
+    pub fn code(self) -> u16
+        ensures { result ≡ code_of self }
+    {
+        match self {
+            Refusal::LocalFault => 451,
+            Refusal::NoRoom => 452,
+            Refusal::BadArgument => 501,
+            Refusal::BadParameter => 504,
+            Refusal::NotLoggedIn => 530,
+            Refusal::Unavailable => 550,
+            Refusal::TooMuch => 552,
+            Refusal::BadName => 553,
+        }
+    }
+}
 
-pub(crate) const BAD_ARGUMENT: u16 = 501;
-
-pub(crate) const BAD_PARAMETER: u16 = 504;
-
-pub(crate) const NOT_LOGGED_IN: u16 = 530;
-
-pub(crate) const UNAVAILABLE: u16 = 550;
-
-pub(crate) const TOO_MUCH: u16 = 552;
-
-pub(crate) const BAD_NAME: u16 = 553;
+/// The answer that tells a refusal.
+pub(crate) fn tell<A: Allocator>(why: Refusal) -> Answer<A>
+    ensures { said_of result ≡ Refused (code_of why) }
+{
+    Answer::Refused(why.code())
+}
 
 /// What a call that the tree refused makes of an operation: want of memory ends the run, a failure of the device is a local
-/// fault, and any other refusal is told by the code.
-pub(crate) fn refused<A: Allocator>(fault: TreeFault, code: u16) -> Result<Answer<A>, AllocError>
-    ensures said { IfOk result (λ answer. said_of answer ≡ Refused (told fault code)) }
+/// fault, and any other refusal is told as it is given.
+pub(crate) fn refused<A: Allocator>(fault: TreeFault, why: Refusal) -> Result<Answer<A>, AllocError>
+    ensures said { IfOk result (λ answer. said_of answer ≡ Refused (code_of (told fault why))) }
     ensures memory { IfErr result (λ _. fault ≡ TreeFault.Memory) }
     ensures other { OnOk result (fault ≢ TreeFault.Memory) }
 {
     match fault {
         TreeFault::Memory => Err(AllocError),
-        TreeFault::Device => Ok(Answer::Refused(LOCAL_FAULT)),
-        _ => Ok(Answer::Refused(code)),
+        TreeFault::Device => Ok(tell(Refusal::LocalFault)),
+        _ => Ok(tell(why)),
     }
 }
 
@@ -48,9 +76,8 @@ pub(crate) fn find<A: Allocator + Clone>(
     text: &Text<A>,
 ) -> Result<Option<Path<A>>, AllocError>
     requires { IsTrue (is_path_text text.now) }
-    ensures found { IfOk result (λ found. MatchOption found (fits (resolved cwd.now text.now) ≡ false)
+    ensures { IfOk result (λ found. MatchOption found (fits (resolved cwd.now text.now) ≡ false)
         (λ path. (path ≡ resolved cwd.now text.now) × (fits path ≡ true))) }
-    ensures named { IsTrue (list_all is_component cwd.now) → IfOk result (λ found. IfSome found (λ path. IsTrue (list_all is_component path))) }
 {
     match cwd.resolve(alloc.clone()?, text.as_slice()) {
         Ok(path) => Ok(Some(path)),

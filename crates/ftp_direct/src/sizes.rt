@@ -8,7 +8,7 @@ ghost use Rattle.ftp_direct.specs.Run.{Gives};
 
 use crate::files::{PIECE, find_front};
 use crate::nodes::len_at;
-use crate::refusal::UNAVAILABLE;
+use crate::refusal::{Refusal, tell};
 use ftp_facts::Text;
 use ftp_operation::{Answer, How, Op, is_number};
 use ftp_repr::{Kind, wire_size};
@@ -27,13 +27,13 @@ pub(crate) fn size<A: Allocator + Clone, T: Tree<A>>(
     ensures { IfOk result (λ answer. let old = here (T.table tree.now) cwd.now in Gives (due old (Op.Size text.now how) 0) (said_of answer) old) }
 {
     let Some(path) = find_front(alloc, tree, cwd, text, 0)? else {
-        return Ok(Answer::Refused(UNAVAILABLE));
+        return Ok(tell(Refusal::Unavailable));
     };
     let size = wire_len(tree, &path, how.kind);
     if is_number(size) {
         Ok(Answer::Number(size))
     } else {
-        Ok(Answer::Refused(UNAVAILABLE))
+        Ok(tell(Refusal::Unavailable))
     }
 }
 

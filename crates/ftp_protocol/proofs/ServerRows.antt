@@ -5,7 +5,7 @@ use Rattle.ftp_command.specs.declared.command.Command.TheVariants as command
 use Rattle.ftp_representation.specs.declared.representation.Kind.TheVariants as Kinds
 use Rattle.ftp_command.specs.declared.command.Passive.TheVariants as Families
 use Rattle.ftp_operation.specs.Account.{is_known}
-use Rattle.ftp_direct.specs.Direct.{refusal, front_code}
+use Rattle.ftp_direct.specs.Direct.{refusal, refused_front}
 use Rattle.ftp_operation.specs.declared.op.Op.TheVariants as Ops
 use Rattle.ftp_path.specs.Path.{resolved, fits, parent, text_of, is_within}
 use Rattle.ftp_tree.specs.Tree.{source_refusal, target_refusal, rename_refusal, front_refusal, octets_at, octets_or_none, node_at, children, Table, Dir, File}
@@ -138,7 +138,7 @@ taken v = with_session (record v.session { once = Onces.Nothing }) v
 
 -- a file is there from a place on
 file_code : (table : Table) (moment place : ℕ) (s : Session) → s.table ≡ table → s.cwd ≡ [] → nat_le place 10 ≡ true
-    → node_at table (of (codes "f")) ≡ Some (File (codes "0123456789") moment) → front_code (direct_of s) (codes "f") place ≡ None
+    → node_at table (of (codes "f")) ≡ Some (File (codes "0123456789") moment) → refused_front (direct_of s) (codes "f") place ≡ None
 unfolding fits text_of resolved front_refusal
 file_code table moment place s here home within f = rw here (rw home (rw f (rw within refl)))
 

@@ -5,7 +5,7 @@ use Rattle.ftp_command.specs.declared.command.Command.TheVariants as command
 use Rattle.ftp_representation.specs.declared.representation.Kind.TheVariants as Kinds
 use Rattle.ftp_representation.specs.declared.representation.Mode.TheVariants as Modes
 use Rattle.ftp_operation.specs.Account.{is_known}
-use Rattle.ftp_direct.specs.Direct.{or_code, past_refusal}
+use Rattle.ftp_direct.specs.Direct.{or_refused, past_refusal}
 use Rattle.ftp_path.specs.Path.{resolved, fits, text_of, Names}
 use Rattle.ftp_tree.specs.Tree.{Table, File, node_at, octets_at, octets_or_none, room_refusal, room_at}
 use Rattle.ftp_representation.specs.declared.representation.Structure.TheVariants as Structures
@@ -14,7 +14,7 @@ use Rattle.ftp_protocol.specs.Decoder.{Decoder, no_octets, decoder_of, ended}
 use Rattle.ftp_protocol.specs.Ear.{quiet}
 use Rattle.ftp_protocol.specs.server.View.{Footing, Move, Session, View, all_facts, direct_of}
 use Rattle.ftp_protocol.specs.server.Replies.{reply_octets, reply_of, fixed_reply}
-use Rattle.ftp_protocol.specs.server.Transfer.{room_code}
+use Rattle.ftp_protocol.specs.server.Transfer.{refused_to_hold}
 use Rattle.ftp_protocol.specs.server.Machine.{obeyed, Outcome, is_over, put_in, owes, with_session}
 use Rattle.ftp_protocol.specs.server.Calls.{listening, data_opened, receives, receives_octet, data_end, data_fault, wants}
 use Rattle.ftp_protocol.specs.RowWords.{here}
@@ -38,7 +38,7 @@ f_path = of (codes "f")
 
 -- an empty file is there, and can be put over
 stor_code : (s : Session) → s.cwd ≡ [] → node_at s.table f_path ≡ Some (File [] 0)
-    → or_code (past_refusal (direct_of s) f_path 0) (room_code s f_path) ≡ None
+    → or_refused (past_refusal (direct_of s) f_path 0) (refused_to_hold s f_path) ≡ None
 unfolding fits text_of octets_at room_refusal
 stor_code s home f = rw f refl
 
@@ -264,7 +264,7 @@ blocks w = decoder_of block_settings w
 abbrev appending : Decoder → Bool → Link Move
 appending d over = if over then At.Moving Moves.Past else At.Moving (Moves.Up f_path 3 d)
 
-appe_code : (s : Session) → s.cwd ≡ [] → node_at s.table f_path ≡ Some (File (codes "abc") 0) → room_code s f_path ≡ None
+appe_code : (s : Session) → s.cwd ≡ [] → node_at s.table f_path ≡ Some (File (codes "abc") 0) → refused_to_hold s f_path ≡ None
 unfolding fits text_of room_refusal
 appe_code s home f = rw f refl
 

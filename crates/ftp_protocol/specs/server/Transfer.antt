@@ -2,7 +2,8 @@
 use Rattle.std.specs.Prelude.{ℕ, List, drop, length, Option, Some, None, if◌then◌else◌}
 use Rattle.ftp_path.specs.Path.{Names}
 use Rattle.ftp_tree.specs.Tree.{octets_or_none, room_refusal}
-use Rattle.ftp_direct.specs.Direct.{refusal, refused_room, limited, or_code, past_refusal, front_code, offset_refusal, named_or_here}
+use Rattle.ftp_direct.specs.declared.refusal.Refusal.{Refusal}
+use Rattle.ftp_direct.specs.Direct.{refusal, refused_room, limited, or_refused, past_refusal, refused_front, offset_refusal, named_or_here}
 use Rattle.ftp_operation.specs.declared.op.Op.TheVariants as Ops
 use Rattle.ftp_framer.specs.Block.{marked_text}
 use Rattle.ftp_framer.specs.Wire.{wire}
@@ -33,9 +34,9 @@ place_of Onces.Nothing = 0
 place_of (Onces.Rename from) = 0
 
 -- REST; own choice: another place than the start only in type I and file structure
-abbrev pub rests : Option ℕ → ℕ → Session → Turn
+abbrev pub rests : Option Refusal → ℕ → Session → Turn
 rests None place v = (record v { once = Onces.Restart place }, Say.Restarting place)
-rests (Some code) place v = tells Texts.BadParameter v
+rests (Some why) place v = tells (refusal_text why) v
 
 -- REST: a place where a transfer can begin stands for the next line only, another is 504
 abbrev pub rest : ℕ → Session → Turn
@@ -56,7 +57,7 @@ begin (At.Moving other) move v = tells Texts.NoConnection v
 -- a transfer command forgets the endpoint where it is refused by path, and else uses it up (own choice)
 abbrev pub transfer_starts : Option ℕ → Move → Session → Turn
 transfer_starts None move v = begin v.link move v
-transfer_starts (Some code) move v = tells (refusal_text code) (forgotten v)
+transfer_starts (Some why) move v = tells (refusal_text why) (forgotten v)
 
 -- ---- downloads and listings: what is sent
 
@@ -72,7 +73,7 @@ sent_from v path place = file_wire v.settings place (drop place (octets_or_none 
 -- RETR
 abbrev pub retr : Once Names → List ℕ → Session → Turn
 retr once text v =
-    transfer_starts (front_code (direct_of v) text (place_of once)) (Moves.Down (sent_from v (path_of v text) (place_of once))) v
+    transfer_starts (refused_front (direct_of v) text (place_of once)) (Moves.Down (sent_from v (path_of v text) (place_of once))) v
 
 -- the path that an argument names which may be left out
 abbrev pub path_or_here : Session → Option (List ℕ) → Names
@@ -100,13 +101,13 @@ mlsd text v =
 -- then REST and STOR
 
 -- why no octet at all can be put at a path
-abbrev pub room_code : Session → Names → Option ℕ
-room_code v path = refused_room (limited path (room_refusal v.table path))
+abbrev pub refused_to_hold : Session → Names → Option Refusal
+refused_to_hold v path = refused_room (limited path (room_refusal v.table path))
 
 -- STOR: behind as many octets of the file there as REST named, which has to have so many
 abbrev pub stor_at : ℕ → Names → Session → Turn
 stor_at place path v =
-    transfer_starts (or_code (past_refusal (direct_of v) path place) (room_code v path)) (Moves.Up path place (no_octets v.settings)) v
+    transfer_starts (or_refused (past_refusal (direct_of v) path place) (refused_to_hold v path)) (Moves.Up path place (no_octets v.settings)) v
 
 -- STOR, at the place that REST named
 abbrev pub stor : Once Names → List ℕ → Session → Turn
@@ -114,7 +115,7 @@ stor once text v = stor_at (place_of once) (path_of v text) v
 
 -- APPE: behind all octets of the file there
 abbrev pub appe_at : Names → Session → Turn
-appe_at path v = transfer_starts (room_code v path) (Moves.Up path (length (octets_or_none v.table path)) (no_octets v.settings)) v
+appe_at path v = transfer_starts (refused_to_hold v path) (Moves.Up path (length (octets_or_none v.table path)) (no_octets v.settings)) v
 
 -- APPE: a REST before it is of no matter
 abbrev pub appe : List ℕ → Session → Turn

@@ -1,8 +1,10 @@
 -- The map and the current directory: CWD, CDUP, MKD, RMD, DELE, RNFR, RNTO (RFC 959, section 4.1.3). What is refused, and
 -- why, is said as the direct run says it of the operation.
-use Rattle.std.specs.Prelude.{ℕ, ◌==◌, List, Option, Some, None, if◌then◌else◌}
+use Rattle.std.specs.Prelude.{ℕ, List, Option, Some, None}
 use Rattle.ftp_path.specs.Path.{parent, resolved, Names}
 use Rattle.ftp_tree.specs.Tree.{or_else, made, removed, moved, source_refusal, rename_refusal}
+use Rattle.ftp_direct.specs.declared.refusal.Refusal.{Refusal}
+use Rattle.ftp_direct.specs.declared.refusal.Refusal.TheVariants as Refusals
 use Rattle.ftp_direct.specs.Direct.{refusal, refused_there, refused_name, limited, busy_refusal}
 use Rattle.ftp_operation.specs.declared.op.Op.TheVariants as Ops
 use Rattle.ftp_protocol.specs.server.View.{Session, direct_of}
@@ -13,18 +15,21 @@ use Rattle.ftp_protocol.specs.declared.said.Said.TheVariants as Say
 use Rattle.ftp_protocol.specs.declared.session.Once.{Once}
 use Rattle.ftp_protocol.specs.declared.session.Once.TheVariants as Onces
 
--- the reply that tells a refusal by the tree
-abbrev pub refusal_text : ℕ → Text
-refusal_text code =
-    if code == 553 then Texts.NameRefused
-    else (if code == 452 then Texts.NoRoom
-    else (if code == 552 then Texts.TooMuch
-    else (if code == 501 then Texts.BadArgument else Texts.Refused)))
+-- the reply that tells a refusal
+abbrev pub refusal_text : Refusal → Text
+refusal_text Refusals.LocalFault = Texts.LocalFault
+refusal_text Refusals.NoRoom = Texts.NoRoom
+refusal_text Refusals.BadArgument = Texts.BadArgument
+refusal_text Refusals.BadParameter = Texts.BadParameter
+refusal_text Refusals.NotLoggedIn = Texts.NotLoggedIn
+refusal_text Refusals.Unavailable = Texts.Refused
+refusal_text Refusals.TooMuch = Texts.TooMuch
+refusal_text Refusals.BadName = Texts.NameRefused
 
 -- a command is refused, and changes nothing, or has this turn
-abbrev pub unless : Option ℕ → Session → Turn → Turn
+abbrev pub unless : Option Refusal → Session → Turn → Turn
 unless None v turn = turn
-unless (Some code) v turn = tells (refusal_text code) v
+unless (Some why) v turn = tells (refusal_text why) v
 
 -- the path that a text names from the current directory
 abbrev pub path_of : Session → List ℕ → Names
@@ -51,12 +56,12 @@ abbrev pub dele : List ℕ → Session → Turn
 dele text v = unless (refusal (direct_of v) (Ops.Delete text)) v (tells Texts.Done (record v { table = removed v.table (path_of v text) }))
 
 -- RNFR: the first half of a rename. What it names stands, and the current directory is not at or below it
-abbrev pub source_code : Session → Names → Option ℕ
-source_code v from = refused_there (limited from (or_else (source_refusal v.table from) (busy_refusal (direct_of v) from)))
+abbrev pub refused_source : Session → Names → Option Refusal
+refused_source v from = refused_there (limited from (or_else (source_refusal v.table from) (busy_refusal (direct_of v) from)))
 
 -- RNFR: what it names stands for the next line only
 abbrev pub rnfr : List ℕ → Session → Turn
-rnfr text v = unless (source_code v (path_of v text)) v (tells Texts.NewName (record v { once = Onces.Rename (path_of v text) }))
+rnfr text v = unless (refused_source v (path_of v text)) v (tells Texts.NewName (record v { once = Onces.Rename (path_of v text) }))
 
 -- RNTO: the second half, right behind it
 abbrev pub renames : Names → Names → Session → Turn

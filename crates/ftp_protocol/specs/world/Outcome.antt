@@ -3,7 +3,8 @@
 use Rattle.std.specs.Prelude.{◌≡◌, ◌⊎◌, ℕ, ◌+◌, List, [], ◌∷◌, ◌++◌, length, take, drop, flat_map, Option, Some, None, IsTrue}
 use Rattle.std.specs.Option.{is_some}
 use Rattle.ftp_operation.specs.Answer.{Said, Broken as BrokenOff, Unopened as NotOpened, Lost as LostOff}
-use Rattle.ftp_direct.specs.Direct.{State, answer, code_of, named, named_or_here, entries_in, names_for}
+use Rattle.ftp_direct.specs.declared.refusal.Refusal.TheVariants as Refusals
+use Rattle.ftp_direct.specs.Direct.{State, answer, first_refusal, named, named_or_here, entries_in, names_for}
 use Rattle.ftp_operation.specs.Operation.{can_be_sent}
 use Rattle.ftp_operation.specs.declared.op.How.{How}
 use Rattle.ftp_operation.specs.declared.op.Op.{Op}
@@ -146,7 +147,7 @@ did (Lost part) state op moment = (LostOff, lost_state part state op moment)
 
 -- it is refused for nothing, or only as its octets are too many
 abbrev pub IsTaken : State → Op (List ℕ) → Type 0
-IsTaken state op = IsTrue (can_be_sent op) × ((code_of state op ≡ None) ⊎ (code_of state op ≡ Some 552))
+IsTaken state op = IsTrue (can_be_sent op) × ((first_refusal state op ≡ None) ⊎ (first_refusal state op ≡ Some Refusals.TooMuch))
 
 -- the wire is a front of the one text, and what it leaves passes no limit
 abbrev pub IsCutOf : Option Upload → Option Download → State → List ℕ → Type 0

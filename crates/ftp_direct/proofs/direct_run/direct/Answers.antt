@@ -11,27 +11,25 @@ returns-in_err-clone-2-clause-begun g c =
     begun c.from_residual-in_err-clone-2.result _ _ _ _ c.is_known-known.result _ _ c.args.list.now 0 [] _ c.is_known-known.ensures (runs_none _ _) refl refl
 
 pub loop-op-init : goal.loop-op-init
-loop-op-init g c = rw (c.new-answers.ensures.items, c.root-cwd.ensures) (record { so_far = runs_none _ _; named = refl })
+loop-op-init g c = rw (c.new-answers.ensures.items, c.root-cwd.ensures) (runs_none _ _)
 
 pub returns-in_err-answer-clause-begun : goal.returns-in_err-answer-clause-begun
 returns-in_err-answer-clause-begun g c =
     let kept = c.in_err-answer.ensures.kept in
     begun c.from_residual-in_err-answer.result _ _ _ _ c.is_known-known.result _ _ c.args.list.now c.loop-op.op-index _ _
-    c.is_known-known.ensures c.loop-op.invariant.so_far kept.1 (sym kept.0)
+    c.is_known-known.ensures c.loop-op.invariant kept.1 (sym kept.0)
 
 pub returns-in_err-push-clause-begun : goal.returns-in_err-push-clause-begun
 returns-in_err-push-clause-begun g c =
     begun c.from_residual-in_err-push.result _ _ _ _ c.is_known-known.result _ _ c.args.list.now (c.loop-op.op-index + 1) _ _ c.is_known-known.ensures
     (stepped _ _ _ _ _ _ c.args.list.now c.loop-op.op-index c.loop-op-item.result c.loop-op.answers.items c.in_ok-answer.field-0 (omega arith) c.loop-op-item.is
-    c.loop-op.invariant.so_far c.in_ok-answer.ensures.answer) refl refl
+    c.loop-op.invariant c.in_ok-answer.ensures.answer) refl refl
 
 pub loop-op-preserved : goal.loop-op-preserved
-loop-op-preserved g c = rw c.in_ok-push.ensures.items (record {
-  so_far = stepped _ _ _ _ _ _ c.args.list.now c.loop-op.op-index c.loop-op-item.result c.loop-op.answers.items c.in_ok-answer.field-0 (omega arith) c.loop-op-item.is
-      c.loop-op.invariant.so_far c.in_ok-answer.ensures.answer;
-  named = c.answer.ensures.named;
-})
+loop-op-preserved g c = rw c.in_ok-push.ensures.items (
+      stepped _ _ _ _ _ _ c.args.list.now c.loop-op.op-index c.loop-op-item.result c.loop-op.answers.items c.in_ok-answer.field-0 (omega arith) c.loop-op-item.is
+      c.loop-op.invariant c.in_ok-answer.ensures.answer)
 
 pub returns-clause-answers : goal.returns-clause-answers
 returns-clause-answers g c =
-    whole _ _ _ c.is_known-known.result _ _ c.args.list.now c.loop-op.op-index _ c.loop-op-test.false c.is_known-known.ensures c.loop-op.invariant.so_far
+    whole _ _ _ c.is_known-known.result _ _ c.args.list.now c.loop-op.op-index _ c.loop-op-test.false c.is_known-known.ensures c.loop-op.invariant

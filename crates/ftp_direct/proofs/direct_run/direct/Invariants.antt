@@ -1,7 +1,5 @@
-use Rattle.std.proofs.Common.{IsTrue, take}
+use Rattle.std.proofs.Common.{take}
 use Rattle.std.specs.Prelude.{map}
-use Rattle.std.specs.List.{list_all}
-use Rattle.ftp_path.specs.Path.{is_component}
 use Rattle.ftp_operation.specs.Answer.{said_of}
 use Rattle.ftp_direct.specs.Direct.{standing, start}
 use Rattle.ftp_direct.specs.Run.{orders_of}
@@ -10,7 +8,4 @@ use Rattle.ftp_direct.proofs.direct_run.direct.Given as goal
 
 abbrev pub invariant-loop-op : goal.invariant-loop-op
 invariant-loop-op g l =
-    record {
-      so_far : RunsTo (g.T.Tree.failures l.fn.tree) (start (g.T.Tree.table l.fn.tree) l.known) (take l.op-index (orders_of l.list)) (map said_of l.answers.items) (g.T.Tree.failures l.tree) (standing (g.T.Tree.table l.tree) l.cwd l.known);
-      named : IsTrue (list_all is_component l.cwd);
-    }
+    RunsTo (g.T.Tree.failures l.fn.tree) (start (g.T.Tree.table l.fn.tree) l.known) (take l.op-index (orders_of l.list)) (map said_of l.answers.items) (g.T.Tree.failures l.tree) (standing (g.T.Tree.table l.tree) l.cwd l.known)

@@ -4,6 +4,7 @@ use Rattle.ftp_direct.specs.Direct.{here}
 use Rattle.ftp_direct.proofs.RefusalLemmas.{if_refused}
 use Rattle.ftp_direct.proofs.PutLemmas.{none_never, put_len, install_clear, put_done}
 use Rattle.ftp_direct.proofs.files.install.Goals as goal
+use Rattle.ftp_direct.specs.declared.refusal.Refusal.TheVariants.{TooMuch}
 
 pub returns-in-Ok-install-clause-answer : goal.returns-in-Ok-install-clause-answer
 returns-in-Ok-install-clause-answer g c = λ cwd.
@@ -25,5 +26,5 @@ returns-clause-answer g c = λ cwd.
     let long = put_len file _ content _ c.requires.within is in
     let room = c.in-Ok.ensures.room in
     let clear = install_clear _ _ _ _ room.0 room.1 (ap (λ n. nat_le n c.in-Ok.room) long ∙ sym c.has_room.ensures ∙ c.if-not-has_room.false) in
-    if_refused c.refused.result _ _ 552 _ _ _ _ cwd _ c.refused.ensures.said c.refused.ensures.other c.in-Err-install.ensures.refused
+    if_refused c.refused.result _ _ TooMuch _ _ _ _ cwd _ c.refused.ensures.said c.refused.ensures.other c.in-Err-install.ensures.refused
     (none_never _ _ clear) (λ why e. absurd (none_never _ why clear e))

@@ -10,8 +10,8 @@ use Rattle.ftp_direct.specs.Direct.{entries_in, entry_in}
 use Rattle.ftp_direct.proofs.ListingLemmas.{listed_more}
 use Rattle.ftp_direct.proofs.listings.entries.Goals as goal
 
-pub entry_in-requires-clause-name : goal.entry_in-requires-clause-name
-entry_in-requires-clause-name g c =
+pub entry_in-requires : goal.entry_in-requires
+entry_in-requires g c =
     let items = c.deref-name-items.result.now in
     let named : list_all is_name items ≡ true = ap (list_all is_name) c.deref-name-items.ensures.value ∙ c.in_ok-names.ensures.named in
     ap is_name c.name-item.is ∙ AllPass-from_list_all is_name items named c.loop-name.name-index c.name-item.result (omega arith)
