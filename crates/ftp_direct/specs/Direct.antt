@@ -102,7 +102,7 @@ is_as_it_is kind structure = false
 
 -- an offset other than 0 is for octets that go as they are: TYPE I and STRU F (RFC 3659, section 5; own choice)
 abbrev pub offset_refusal : ℕ → How → Option Refusal
-offset_refusal offset how = if (offset == 0) || is_as_it_is how.kind how.structure then None else Some BadParameter
+offset_refusal offset how = if (offset == 0) || is_as_it_is how.representation.kind how.representation.structure then None else Some BadParameter
 
 -- the first octets of the file that a text names are not had
 abbrev pub refused_front : State → List ℕ → ℕ → Option Refusal
@@ -134,7 +134,7 @@ refusal state (Ops.PutFrom text offset octets how) =
     or_refused (offset_refusal offset how) (or_refused (past_refusal state (named state text) offset) (put_refusal state (named state text) (offset + length octets)))
 refusal state (Ops.Get text how) = refused_front state text 0
 refusal state (Ops.GetFrom text offset how) = or_refused (offset_refusal offset how) (refused_front state text offset)
-refusal state (Ops.Size text how) = or_refused (refused_front state text 0) (refused_number (size_in how.kind (octets_or_none state.table (named state text))))
+refusal state (Ops.Size text how) = or_refused (refused_front state text 0) (refused_number (size_in how.representation.kind (octets_or_none state.table (named state text))))
 refusal state (Ops.Modified text) = refused_front state text 0
 refusal state (Ops.Facts text) = refused_there (limited (named_or_here state text) (absent_refusal (node_at state.table (named_or_here state text))))
 refusal state (Ops.List text how) = refused_listing (limited (named_or_here state text) (directory_refusal (node_at state.table (named_or_here state text))))
@@ -210,7 +210,7 @@ done state (Ops.Append text octets how) moment = put state (named state text) (o
 done state (Ops.PutFrom text offset octets how) moment = put state (named state text) (take offset (octets_or_none state.table (named state text))) octets moment
 done state (Ops.Get text how) moment = (Octets (octets_or_none state.table (named state text)), state)
 done state (Ops.GetFrom text offset how) moment = (Octets (drop offset (octets_or_none state.table (named state text))), state)
-done state (Ops.Size text how) moment = (Number (size_in how.kind (octets_or_none state.table (named state text))), state)
+done state (Ops.Size text how) moment = (Number (size_in how.representation.kind (octets_or_none state.table (named state text))), state)
 done state (Ops.Modified text) moment = (Stamp (unwrap_or (stamp_at state.table (named state text)) 0), state)
 done state (Ops.Facts text) moment = (Entry (entry_at state.table (named_or_here state text) (text_of (named_or_here state text))), state)
 done state (Ops.List text how) moment = (Entries (entries_in state.table (named_or_here state text)), state)

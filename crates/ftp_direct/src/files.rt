@@ -12,7 +12,7 @@ use crate::nodes::{has_front, len_at};
 use crate::refusal::{Refusal, find, refused, tell};
 use ftp_facts::{Moment, Text};
 use ftp_operation::{Answer, How, Op};
-use ftp_repr::{Kind, Structure};
+use ftp_representation::{Kind, Representation, Structure};
 use ftp_tree::{Content, Path, Tree, TreeFault};
 use std::alloc::{AllocError, Allocator};
 
@@ -92,16 +92,16 @@ pub(crate) fn put_from<A: Allocator + Clone, T: Tree<A>>(
 fn takes_offset(offset: u64, how: How) -> bool
     ensures { offset_refusal offset how ≡ (if result then None else Some Refusal.BadParameter) }
 {
-    offset == 0 || is_as_it_is(how.kind, how.structure)
+    offset == 0 || is_as_it_is(how.representation)
 }
 
 /// Whether a file goes as its octets.
-fn is_as_it_is(kind: Kind, structure: Structure) -> bool
-    ensures { result ≡ is_as_it_is kind structure }
+fn is_as_it_is(representation: Representation) -> bool
+    ensures { result ≡ is_as_it_is representation.kind representation.structure }
 {
-    match kind {
+    match representation.kind {
         Kind::Ascii => false,
-        Kind::Image => match structure {
+        Kind::Image => match representation.structure {
             Structure::File => true,
             Structure::Record => false,
         },

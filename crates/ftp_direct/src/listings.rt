@@ -138,7 +138,11 @@ fn dir_perm<A: Allocator>(path: &Path<A>) -> &'static [u8]
     ensures perm { result.now ≡ perm_of path.now Dir }
     ensures value { IsValue result.now }
 {
-    if path.key().is_empty() { b"celmp" } else { b"cdeflmp" }
+    if path.key().is_empty() {
+        b"celmp"
+    } else {
+        b"cdeflmp"
+    }
 }
 
 /// The size of the file at a path, where it can be said.

@@ -29,7 +29,7 @@ pub(crate) fn size<A: Allocator + Clone, T: Tree<A>>(
     let Some(path) = find_front(alloc, tree, cwd, text, 0)? else {
         return Ok(tell(Refusal::Unavailable));
     };
-    let size = wire_len(tree, &path, how.kind);
+    let size = wire_len(tree, &path, how.representation.kind);
     if is_number(size) {
         Ok(Answer::Number(size))
     } else {

@@ -1,13 +1,10 @@
 // What a user asks of a server.
-use ftp_mode::Mode;
-use ftp_repr::{Kind, Structure};
+use ftp_representation::Representation;
 
 /// How a transfer goes: the representation (RFC 959, sections 3.1 and 3.4) and the data connection.
 #[derive(Clone, Copy, Debug, PartialEq, Eq)]
 pub struct How {
-    pub kind: Kind,
-    pub structure: Structure,
-    pub mode: Mode,
+    pub representation: Representation,
     /// Restart markers are asked for, in an upload in image, file structure and block mode.
     pub marks: bool,
     /// The server opens the data connection, and else the client.

@@ -1,22 +1,25 @@
 use super::rows::{IMAGE, Row, answers};
 use ftp_direct::{How, Op};
-use ftp_mode::Mode;
-use ftp_repr::{Kind, Structure};
+use ftp_representation::{Kind, Mode, Representation, Structure};
 use std::test::Fail;
 
 const ASCII: How = How {
-    kind: Kind::Ascii,
-    structure: Structure::File,
-    mode: Mode::Stream,
+    representation: Representation {
+        kind: Kind::Ascii,
+        structure: Structure::File,
+        mode: Mode::Stream,
+    },
     marks: false,
     active: false,
     extended: false,
 };
 
 const RECORDS: How = How {
-    kind: Kind::Image,
-    structure: Structure::Record,
-    mode: Mode::Stream,
+    representation: Representation {
+        kind: Kind::Image,
+        structure: Structure::Record,
+        mode: Mode::Stream,
+    },
     marks: false,
     active: false,
     extended: false,

@@ -2,8 +2,7 @@
 use super::said::says;
 use ftp_direct::{Account, Accounts, Answer, How, Login, Op, direct};
 use ftp_facts::{Moment, Text};
-use ftp_mode::Mode;
-use ftp_repr::{Kind, Structure};
+use ftp_representation::{Kind, Mode, Representation, Structure};
 use ftp_tree::{MemTree, Tree};
 use std::alloc::{AllocError, Allocator, Global};
 use std::test::Fail;
@@ -12,9 +11,11 @@ use std::test::Fail;
 pub(crate) type Row = (Op<&'static [u8]>, &'static [u8]);
 
 pub(crate) const IMAGE: How = How {
-    kind: Kind::Image,
-    structure: Structure::File,
-    mode: Mode::Stream,
+    representation: Representation {
+        kind: Kind::Image,
+        structure: Structure::File,
+        mode: Mode::Stream,
+    },
     marks: false,
     active: false,
     extended: false,

@@ -45,8 +45,8 @@ flow_of (Ops.Append path octets how) = Some (upload how 0 octets)
 flow_of (Ops.PutFrom path offset octets how) = Some (upload how offset octets)
 flow_of (Ops.Get path how) = Some (download (settings_of how))
 flow_of (Ops.GetFrom path offset how) = Some (download (settings_of how))
-flow_of (Ops.List path how) = Some (download (listing_settings how.mode))
-flow_of (Ops.Names path how) = Some (download (listing_settings how.mode))
+flow_of (Ops.List path how) = Some (download (listing_settings how.representation.mode))
+flow_of (Ops.Names path how) = Some (download (listing_settings how.representation.mode))
 flow_of other = None
 
 -- the last restart marker that is a number of 1 to 18 digits (own choice); others are passed over

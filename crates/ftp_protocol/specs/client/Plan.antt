@@ -35,7 +35,7 @@ how_of other = None
 
 -- the settings that a transfer asks for; a listing goes in type A and file structure
 abbrev pub settings_of : How → Representation
-settings_of how = record { kind = how.kind; structure = how.structure; mode = how.mode }
+settings_of how = how.representation
 
 -- the settings of a listing, in a mode
 abbrev pub listing_settings : Mode → Representation
@@ -44,9 +44,9 @@ listing_settings mode = record { kind = Kinds.Ascii; structure = Structures.File
 -- the settings that an operation asks for, where it does; SIZE depends on the type, and is asked in file structure and stream
 -- mode (RFC 3659, section 4)
 abbrev pub asked_settings : Op (List ℕ) → Option Representation
-asked_settings (Ops.List path how) = Some (listing_settings how.mode)
-asked_settings (Ops.Names path how) = Some (listing_settings how.mode)
-asked_settings (Ops.Size path how) = Some (record { kind = how.kind; structure = Structures.File; mode = Modes.Stream })
+asked_settings (Ops.List path how) = Some (listing_settings how.representation.mode)
+asked_settings (Ops.Names path how) = Some (listing_settings how.representation.mode)
+asked_settings (Ops.Size path how) = Some (record { kind = how.representation.kind; structure = Structures.File; mode = Modes.Stream })
 asked_settings (Ops.Put path octets how) = Some (settings_of how)
 asked_settings (Ops.Append path octets how) = Some (settings_of how)
 asked_settings (Ops.PutFrom path offset octets how) = Some (settings_of how)

@@ -176,7 +176,7 @@ Unsendable =
 
 -- image or ASCII, file or record, stream, through a port of the server or of the client
 abbrev pub plain : How
-plain = record { kind = Kinds.Image; structure = Structures.File; mode = Modes.Stream; marks = false; active = false; extended = false }
+plain = record { representation = record { kind = Kinds.Image; structure = Structures.File; mode = Modes.Stream }; marks = false; active = false; extended = false }
 
 -- type A
 abbrev pub text : How

@@ -55,7 +55,7 @@ begin (At.Opening other way) move v = tells Texts.NoConnection v
 begin (At.Moving other) move v = tells Texts.NoConnection v
 
 -- a transfer command forgets the endpoint where it is refused by path, and else uses it up (own choice)
-abbrev pub transfer_starts : Option ℕ → Move → Session → Turn
+abbrev pub transfer_starts : Option Refusal → Move → Session → Turn
 transfer_starts None move v = begin v.link move v
 transfer_starts (Some why) move v = tells (refusal_text why) (forgotten v)
 

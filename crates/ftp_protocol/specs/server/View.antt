@@ -83,7 +83,7 @@ first_session table = record {
 -- the settings as an operation of the direct run asks for them; how its data connection is opened is of no matter here
 abbrev pub how_in_force : Representation → How
 how_in_force settings =
-    record { kind = settings.kind; structure = settings.structure; mode = settings.mode; marks = false; active = false; extended = false }
+    record { representation = settings; marks = false; active = false; extended = false }
 
 -- how the direct run sees the session of somebody who is logged in: the same map and current directory
 abbrev pub direct_of : Session → State

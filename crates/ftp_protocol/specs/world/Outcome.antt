@@ -76,8 +76,8 @@ abbrev pub download_of : State → Op (List ℕ) → Option Download
 download_of state (Ops.Get text how) = Some (record { settings = settings_of how; start = 0; octets = octets_or_none state.table (named state text) })
 download_of state (Ops.GetFrom text offset how) =
     Some (record { settings = settings_of how; start = offset; octets = drop offset (octets_or_none state.table (named state text)) })
-download_of state (Ops.List text how) = Some (record { settings = listing_settings how.mode; start = 0; octets = listing_text state text })
-download_of state (Ops.Names text how) = Some (record { settings = listing_settings how.mode; start = 0; octets = names_text state text })
+download_of state (Ops.List text how) = Some (record { settings = listing_settings how.representation.mode; start = 0; octets = listing_text state text })
+download_of state (Ops.Names text how) = Some (record { settings = listing_settings how.representation.mode; start = 0; octets = names_text state text })
 download_of state other = None
 
 -- its one written text; the server sends own markers wherever the settings allow them

@@ -27,8 +27,8 @@ returns-in_err-push-clause-begun g c =
 
 pub loop-op-preserved : goal.loop-op-preserved
 loop-op-preserved g c = rw c.in_ok-push.ensures.items (
-      stepped _ _ _ _ _ _ c.args.list.now c.loop-op.op-index c.loop-op-item.result c.loop-op.answers.items c.in_ok-answer.field-0 (omega arith) c.loop-op-item.is
-      c.loop-op.invariant c.in_ok-answer.ensures.answer)
+    stepped _ _ _ _ _ _ c.args.list.now c.loop-op.op-index c.loop-op-item.result c.loop-op.answers.items c.in_ok-answer.field-0 (omega arith) c.loop-op-item.is
+    c.loop-op.invariant c.in_ok-answer.ensures.answer)
 
 pub returns-clause-answers : goal.returns-clause-answers
 returns-clause-answers g c =
