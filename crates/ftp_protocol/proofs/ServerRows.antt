@@ -5,6 +5,7 @@ use Rattle.ftp_command.specs.declared.command.Command.TheVariants as command
 use Rattle.ftp_representation.specs.declared.representation.Kind.TheVariants as Kinds
 use Rattle.ftp_command.specs.declared.command.Passive.TheVariants as Families
 use Rattle.ftp_operation.specs.Account.{is_known}
+use Rattle.ftp_direct.specs.declared.refusal.Refusal.{Refusal}
 use Rattle.ftp_direct.specs.Direct.{refusal, refused_front}
 use Rattle.ftp_operation.specs.declared.op.Op.TheVariants as Ops
 use Rattle.ftp_path.specs.Path.{resolved, fits, parent, text_of, is_within}
@@ -80,10 +81,10 @@ unfolding fits text_of
 root_code s root home = rw home (rw root refl)
 
 -- the view behind a transfer command, by its code
-abbrev pub started : View → Move → Option ℕ → View
+abbrev pub started : View → Move → Option Refusal → View
 started v move code = completed (turned (transfer_starts code move v.session) v)
 
-abbrev listed : View → Option ℕ → View
+abbrev listed : View → Option Refusal → View
 listed v code = started v (Moves.Listing (listing_wire v.session.settings.mode (list_lines v.session.table (path_or_here v.session None)))) code
 
 pub early_abort : EarlyAbort
@@ -148,7 +149,7 @@ unfolding octets_at
 file_octets table moment f = rw f refl
 
 -- what is to be given behind RETR and the opening of the link, by the code and by the octets of the file
-abbrev fetched : View → ℕ → Option ℕ → List ℕ → List ℕ
+abbrev fetched : View → ℕ → Option Refusal → List ℕ → List ℕ
 fetched v place code octets =
     to_give (behind (opened here ∷ []) (started v (Moves.Down (file_wire v.session.settings place (drop place octets))) code))
 
@@ -199,7 +200,7 @@ pub listing : Listing
 unfolding obeyed is_known fits text_of resolved data_opened
 listing table d kids x =
     let v : View = member table (asks (command.Port (at here)) ∷ []) in
-    let sent : Option ℕ → List (List ℕ) → List ℕ = λ c texts. to_give (behind (opened here ∷ []) (started v (Moves.Listing (listing_wire v.session.settings.mode texts)) c)) in
+    let sent : Option Refusal → List (List ℕ) → List ℕ = λ c texts. to_give (behind (opened here ∷ []) (started v (Moves.Listing (listing_wire v.session.settings.mode texts)) c)) in
     ap (λ c. sent c (list_lines table (of (codes "d")))) (dir_code v.session d refl)
     ∙ ap (λ texts. sent None texts) (x_lines table d kids x)
     ∙ ap (λ n. sent None (x_line n (decimal 1) ∷ [])) of_3 ∙ ap (λ n. sent None (x_line (codes "3") n ∷ [])) of_1

@@ -5,6 +5,7 @@ use Rattle.ftp_command.specs.declared.command.Command.TheVariants as command
 use Rattle.ftp_representation.specs.declared.representation.Kind.TheVariants as Kinds
 use Rattle.ftp_representation.specs.declared.representation.Mode.TheVariants as Modes
 use Rattle.ftp_operation.specs.Account.{is_known}
+use Rattle.ftp_direct.specs.declared.refusal.Refusal.{Refusal}
 use Rattle.ftp_direct.specs.Direct.{or_refused, past_refusal}
 use Rattle.ftp_path.specs.Path.{resolved, fits, text_of, Names}
 use Rattle.ftp_tree.specs.Tree.{Table, File, node_at, octets_at, octets_or_none, room_refusal, room_at}
@@ -42,7 +43,7 @@ stor_code : (s : Session) → s.cwd ≡ [] → node_at s.table f_path ≡ Some (
 unfolding fits text_of octets_at room_refusal
 stor_code s home f = rw f refl
 
-abbrev stored : View → Option ℕ → View
+abbrev stored : View → Option Refusal → View
 stored v code = started v (Moves.Up f_path 0 (no_octets v.session.settings)) code
 
 -- an upload is under way, whatever was said before
@@ -272,7 +273,7 @@ abc_length : (table : Table) → node_at table f_path ≡ Some (File (codes "abc
 unfolding octets_at
 abc_length table f = rw f refl
 
-abbrev appended : View → Option ℕ → ℕ → View
+abbrev appended : View → Option Refusal → ℕ → View
 appended v code keep = behind (opened here ∷ []) (started v (Moves.Up f_path keep (no_octets v.session.settings)) code)
 
 abbrev block_said : List ℕ

@@ -180,11 +180,11 @@ plain = record { representation = record { kind = Kinds.Image; structure = Struc
 
 -- type A
 abbrev pub text : How
-text = record plain { kind = Kinds.Ascii }
+text = record plain { representation = record plain.representation { kind = Kinds.Ascii } }
 
 -- record structure
 abbrev pub records : How
-records = record plain { structure = Structures.Record }
+records = record plain { representation = record plain.representation { structure = Structures.Record } }
 
 -- through a port of the client
 abbrev pub active : How
