@@ -1,19 +1,35 @@
-use thiserror::Error;
+ghost use Rattle.std.specs.Prelude.{Some};
+ghost use Rattle.ftp_mode.specs.FaultText.{fault_text};
+
+use std::error::Error;
+use std::fmt;
 
 /// Why a wire can be no text. Places are those of wire octets, from 0.
-#[derive(Clone, Copy, Debug, PartialEq, Eq, Error)]
+#[derive(Clone, Copy, Debug, PartialEq, Eq)]
 pub enum FrameFault {
     /// The octet after an escape octet is no code. Its place.
-    #[error("M1 BadEscape({0})")]
     BadEscape(u64),
     /// A block is marked as one of suspected errors. The place of its descriptor.
-    #[error("M2 Suspect({0})")]
     Suspect(u64),
     /// An octet of a restart marker is not printable, or a marker has no octets or more than 255. The place of the
     /// first wrong octet, or of the descriptor.
-    #[error("M3 BadMarker({0})")]
     BadMarker(u64),
     /// The connection ended without an end of file.
-    #[error("M4 EndedEarly")]
     EndedEarly,
 }
+
+/// The number, the name and the place, as `M1 BadEscape(2)`.
+impl fmt::Display for FrameFault {
+    ghost output = { λ fault. Some (fault_text fault) };
+
+    fn fmt<W: fmt::Write>(&self, f: &mut fmt::Formatter<W>) -> fmt::Result {
+        match self {
+            FrameFault::BadEscape(place) => write!(f, "M1 BadEscape({place})"),
+            FrameFault::Suspect(place) => write!(f, "M2 Suspect({place})"),
+            FrameFault::BadMarker(place) => write!(f, "M3 BadMarker({place})"),
+            FrameFault::EndedEarly => f.write_str("M4 EndedEarly"),
+        }
+    }
+}
+
+impl Error for FrameFault {}

@@ -1,15 +1,16 @@
 -- What is written of a wire that is read: the file that it says, or what it settles of one and its fault (RFC 959,
 -- sections 3.1, 3.4 and 3.5).
-use Rattle.std.specs.Prelude.{◌≡◌, ℕ, List, [], ◌++◌, ◌⊎◌, Option, Some, None, codes, decimal}
+use Rattle.std.specs.Prelude.{◌≡◌, ℕ, List, [], ◌++◌, ◌⊎◌, Option, Some, None, codes}
 use Rattle.std.specs.declared.result.Result.{Result}
 use Rattle.std.specs.declared.result.Result.TheVariants.{Ok, Err}
 use Rattle.std.specs.Io.KnownBytes.{Appends, Consumes, IsAtEnd}
 use Rattle.ftp_repr.specs.Content.{content}
 use Rattle.ftp_mode.specs.declared.fault.FrameFault.{FrameFault}
-use Rattle.ftp_mode.specs.declared.fault.FrameFault.TheVariants.{BadEscape, Suspect, BadMarker, EndedEarly}
+use Rattle.ftp_mode.specs.declared.fault.FrameFault.TheVariants.{EndedEarly}
 use Rattle.ftp_framer.specs.Said.{Said, file_signs}
 use Rattle.ftp_mode.specs.Units.{Reads}
 use Rattle.ftp_mode.specs.Fault.{IsFault}
+use Rattle.ftp_mode.specs.FaultText.{fault_text}
 use Rattle.ftp_mode.specs.Front.{Front}
 use Rattle.ftp_pieces.specs.Beginning.{AppendsFront}
 use Rattle.ftp_representation.specs.Representation.{form_of}
@@ -33,12 +34,9 @@ IsCutShort r wire =
 abbrev pub Stops : Representation → List ℕ → Type 0 → FrameFault → Type 0
 Stops r wire ended fault = IsFault r.mode r.structure wire fault ⊎ ((fault ≡ EndedEarly) × ended × IsCutShort r wire)
 
--- the number, the name and the place of a fault, and an LF
+-- the text of a fault, and an LF
 abbrev pub fault_line : FrameFault → List ℕ
-fault_line (BadEscape place) = codes "M1 BadEscape(" ++ decimal place ++ codes ")\n"
-fault_line (Suspect place) = codes "M2 Suspect(" ++ decimal place ++ codes ")\n"
-fault_line (BadMarker place) = codes "M3 BadMarker(" ++ decimal place ++ codes ")\n"
-fault_line EndedEarly = codes "M4 EndedEarly\n"
+fault_line fault = fault_text fault ++ codes "\n"
 
 -- these octets were read, up to the input's end, and the file that they say was written
 pub record ReadsFile (r : Representation) (before after : Option (List ℕ)) (old new : Option (List ℕ)) : Type 0 where

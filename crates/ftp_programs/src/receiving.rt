@@ -1,5 +1,6 @@
 // The octets of a data connection to a file, between a reader and two writers.
-ghost use Rattle.std.specs.Prelude.{◌≡◌, ◌≢◌, ◌==◌, ◌++◌, ◌<◌, ◌≤◌, ◌+◌, ◌^◌, ℕ, List, [], Option, Some, None, true, false, length, IfOk, OnOk, OnErr, codes, decimal};
+ghost use Rattle.std.specs.Prelude.{◌≡◌, ◌≢◌, ◌==◌, ◌++◌, ◌<◌, ◌≤◌, ◌+◌, ◌^◌, ℕ, List, [], Option, Some, None, true, false, length, IfOk, OnOk, OnErr};
+ghost use Rattle.std.specs.String.{string_bytes};
 ghost use Rattle.std.specs.Io.KnownBytes.{Appends, IsAtEnd};
 ghost use Rattle.ftp_repr.specs.Items.{signs, given_signs};
 ghost use Rattle.ftp_repr.specs.Received.{Receives};
@@ -13,7 +14,6 @@ use ftp_mode::{Deframer, FrameFault, Part};
 use ftp_pieces::{Failed, TURNS};
 use ftp_repr::{Item, Receiver};
 use ftp_representation::Representation;
-use itoa::Buffer;
 use std::alloc::{AllocError, Allocator};
 use std::io::{Read, Write};
 
@@ -205,30 +205,14 @@ fn tell<A: Allocator, F: Write>(alloc: A, fault: FrameFault, faults: &mut F) -> 
     ensures front { AppendsFront (F.contents faults.old) (F.contents faults.new) (fault_line fault) }
 {
     match line_of(alloc, fault) {
-        Ok(line) => ftp_pieces::put(faults, line.as_slice()),
+        Ok(line) => ftp_pieces::put(faults, line.as_bytes()),
         Err(_) => Err(Failed),
     }
 }
 
-/// A fault's number, name and place, and an LF.
-fn line_of<A: Allocator>(alloc: A, fault: FrameFault) -> Result<Vec<u8, A>, AllocError>
-    ensures { IfOk result (λ line. line.items ≡ fault_line fault) }
+/// A fault's text, and an LF.
+fn line_of<A: Allocator>(alloc: A, fault: FrameFault) -> Result<String<A>, AllocError>
+    ensures { IfOk result (λ line. string_bytes line ≡ fault_line fault) }
 {
-    match fault {
-        FrameFault::BadEscape(place) => placed(alloc, b"M1 BadEscape(", place),
-        FrameFault::Suspect(place) => placed(alloc, b"M2 Suspect(", place),
-        FrameFault::BadMarker(place) => placed(alloc, b"M3 BadMarker(", place),
-        FrameFault::EndedEarly => Vec::from_slice(alloc, b"M4 EndedEarly\n"),
-    }
-}
-
-/// A place behind a name.
-fn placed<A: Allocator>(alloc: A, name: &[u8], place: u64) -> Result<Vec<u8, A>, AllocError>
-    ensures { IfOk result (λ line. line.items ≡ name.now ++ decimal place ++ codes ")\n") }
-{
-    let mut buffer = Buffer::new();
-    let mut line = Vec::from_slice(alloc, name)?;
-    line.extend_from_slice(buffer.format(place).as_bytes())?;
-    line.extend_from_slice(b")\n")?;
-    Ok(line)
+    format!(in alloc; "{fault}\n")
 }
