@@ -3,7 +3,8 @@
 use Rattle.std.specs.Prelude.{◌≡◌, ℕ, zero, suc, ◌+◌, ◌-◌, ◌*◌, ◌/◌, ◌%◌, List, [], ◌∷◌, ◌++◌, length, take, drop, Bool, true, false, if◌then◌else◌, not, ◌==◌, bit_and, decimal}
 use Rattle.ftp_repr.specs.Signs.{Sign, octet, end_record, end_file}
 use Rattle.ftp_framer.specs.Said.{Said, says, marker, octets_said}
-use Rattle.ftp_framer.specs.Marker.{IsMarker, to_place, places}
+use Rattle.ftp_representation.specs.Marker.{IsMarker}
+use Rattle.ftp_framer.specs.Marker.{to_place, places}
 
 -- a bit of a descriptor: 128 end of record, 64 end of file, 32 suspected errors, 16 a restart marker; own choice:
 -- the others say nothing

@@ -8,7 +8,8 @@ use Rattle.ftp_repr.specs.Signs.{Sign, octet, end_file}
 use Rattle.ftp_representation.specs.declared.representation.Structure.{Structure}
 use Rattle.ftp_representation.specs.declared.representation.Mode.TheVariants.{Block as Blocks}
 use Rattle.ftp_framer.specs.Said.{Said, says, marker, octets_said, file_signs}
-use Rattle.ftp_framer.specs.Marker.{is_marker_octet, IsMarker, to_place, places}
+use Rattle.ftp_representation.specs.Marker.{is_marker_octet, IsMarker}
+use Rattle.ftp_framer.specs.Marker.{to_place, places}
 use Rattle.ftp_framer.specs.Block.{Block, IsBlock, count_of, marker_text, data_text, marks_text, marked_text}
 use Rattle.ftp_mode.specs.Units.{whole, IsText}
 use Rattle.ftp_mode.proofs.TextLemmas.{text_is, text_more, blocks_more, blocks_last}

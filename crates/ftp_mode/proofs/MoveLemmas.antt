@@ -6,7 +6,7 @@ use Rattle.ftp_repr.specs.Machine.{after, gives}
 use Rattle.ftp_repr.proofs.MachineLemmas.{after-append, gives-append}
 use Rattle.ftp_mode.specs.declared.fault.FrameFault.TheVariants.{BadMarker}
 use Rattle.ftp_framer.specs.Said.{Said, marker, octets_said}
-use Rattle.ftp_framer.specs.Marker.{is_marker_octet, IsMarker}
+use Rattle.ftp_representation.specs.Marker.{is_marker_octet, IsMarker}
 use Rattle.ftp_framer.specs.Block.{Block, block_octets, block_said, IsBlock, has, count_of, ends_of}
 use Rattle.ftp_mode.specs.Fault.{is_no_length}
 use Rattle.ftp_framer.specs.Count.{count_on, next}

@@ -12,7 +12,7 @@ use Rattle.ftp_mode.specs.declared.fault.FrameFault.{FrameFault}
 use Rattle.ftp_mode.specs.declared.fault.FrameFault.TheVariants.{BadEscape, Suspect, BadMarker}
 use Rattle.ftp_framer.specs.Said.{Said, octets_said}
 use Rattle.ftp_framer.specs.Stream.{is_code}
-use Rattle.ftp_framer.specs.Marker.{is_marker_octet, IsMarker}
+use Rattle.ftp_representation.specs.Marker.{is_marker_octet, IsMarker}
 use Rattle.ftp_framer.specs.Block.{Block, IsBlock, has, count_of}
 use Rattle.ftp_mode.specs.Units.{WireUnit, one, escape, whole, unit_octets, unit_said, unit_ends, IsUnit, GoesOn, units_octets, units_said, IsText}
 use Rattle.ftp_mode.specs.Fault.{is_no_length, Begins}

@@ -9,7 +9,8 @@ use Rattle.ftp_mode.specs.declared.fault.FrameFault.{FrameFault}
 use Rattle.ftp_mode.specs.declared.fault.FrameFault.TheVariants.{BadEscape, Suspect, BadMarker}
 use Rattle.ftp_framer.specs.Stream.{is_code}
 use Rattle.ftp_framer.specs.Block.{has, count_of}
-use Rattle.ftp_framer.specs.Marker.{is_marker_octet}
+use Rattle.ftp_representation.specs.Marker.{is_marker_octet}
+use Rattle.ftp_representation.specs.declared.marker.TheConstants.{MARKER_LIMIT}
 use Rattle.ftp_mode.specs.Units.{WireUnit, GoesOn, units_octets}
 
 -- own choice: an escape octet before an octet that is no code, at the place of that octet
@@ -30,7 +31,7 @@ pub record IsSuspect (place : ℕ) (w : List ℕ) (fault : FrameFault) : Type 0 
 
 -- the counts that no marker has
 abbrev pub is_no_length : ℕ → Bool
-is_no_length n = (n == 0) || nat_lt 255 n
+is_no_length n = (n == 0) || nat_lt MARKER_LIMIT n
 
 -- a marker of no octets or of more than 255, at the place of its descriptor
 pub record IsBadLength (place : ℕ) (w : List ℕ) (fault : FrameFault) : Type 0 where

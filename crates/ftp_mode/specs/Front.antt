@@ -8,7 +8,7 @@ use Rattle.ftp_representation.specs.declared.representation.Mode.TheVariants.{St
 use Rattle.ftp_mode.specs.declared.fault.FrameFault.{FrameFault}
 use Rattle.ftp_framer.specs.Said.{Said, octets_said}
 use Rattle.ftp_framer.specs.Block.{has, count_of}
-use Rattle.ftp_framer.specs.Marker.{is_marker_octet}
+use Rattle.ftp_representation.specs.Marker.{is_marker_octet}
 use Rattle.ftp_mode.specs.Units.{WireUnit, GoesOn, units_octets, units_said, IsText}
 use Rattle.ftp_mode.specs.Fault.{is_no_length, IsFault}
 

@@ -10,7 +10,8 @@ use Rattle.ftp_mode.specs.declared.fault.FrameFault.{FrameFault}
 use Rattle.ftp_mode.specs.declared.fault.FrameFault.TheVariants.{BadEscape, Suspect, BadMarker, EndedEarly}
 use Rattle.ftp_framer.specs.Said.{Said, says, marker}
 use Rattle.ftp_framer.specs.Stream.{is_code, code_said, code_ends}
-use Rattle.ftp_framer.specs.Marker.{is_marker_octet}
+use Rattle.ftp_representation.specs.Marker.{is_marker_octet}
+use Rattle.ftp_representation.specs.declared.marker.TheConstants.{MARKER_LIMIT}
 use Rattle.ftp_framer.specs.Block.{has, count_of, ends_of}
 use Rattle.ftp_framer.specs.Count.{next}
 use Rattle.ftp_mode.specs.Fault.{is_no_length}
@@ -51,7 +52,7 @@ place_step n (at_high d) c = going (next n) (at_low d c)
 place_step n (at_low d high) c = if has d 16 then marker_begins n d (count_of high c) else data_begins n d (count_of high c)
 place_step n (inside d left) c = going (next n) (if left == 1 then after_block d else inside d (left - 1))
 place_step n (marking d left text) c =
-    if is_marker_octet c && nat_lt (length text) 255 then going (next n) (if left == 1 then after_block d else marking d (left - 1) (text ++ c ∷ []))
+    if is_marker_octet c && nat_lt (length text) MARKER_LIMIT then going (next n) (if left == 1 then after_block d else marking d (left - 1) (text ++ c ∷ []))
     else failed (BadMarker n)
 place_step n ended c = going (next n) ended
 
@@ -64,7 +65,7 @@ place_out (at_high d) c = []
 place_out (at_low d high) c = if has d 16 then [] else (if count_of high c == 0 then ends_of d else [])
 place_out (inside d left) c = says (octet c) ∷ (if left == 1 then ends_of d else [])
 place_out (marking d left text) c =
-    if is_marker_octet c && nat_lt (length text) 255 then (if left == 1 then marker (text ++ c ∷ []) ∷ ends_of d else []) else []
+    if is_marker_octet c && nat_lt (length text) MARKER_LIMIT then (if left == 1 then marker (text ++ c ∷ []) ∷ ends_of d else []) else []
 place_out ended c = []
 
 abbrev pub read_step : Reading → ℕ → Reading

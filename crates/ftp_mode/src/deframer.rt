@@ -10,6 +10,7 @@ use arrayvec::ArrayVec;
 use ftp_framer::Mode;
 use ftp_framer::descriptor::{END_OF_FILE, END_OF_RECORD, RESTART_MARKER, SUSPECTED_ERRORS};
 use ftp_repr::{Structure, first_ff};
+use ftp_representation::{MARKER_LIMIT, is_marker_octet};
 
 /// Where in a text the next octet stands.
 #[derive(Clone, Copy, Debug, PartialEq, Eq)]
@@ -67,7 +68,7 @@ pub struct Deframer {
     state: State,
     owed: Owed,
     place: u64,
-    marker: ArrayVec<u8, 255>,
+    marker: ArrayVec<u8, MARKER_LIMIT>,
 }
 
 impl Deframer {
@@ -398,7 +399,7 @@ impl Deframer {
         let count = u16::from(high) * 256 + u16::from(low);
         self.moved(1);
         if descriptor & RESTART_MARKER != 0 {
-            if count == 0 || count > 255 {
+            if count == 0 || usize::from(count) > MARKER_LIMIT {
                 return Err(self.fail(FrameFault::BadMarker(place.saturating_sub(2))));
             }
             self.marker.clear();
@@ -423,7 +424,7 @@ impl Deframer {
         ensures err { IfErr result (λ fault. Refuses self.old octet fault self.new) }
     {
         let place = self.place;
-        if octet < 33 || octet > 126 || self.marker.len() >= 255 {
+        if !is_marker_octet(octet) || self.marker.len() >= MARKER_LIMIT {
             return Err(self.fail(FrameFault::BadMarker(place)));
         }
         self.moved(1);

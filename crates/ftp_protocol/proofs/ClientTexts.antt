@@ -5,7 +5,7 @@ use Rattle.std.specs.List.{before_first, after_first, list_all, list_any}
 use Rattle.std.specs.Option.{option_map, is_some, unwrap_or}
 use Rattle.std.proofs.lemmas.List.Elements.{All-nil, All-cons, All-head, All-tail}
 use Rattle.ftp_endpoint.specs.Number.{SaysNumber}
-use Rattle.ftp_framer.specs.Marker.{is_marker_octet}
+use Rattle.ftp_representation.specs.Marker.{is_marker_octet}
 use Rattle.ftp_reply.specs.Values.{doubled_octet, doubled, Closes, Quotes, NamesPath, IsMarker, SaysMark}
 use Rattle.ftp_path.specs.Path.{is_path_text}
 use Rattle.ftp_protocol.specs.client.Laws.{QuotedIsRead, PathIsRead, MarkIsRead}

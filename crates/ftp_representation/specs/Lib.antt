@@ -1,1 +1,2 @@
 pub mod Representation
+pub mod Marker

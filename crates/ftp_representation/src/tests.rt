@@ -1,4 +1,4 @@
-use crate::{Kind, Mode, Representation, Structure};
+use crate::{Kind, Mode, Representation, Structure, is_marker_octet};
 
 fn shaped(kind: Kind, structure: Structure, mode: Mode) -> Representation {
     Representation {
@@ -30,4 +30,15 @@ fn markers_in_one_of_eight(rt: HostRuntime) {
     }
     assert_eq!(rt; with_markers, 1);
     assert!(rt; shaped(Kind::Image, Structure::File, Mode::Block).has_markers());
+}
+
+// RFC 959, section 3.4.2: printable characters, and none of them a space.
+#[test]
+fn octets_of_a_marker(rt: HostRuntime) {
+    for octet in [b'!', b'0', b'A', b'~'] {
+        assert!(rt; is_marker_octet(octet), "octet {octet}");
+    }
+    for octet in [0, b'\r', b' ', 127, 255] {
+        assert!(rt; !is_marker_octet(octet), "octet {octet}");
+    }
 }

@@ -8,7 +8,7 @@ use Rattle.std.specs.Str.Parse.{digits_value}
 use Rattle.ftp_endpoint.specs.Number.{front_digits, behind_digits}
 use Rattle.ftp_endpoint.specs.declared.endpoint.Endpoint.{Endpoint}
 use Rattle.ftp_endpoint.specs.declared.host.Host.TheVariants.{V4}
-use Rattle.ftp_framer.specs.Marker.{is_marker_octet}
+use Rattle.ftp_representation.specs.Marker.{is_marker_octet}
 use Rattle.ftp_path.specs.Path.{is_path_text}
 
 -- a value where a condition holds
