@@ -229,6 +229,7 @@ path_is_read text path = (named, of_named)
         let last = given_is (is_path_text step.0) step.0 path step.2 in
         let P : List ℕ → Type 0 = λ l. NamesPath text l in
         subst P last.1 (record { quoted = path_says text step.0 step.1; is_path = last.0 })
+
     of_named : NamesPath text path → and_then (quoted_value text) (λ quoted. given (is_path_text quoted) quoted) ≡ Some path
     of_named names =
         is_then (quoted_value text) (λ quoted. given (is_path_text quoted) quoted) path path (says_path text path names.quoted) (is_given (is_path_text path) path names.is_path)

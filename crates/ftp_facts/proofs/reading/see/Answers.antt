@@ -43,8 +43,8 @@ returns-then-not-is_path_text-clause-refuses c =
     let moment = SaysFact-moment (option_copied parts.modify) c.in_ok-read_modify.field-0 c.in_ok-read_modify.ensures.says in
     let other : ¬ (IsPathText parts.name.now) =
     λ is.
-        let yes : c.is_path_text.result ≡ true = c.is_path_text.ensures.1 is in
-        let never : true ≡ false = sym yes ∙ c.if-not-is_path_text.true in
-        cc
+    let yes : c.is_path_text.result ≡ true = c.is_path_text.ensures.1 is in
+    let never : true ≡ false = sym yes ∙ c.if-not-is_path_text.true in
+    cc
     in
     no_path_text c.args.line.now parts.name.now (option_copied parts.kind) (option_copied parts.size) (option_copied parts.modify) (option_copied parts.perm) c.in_ok-parts.ensures.parts named sized moment other
