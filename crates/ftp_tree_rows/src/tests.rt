@@ -5,7 +5,6 @@ mod keys;
 mod listings;
 mod paths;
 mod renames;
-mod roots;
 mod steps;
 mod texts;
 mod trees;
