@@ -149,7 +149,7 @@ fn a_line_too_long(rt: HostRuntime) -> Result<(), Fail> {
     Ok(())
 }
 
-/// A text, then each number below 4,096 between two others, and then a last one.
+/// A text, then each number below 16,384 between two others, and then a last one.
 fn numbered(
     alloc: Global,
     first: &[u8],
@@ -158,7 +158,7 @@ fn numbered(
     last: &[u8],
 ) -> Result<Vec<u8>, Fail> {
     let mut text = first.to_vec(alloc)?;
-    for count in 0..4096u32 {
+    for count in 0..16_384u32 {
         write!(&mut text, "{front}{count}{back}")?;
     }
     text.extend_from_slice(last)?;
