@@ -1,0 +1,138 @@
+-- What a client gives is less to be given, and want of memory makes no more to do.
+use Rattle.std.proofs.Common.{◌≡◌, ℕ, ◌+◌, ◌<◌, ◌≤◌, ◌⊎◌, inl, inr, [], Bool, true, false, None, refl, ap, arith, length}
+use Rattle.std.specs.Prelude.{if◌then◌else◌}
+use Rattle.std.proofs.lemmas.List.{length-drop}
+use Rattle.ftp_client_machine.specs.Bounds.{login_left, transfer_left, job_left, to_begin, octets_left, upload_left, closes_left, still_to_give, Lowers, Pays, GivingPays, WantLowers}
+use Rattle.ftp_client_machine.specs.Calls.{moving_over, left_in, given_of, to_give, went, goes_by, gives_data}
+use Rattle.ftp_client_machine.specs.Dialogue.{has_begun, moved_on}
+use Rattle.ftp_client_machine.specs.Failing.{short, door_short, opened_short, over_short}
+use Rattle.ftp_client_machine.specs.View.{View, Job, Idle, Waiting, Doing, Moving, Told, Flow, Up, Down}
+use Rattle.ftp_client_machine.specs.declared.client.Ending.TheVariants as Endings
+use Rattle.ftp_client_machine.specs.declared.client.Failure.TheVariants as Failures
+use Rattle.ftp_client_machine.specs.declared.client.Link.{Link}
+use Rattle.ftp_client_machine.specs.declared.client.Link.TheVariants as Links
+use Rattle.ftp_ends.proofs.Counts.{one_if}
+use Rattle.ftp_client_machine.proofs.ClientBounds.{Low, same, both, if_low, fails_low}
+use Rattle.ftp_client_machine.proofs.ClientCalls.{more_low, one_more}
+
+-- ---- octets that go out
+
+pays_then : (count : ℕ) (u v w : View) → Pays count u v → Low v w → Pays count u w
+pays_then count u v w one other = record { begins = omega (arith, one.begins, other.begins); gives = by_first one.gives other.gives }
+  where
+    by_first : (to_begin v < to_begin u) ⊎ (still_to_give v + count ≤ still_to_give u) → (to_begin w < to_begin v) ⊎ (still_to_give w ≤ still_to_give v + 0)
+        → (to_begin w < to_begin u) ⊎ (still_to_give w + count ≤ still_to_give u)
+    by_first (inl less) rest = inl (omega (arith, less, other.begins))
+    by_first (inr few) (inl less) = inl (omega (arith, less, one.begins))
+    by_first (inr few) (inr fewer) = inr (omega (arith, few, fewer))
+
+none_pays : (count : ℕ) (v : View) → count ≤ 0 → Pays count v v
+none_pays count v none = record { begins = omega arith; gives = inr (omega (arith, none)) }
+
+-- what may go out is of the upload
+given_if : (begun : Bool) (flow : Flow) → length (if begun then left_in flow else []) ≤ octets_left flow
+given_if true (Up left mark) = omega arith
+given_if true (Down decoder mark) = omega arith
+given_if false flow = omega arith
+
+over_le : (link : Link) (job : Job) → length (given_of (moving_over link job)) ≤ upload_left job
+over_le Links.Open (Moving op transfer) = given_if (has_begun transfer.replied) transfer.flow
+over_le Links.Open Idle = omega arith
+over_le Links.Open (Waiting op) = omega arith
+over_le Links.Open (Doing op step) = omega arith
+over_le Links.Open (Told answer) = omega arith
+over_le Links.Free job = omega arith
+over_le Links.Asked job = omega arith
+over_le (Links.Door port) job = omega arith
+over_le (Links.Dialing endpoint) job = omega arith
+over_le (Links.Awaiting port) job = omega arith
+over_le (Links.Over ending) job = omega arith
+
+given_le : (closing : Bool) (link : Link) (job : Job) → length (given_of (if closing then None else moving_over link job)) ≤ upload_left job
+given_le true link job = omega arith
+given_le false link job = over_le link job
+
+went_pays : (count : ℕ) (flow : Flow) → count ≤ octets_left flow → octets_left (went count flow) + count ≤ octets_left flow
+went_pays count (Up left mark) few = omega (arith, length-drop count left, few)
+went_pays count (Down decoder mark) few = omega (arith, few)
+
+goes_pays : (count : ℕ) (job : Job) (v : View) → v.job ≡ job → count ≤ upload_left job → Pays count v (goes_by count job v)
+goes_pays count (Moving op transfer) v is few =
+    let w : View = record v { job = Moving op (record transfer { flow = went count transfer.flow }) } in
+    let here : job_left v.job ≡ transfer_left transfer.replied = ap job_left is in
+    let octets : upload_left v.job ≡ octets_left transfer.flow = ap upload_left is in
+    pays_then count v w (moved_on w) (record { begins = omega (arith, here); gives = inr (omega (arith, octets, went_pays count transfer.flow few)) }) (more_low w)
+goes_pays count Idle v is few = none_pays count v few
+goes_pays count (Waiting op) v is few = none_pays count v few
+goes_pays count (Doing op step) v is few = none_pays count v few
+goes_pays count (Told answer) v is few = none_pays count v few
+
+data_pays : (count : ℕ) (v : View) → count ≤ length (to_give v) → Pays count v (gives_data count v)
+unfolding gives_data
+data_pays count v few = goes_pays count v.job v refl (omega (arith, few, given_le v.closing v.link v.job))
+
+pub giving_pays : GivingPays
+giving_pays v = record {
+  control_pays = λ count few. record { begins = omega arith; gives = inr (omega (arith, length-drop count v.owed, few)) };
+  data_pays = λ count few. data_pays count v few;
+  close_pays = λ is. let one : one_if v.closing ≡ 1 = ap one_if is in record { begins = omega arith; gives = inr (omega (arith, one)) };
+}
+
+-- ---- want of memory
+
+-- a view of which one close more stands, and which fails
+short_low : (v w : View) → w.standing ≡ v.standing → w.job ≡ v.job → w.owed ≡ v.owed → closes_left w ≤ closes_left v + 1 → Lowers 1 v (short w)
+short_low v w standing job owes closing =
+    let low = fails_low w.standing Failures.Memory w in
+    let login : login_left w.standing ≡ login_left v.standing = ap login_left standing in
+    let left : job_left w.job ≡ job_left v.job = ap job_left job in
+    let octets : upload_left w.job ≡ upload_left v.job = ap upload_left job in
+    let length_is : length w.owed ≡ length v.owed = ap length owes in
+    record { begins = omega (arith, low.begins, login, left); gives = by_case low.gives login left octets length_is }
+  where
+    by_case : (to_begin (short w) < to_begin w) ⊎ (still_to_give (short w) ≤ still_to_give w + 0) → login_left w.standing ≡ login_left v.standing
+        → job_left w.job ≡ job_left v.job → upload_left w.job ≡ upload_left v.job → length w.owed ≡ length v.owed
+        → (to_begin (short w) < to_begin v) ⊎ (still_to_give (short w) ≤ still_to_give v + 1)
+    by_case (inl less) login left octets length_is = inl (omega (arith, less, login, left))
+    by_case (inr few) login left octets length_is = inr (omega (arith, few, octets, length_is, closing))
+
+door_short_low : (link : Link) (port : ℕ) (v : View) → Lowers 1 v (door_short link port v)
+door_short_low Links.Asked port v = short_low v (record v { link = Links.Door port }) refl refl refl (omega arith)
+door_short_low Links.Free port v = one_more v v (same v)
+door_short_low (Links.Door before) port v = one_more v v (same v)
+door_short_low (Links.Dialing endpoint) port v = one_more v v (same v)
+door_short_low (Links.Awaiting before) port v = one_more v v (same v)
+door_short_low Links.Open port v = one_more v v (same v)
+door_short_low (Links.Over ending) port v = one_more v v (same v)
+
+opened_short_low : (link : Link) (v : View) → Lowers 1 v (opened_short link v)
+opened_short_low (Links.Dialing endpoint) v = short_low v (record v { link = Links.Open }) refl refl refl (omega arith)
+opened_short_low (Links.Awaiting port) v = short_low v (record v { link = Links.Open }) refl refl refl (omega arith)
+opened_short_low Links.Free v = one_more v v (same v)
+opened_short_low Links.Asked v = one_more v v (same v)
+opened_short_low (Links.Door port) v = one_more v v (same v)
+opened_short_low Links.Open v = one_more v v (same v)
+opened_short_low (Links.Over ending) v = one_more v v (same v)
+
+over_short_low : (link : Link) (v : View) → Low v (over_short link v)
+over_short_low Links.Open v =
+    let w : View = record v { link = Links.Over Endings.Clean } in
+    both 0 v w (short w) (record { begins = omega arith; gives = inr (omega arith) }) (fails_low v.standing Failures.Memory w)
+over_short_low Links.Free v = same v
+over_short_low Links.Asked v = same v
+over_short_low (Links.Door port) v = same v
+over_short_low (Links.Dialing endpoint) v = same v
+over_short_low (Links.Awaiting port) v = same v
+over_short_low (Links.Over ending) v = same v
+
+if_lowers : (b : Bool) (v w : View) → Lowers 1 v w → Lowers 1 v (if b then v else w)
+if_lowers true v w one = one_more v v (same v)
+if_lowers false v w one = one
+
+pub want_lowers : WantLowers
+want_lowers v = record {
+  hearing = fails_low v.standing Failures.Memory v;
+  listening_lowers = λ port. if_lowers v.closing v (door_short v.link port v) (door_short_low v.link port v);
+  opened_lowers = if_lowers v.closing v (opened_short v.link v) (opened_short_low v.link v);
+  end_lowers = if_low v.closing v v (over_short v.link v) (same v) (over_short_low v.link v);
+}

@@ -1,0 +1,98 @@
+-- The worked rows of a client, computed.
+use Rattle.std.proofs.Common.{refl}
+use Rattle.ftp_facts.specs.Calendar.{days_of_years, days_of_months}
+use Rattle.ftp_path.proofs.TextLemmas.{path_on_literals}
+use Rattle.ftp_client_machine.specs.Calls.{starts, listening, listen_refused, data_opened, data_refused, data_end, data_fault, gives_data, wants}
+use Rattle.ftp_client_machine.specs.Dialogue.{answered}
+use Rattle.ftp_client_machine.specs.Listing.{moment_value}
+use Rattle.ftp_client_machine.specs.Replies.{line_heard}
+use Rattle.ftp_client_machine.specs.Values.{passive_value, extended_value, quoted_value, path_value, mark_value}
+use Rattle.ftp_client_machine.specs.Rows.{ActiveDownload, ActiveReport, BrokenDownload, BrokenUpload, Endpoints, Judged, Login, LongGreeting, MarkRead, Moment, NotOpened, OtherHosts, OtherOrders, OwnCode, PassiveDownload, PassiveUpload, PassivePort, Quoted, Rename, TwoCodes, Unasked, Unsendable}
+
+pub login : Login
+unfolding answered
+login = refl
+
+pub long_greeting : LongGreeting
+unfolding answered line_heard
+long_greeting = refl
+
+pub endpoints : Endpoints
+unfolding passive_value
+endpoints = (refl, refl, refl)
+
+pub passive_port : PassivePort
+unfolding extended_value
+passive_port = refl
+
+pub quoted : Quoted
+unfolding quoted_value
+quoted = refl
+
+pub mark : MarkRead
+unfolding mark_value
+mark = (refl, refl)
+
+pub own_code : OwnCode
+unfolding line_heard
+own_code = refl
+
+pub judged : Judged
+unfolding answered starts quoted_value path_value path_on_literals
+judged = (refl, refl, refl, refl, refl, refl)
+
+pub two_codes : TwoCodes
+unfolding answered starts path_on_literals
+two_codes = (refl, refl)
+
+pub moment : Moment
+unfolding answered starts moment_value days_of_years days_of_months path_on_literals
+moment = refl
+
+pub unasked : Unasked
+unfolding answered starts
+unasked = (refl, refl)
+
+pub rename : Rename
+unfolding answered starts path_on_literals
+rename = (refl, refl)
+
+pub unsendable : Unsendable
+unfolding starts
+unsendable = (refl, refl)
+
+pub passive_download : PassiveDownload
+unfolding answered starts passive_value data_opened data_end wants path_on_literals
+passive_download = (refl, refl, refl, refl)
+
+pub other_orders : OtherOrders
+unfolding answered starts passive_value data_opened data_end path_on_literals
+other_orders = (refl, refl)
+
+pub active_download : ActiveDownload
+unfolding answered starts listening wants path_on_literals
+active_download = (refl, refl, refl, refl)
+
+pub active_report : ActiveReport
+unfolding answered starts listening data_opened data_end path_on_literals
+active_report = refl
+
+pub broken_download : BrokenDownload
+unfolding answered starts passive_value data_opened data_end data_fault path_on_literals
+broken_download = (refl, refl, refl)
+
+pub passive_upload : PassiveUpload
+unfolding answered starts passive_value data_opened gives_data wants path_on_literals
+passive_upload = (refl, refl, refl, refl)
+
+pub broken_upload : BrokenUpload
+unfolding answered starts passive_value data_opened gives_data data_fault path_on_literals
+broken_upload = (refl, refl, refl, refl)
+
+pub not_opened : NotOpened
+unfolding answered starts passive_value data_opened data_refused listen_refused wants path_on_literals
+not_opened = (refl, refl, refl, refl)
+
+pub other_hosts : OtherHosts
+unfolding answered starts passive_value listening data_opened wants path_on_literals
+other_hosts = (refl, refl, refl, refl)

@@ -1,0 +1,288 @@
+-- Each call of a client as a function of what it holds, and when an octet may be taken (RFC 959, sections 2.3 and 5.4).
+use Rattle.std.specs.Prelude.{ℕ, ◌<◌, ◌&&◌, Bool, true, false, nat_le, List, [], ◌∷◌, ◌++◌, length, take, drop, Option, Some, None, IsTrue, if◌then◌else◌}
+use Rattle.ftp_endpoint.specs.declared.host.Host.{Host}
+use Rattle.ftp_operation.specs.Answer.{Said, BadOperation, Unopened}
+use Rattle.ftp_operation.specs.Operation.{can_be_sent}
+use Rattle.ftp_operation.specs.declared.op.Op.{Op}
+use Rattle.ftp_nvt.specs.Lines.{NvtEvent, line, too_long, owed}
+use Rattle.ftp_ends.specs.Ear.{ear}
+use Rattle.ftp_ends.specs.Link.{same_host}
+use Rattle.ftp_client_machine.specs.Dialogue.{begins, goes_on, answered, moved_on, has_begun}
+use Rattle.ftp_client_machine.specs.Moving.{flow_octet}
+use Rattle.ftp_client_machine.specs.Replies.{Between, Heard, GoesOn, Says, Faulty, line_heard}
+use Rattle.ftp_client_machine.specs.View.{View, Job, Idle, Waiting, Doing, Moving, Told, Transfer, Flow, Up, Down, finishes, fails, failure_said, strange}
+use Rattle.ftp_client_machine.specs.declared.client.Ending.{Ending}
+use Rattle.ftp_client_machine.specs.declared.client.Ending.TheVariants as Endings
+use Rattle.ftp_client_machine.specs.declared.client.Failure.TheVariants as Failures
+use Rattle.ftp_client_machine.specs.declared.client.Link.{Link}
+use Rattle.ftp_client_machine.specs.declared.client.Link.TheVariants as Links
+use Rattle.ftp_client_machine.specs.declared.client.Standing.{Standing}
+use Rattle.ftp_client_machine.specs.declared.client.Standing.TheVariants as Stands
+use Rattle.ftp_client_machine.specs.declared.client.Step.TheVariants as Steps
+use Rattle.ftp_ends.specs.declared.link.Wants.{Wants}
+use Rattle.ftp_ends.specs.declared.link.Wants.TheVariants as Want
+
+-- ---- start and report
+
+-- an operation is begun and its report was not taken: another is refused, and nothing changes
+abbrev pub is_busy_job : Job → Bool
+is_busy_job Idle = false
+is_busy_job other = true
+
+-- `start` is refused
+abbrev pub is_busy : View → Bool
+is_busy v = is_busy_job v.job
+
+-- an operation that can be sent waits for the end of the login, or begins; after a failure each is answered with it
+abbrev pub started_by : Standing → Op (List ℕ) → View → View
+started_by Stands.Entered op v = begins op v
+started_by (Stands.Failed failure) op v = record v { job = Told (failure_said failure) }
+started_by other op v = record v { job = Waiting op }
+
+-- own choice: one that can't be sent is answered at once, and nothing is sent; a failure that stands comes before that
+abbrev pub unsendable_by : Standing → View → View
+unsendable_by (Stands.Failed failure) v = record v { job = Told (failure_said failure) }
+unsendable_by other v = record v { job = Told BadOperation }
+
+-- `start`, of a client that isn't busy. (An upload that goes on after breaks will begin here too, as its first try.)
+unfoldable pub starts : Op (List ℕ) → View → View
+starts op v = if can_be_sent op then started_by v.standing op v else unsendable_by v.standing v
+
+-- `report`: the answer that stands, which is taken by it
+abbrev pub report_of_job : Job → Option Said
+report_of_job (Told answer) = Some answer
+report_of_job other = None
+
+-- the answer that `report` gives
+abbrev pub report_of : View → Option Said
+report_of v = report_of_job v.job
+
+-- an answer is given once; behind it another operation may begin
+abbrev pub reported_by : Job → View → View
+reported_by (Told answer) v = record v { job = Idle }
+reported_by other v = v
+
+-- what `report` leaves
+abbrev pub reports : View → View
+reports v = reported_by v.job v
+
+-- ---- the control connection
+
+-- own limit: a line of a reply has at most 4,096 octets, its end included
+abbrev pub reply_limit : ℕ
+reply_limit = 4096
+
+-- a line goes on with a reply, or ends it; own choice: one without a place, and one that is too long, are strange
+abbrev pub line_taken : Heard → View → View
+line_taken (GoesOn gathered) v = record v { gathered = gathered }
+line_taken (Says code texts) v = answered code texts (record v { gathered = Between })
+line_taken Faulty v = strange v
+
+-- the answer that Telnet octets are owed goes out as it is
+abbrev pub event_taken : NvtEvent → View → View
+event_taken (line text) v = line_taken (line_heard v.gathered text) v
+event_taken too_long v = strange v
+event_taken (owed answer) v = record v { owed = v.owed ++ answer }
+
+-- events in order
+abbrev pub events_taken : List NvtEvent → View → View
+events_taken [] v = v
+events_taken (event ∷ events) v = events_taken events (event_taken event v)
+
+-- one octet of the control connection
+abbrev pub hears_octet : View → ℕ → View
+hears_octet v octet = events_taken ((ear reply_limit).out v.ear octet) (record v { ear = (ear reply_limit).step v.ear octet })
+
+-- octets of the control connection, one by one
+abbrev pub hears : View → List ℕ → View
+hears v [] = v
+hears v (octet ∷ octets) = hears (hears_octet v octet) octets
+
+-- the client has not failed
+abbrev pub is_sound : Standing → Bool
+is_sound (Stands.Failed failure) = false
+is_sound other = true
+
+-- an octet of the control connection may be taken: while 1,024 octets are owed at most (own choice), and not after a failure
+abbrev pub may_hear : View → Bool
+may_hear v = is_sound v.standing && nat_le (length v.owed) 1024
+
+-- the end of the control connection: lost
+unfoldable pub control_end : View → View
+control_end v = fails Failures.Lost v
+
+-- so many of the octets that are owed went out
+abbrev pub gives_control : ℕ → View → View
+gives_control count v = record v { owed = drop count v.owed }
+
+-- ---- the data connection: while a close is wanted, nothing else is told
+
+-- a call that has no use while a close is wanted
+abbrev pub unless_closing : (View → View) → View → View
+unless_closing f v = if v.closing then v else f v
+
+-- a port is listened at: PORT names it
+abbrev pub door_by : Link → Job → ℕ → View → View
+door_by Links.Asked (Doing op Steps.Listen) port v = goes_on op Steps.Listen (record v { link = Links.Door port })
+door_by link job port v = v
+
+unfoldable pub listening : ℕ → View → View
+listening port v = unless_closing (λ v. door_by v.link v.job port v) v
+
+-- no port can be had: the operation is not opened
+abbrev pub doorless_by : Link → View → View
+doorless_by Links.Asked v = finishes Unopened v
+doorless_by link v = v
+
+unfoldable pub listen_refused : View → View
+listen_refused v = unless_closing (λ v. doorless_by v.link v) v
+
+-- the link that the client opened is there, and the next command is sent
+abbrev pub connected : Job → View → View
+connected (Doing op Steps.Connect) v = goes_on op Steps.Connect (record v { link = Links.Open })
+connected job v = v
+
+-- own choice: the link at the client's port has to come from the server's host, and another is closed
+abbrev pub accepted : Bool → View → View
+accepted true v = moved_on (record v { link = Links.Open })
+accepted false v = moved_on (record v { link = Links.Over Endings.Foreign; closing = true })
+
+-- an open link is the one that the client dialled, or one at its port
+abbrev pub opened_by : Link → Host → View → View
+opened_by (Links.Dialing endpoint) host v = connected v.job v
+opened_by (Links.Awaiting port) host v = accepted (same_host host v.peer) v
+opened_by link host v = v
+
+unfoldable pub data_opened : Host → View → View
+data_opened host v = unless_closing (λ v. opened_by v.link host v) v
+
+-- the link can't be had: before a transfer command the operation is not opened; own choice: at the client's port it counts as broken
+abbrev pub unopened_by : Link → View → View
+unopened_by (Links.Dialing endpoint) v = finishes Unopened v
+unopened_by (Links.Awaiting port) v = moved_on (record v { link = Links.Over Endings.Broken; closing = true })
+unopened_by link v = v
+
+unfoldable pub data_refused : View → View
+data_refused v = unless_closing (λ v. unopened_by v.link v) v
+
+-- a download
+abbrev pub is_down : Flow → Bool
+is_down (Up left mark) = false
+is_down (Down decoder mark) = true
+
+-- own choice: the server's close ends a download; before the transfer command, and of an upload that still has octets, it is a break
+abbrev pub ending_of : Job → Ending
+ending_of (Moving op transfer) = if is_down transfer.flow then Endings.Clean else Endings.Broken
+ending_of other = Endings.Broken
+
+-- an open link is over, in this way
+abbrev pub over_by : Link → Ending → View → View
+over_by Links.Open ending v = moved_on (record v { link = Links.Over ending })
+over_by link ending v = v
+
+-- the server closed the open link; it broke
+unfoldable pub data_end : View → View
+data_end v = unless_closing (λ v. over_by v.link (ending_of v.job) v) v
+
+-- the link broke
+unfoldable pub data_fault : View → View
+data_fault v = unless_closing (λ v. over_by v.link Endings.Broken v) v
+
+-- a close that was wanted is done
+abbrev pub data_closed : View → View
+data_closed v = record v { closing = false }
+
+-- ---- the octets of the data connection
+
+-- one octet of a download
+abbrev pub heard_by : Job → ℕ → View → View
+heard_by (Moving op transfer) octet v = record v { job = Moving op (record transfer { flow = flow_octet transfer.flow octet }) }
+heard_by job octet v = v
+
+-- one octet of the data connection
+abbrev pub receives_octet : View → ℕ → View
+receives_octet v octet = heard_by v.job octet v
+
+-- octets of the data connection, one by one
+abbrev pub receives : View → List ℕ → View
+receives v [] = v
+receives v (octet ∷ octets) = receives (receives_octet v octet) octets
+
+-- the transfer whose octets go over the open link
+abbrev pub moving_over : Link → Job → Option Transfer
+moving_over Links.Open (Moving op transfer) = Some transfer
+moving_over link job = None
+
+-- the transfer under way; none while a close is wanted
+abbrev pub moving : View → Option Transfer
+moving v = if v.closing then None else moving_over v.link v.job
+
+-- it brings octets
+abbrev pub downloads : Option Transfer → Bool
+downloads None = false
+downloads (Some transfer) = is_down transfer.flow
+
+-- an octet of the data connection may be taken: of a download whose command was sent, while its link is open
+abbrev pub may_receive : View → Bool
+may_receive v = downloads (moving v)
+
+-- the octets of an upload that are still to give: only after the 1yz, while its link is open
+abbrev pub left_in : Flow → List ℕ
+left_in (Up left mark) = left
+left_in (Down decoder mark) = []
+
+-- of a transfer that has begun
+abbrev pub given_of : Option Transfer → List ℕ
+given_of None = []
+given_of (Some transfer) = if has_begun transfer.replied then left_in transfer.flow else []
+
+-- the octets that the open link is still to carry
+abbrev pub to_give : View → List ℕ
+to_give v = given_of (moving v)
+
+-- so many of them went out; behind the last the link is to be closed
+abbrev pub went : ℕ → Flow → Flow
+went count (Up left mark) = Up (drop count left) mark
+went count (Down decoder mark) = Down decoder mark
+
+-- of the transfer under way
+abbrev pub goes_by : ℕ → Job → View → View
+goes_by count (Moving op transfer) v = moved_on (record v { job = Moving op (record transfer { flow = went count transfer.flow }) })
+goes_by count job v = v
+
+-- `data_out` gave so many octets
+unfoldable pub gives_data : ℕ → View → View
+gives_data count v = goes_by count v.job v
+
+-- ---- what is wanted
+
+-- what an open link is wanted for
+abbrev pub data_wants : Option Transfer → Wants
+data_wants None = Want.Nothing
+data_wants (Some transfer) = if is_down transfer.flow then Want.Receive else (if has_begun transfer.replied then Want.Send else Want.Nothing)
+
+-- what each state of the data connection asks of who owns it
+abbrev pub link_wants : Link → View → Wants
+link_wants Links.Asked v = Want.Listen
+link_wants (Links.Dialing endpoint) v = Want.Connect endpoint
+link_wants (Links.Awaiting port) v = Want.Accept
+link_wants Links.Open v = data_wants (moving v)
+link_wants other v = Want.Nothing
+
+-- own choice: a close before all others; after a failure the control connection is done with
+unfoldable pub wants : View → Wants
+wants v = if v.closing then Want.CloseData else (if is_sound v.standing then link_wants v.link v else Want.CloseAll)
+
+-- ---- how many octets a call may take or give
+
+-- each of the first octets of a piece could be taken when its turn came
+abbrev pub MayTake : (View → Bool) → (View → List ℕ → View) → View → List ℕ → ℕ → Type 0
+MayTake may takes v piece count = (k : ℕ) → k < count → IsTrue (may (takes v (take k piece)))
+
+-- of `hear`
+abbrev pub MayHear : View → List ℕ → ℕ → Type 0
+MayHear v piece count = MayTake may_hear hears v piece count
+
+-- of `data_hear`
+abbrev pub MayReceive : View → List ℕ → ℕ → Type 0
+MayReceive v piece count = MayTake may_receive receives v piece count

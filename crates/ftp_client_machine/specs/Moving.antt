@@ -1,0 +1,74 @@
+-- The octets of a client's transfer: the text of an upload, and what a download has brought (RFC 959, sections 3.1 to 3.5).
+use Rattle.std.specs.Prelude.{ℕ, ◌&&◌, Bool, true, false, List, [], ◌∷◌, Option, Some, None}
+use Rattle.std.specs.Option.{option_map, option_or}
+use Rattle.ftp_operation.specs.Answer.{Said, Octets, Entries, Names, Broken}
+use Rattle.ftp_operation.specs.declared.op.How.{How}
+use Rattle.ftp_operation.specs.declared.op.Op.{Op}
+use Rattle.ftp_operation.specs.declared.op.Op.TheVariants as Ops
+use Rattle.ftp_framer.specs.Block.{marked_text}
+use Rattle.ftp_framer.specs.Wire.{wire}
+use Rattle.ftp_framer.specs.Said.{Said as WireSaid, says, marker}
+use Rattle.ftp_ends.specs.Decoder.{no_octets, octet_says, decoded_octet, broken}
+use Rattle.ftp_representation.specs.Representation.{form_of, has_markers}
+use Rattle.ftp_client_machine.specs.Listing.{entries_value, names_value}
+use Rattle.ftp_client_machine.specs.Plan.{settings_of, listing_settings}
+use Rattle.ftp_client_machine.specs.Values.{number_value}
+use Rattle.ftp_client_machine.specs.View.{Flow, Up, Down}
+use Rattle.ftp_representation.specs.declared.representation.Representation.{Representation}
+
+-- ---- an upload
+
+-- the one written text of octets in some settings, with own markers or without; markers count from a start
+abbrev pub written : Bool → Representation → ℕ → List ℕ → List ℕ
+written true settings start octets = marked_text start octets
+written false settings start octets = wire settings.mode (form_of settings) octets
+
+-- an upload has own markers where they are asked for and its settings allow them
+abbrev pub upload_text : How → ℕ → List ℕ → List ℕ
+upload_text how start octets = written (how.marks && has_markers (settings_of how)) (settings_of how) start octets
+
+-- an upload at its start: all its text is to be given, and no 110 came
+abbrev pub upload : How → ℕ → List ℕ → Flow
+upload how start octets = Up (upload_text how start octets) None
+
+-- ---- a download
+
+-- a download at its start: no octet came
+abbrev pub download : Representation → Flow
+download settings = Down (no_octets settings) None
+
+-- what an operation's transfer carries at its start, where it has one: a PutFrom counts its markers from its offset, an Append
+-- from 0 (own choice)
+abbrev pub flow_of : Op (List ℕ) → Option Flow
+flow_of (Ops.Put path octets how) = Some (upload how 0 octets)
+flow_of (Ops.Append path octets how) = Some (upload how 0 octets)
+flow_of (Ops.PutFrom path offset octets how) = Some (upload how offset octets)
+flow_of (Ops.Get path how) = Some (download (settings_of how))
+flow_of (Ops.GetFrom path offset how) = Some (download (settings_of how))
+flow_of (Ops.List path how) = Some (download (listing_settings how.representation.mode))
+flow_of (Ops.Names path how) = Some (download (listing_settings how.representation.mode))
+flow_of other = None
+
+-- the last restart marker that is a number of 1 to 18 digits (own choice); others are passed over
+abbrev pub last_mark : Option ℕ → List WireSaid → Option ℕ
+last_mark mark [] = mark
+last_mark mark (says sign ∷ more) = last_mark mark more
+last_mark mark (marker text ∷ more) = last_mark (option_or (number_value text) mark) more
+
+-- one octet of the data connection; an upload hears none
+abbrev pub flow_octet : Flow → ℕ → Flow
+flow_octet (Up left mark) octet = Up left mark
+flow_octet (Down decoder mark) octet = Down (decoded_octet decoder octet) (last_mark mark (octet_says decoder octet))
+
+-- ---- what came of it
+
+-- the content that a whole download says: octets, entries or names; none where a line of a listing says none
+abbrev pub content_answer : Op (List ℕ) → List ℕ → Option Said
+content_answer (Ops.List path how) octets = option_map Entries (entries_value octets)
+content_answer (Ops.Names path how) octets = option_map Names (names_value octets)
+content_answer op octets = Some (Octets octets)
+
+-- a break: the content that came of a download, and the last mark
+abbrev pub broken_answer : Flow → Said
+broken_answer (Up left mark) = Broken [] mark
+broken_answer (Down decoder mark) = Broken (broken decoder).content mark

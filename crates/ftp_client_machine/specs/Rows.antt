@@ -1,0 +1,299 @@
+-- Worked rows: what a client sends, wants and reports, reply by reply and event by event. Each is a theorem that computes. The
+-- login is `guest` with password `secret`; both hosts are 127.0.0.1.
+use Rattle.std.specs.Prelude.{◌≡◌, ℕ, List, [], ◌∷◌, ◌++◌, codes, true, false, Option, Some, None}
+use Rattle.ftp_command.specs.Line.{line_of}
+use Rattle.ftp_command.specs.declared.command.Command.TheVariants as Commands
+use Rattle.ftp_endpoint.specs.declared.endpoint.Endpoint.{Endpoint}
+use Rattle.ftp_endpoint.specs.declared.host.Host.{Host}
+use Rattle.ftp_operation.specs.Answer.{Said, Done, Path, Octets, Stamp, Refused, BadOperation, Broken, Unopened, Foreign, Lost, Strange}
+use Rattle.ftp_operation.specs.declared.op.How.{How}
+use Rattle.ftp_operation.specs.declared.op.Op.{Op}
+use Rattle.ftp_operation.specs.declared.op.Op.TheVariants as Ops
+use Rattle.ftp_representation.specs.declared.representation.Mode.TheVariants as Modes
+use Rattle.ftp_representation.specs.declared.representation.Kind.TheVariants as Kinds
+use Rattle.ftp_representation.specs.declared.representation.Structure.TheVariants as Structures
+use Rattle.ftp_ends.specs.RowWords.{here, elsewhere, lines}
+use Rattle.ftp_client_machine.specs.Calls.{starts, report_of, hears, listening, listen_refused, data_opened, data_refused, data_end, data_fault, receives, gives_data, to_give, wants}
+use Rattle.ftp_client_machine.specs.Dialogue.{answered}
+use Rattle.ftp_client_machine.specs.Replies.{Gathered, Between, Heard, GoesOn, Says, Faulty, line_heard}
+use Rattle.ftp_client_machine.specs.Values.{passive_value, extended_value, quoted_value, mark_value}
+use Rattle.ftp_client_machine.specs.View.{View, client}
+use Rattle.ftp_client_machine.specs.declared.client.Failure.TheVariants as Failures
+use Rattle.ftp_client_machine.specs.declared.client.Standing.TheVariants as Stands
+use Rattle.ftp_ends.specs.declared.link.Wants.{Wants}
+use Rattle.ftp_ends.specs.declared.link.Wants.TheVariants as Want
+
+-- ---- how a row is written
+
+-- what happens to a client: an operation is begun, a reply of one line comes, a call
+pub data Event : Type 0 where
+  asks : (op : Op (List ℕ)) → Event
+  replied : (code : ℕ) → (text : List ℕ) → Event
+  port : (number : ℕ) → Event
+  no_port : Event
+  opened : (host : Host) → Event
+  refused : Event
+  octets : (came : List ℕ) → Event
+  given : (count : ℕ) → Event
+  ended broken : Event
+
+-- each event is one call of the client
+abbrev pub happens : Event → View → View
+happens (asks op) v = starts op v
+happens (replied code text) v = answered code (text ∷ []) v
+happens (port number) v = listening number v
+happens no_port v = listen_refused v
+happens (opened host) v = data_opened host v
+happens refused v = data_refused v
+happens (octets came) v = receives v came
+happens (given count) v = gives_data count v
+happens ended v = data_end v
+happens broken v = data_fault v
+
+-- events, one after another
+abbrev pub behind : List Event → View → View
+behind [] v = v
+behind (event ∷ events) v = behind events (happens event v)
+
+-- a client as it begins, and one that is logged in and whose commands went out
+abbrev pub guest : View
+guest = client (codes "guest") (codes "secret") here here
+
+-- the greeting, 331 and 230
+abbrev pub login_events : List Event
+login_events = replied 220 (codes "Ready") ∷ replied 331 (codes "Password needed") ∷ replied 230 (codes "Logged in") ∷ []
+
+-- a client that is logged in, with nothing owed
+abbrev pub entered : View
+entered = record (behind login_events guest) { owed = [] }
+
+-- what a client that is logged in owes, wants, gives and has to report behind some events
+abbrev pub sent : List Event → List ℕ
+sent events = (behind events entered).owed
+
+abbrev pub wanted : List Event → Wants
+wanted events = wants (behind events entered)
+
+abbrev pub gives : List Event → List ℕ
+gives events = to_give (behind events entered)
+
+abbrev pub reported : List Event → Option Said
+reported events = report_of (behind events entered)
+
+-- ---- the login (RFC 959, section 5.4)
+
+-- the greeting is answered with USER, and a 331 with PASS
+abbrev pub Login : Type 0
+Login = (behind login_events guest).owed ≡ lines (codes "USER guest" ∷ codes "PASS secret" ∷ [])
+
+-- a greeting of several lines is one reply, octet by octet
+abbrev pub LongGreeting : Type 0
+LongGreeting = (hears guest (lines (codes "220-a" ∷ codes "220 b" ∷ []))).owed ≡ lines (codes "USER guest" ∷ [])
+
+-- ---- what replies say
+
+-- six numbers are an endpoint, in parentheses or not (RFC 1123, section 4.1.2.6)
+abbrev pub endpoint_1930 : Option Endpoint
+endpoint_1930 = Some (record { host = here; port = 1930 })
+
+abbrev pub Endpoints : Type 0
+Endpoints =
+    (passive_value (codes "Entering (127,0,0,1,7,138)") ≡ endpoint_1930)
+    × (passive_value (codes "Entering 127,0,0,1,7,138") ≡ endpoint_1930)
+    × (passive_value (codes "Take 2 127,0,0,1,7,138") ≡ endpoint_1930)
+
+-- the port between delimiters (RFC 2428, section 3)
+abbrev pub PassivePort : Type 0
+PassivePort = extended_value (codes "Entering Extended Passive Mode (|||6446|)") ≡ Some 6446
+
+-- a path is quoted, and a double quote in it doubled (RFC 959, appendix II): `"/a""b" created`
+abbrev pub Quoted : Type 0
+Quoted = quoted_value (34 ∷ 47 ∷ 97 ∷ 34 ∷ 34 ∷ 98 ∷ 34 ∷ codes " created") ≡ Some (47 ∷ 97 ∷ 34 ∷ 98 ∷ [])
+
+-- the server's marker stands behind the client's (RFC 959, section 4.2)
+abbrev pub MarkRead : Type 0
+MarkRead = (mark_value (codes "MARK 65536 = 65537") ≡ Some 65537) × (mark_value (codes "Restart marker") ≡ None)
+
+-- the lines that a reader has behind one more
+abbrev pub gathered_in : Heard → Gathered
+gathered_in (GoesOn gathered) = gathered
+gathered_in (Says code texts) = Between
+gathered_in Faulty = Between
+
+-- what the last of some lines gives
+abbrev pub last_heard : Gathered → List (List ℕ) → Heard
+last_heard gathered [] = Faulty
+last_heard gathered (line ∷ []) = line_heard gathered line
+last_heard gathered (line ∷ next ∷ lines) = last_heard (gathered_in (line_heard gathered line)) (next ∷ lines)
+
+-- a reply of several lines ends at its own code alone (RFC 959, section 4.2)
+abbrev pub OwnCode : Type 0
+OwnCode =
+    last_heard Between (codes "211-x" ∷ codes "200 y" ∷ codes "211z" ∷ codes "211 end" ∷ [])
+    ≡ Says 211 (codes "x" ∷ codes "200 y" ∷ codes "211z" ∷ codes "end" ∷ [])
+
+-- ---- how a reply is judged (RFC 959, section 4.2.1)
+
+-- by its first digit and its place; a text without the value that is asked for has none
+abbrev pub Judged : Type 0
+Judged =
+    (reported (asks Ops.Where ∷ replied 257 (34 ∷ 47 ∷ 34 ∷ codes " is the current directory") ∷ []) ≡ Some (Path (47 ∷ [])))
+    × (reported (asks Ops.Where ∷ replied 257 (codes "/ is the current directory") ∷ []) ≡ Some Strange)
+    × (reported (asks Ops.Up ∷ replied 200 [] ∷ []) ≡ Some Done)
+    × (reported (asks Ops.Up ∷ replied 550 [] ∷ []) ≡ Some (Refused 550))
+    × (reported (asks Ops.Up ∷ replied 150 [] ∷ []) ≡ Some Strange)
+    × (reported (asks Ops.Up ∷ replied 350 [] ∷ []) ≡ Some Strange)
+
+-- 332 has no place, and 421 tells at any time that the connection is lost
+abbrev pub TwoCodes : Type 0
+TwoCodes =
+    (reported (asks (Ops.Rename (codes "f") (codes "g")) ∷ replied 332 [] ∷ []) ≡ Some Strange)
+    × (reported (asks Ops.Up ∷ replied 421 [] ∷ []) ≡ Some Lost)
+
+-- a moment is read as seconds since 1970 began, without its fraction (RFC 3659, section 2.3)
+abbrev pub Moment : Type 0
+Moment = reported (asks (Ops.Modified (codes "f")) ∷ replied 213 (codes "20000229235959.5") ∷ []) ≡ Some (Stamp 951868799)
+
+-- a reply that nobody waits for is strange, and every later operation answers so
+abbrev pub Unasked : Type 0
+Unasked =
+    ((behind (replied 226 [] ∷ []) entered).standing ≡ Stands.Failed Failures.Strange)
+    × (reported (replied 226 [] ∷ asks Ops.Up ∷ []) ≡ Some Strange)
+
+-- RNFR wants a 3yz, and RNTO follows it (RFC 959, section 4.1.3)
+abbrev pub rename_events : List Event
+rename_events = asks (Ops.Rename (codes "f") (codes "g")) ∷ replied 350 [] ∷ replied 250 [] ∷ []
+
+abbrev pub Rename : Type 0
+Rename = (sent rename_events ≡ lines (codes "RNFR f" ∷ codes "RNTO g" ∷ [])) × (reported rename_events ≡ Some Done)
+
+-- an operation that can't be sent is answered at once, before the login too, and nothing is sent
+abbrev pub Unsendable : Type 0
+Unsendable =
+    (report_of (starts (Ops.MakeDir []) guest) ≡ Some BadOperation) × ((starts (Ops.MakeDir []) guest).owed ≡ [])
+
+-- ---- transfers (RFC 959, sections 3.2 to 3.5 and 4.1.2)
+
+-- image or ASCII, file or record, stream, through a port of the server or of the client
+abbrev pub plain : How
+plain = record { representation = record { kind = Kinds.Image; structure = Structures.File; mode = Modes.Stream }; marks = false; active = false; extended = false }
+
+-- type A
+abbrev pub text : How
+text = record plain { representation = record plain.representation { kind = Kinds.Ascii } }
+
+-- record structure
+abbrev pub records : How
+records = record plain { representation = record plain.representation { structure = Structures.Record } }
+
+-- through a port of the client
+abbrev pub active : How
+active = record plain { active = true }
+
+-- the file f, with the octets `abc`
+abbrev pub get : How → Event
+get how = asks (Ops.Get (codes "f") how)
+
+-- the octets `abc` to the file f
+abbrev pub put : How → Event
+put how = asks (Ops.Put (codes "f") (codes "abc") how)
+
+-- 200 to TYPE
+abbrev pub set : Event
+set = replied 200 (codes "Type set")
+
+-- 227: port 49152 is 192 times 256
+abbrev pub entering : Event
+entering = replied 227 (codes "Entering Passive Mode (127,0,0,1,192,0)")
+
+abbrev pub opening : Event
+opening = replied 150 (codes "Opening data connection")
+
+-- the final reply of a whole transfer
+abbrev pub complete : Event
+complete = replied 226 (codes "Transfer complete")
+
+-- the final reply of a broken one
+abbrev pub broken_off : Event
+broken_off = replied 426 (codes "Transfer broken")
+
+-- the final reply where no link came about
+abbrev pub unopened : Event
+unopened = replied 425 (codes "No data connection")
+
+-- TYPE is sent where it differs, then PASV; the client connects, and only then sends RETR
+abbrev pub PassiveDownload : Type 0
+PassiveDownload =
+    (wanted (get plain ∷ set ∷ entering ∷ []) ≡ Want.Connect (record { host = here; port = 49152 }))
+    × (sent (get plain ∷ set ∷ entering ∷ opened here ∷ []) ≡ lines (codes "TYPE I" ∷ codes "PASV" ∷ codes "RETR f" ∷ []))
+    × (reported (get plain ∷ set ∷ entering ∷ opened here ∷ opening ∷ octets (codes "abc") ∷ ended ∷ []) ≡ None)
+    × (reported (get plain ∷ set ∷ entering ∷ opened here ∷ opening ∷ octets (codes "abc") ∷ ended ∷ complete ∷ []) ≡ Some (Octets (codes "abc")))
+
+-- the final reply and the link's end come in either order, and data is taken before the 150 too
+abbrev pub OtherOrders : Type 0
+OtherOrders =
+    (reported (get plain ∷ set ∷ entering ∷ opened here ∷ opening ∷ complete ∷ octets (codes "abc") ∷ ended ∷ []) ≡ Some (Octets (codes "abc")))
+    × (reported (get plain ∷ set ∷ entering ∷ opened here ∷ octets (codes "abc") ∷ ended ∷ opening ∷ complete ∷ []) ≡ Some (Octets (codes "abc")))
+
+-- PORT 127,0,0,1,192,0
+abbrev pub port_line : List ℕ
+port_line = line_of (Commands.Port (record { host = here; port = 49152 }))
+
+-- the client listens before PORT is sent, and accepts after the 150
+abbrev pub ActiveDownload : Type 0
+ActiveDownload =
+    (wanted (get active ∷ set ∷ []) ≡ Want.Listen)
+    × (sent (get active ∷ set ∷ port 49152 ∷ replied 200 [] ∷ []) ≡ lines (codes "TYPE I" ∷ port_line ∷ codes "RETR f" ∷ []))
+    × (wanted (get active ∷ set ∷ port 49152 ∷ replied 200 [] ∷ []) ≡ Want.Nothing)
+    × (wanted (get active ∷ set ∷ port 49152 ∷ replied 200 [] ∷ opening ∷ []) ≡ Want.Accept)
+
+-- the same octets, and the final reply before the end
+abbrev pub ActiveReport : Type 0
+ActiveReport =
+    reported (get active ∷ set ∷ port 49152 ∷ replied 200 [] ∷ opening ∷ opened here ∷ octets (codes "abc") ∷ complete ∷ ended ∷ [])
+    ≡ Some (Octets (codes "abc"))
+
+-- a broken download gives what came, without an unpaired CR, whatever its final reply says of a whole; one that ends early counts
+-- as broken
+abbrev pub BrokenDownload : Type 0
+BrokenDownload =
+    (reported (get text ∷ entering ∷ opened here ∷ opening ∷ octets (97 ∷ 13 ∷ []) ∷ broken ∷ broken_off ∷ []) ≡ Some (Broken (97 ∷ []) None))
+    × (reported (get text ∷ entering ∷ opened here ∷ opening ∷ octets (97 ∷ 13 ∷ []) ∷ broken ∷ complete ∷ []) ≡ Some (Broken (97 ∷ []) None))
+    × (reported (get records ∷ set ∷ replied 200 [] ∷ entering ∷ opened here ∷ opening ∷ octets (97 ∷ 255 ∷ 1 ∷ []) ∷ ended ∷ complete ∷ [])
+    ≡ Some (Broken (97 ∷ 10 ∷ []) None))
+
+-- octets of an upload are given after the 150 alone, and behind the last the link is closed
+abbrev pub PassiveUpload : Type 0
+PassiveUpload =
+    (gives (put plain ∷ set ∷ entering ∷ opened here ∷ []) ≡ [])
+    × (gives (put plain ∷ set ∷ entering ∷ opened here ∷ opening ∷ []) ≡ codes "abc")
+    × (wanted (put plain ∷ set ∷ entering ∷ opened here ∷ opening ∷ given 3 ∷ []) ≡ Want.CloseData)
+    × (reported (put plain ∷ set ∷ entering ∷ opened here ∷ opening ∷ given 3 ∷ complete ∷ []) ≡ Some Done)
+
+-- the octets 78 0A 79 in ASCII, up to the 150: a line end goes as CR LF
+abbrev pub lines_up : List Event
+lines_up = asks (Ops.Put (codes "f") (120 ∷ 10 ∷ 121 ∷ []) text) ∷ entering ∷ opened here ∷ opening ∷ []
+
+-- an upload that breaks behind a CR: no octet is given any more, and it is broken once the final reply is in
+abbrev pub BrokenUpload : Type 0
+BrokenUpload =
+    (gives lines_up ≡ 120 ∷ 13 ∷ 10 ∷ 121 ∷ [])
+    × (gives (lines_up ++ given 2 ∷ broken ∷ []) ≡ [])
+    × (reported (lines_up ++ given 2 ∷ broken ∷ []) ≡ None)
+    × (reported (lines_up ++ given 2 ∷ broken ∷ broken_off ∷ []) ≡ Some (Broken [] None))
+
+-- a link or a port that is refused, and a 425, leave the operation undone; what stands is closed
+abbrev pub NotOpened : Type 0
+NotOpened =
+    (reported (get plain ∷ set ∷ entering ∷ refused ∷ []) ≡ Some Unopened)
+    × (reported (get active ∷ set ∷ no_port ∷ []) ≡ Some Unopened)
+    × (reported (get plain ∷ set ∷ entering ∷ opened here ∷ unopened ∷ []) ≡ Some Unopened)
+    × (wanted (get plain ∷ set ∷ entering ∷ opened here ∷ unopened ∷ []) ≡ Want.CloseData)
+
+-- no other host is contacted or heard (own choice)
+abbrev pub OtherHosts : Type 0
+OtherHosts =
+    (reported (get plain ∷ set ∷ replied 227 (codes "(10,0,0,9,192,0)") ∷ []) ≡ Some Foreign)
+    × (wanted (get active ∷ set ∷ port 49152 ∷ replied 200 [] ∷ opening ∷ opened elsewhere ∷ []) ≡ Want.CloseData)
+    × (reported (get active ∷ set ∷ port 49152 ∷ replied 200 [] ∷ opening ∷ opened elsewhere ∷ []) ≡ None)
+    × (reported (get active ∷ set ∷ port 49152 ∷ replied 200 [] ∷ opening ∷ opened elsewhere ∷ complete ∷ []) ≡ Some Foreign)

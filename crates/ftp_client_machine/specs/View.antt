@@ -1,0 +1,130 @@
+-- What a client holds: who logs in where, how far it has come with the server, the operation under way, the settings that the
+-- server accepted, the data connection, the reply being heard, and the octets owed (RFC 959, sections 2.3 and 5.4).
+use Rattle.std.specs.Prelude.{ℕ, Bool, true, false, ◌||◌, List, [], Option, Some, None}
+use Rattle.ftp_endpoint.specs.declared.host.Host.{Host}
+use Rattle.ftp_operation.specs.Answer.{Said, Lost, Strange, Memory}
+use Rattle.ftp_operation.specs.declared.op.Op.{Op}
+use Rattle.ftp_ends.specs.Decoder.{Decoder}
+use Rattle.ftp_ends.specs.Ear.{Ear, quiet}
+use Rattle.ftp_representation.specs.Representation.{defaults}
+use Rattle.ftp_client_machine.specs.Replies.{Gathered, Between}
+use Rattle.ftp_client_machine.specs.declared.client.Failure.{Failure}
+use Rattle.ftp_client_machine.specs.declared.client.Failure.TheVariants as Failures
+use Rattle.ftp_client_machine.specs.declared.client.Link.{Link}
+use Rattle.ftp_client_machine.specs.declared.client.Link.TheVariants as Links
+use Rattle.ftp_client_machine.specs.declared.client.Replied.{Replied}
+use Rattle.ftp_client_machine.specs.declared.client.Standing.{Standing}
+use Rattle.ftp_client_machine.specs.declared.client.Standing.TheVariants as Stands
+use Rattle.ftp_client_machine.specs.declared.client.Step.{Step}
+use Rattle.ftp_representation.specs.declared.representation.Representation.{Representation}
+
+-- what goes over the data connection: the octets of an upload that are still to give, with the last mmmm of a 110 reply; or what
+-- the octets of a download have said, with its last marker that is a number
+pub data Flow : Type 0 where
+  Up : (left : List ℕ) → (mark : Option ℕ) → Flow
+  Down : (decoder : Decoder) → (mark : Option ℕ) → Flow
+
+-- a transfer whose command was sent. (An operation that reads a first part of a file alone will carry here whether it sent its
+-- ABOR and whether that was answered.)
+pub record Transfer : Type 0 where
+  pub replied : Replied
+  pub flow : Flow
+
+-- the operation: none; one that was begun and waits for the end of the login; one of which this step is under way; one whose
+-- transfer's command was sent; or the answer of one that is done, until it is taken. (An upload that goes on after breaks will be
+-- a run of such operations, and carry here what of it is left.)
+pub data Job : Type 0 where
+  Idle : Job
+  Waiting : (op : Op (List ℕ)) → Job
+  Doing : (op : Op (List ℕ)) → (step : Step) → Job
+  Moving : (op : Op (List ℕ)) → (transfer : Transfer) → Job
+  Told : (answer : Said) → Job
+
+-- `closing`: a link, or a port that is listened at, is to be closed, and no other call on the data connection means anything
+pub record View : Type 0 where
+  pub user : List ℕ
+  pub pass : List ℕ
+  pub here : Host
+  pub peer : Host
+  pub standing : Standing
+  pub job : Job
+  pub settings : Representation
+  pub link : Link
+  pub closing : Bool
+  pub ear : Ear
+  pub gathered : Gathered
+  pub owed : List ℕ
+
+-- at the start the server is to speak first, and its settings are the defaults
+abbrev pub client : (user pass : List ℕ) → (here peer : Host) → View
+client user pass here peer = record {
+  user = user;
+  pass = pass;
+  here = here;
+  peer = peer;
+  standing = Stands.Greeting;
+  job = Idle;
+  settings = defaults;
+  link = Links.Free;
+  closing = false;
+  ear = quiet;
+  gathered = Between;
+  owed = [];
+}
+
+-- ---- what is left behind
+
+-- a link, or a port that is listened at, stands
+abbrev pub stands : Link → Bool
+stands Links.Free = false
+stands Links.Asked = false
+stands (Links.Door port) = true
+stands (Links.Dialing endpoint) = false
+stands (Links.Awaiting port) = true
+stands Links.Open = true
+stands (Links.Over ending) = false
+
+-- what stands is to be closed
+abbrev pub dropped : View → View
+dropped v = record v { link = Links.Free; closing = v.closing || stands v.link }
+
+-- an operation is done: its answer stands until it is taken, and no link of it is needed
+abbrev pub finishes : Said → View → View
+finishes answer v = record (dropped v) { job = Told answer }
+
+-- the answer of every operation after a failure
+abbrev pub failure_said : Failure → Said
+failure_said Failures.Lost = Lost
+failure_said Failures.Strange = Strange
+failure_said Failures.Memory = Memory
+
+-- an operation under way is answered with it; an answer that was not taken yet stays
+abbrev pub failed_job : Said → Job → Job
+failed_job answer Idle = Idle
+failed_job answer (Waiting op) = Told answer
+failed_job answer (Doing op step) = Told answer
+failed_job answer (Moving op transfer) = Told answer
+failed_job answer (Told other) = Told other
+
+-- nothing is being heard or owed any more
+abbrev pub silent : View → View
+silent v = record v { ear = quiet; gathered = Between; owed = [] }
+
+-- the client has failed for good: it sends and hears no more, and what stands is to be closed; a second failure changes nothing
+abbrev pub fails_by : Standing → Failure → View → View
+fails_by (Stands.Failed before) failure v = v
+fails_by standing failure v =
+    record (silent (dropped v)) { standing = Stands.Failed failure; job = failed_job (failure_said failure) v.job }
+
+-- by how far it has come
+abbrev pub fails : Failure → View → View
+fails failure v = fails_by v.standing failure v
+
+-- the server said what has no place
+abbrev pub strange : View → View
+strange v = fails Failures.Strange v
+
+-- the answer that was read, or what was said has no place
+abbrev pub finishes_read : Option Said → View → View
+finishes_read None v = strange v
+finishes_read (Some answer) v = finishes answer v

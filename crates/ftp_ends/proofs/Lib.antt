@@ -1,0 +1,4 @@
+pub mod Counts
+pub mod DecoderLemmas
+pub mod LineInFlight
+pub mod WireLemmas

@@ -1,0 +1,5 @@
+pub mod Ear
+pub mod Decoder
+pub mod Link
+pub mod Reply
+pub mod RowWords

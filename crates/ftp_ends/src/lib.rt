@@ -1,0 +1,8 @@
+//! What both ends of a session share, as definitions: lines in flight, data octets as they make a file, replies as values, and
+//! what an end wants of the connections (RFC 959, sections 2.3, 3.2 and 4.2).
+#![tactic(auto)]
+
+pub mod laws;
+mod link;
+
+pub use link::Wants;

@@ -1,5 +1,0 @@
-use Rattle.ftp_protocol.proofs.ServerRows.{order}
-use Rattle.ftp_protocol.proofs.server_rows.order.Goals as goal
-
-pub returns : goal.returns
-returns c = order

@@ -1,0 +1,9 @@
+pub mod CommandsInFlight
+pub mod Deciding
+pub mod EndpointsDecided
+pub mod LinesDecided
+pub mod ReadingLemmas
+pub mod RowNumbers
+pub mod ServerBounds
+pub mod ServerRows
+pub mod ServerUploads

@@ -1,0 +1,46 @@
+-- What is asked of a path: SIZE, MDTM, MLST (RFC 3659, sections 3, 4 and 7).
+use Rattle.std.specs.Prelude.{ℕ, Bool, ◌&&◌, List, [], Option, if◌then◌else◌}
+use Rattle.std.specs.Option.{unwrap_or}
+use Rattle.ftp_tree.specs.Tree.{octets_or_none, stamp_at}
+use Rattle.ftp_facts.specs.Moment.{moment_digits}
+use Rattle.ftp_direct.specs.Direct.{refusal, named_or_here, size_in}
+use Rattle.ftp_operation.specs.declared.op.Op.TheVariants as Ops
+use Rattle.ftp_representation.specs.Representation.{same_structure, same_mode}
+use Rattle.ftp_representation.specs.declared.representation.Structure.TheVariants as Structures
+use Rattle.ftp_representation.specs.declared.representation.Mode.TheVariants as Modes
+use Rattle.ftp_server_machine.specs.View.{Session, direct_of, how_in_force}
+use Rattle.ftp_server_machine.specs.Replies.{Turn, tells}
+use Rattle.ftp_server_machine.specs.Walk.{unless, path_of}
+use Rattle.ftp_representation.specs.declared.representation.Representation.{Representation}
+use Rattle.ftp_server_machine.specs.declared.said.Text.TheVariants as Texts
+use Rattle.ftp_server_machine.specs.declared.said.Said.TheVariants as Say
+
+-- the octets that a transfer of the file would have, in the type in force
+abbrev pub size_of : Session → List ℕ → ℕ
+size_of v text = size_in v.settings.kind (octets_or_none v.table (path_of v text))
+
+-- the settings in which a size is told
+abbrev pub has_size : Representation → Bool
+has_size settings = same_structure settings.structure Structures.File && same_mode settings.mode Modes.Stream
+
+-- SIZE; own choice: a size is told in file structure and stream mode alone
+abbrev pub size : List ℕ → Session → Turn
+size text v =
+    if has_size v.settings then unless (refusal (direct_of v) (Ops.Size text (how_in_force v.settings))) v (v, Say.Size (size_of v text))
+    else tells Texts.Refused v
+
+-- MDTM: the second in which a file was installed
+abbrev pub stamp_of : Session → List ℕ → ℕ
+stamp_of v text = unwrap_or (stamp_at v.table (path_of v text)) 0
+
+-- MDTM: YYYYMMDDHHMMSS in UTC (RFC 3659, section 3)
+abbrev pub mdtm : List ℕ → Session → Turn
+mdtm text v = unless (refusal (direct_of v) (Ops.Modified text)) v (v, Say.Stamp (moment_digits (stamp_of v text)))
+
+-- an argument that may be left out; an empty text names the current directory
+abbrev pub or_empty : Option (List ℕ) → List ℕ
+or_empty text = unwrap_or text []
+
+-- MLST: the entry of what stands at a path
+abbrev pub mlst : Option (List ℕ) → Session → Turn
+mlst text v = unless (refusal (direct_of v) (Ops.Facts (or_empty text))) v (v, Say.Entry (named_or_here (direct_of v) (or_empty text)))

@@ -1,0 +1,275 @@
+-- Worked rows: what a server says, does to its map and sends, line by line and event by event. Each is a theorem that
+-- computes. The accounts are `guest` with password `secret`, and `anonymous` without one; both hosts are 127.0.0.1.
+use Rattle.std.specs.Prelude.{◌≡◌, ℕ, true, false, length, List, [], ◌∷◌, ◌++◌, Some, None, codes}
+use Rattle.ftp_command.specs.declared.command.Command.{Command}
+use Rattle.ftp_command.specs.declared.command.Command.TheVariants as command
+use Rattle.ftp_representation.specs.declared.representation.Kind.TheVariants as Kinds
+use Rattle.ftp_representation.specs.declared.representation.Mode.TheVariants as Modes
+use Rattle.ftp_command.specs.declared.command.Passive.TheVariants as Families
+use Rattle.ftp_endpoint.specs.declared.endpoint.Endpoint.{Endpoint}
+use Rattle.ftp_command.specs.declared.fault.CommandFault.TheVariants as Faults
+use Rattle.ftp_endpoint.specs.declared.host.Host.{Host}
+use Rattle.ftp_path.specs.Path.{Names}
+use Rattle.ftp_tree.specs.Tree.{Dir, File, Table, node_at, children, installed, moved, moves_fit, room_at}
+use Rattle.ftp_ends.specs.RowWords.{here, elsewhere, lines}
+use Rattle.ftp_server_machine.specs.View.{Accounts, View}
+use Rattle.ftp_server_machine.specs.Machine.{heard_line, may_hear}
+use Rattle.ftp_server_machine.specs.Calls.{start, gives_control, listening, listen_refused, data_opened, data_refused, receives, gives_data, data_end, data_fault, data_closed, to_give, wants}
+use Rattle.ftp_ends.specs.declared.link.Wants.TheVariants as Want
+use Rattle.ftp_server_machine.specs.declared.heard.Heard.{Heard}
+use Rattle.ftp_server_machine.specs.declared.heard.Heard.TheVariants.{TooLong, Bad, Asks}
+
+-- ---- how a row is written
+
+-- what happens to a server: a line that is read as a command, one that is none, a call
+pub data Event : Type 0 where
+  asks : (command : Command (List ℕ)) → Event
+  line : (heard : Heard (List ℕ)) → Event
+  port : (number : ℕ) → Event
+  no_port : Event
+  opened : (host : Host) → Event
+  refused : Event
+  octets : (came : List ℕ) → Event
+  given : (count : ℕ) → Event
+  ended broken closed : Event
+
+-- each event is one call of the server
+abbrev pub happens : Event → View → View
+happens (asks command) v = heard_line (Asks command) v
+happens (line heard) v = heard_line heard v
+happens (port number) v = listening number v
+happens no_port v = listen_refused v
+happens (opened host) v = data_opened host v
+happens refused v = data_refused v
+happens (octets came) v = receives v came
+happens (given count) v = gives_data count v
+happens ended v = data_end v
+happens broken v = data_fault v
+happens closed v = data_closed v
+
+-- events, one after another
+abbrev pub behind : List Event → View → View
+behind [] v = v
+behind (event ∷ events) v = behind events (happens event v)
+
+-- port 1930 of a host: 7 times 256 and 138
+abbrev pub at : Host → Endpoint
+at host = record { host = host; port = 1930 }
+
+-- `guest` with a password and `anonymous` without one
+abbrev pub accounts : Accounts
+accounts = record { user = codes "guest"; pass = Some (codes "secret") } ∷ record { user = codes "anonymous"; pass = None } ∷ []
+
+-- a server of a map, whatever it holds, behind events
+abbrev pub server : Table → List Event → View
+server table events = behind events (start table accounts here here)
+
+-- the same of somebody who is logged in
+abbrev pub member : Table → List Event → View
+member table events = server table (asks (command.User (codes "anonymous")) ∷ events)
+
+-- what it has said, the login of that somebody left out
+abbrev pub said_to_member : List (List ℕ) → List ℕ
+said_to_member texts = lines (codes "220 Ready" ∷ codes "230 Logged in" ∷ texts)
+
+-- the path of a name in the root
+abbrev pub of : List ℕ → Names
+of name = name ∷ []
+
+-- ---- login (RFC 959, section 5.4)
+
+-- USER is asked for a password, and PASS with it logs in
+abbrev pub Login : Type 0
+Login =
+    (table : Table) → (server table (asks (command.User (codes "guest")) ∷ asks (command.Pass (codes "secret")) ∷ [])).owed
+    ≡ lines (codes "220 Ready" ∷ codes "331 Password needed" ∷ codes "230 Logged in" ∷ [])
+
+-- a wrong password ends the waiting of a USER
+abbrev pub WrongPassword : Type 0
+WrongPassword =
+    (table : Table)
+    → (server table (asks (command.User (codes "guest")) ∷ asks (command.Pass (codes "wrong")) ∷ asks (command.Pass (codes "secret")) ∷ [])).owed
+    ≡ lines (codes "220 Ready" ∷ codes "331 Password needed" ∷ codes "530 Login refused" ∷ codes "503 Bad sequence" ∷ [])
+
+-- ---- the order of decisions on a line
+
+-- a long line, one that is no command, one of who is not logged in
+abbrev pub OrderOfDecisions : Type 0
+OrderOfDecisions =
+    (table : Table) → (server table (line TooLong ∷ line (Bad Faults.BadArgument) ∷ asks command.Pwd ∷ asks command.Noop ∷ [])).owed
+    ≡ lines (codes "220 Ready" ∷ codes "500 Line too long" ∷ codes "501 Bad argument" ∷ codes "530 Not logged in" ∷ codes "200 Ok" ∷ [])
+
+-- after EPSV ALL no other command opens a data connection, whatever endpoint it names
+abbrev pub OnlyExtended : Type 0
+OnlyExtended =
+    (table : Table)
+    → (member table (asks (command.Epsv Families.Only) ∷ asks (command.Port (at elsewhere)) ∷ asks command.Pasv ∷ line (Bad Faults.Protocol) ∷ [])).owed
+    ≡ said_to_member (codes "200 Only EPSV from now on" ∷ codes "503 Bad sequence" ∷ codes "503 Bad sequence"
+    ∷ codes "522 Network protocol not supported, use (1,2)" ∷ [])
+
+-- REIN: nobody is logged in any more (RFC 959, section 4.1.1)
+abbrev pub Reinitialized : Type 0
+Reinitialized =
+    (table : Table) → (member table (asks command.Rein ∷ asks command.Pwd ∷ [])).owed ≡ said_to_member (codes "220 Ready" ∷ codes "530 Not logged in" ∷ [])
+
+-- QUIT: nothing is heard behind it, and the connection is closed once the reply is out
+abbrev pub Quit : Type 0
+Quit =
+    (table : Table)
+    → let v = member table (asks command.Quit ∷ []) in
+    (v.owed ≡ said_to_member (codes "221 Goodbye" ∷ [])) × (may_hear v ≡ false) × (wants v ≡ Want.Nothing) × (wants (gives_control (length v.owed) v) ≡ Want.CloseAll)
+
+-- ---- endpoints
+
+-- one on another host is refused, and the one that stood is forgotten
+abbrev pub ForeignEndpoint : Type 0
+ForeignEndpoint =
+    (table : Table) → node_at table [] ≡ Some Dir
+    → (member table (asks (command.Port (at here)) ∷ asks (command.Port (at elsewhere)) ∷ asks (command.List None) ∷ [])).owed
+    ≡ said_to_member (codes "200 Endpoint taken" ∷ codes "504 Parameter not implemented" ∷ codes "425 No data connection" ∷ [])
+
+-- EPSV by the number of a family: only that of the control connection (RFC 2428, section 3)
+abbrev pub ByFamily : Type 0
+ByFamily =
+    (table : Table)
+    → ((member table (asks (command.Epsv Families.Ipv6) ∷ [])).owed ≡ said_to_member (codes "522 Network protocol not supported, use (1)" ∷ []))
+    × (wants (member table (asks (command.Epsv Families.Ipv6) ∷ [])) ≡ Want.Nothing)
+    × (wants (member table (asks (command.Epsv Families.Ipv4) ∷ [])) ≡ Want.Listen)
+
+-- 425: no port to listen at
+abbrev pub RefusedListen : Type 0
+RefusedListen =
+    (table : Table) → (member table (asks command.Pasv ∷ no_port ∷ [])).owed ≡ said_to_member (codes "425 No data connection" ∷ [])
+
+-- 425: a listing whose opening is refused behind the 150, and one without an endpoint
+abbrev pub RefusedOpening : Type 0
+RefusedOpening =
+    (table : Table) → node_at table [] ≡ Some Dir
+    → (member table (asks command.Pasv ∷ port 1930 ∷ asks (command.List None) ∷ refused ∷ asks (command.List None) ∷ [])).owed
+    ≡ said_to_member (codes "227 Entering Passive Mode (127,0,0,1,7,138)" ∷ codes "150 Opening data connection" ∷ codes "425 No data connection"
+    ∷ codes "425 No data connection" ∷ [])
+
+-- 425: another host opens the port behind the 150; its link is to be closed
+abbrev pub ForeignOpener : Type 0
+ForeignOpener =
+    (table : Table) → node_at table [] ≡ Some Dir
+    → let v = member table (asks (command.Epsv Families.Any) ∷ port 1930 ∷ asks (command.List None) ∷ opened elsewhere ∷ []) in
+    (v.owed ≡ said_to_member (codes "229 Entering Extended Passive Mode (|||1930|)" ∷ codes "150 Opening data connection" ∷ codes "425 No data connection" ∷ []))
+    × (wants v ≡ Want.CloseData)
+
+-- ---- the map
+
+-- RNFR and RNTO
+abbrev pub Rename : Type 0
+Rename =
+    (table : Table) → node_at table [] ≡ Some Dir → node_at table (of (codes "d")) ≡ Some Dir → node_at table (of (codes "e")) ≡ None
+    → moves_fit table (of (codes "d")) (of (codes "e")) ≡ true
+    → let v = member table (asks (command.Rnfr (codes "d")) ∷ asks (command.Rnto (codes "e")) ∷ []) in
+    (v.owed ≡ said_to_member (codes "350 Ready for the new name" ∷ codes "250 Done" ∷ []))
+    × (v.session.table ≡ moved table (of (codes "d")) (of (codes "e")))
+
+-- RNTO counts right behind an RNFR
+abbrev pub LateRename : Type 0
+LateRename =
+    (table : Table) → node_at table (of (codes "d")) ≡ Some Dir
+    → (member table (asks (command.Rnfr (codes "d")) ∷ line (Bad Faults.Unknown) ∷ asks (command.Rnto (codes "e")) ∷ [])).owed
+    ≡ said_to_member (codes "350 Ready for the new name" ∷ codes "500 Unknown command" ∷ codes "503 Bad sequence" ∷ [])
+
+-- ---- downloads
+
+-- TYPE I, PORT and RETR: the link is opened by the server, the octets are given, and with the last the link is to be closed
+abbrev pub ActiveDownload : Type 0
+ActiveDownload =
+    (table : Table) (moment : ℕ) → node_at table (of (codes "f")) ≡ Some (File (codes "abc") moment)
+    → let asked = asks (command.Repr Kinds.Image) ∷ asks (command.Port (at here)) ∷ asks (command.Retr (codes "f")) ∷ [] in
+    (wants (member table asked) ≡ Want.Connect (at here))
+    × (to_give (member table (asked ++ opened here ∷ [])) ≡ codes "abc")
+    × (wants (member table (asked ++ opened here ∷ given 2 ∷ [])) ≡ Want.Send)
+    × (wants (member table (asked ++ opened here ∷ given 2 ∷ given 1 ∷ [])) ≡ Want.CloseData)
+    × ((member table (asked ++ opened here ∷ given 2 ∷ given 1 ∷ [])).owed
+    ≡ said_to_member (codes "200 Type set" ∷ codes "200 Endpoint taken" ∷ codes "150 Opening data connection" ∷ codes "226 Transfer complete" ∷ []))
+
+-- REST right before RETR
+abbrev pub Restart : Type 0
+Restart =
+    (table : Table) (moment : ℕ) → node_at table (of (codes "f")) ≡ Some (File (codes "0123456789") moment)
+    → let asked = asks (command.Repr Kinds.Image) ∷ asks (command.Port (at here)) ∷ asks (command.Rest 5) ∷ asks (command.Retr (codes "f")) ∷ [] in
+    to_give (member table (asked ++ opened here ∷ [])) ≡ codes "56789"
+
+-- it stands for the next line only
+abbrev pub LateRestart : Type 0
+LateRestart =
+    (table : Table) (moment : ℕ) → node_at table (of (codes "f")) ≡ Some (File (codes "0123456789") moment)
+    → let asked = asks (command.Repr Kinds.Image) ∷ asks (command.Port (at here)) ∷ asks (command.Rest 5) ∷ asks command.Noop ∷ asks (command.Retr (codes "f")) ∷ [] in
+    to_give (member table (asked ++ opened here ∷ [])) ≡ codes "0123456789"
+
+-- LIST of a directory with one file
+abbrev pub Listing : Type 0
+Listing =
+    (table : Table) → node_at table (of (codes "d")) ≡ Some Dir → children table (of (codes "d")) ≡ codes "x" ∷ []
+    → node_at table (codes "d" ∷ codes "x" ∷ []) ≡ Some (File (codes "abc") 946684800)
+    → to_give (member table (asks (command.Port (at here)) ∷ asks (command.List (Some (codes "d"))) ∷ opened here ∷ []))
+    ≡ codes "-rw-r--r-- 1 ftp ftp          3 Jan  1  2000 x\r\n"
+
+-- ---- uploads
+
+-- PASV and STOR: the client opens the link, and at its end the file is installed
+abbrev pub PassiveUpload : Type 0
+PassiveUpload =
+    (table : Table) → node_at table (of (codes "f")) ≡ Some (File [] 0) → room_at table (of (codes "f")) ≡ 1000
+    → let v = member table (asks (command.Repr Kinds.Image) ∷ asks command.Pasv ∷ port 1930 ∷ opened here ∷ asks (command.Stor (codes "f"))
+    ∷ octets (codes "ab") ∷ octets (codes "c") ∷ ended ∷ []) in
+    (v.owed ≡ said_to_member (codes "200 Type set" ∷ codes "227 Entering Passive Mode (127,0,0,1,7,138)" ∷ codes "150 Opening data connection"
+    ∷ codes "226 Transfer complete" ∷ []))
+    × (v.session.table ≡ installed table (of (codes "f")) (codes "abc") 0)
+    × (wants v ≡ Want.Nothing)
+
+-- in ASCII a CR that the break leaves unpaired is dropped, and what was settled is kept
+abbrev pub BrokenUpload : Type 0
+BrokenUpload =
+    (table : Table) → node_at table (of (codes "f")) ≡ Some (File [] 0) → room_at table (of (codes "f")) ≡ 1000
+    → let v = member table (asks (command.Port (at here)) ∷ asks (command.Stor (codes "f")) ∷ opened here ∷ octets (120 ∷ 13 ∷ []) ∷ broken ∷ []) in
+    (v.owed ≡ said_to_member (codes "200 Endpoint taken" ∷ codes "150 Opening data connection" ∷ codes "426 Transfer broken" ∷ []))
+    × (v.session.table ≡ installed table (of (codes "f")) (codes "x") 0)
+
+-- 552: past the room for the file the rest is dropped, and the map is as it was
+abbrev pub TooMuch : Type 0
+TooMuch =
+    (table : Table) → node_at table (of (codes "f")) ≡ Some (File [] 0) → room_at table (of (codes "f")) ≡ 2
+    → let v = member table (asks (command.Port (at here)) ∷ asks (command.Stor (codes "f")) ∷ opened here ∷ octets (codes "abc") ∷ ended ∷ []) in
+    (v.owed ≡ said_to_member (codes "200 Endpoint taken" ∷ codes "150 Opening data connection" ∷ codes "552 Too much" ∷ []))
+    × (v.session.table ≡ table)
+
+-- 110: a marker in block mode is answered by the octets that are held behind those kept, here of an APPE
+abbrev pub Marker : Type 0
+Marker =
+    (table : Table) → node_at table (of (codes "f")) ≡ Some (File (codes "abc") 0) → room_at table (of (codes "f")) ≡ 1000
+    → (member table (asks (command.Repr Kinds.Image) ∷ asks (command.Mode Modes.Block) ∷ asks (command.Port (at here)) ∷ asks (command.Appe (codes "f"))
+    ∷ opened here ∷ octets (0 ∷ 0 ∷ 1 ∷ 100 ∷ 16 ∷ 0 ∷ 1 ∷ 77 ∷ []) ∷ [])).owed
+    ≡ said_to_member (codes "200 Type set" ∷ codes "200 Mode set" ∷ codes "200 Endpoint taken" ∷ codes "150 Opening data connection" ∷ codes "110 MARK M = 4" ∷ [])
+
+-- ---- ABOR and a line that waits
+
+-- before the link is open ABOR acts as a refused opening
+abbrev pub EarlyAbort : Type 0
+EarlyAbort =
+    (table : Table) → node_at table [] ≡ Some Dir
+    → let v = member table (asks (command.Port (at here)) ∷ asks (command.List None) ∷ asks command.Abor ∷ []) in
+    (v.owed ≡ said_to_member (codes "200 Endpoint taken" ∷ codes "150 Opening data connection" ∷ codes "425 No data connection" ∷ codes "226 Abort done" ∷ []))
+    × (wants v ≡ Want.Nothing)
+
+-- another line waits, and is acted on behind the last reply
+abbrev pub WaitingLine : Type 0
+WaitingLine =
+    (table : Table) → node_at table [] ≡ Some Dir
+    → (member table (asks (command.Port (at here)) ∷ asks (command.List None) ∷ asks command.Noop ∷ refused ∷ [])).owed
+    ≡ said_to_member (codes "200 Endpoint taken" ∷ codes "150 Opening data connection" ∷ codes "425 No data connection" ∷ codes "200 Ok" ∷ [])
+
+-- ABOR during an upload acts as a break, and its own reply follows
+abbrev pub Abort : Type 0
+Abort =
+    (table : Table) → node_at table (of (codes "f")) ≡ Some (File [] 0) → room_at table (of (codes "f")) ≡ 1000
+    → let v = member table (asks (command.Port (at here)) ∷ asks (command.Stor (codes "f")) ∷ opened here ∷ octets (codes "ab") ∷ asks command.Abor ∷ []) in
+    (v.owed ≡ said_to_member (codes "200 Endpoint taken" ∷ codes "150 Opening data connection" ∷ codes "426 Transfer broken" ∷ codes "226 Abort done" ∷ []))
+    × (v.session.table ≡ installed table (of (codes "f")) (codes "ab") 0)
+    × (wants v ≡ Want.CloseData)

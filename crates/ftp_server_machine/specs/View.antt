@@ -1,0 +1,90 @@
+-- What a server is, for who looks at it from outside: plain records, whose parts are the states of RFC 959, sections 3.2
+-- and 4.1. Beside them stand two counts, of refused growths and of device failures (`Failing`).
+use Rattle.std.specs.Prelude.{ℕ, Bool, true, false, List, [], Option}
+use Rattle.ftp_endpoint.specs.declared.host.Host.{Host}
+use Rattle.ftp_path.specs.Path.{Names}
+pub use Rattle.ftp_command.specs.Line.{line_limit}
+use Rattle.ftp_tree.specs.Tree.{Table}
+use Rattle.ftp_direct.specs.Direct.{State}
+use Rattle.ftp_operation.specs.declared.account.Account.{Account}
+use Rattle.ftp_operation.specs.declared.op.How.{How}
+use Rattle.ftp_representation.specs.Representation.{defaults}
+use Rattle.ftp_ends.specs.Ear.{Ear}
+use Rattle.ftp_ends.specs.Decoder.{Decoder}
+use Rattle.ftp_representation.specs.declared.representation.Representation.{Representation}
+use Rattle.ftp_server_machine.specs.declared.heard.Heard.{Heard}
+use Rattle.ftp_server_machine.specs.declared.session.Access.{Access}
+use Rattle.ftp_server_machine.specs.declared.session.Access.TheVariants as Accesses
+use Rattle.ftp_server_machine.specs.declared.session.Once.{Once}
+use Rattle.ftp_server_machine.specs.declared.session.Once.TheVariants as Onces
+use Rattle.ftp_server_machine.specs.declared.session.Facts.{Facts}
+use Rattle.ftp_server_machine.specs.declared.session.Life.{Life}
+use Rattle.ftp_server_machine.specs.declared.session.Life.TheVariants as Lives
+use Rattle.ftp_server_machine.specs.declared.session.Link.{Link}
+use Rattle.ftp_server_machine.specs.declared.session.Link.TheVariants as At
+use Rattle.ftp_server_machine.specs.declared.session.Transfer.{Transfer}
+
+-- who may log in (RFC 959, section 4.1.1). Account roots will enter here, as a third part of an account, and in `Known`: the
+-- map that commands see is then the part below the root of the login
+abbrev pub Accounts : Type 0
+Accounts = List (Account (List ℕ))
+
+-- what a session stands on and no command changes: who may log in, the hosts of the control connection, the moment in force
+pub record Footing : Type 0 where
+  pub accounts : Accounts
+  pub here : Host
+  pub peer : Host
+  pub moment : ℕ
+
+-- a transfer: of an upload what its decoder has settled, of a download and a listing the wire octets that are still to be given
+abbrev pub Move : Type 0
+Move = Transfer Names Decoder (List ℕ) (List ℕ)
+
+-- what commands and the data connection change
+pub record Session : Type 0 where
+  pub table : Table
+  pub access : Access (List ℕ)
+  pub cwd : Names
+  pub once : Once Names
+  pub settings : Representation
+  pub facts : Facts
+  pub only_extended : Bool
+  pub link : Link Move
+  pub closing : Bool
+  pub life : Life
+
+-- the whole: a session, the line that is being read and the one that waits, and the control octets that are owed
+pub record View : Type 0 where
+  pub footing : Footing
+  pub session : Session
+  pub ear : Ear
+  pub waiting : Option (Heard (List ℕ))
+  pub owed : List ℕ
+
+-- all facts are in force at the start (RFC 3659, section 7.9)
+abbrev pub all_facts : Facts
+all_facts = record { kind = true; size = true; modify = true; perm = true }
+
+-- a session as it begins
+abbrev pub first_session : Table → Session
+first_session table = record {
+  table = table;
+  access = Accesses.Nobody;
+  cwd = [];
+  once = Onces.Nothing;
+  settings = defaults;
+  facts = all_facts;
+  only_extended = false;
+  link = At.Free;
+  closing = false;
+  life = Lives.Running;
+}
+
+-- the settings as an operation of the direct run asks for them; how its data connection is opened is of no matter here
+abbrev pub how_in_force : Representation → How
+how_in_force settings =
+    record { representation = settings; marks = false; active = false; extended = false }
+
+-- how the direct run sees the session of somebody who is logged in: the same map and current directory
+abbrev pub direct_of : Session → State
+direct_of v = record { table = v.table; cwd = v.cwd; known = true }

@@ -1,0 +1,28 @@
+//! What holds of the server's machine: functions that do nothing, whose contracts are laws.
+ghost use Rattle.ftp_server_machine.specs.Bounds.{ServerLowers};
+ghost use Rattle.ftp_server_machine.specs.InFlight.{AnswerIsDropped, CommandIsHeard, HeardInPieces, LineIsHeard, LineLeavesEar, RowIsHeard, StatedIsLine};
+ghost use Rattle.ftp_server_machine.specs.Machine.{OneReading, ReadingExists, ReadsStated};
+
+/// Lines are read, in one way, and the line of a command as that command.
+pub fn reading()
+    ensures exists { ReadingExists }
+    ensures one { OneReading }
+    ensures stated { ReadsStated }
+{}
+
+/// A command line and an answer to a Telnet octet are heard by the server as themselves and as nothing else, wherever they are
+/// cut; so is a row of lines, one after another.
+pub fn commands_in_flight()
+    ensures pieces { HeardInPieces }
+    ensures line { LineIsHeard }
+    ensures stated { StatedIsLine }
+    ensures command { CommandIsHeard }
+    ensures answer { AnswerIsDropped }
+    ensures ear { LineLeavesEar }
+    ensures row { RowIsHeard }
+{}
+
+/// No call of the server that takes no octets makes more to do for it.
+pub fn comes_to_rest()
+    ensures { ServerLowers }
+{}

@@ -1,0 +1,15 @@
+//! What a server is, as definitions: its states, what each call does, and the trait that a server meets. No code that does
+//! anything; laws and worked rows are functions that do nothing (RFC 959; RFC 2389, RFC 2428, RFC 3659).
+#![tactic(auto)]
+
+mod far;
+mod heard;
+pub mod laws;
+pub mod rows;
+mod said;
+mod session;
+
+pub use far::Far;
+pub use heard::Heard;
+pub use said::{Said, Text};
+pub use session::{Access, Asked, Facts, Life, Link, Once, Transfer, Way};

@@ -1,0 +1,3 @@
+pub mod AgreementLemmas
+pub mod HonestLemmas
+pub mod WorldRows

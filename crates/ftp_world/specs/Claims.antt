@@ -1,0 +1,148 @@
+-- What is claimed of a session, in words that a reader can check: after every event the reports and the map agree with the
+-- operations that were begun; where nothing is in flight each of them has its report, and another can be begun; and without
+-- breaks, refusals and an end of the control connection that is the direct run. Want of memory and failures of a device are no
+-- events here: the ends' clauses hold where neither count changed.
+use Rattle.std.specs.Prelude.{◌≡◌, ℕ, ◌≤◌, ◌&&◌, Bool, true, nat_le, List, [], ◌∷◌, length, None, IsTrue}
+use Rattle.ftp_endpoint.specs.declared.host.Host.{Host}
+use Rattle.ftp_endpoint.specs.declared.host.Host.TheVariants.{V4, V6}
+use Rattle.ftp_endpoint.specs.Written.{IsTypedHost}
+use Rattle.ftp_operation.specs.Account.{is_known, is_user, is_password}
+use Rattle.ftp_operation.specs.Answer.{Said}
+use Rattle.ftp_direct.specs.Direct.{State, start as direct_start, answers}
+use Rattle.std.specs.List.{list_all}
+use Rattle.std.specs.FinMap as fin
+use Rattle.ftp_path.specs.Path.{is_name, Names}
+use Rattle.ftp_tree.specs.Tree.{Node, Dir, File, Table, IsTree, octets_in, total_limit}
+use Rattle.ftp_client_machine.specs.View.{client}
+use Rattle.ftp_server_machine.specs.Calls.{start}
+use Rattle.ftp_server_machine.specs.Machine.{Reading, IsReading}
+use Rattle.ftp_server_machine.specs.View.{Accounts}
+use Rattle.ftp_world.specs.Agreement.{Order, Agrees, WorldAgrees, IsDirect, Leads, AreHonest}
+use Rattle.ftp_world.specs.Events.{Event, Deliver, Open, End, Next, IsQuiet, can_begin}
+use Rattle.ftp_world.specs.World.{World, world, Mark}
+
+-- ---- how a session begins
+
+-- who logs in, the accounts, the map, and the hosts of the two ends
+pub record Beginning : Type 0 where
+  pub user : List ℕ
+  pub pass : List ℕ
+  pub accounts : Accounts
+  pub table : Table
+  pub near_host : Host
+  pub far_host : Host
+
+-- both hosts are of one family
+abbrev pub AreRelated : Host → Host → Type 0
+AreRelated (V4 one) (V4 other) = Unit {0}
+AreRelated (V6 one) (V6 other) = Unit {0}
+AreRelated one other = ⊥
+
+-- the last second of a moment (own choice: the end of the year 9999)
+abbrev pub last_second : ℕ
+last_second = 253402300799
+
+-- a path of names, and of a file a moment
+abbrev pub is_sound_node : Node → Bool
+is_sound_node Dir = true
+is_sound_node (File octets moment) = nat_le moment last_second
+
+-- what stands at a path is sound, and the path is one
+abbrev pub is_sound_entry : Names × Node → Bool
+is_sound_entry entry = list_all is_name entry.0 && is_sound_node entry.1
+
+-- a login of the type, a map of names and moments within the limits, hosts of one family
+pub record IsFair (b : Beginning) : Type 0 where
+  pub user : IsTrue (is_user b.user)
+  pub pass : IsTrue (is_password b.pass)
+  pub tree : IsTree b.table
+  pub octets : octets_in b.table ≤ total_limit
+  pub entries : IsTrue (list_all is_sound_entry (fin.entries b.table))
+  pub near_typed : IsTypedHost b.near_host
+  pub far_typed : IsTypedHost b.far_host
+  pub hosts : AreRelated b.near_host b.far_host
+
+-- the world of two ends as they begin, each the other's peer
+abbrev pub world_of : Beginning → World
+world_of b = world (client b.user b.pass b.near_host b.far_host) (start b.table b.accounts b.far_host b.near_host)
+
+-- where the direct run begins
+abbrev pub state_of : Beginning → State
+state_of b = direct_start b.table (is_known b.accounts b.user b.pass)
+
+-- ---- the claims
+
+-- each operation is begun at a moment
+abbrev pub IsTimed : Event → Type 0
+IsTimed (Next op moment) = moment ≤ last_second
+IsTimed event = Unit {0}
+
+-- so is each of the events
+abbrev pub AreTimed : List Event → Type 0
+AreTimed [] = Unit {0}
+AreTimed (event ∷ events) = IsTimed event × AreTimed events
+
+-- something holds of every list of events, the operations that they began and the world that they lead to; `read` is how the
+-- server reads its lines
+abbrev pub Always : (Reading → Beginning → List Event → List Order → World → Type 0) → Type 0
+Always Holds =
+    (read : Reading) → IsReading read → (b : Beginning) → IsFair b
+    → (events : List Event) (begun : List Order) (w : World) → AreTimed events → Leads read (world_of b) events begun w → Holds read b events begun w
+
+-- any moment, any break: after every event of every list there is agreement
+abbrev pub AgreesAlways : Type 0
+AgreesAlways = Always (λ read b events begun w. WorldAgrees (state_of b) begun w)
+
+-- where nothing is in flight each operation begun has its report, and another is possible
+pub record IsAnswered (begun : List Order) (w : World) : Type 0 where
+  pub reported : length w.reports ≡ length begun
+  pub free : IsTrue (can_begin w)
+
+-- after every list of events: if nothing is in flight, nothing is left open
+abbrev pub QuietIsAnswered : Type 0
+QuietIsAnswered = Always (λ read b events begun w. IsQuiet w → IsAnswered begun w)
+
+-- nothing but deliveries, openings and ends
+abbrev pub IsSettling : Event → Type 0
+IsSettling (Deliver queue count) = Unit {0}
+IsSettling Open = Unit {0}
+IsSettling (End queue) = Unit {0}
+IsSettling event = ⊥
+
+-- so is each of the events
+abbrev pub AreSettling : List Event → Type 0
+AreSettling [] = Unit {0}
+AreSettling (event ∷ events) = IsSettling event × AreSettling events
+
+-- from every world such events lead to one in which nothing is in flight
+abbrev pub Settles : Reading → World → Type 0
+Settles read w = (events : List Event) × (new : World) × AreSettling events × Leads read w events [] new × IsQuiet new
+
+-- so it is of every world that a session can come to
+abbrev pub SettlesAlways : Type 0
+SettlesAlways = Always (λ read b events begun w. Settles read w)
+
+-- the headline: on honest connections, once nothing is in flight, the reports and the map are those of the direct run
+abbrev pub Headline : Type 0
+Headline = Always (λ read b events begun w. AreHonest events → IsQuiet w → IsDirect (state_of b) begun w)
+
+-- ---- the headline is agreement without marks
+
+-- no operation has a mark: no link was refused or broke
+abbrev pub AreUnmarked : List (List Mark) → Type 0
+AreUnmarked [] = Unit {0}
+AreUnmarked (marks ∷ more) = (marks ≡ []) × AreUnmarked more
+
+-- the answers and the map of the direct run
+abbrev pub AreAnswers : State → List Order → List Said → Table → Type 0
+AreAnswers from begun reports table = (reports ≡ (answers from begun).0) × (table ≡ (answers from begun).1.table)
+
+-- then agreement is the direct run, where each operation has its report and the control connection has not ended
+abbrev pub UnmarkedIsDirect : Type 0
+UnmarkedIsDirect =
+    (from : State) (begun : List Order) (marks : List (List Mark)) (reports : List Said) (table : Table)
+    → AreUnmarked marks → length reports ≡ length begun → Agrees from begun marks None reports table → AreAnswers from begun reports table
+
+-- so the headline follows from agreement at any moment, and from what holds where nothing is in flight
+abbrev pub HeadlineFollows : Type 0
+HeadlineFollows = AgreesAlways → QuietIsAnswered → Headline

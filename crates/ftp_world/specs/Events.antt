@@ -1,0 +1,267 @@
+-- The events of a world: when each is possible, and what it does, as a function of the counts of octets that really move.
+use Rattle.std.specs.Prelude.{◌≡◌, ℕ, ◌+◌, ◌-◌, ◌<◌, ◌≤◌, ◌==◌, ◌&&◌, ◌||◌, Bool, true, false, not, nat_lt, min, List, [], ◌∷◌, ◌++◌, length, take, drop, Some, IsTrue}
+use Rattle.ftp_operation.specs.declared.op.Op.{Op}
+use Rattle.ftp_ends.specs.Link.{is_wanted, is_connecting}
+use Rattle.ftp_client_machine.specs.Calls as near
+use Rattle.ftp_server_machine.specs.Calls as far
+use Rattle.ftp_server_machine.specs.Machine as machine
+use Rattle.ftp_server_machine.specs.Machine.{Reading}
+use Rattle.ftp_world.specs.Serving.{after_event}
+use Rattle.ftp_world.specs.World.{World, Control, LeftByNear, LeftByFar, Parted, Link, Gone, Open as Opened, ClosedByNear, ClosedByFar, Refused, Broken, with_mark, gone, parted}
+
+-- the four queues: to the server and to the client, over the control connection and over the data link
+pub data Queue : Type 0 where
+  Asked Replied : Queue
+  Rising Falling : Queue
+
+-- octets are moved or taken; a wanted link opens, or is refused; an end is told that the other has closed; the link breaks; the
+-- control connection ends; an operation is begun at a moment. (An upload that goes on after breaks will be an event of its own.)
+pub data Event : Type 0 where
+  Deliver : (queue : Queue) → (count : ℕ) → Event
+  Open : Event
+  Refuse : Event
+  End : (queue : Queue) → Event
+  Break : Event
+  EndControl : Event
+  Next : (op : Op (List ℕ)) → (moment : ℕ) → Event
+
+-- ---- the queues
+
+-- the octets on their way
+abbrev pub in_queue : Queue → World → List ℕ
+in_queue Asked w = w.asked
+in_queue Replied w = w.replied
+in_queue Rising w = w.rising
+in_queue Falling w = w.falling
+
+-- what the sender of a queue has still to give
+abbrev pub due : Queue → World → List ℕ
+due Asked w = w.near.owed
+due Replied w = w.far.owed
+due Rising w = near.to_give w.near
+due Falling w = far.to_give w.far
+
+-- one output call of the sender gave so many octets
+abbrev pub pulled : Queue → World → ℕ → World
+pulled Asked w count = record w { asked = w.asked ++ take count w.near.owed; near = near.gives_control count w.near }
+pulled Replied w count = record w { replied = w.replied ++ take count w.far.owed; far = far.gives_control count w.far }
+pulled Rising w count = record w { rising = w.rising ++ take count (near.to_give w.near); near = near.gives_data count w.near }
+pulled Falling w count = record w { falling = w.falling ++ take count (far.to_give w.far); far = far.gives_data count w.far }
+
+-- the receiver took so many octets; `read` is how the server reads its lines
+abbrev pub pushed : Reading → Queue → ℕ → World → World
+pushed read Asked count w = record w { far = machine.hears read w.far (take count w.asked); asked = drop count w.asked }
+pushed read Replied count w = record w { near = near.hears w.near (take count w.replied); replied = drop count w.replied }
+pushed read Rising count w = record w { far = far.receives w.far (take count w.rising); rising = drop count w.rising; came = w.came + count }
+pushed read Falling count w = record w { near = near.receives w.near (take count w.falling); falling = drop count w.falling; came = w.came + count }
+
+-- the receiver may take an octet
+abbrev pub may_take : Queue → World → Bool
+may_take Asked w = machine.may_hear w.far
+may_take Replied w = near.may_hear w.near
+may_take Rising w = far.may_receive w.far
+may_take Falling w = near.may_receive w.near
+
+-- so many octets of a queue could be taken, each when its turn came
+abbrev pub MayTakeFrom : Reading → Queue → World → ℕ → Type 0
+MayTakeFrom read queue w count = (k : ℕ) → k < count → IsTrue (may_take queue (pushed read queue k w))
+
+-- ---- a delivery
+--
+--     sender    -- pulled -->    queue       -- pushed -->    receiver
+--     due                        in_queue                     may_take
+--
+-- A delivery of n octets has two parts. Calls of the sender, each of which `Gives` some octets, fill the queue until n are there or
+-- nothing is due (`Fills`). Then the first n at most are offered to the receiver, which takes some of them (`Takes`).
+
+-- a queue is filled by one output call after the other
+abbrev pub filled : Queue → World → List ℕ → World
+filled queue w [] = w
+filled queue w (count ∷ counts) = filled queue (pulled queue w count) counts
+
+-- some octets are there
+abbrev pub is_some : List ℕ → Bool
+is_some [] = false
+is_some (octet ∷ octets) = true
+
+-- a call with so much room gives no more than is due, and something where there is room and something is due
+pub record Gives (room : ℕ) (due : List ℕ) (count : ℕ) : Type 0 where
+  pub within : count ≤ min room (length due)
+  pub some : 0 < room → IsTrue (is_some due) → 0 < count
+
+-- one call after the other gives, with the room that is left of so many octets, until there is none or nothing is due
+abbrev pub Fills : Queue → ℕ → World → List ℕ → Type 0
+Fills queue count w [] = (is_some (due queue w) && nat_lt (length (in_queue queue w)) count) ≡ false
+Fills queue count w (gave ∷ counts) =
+    Gives (count - length (in_queue queue w)) (due queue w) gave × (0 < gave) × Fills queue count (pulled queue w gave) counts
+
+-- the first octets of a queue are offered, so many at most, and some of them are taken; one at least where one may be taken
+pub record Takes (read : Reading) (queue : Queue) (count : ℕ) (w : World) (taken : ℕ) : Type 0 where
+  pub within : taken ≤ min count (length (in_queue queue w))
+  pub may : MayTakeFrom read queue w taken
+  pub some : 0 < count → IsTrue (is_some (in_queue queue w)) → IsTrue (may_take queue w) → 0 < taken
+
+-- the octets that a delivery took, out of a queue
+abbrev pub taking : Queue → ℕ → World → World
+taking queue count w = record w { taken = take count (in_queue queue w) }
+
+-- a delivery of so many octets: the queue is filled up to them, and the first are offered
+pub record Delivers (read : Reading) (queue : Queue) (count : ℕ) (old new : World) : Type 0 where
+  pub counts : List ℕ
+  pub taken : ℕ
+  pub fills : Fills queue count old counts
+  pub takes : Takes read queue count (filled queue old counts) taken
+  pub is : new ≡ after_event (pushed read queue taken (taking queue taken (filled queue old counts)))
+
+-- own choice: a delivery of none moves what one call with 4,096 octets of room gives, and offers nothing
+pub record Moves (queue : Queue) (old new : World) : Type 0 where
+  pub gave : ℕ
+  pub gives : Gives 4096 (due queue old) gave
+  pub is : new ≡ after_event (pulled queue old gave)
+
+-- an octet is moved or taken
+abbrev pub can_move : Queue → ℕ → World → Bool
+can_move queue count w = is_some (due queue w) && ((count == 0) || nat_lt (length (in_queue queue w)) count)
+
+-- an octet that is on its way may be taken
+abbrev pub can_take : Queue → ℕ → World → Bool
+can_take queue count w = not (count == 0) && is_some (in_queue queue w) && may_take queue w
+
+-- ---- openings
+
+-- no data link stands
+abbrev pub is_gone : Link → Bool
+is_gone Gone = true
+is_gone other = false
+
+-- a link is wanted: there is none, one end connects and the other accepts
+abbrev pub is_asked_for : World → Bool
+is_asked_for w = is_gone w.link && is_wanted (near.wants w.near) (far.wants w.far)
+
+-- both ends are told that it is open, each with the other's host
+abbrev pub link_opens : World → World
+link_opens w = record w {
+  link = Opened;
+  came = 0;
+  near = near.data_opened w.far.footing.here w.near;
+  far = far.data_opened w.near.here w.far;
+}
+
+-- the end that connects is told that it is refused
+abbrev pub refused_by : Bool → World → World
+refused_by true w = record w { near = near.data_refused w.near }
+refused_by false w = record w { far = far.data_refused w.far }
+
+-- a wanted link is refused, and marked so
+abbrev pub link_refused : World → World
+link_refused w = with_mark Refused (refused_by (is_connecting (near.wants w.near)) w)
+
+-- ---- ends
+
+-- the client has left the control connection, and the server was not told
+abbrev pub is_left_by_near : Control → Bool
+is_left_by_near LeftByNear = true
+is_left_by_near other = false
+
+-- the server has left it, and the client was not told
+abbrev pub is_left_by_far : Control → Bool
+is_left_by_far LeftByFar = true
+is_left_by_far other = false
+
+-- the client has closed the link, and the server was not told
+abbrev pub is_closed_by_near : Link → Bool
+is_closed_by_near ClosedByNear = true
+is_closed_by_near other = false
+
+-- the server has closed it, and the client was not told
+abbrev pub is_closed_by_far : Link → Bool
+is_closed_by_far ClosedByFar = true
+is_closed_by_far other = false
+
+-- the sender of a queue has closed its connection
+abbrev pub is_closed : Queue → World → Bool
+is_closed Asked w = is_left_by_near w.control
+is_closed Replied w = is_left_by_far w.control
+is_closed Rising w = is_closed_by_near w.link
+is_closed Falling w = is_closed_by_far w.link
+
+-- the receiver is told; a data link is gone
+abbrev pub told : Queue → World → World
+told Asked w = record w { far = far.control_end w.far }
+told Replied w = record w { near = near.control_end w.near }
+told Rising w = gone (record w { far = far.data_end w.far })
+told Falling w = gone (record w { near = near.data_end w.near })
+
+-- ---- a break, and the end of the control connection
+
+-- each end that hasn't closed the link is told
+abbrev pub broken_by : Link → World → World
+broken_by Gone w = w
+broken_by Opened w = record w { near = near.data_fault w.near; far = far.data_fault w.far }
+broken_by ClosedByNear w = record w { far = far.data_fault w.far }
+broken_by ClosedByFar w = record w { near = near.data_fault w.near }
+
+-- the link breaks: what was on its way is lost, and the mark says how much had come
+abbrev pub link_breaks : World → World
+link_breaks w = with_mark (Broken w.came) (gone (broken_by w.link w))
+
+-- both ends are told, and what was on its way is lost
+abbrev pub ends_control : World → World
+ends_control w = parted (record w { near = near.control_end w.near; far = far.control_end w.far; cutoff = Some (length w.marks) })
+
+-- neither end is on the control connection any more
+abbrev pub is_parted : Control → Bool
+is_parted Parted = true
+is_parted other = false
+
+-- ---- the next operation
+
+-- the client has no operation open, and no link stands or is wanted
+abbrev pub can_begin : World → Bool
+can_begin w = not (near.is_busy w.near) && is_gone w.link && not (is_asked_for w)
+
+-- the server's clock is set, the client begins, and the operation has no mark yet
+abbrev pub operation_begins : Op (List ℕ) → ℕ → World → World
+operation_begins op moment w = record w { far = far.clocked moment w.far; near = near.starts op w.near; marks = w.marks ++ [] ∷ [] }
+
+-- ---- all events
+
+-- whether an event is possible: just where the world's step answers that it was
+abbrev pub can_happen : Event → World → Bool
+can_happen (Deliver queue count) w = can_move queue count w || can_take queue count w
+can_happen Open w = is_asked_for w
+can_happen Refuse w = is_asked_for w
+can_happen (End queue) w = is_closed queue w && not (is_some (in_queue queue w)) && not (is_some (due queue w))
+can_happen Break w = not (is_gone w.link)
+can_happen EndControl w = not (is_parted w.control)
+can_happen (Next op moment) w = can_begin w
+
+-- a delivery of none moves octets, another one moves and offers them
+abbrev pub DeliversBy : Bool → Reading → Queue → ℕ → World → World → Type 0
+DeliversBy true read queue count old new = Moves queue old new
+DeliversBy false read queue count old new = Delivers read queue count old new
+
+-- what a possible event does
+abbrev pub Does : Reading → Event → World → World → Type 0
+Does read (Deliver queue count) old new = DeliversBy (count == 0) read queue count old new
+Does read Open old new = new ≡ after_event (link_opens old)
+Does read Refuse old new = new ≡ after_event (link_refused old)
+Does read (End queue) old new = new ≡ after_event (told queue old)
+Does read Break old new = new ≡ after_event (link_breaks old)
+Does read EndControl old new = new ≡ after_event (ends_control old)
+Does read (Next op moment) old new = new ≡ after_event (operation_begins op moment old)
+
+-- what the event before took is no longer lent
+abbrev pub lends_none : World → World
+lends_none w = record w { taken = [] }
+
+-- a step of a world: an event that is possible happens, and one that isn't changes nothing
+abbrev pub Happens : Reading → Event → World → Bool → World → Type 0
+Happens read event old true new = IsTrue (can_happen event old) × Does read event (lends_none old) new
+Happens read event old false new = (can_happen event old ≡ false) × (new ≡ old)
+
+-- nothing is in flight: no octet moves, no link opens, and nobody is to be told of an end
+pub record IsQuiet (w : World) : Type 0 where
+  pub moved : (queue : Queue) (count : ℕ) → can_happen (Deliver queue count) w ≡ false
+  pub opened : can_happen Open w ≡ false
+  pub ended : (queue : Queue) → can_happen (End queue) w ≡ false

@@ -1,0 +1,137 @@
+-- Worked rows of a world: both ends and what lies between them, octet by octet. Each is a theorem that computes. The login is
+-- `guest` with password `secret`, both hosts are 127.0.0.1, and the map is any.
+use Rattle.std.specs.Prelude.{◌≡◌, ℕ, nat_eq, List, [], ◌∷◌, length, codes, None, if◌then◌else◌}
+use Rattle.std.specs.Cmp.Lexicographic.{pointwise}
+use Rattle.ftp_command.specs.declared.command.Command.{Command}
+use Rattle.ftp_command.specs.declared.command.Command.TheVariants as command
+use Rattle.ftp_command.specs.declared.fault.CommandFault.TheVariants as Faults
+use Rattle.ftp_operation.specs.Answer.{Octets, Broken as BrokenOff}
+use Rattle.ftp_operation.specs.declared.op.Op.{Op}
+use Rattle.ftp_operation.specs.declared.op.Op.TheVariants as Ops
+use Rattle.ftp_tree.specs.Tree.{Table, installed}
+use Rattle.ftp_direct.specs.Direct.{State, named}
+use Rattle.ftp_client_machine.specs.Moving.{download}
+use Rattle.ftp_client_machine.specs.Plan.{settings_of}
+use Rattle.ftp_world.specs.Outcome.{cut}
+use Rattle.ftp_ends.specs.RowWords.{here}
+use Rattle.ftp_client_machine.specs.Rows.{entered, text}
+use Rattle.ftp_client_machine.specs.View.{View as Near, Moving}
+use Rattle.ftp_client_machine.specs.declared.client.Link.TheVariants as Links
+use Rattle.ftp_client_machine.specs.declared.client.Replied.TheVariants as Replies
+use Rattle.ftp_server_machine.specs.declared.session.Link.TheVariants as At
+use Rattle.ftp_server_machine.specs.declared.session.Transfer.TheVariants as Moves
+use Rattle.ftp_server_machine.specs.Machine.{Reading}
+use Rattle.ftp_server_machine.specs.Rows.{accounts, member}
+use Rattle.ftp_server_machine.specs.View.{View as Far}
+use Rattle.ftp_world.specs.Claims.{Beginning, world_of}
+use Rattle.ftp_world.specs.Events.{Queue, Asked, Replied, Falling, due, pulled, pushed, link_opens, told, link_breaks, operation_begins}
+use Rattle.ftp_world.specs.Serving.{after_event}
+use Rattle.ftp_world.specs.World.{World, world, Open, Broken}
+use Rattle.ftp_client_machine.specs.declared.client.Standing.TheVariants as Stands
+use Rattle.ftp_server_machine.specs.declared.heard.Heard.{Heard}
+use Rattle.ftp_server_machine.specs.declared.heard.Heard.TheVariants.{Bad, Asks}
+
+-- ---- how a row is written
+
+-- the lines of the rows, as a server reads them
+abbrev pub or_else : List ℕ → List ℕ → Command (List ℕ) → Heard (List ℕ) → Heard (List ℕ)
+or_else line text command other = if pointwise nat_eq line text then Asks command else other
+
+-- two lines say commands, and all others none
+abbrev pub reading : Reading
+reading line =
+    or_else line (codes "USER guest") (command.User (codes "guest"))
+    (or_else line (codes "PASS secret") (command.Pass (codes "secret"))
+    (Bad Faults.Unknown))
+
+-- all that is due is moved and taken; only so many octets are; a link opens; an end is told; the link breaks; an operation begins
+pub data Act : Type 0 where
+  moves : (queue : Queue) → Act
+  moves_some : (queue : Queue) → (count : ℕ) → Act
+  links : Act
+  tells : (queue : Queue) → Act
+  cuts : Act
+  asks : (op : Op (List ℕ)) → Act
+
+-- the sender gives so many octets, and the receiver takes as many
+abbrev pub moved : Queue → ℕ → World → World
+moved queue count w = after_event (pushed reading queue count (pulled queue w count))
+
+-- each act is an event, and what the world does for its ends behind it
+abbrev pub does : Act → World → World
+does (moves queue) w = moved queue (length (due queue w)) w
+does (moves_some queue count) w = moved queue count w
+does links w = after_event (link_opens w)
+does (tells queue) w = after_event (told queue w)
+does cuts w = after_event (link_breaks w)
+does (asks op) w = after_event (operation_begins op 7 w)
+
+-- acts, one after another
+abbrev pub behind : List Act → World → World
+behind [] w = w
+behind (act ∷ acts) w = behind acts (does act w)
+
+-- `guest` logs in, over a map
+abbrev pub beginning : Table → Beginning
+beginning table = record { user = codes "guest"; pass = codes "secret"; accounts = accounts; table = table; near_host = here; far_host = here }
+
+-- a world behind acts
+abbrev pub session : Table → List Act → World
+session table acts = behind acts (world_of (beginning table))
+
+-- ---- rows
+
+-- the greeting, USER, 331, PASS, 230
+abbrev pub login_acts : List Act
+login_acts = moves Replied ∷ moves Asked ∷ moves Replied ∷ moves Asked ∷ moves Replied ∷ []
+
+-- behind it the client may send operations
+abbrev pub Login : Type 0
+Login = (table : Table) → (session table login_acts).near.standing ≡ Stands.Entered
+
+-- ---- breaks
+
+-- the client behind the 150 of a download of `f` in ASCII, and the server, which has 61 0D 0A to give: the link is open
+abbrev pub near_down : Near
+near_down = record entered {
+  job = Moving (Ops.Get (codes "f") text) (record { replied = Replies.Begun; flow = download (settings_of text) });
+  link = Links.Open;
+}
+
+-- the server's side of that download
+abbrev pub far_down : Table → Far
+far_down table = record (member table []) {
+  session = record (member table []).session { link = At.Moving (Moves.Down (97 ∷ 13 ∷ 10 ∷ [])) };
+  owed = [];
+}
+
+-- both, with the link open and one operation begun
+abbrev pub down : Table → World
+down table = record (world near_down (far_down table)) { link = Open; marks = [] ∷ [] }
+
+-- the link breaks when the client has taken 61 0D: it reports 61, as an unpaired CR is dropped
+abbrev pub broken_download : Table → World
+broken_download table = behind (moves_some Falling 2 ∷ cuts ∷ moves Replied ∷ []) (down table)
+
+-- the report says that it broke, the mark says where, and the map stays
+abbrev pub BrokenDownload : Type 0
+BrokenDownload =
+    (table : Table)
+    → ((broken_download table).reports ≡ BrokenOff (97 ∷ []) None ∷ [])
+    × ((broken_download table).marks ≡ (Broken 2 ∷ []) ∷ [])
+    × ((broken_download table).far.session.table ≡ table)
+
+-- all octets move, the end is told, and the 226 comes
+abbrev pub whole_download : Table → World
+whole_download table = behind (moves Falling ∷ tells Falling ∷ moves Replied ∷ []) (down table)
+
+-- the report has the file: 61 0A
+abbrev pub WholeDownload : Type 0
+WholeDownload = (table : Table) → (whole_download table).reports ≡ Octets (97 ∷ 10 ∷ []) ∷ []
+
+-- a put of 78 0A 79 in ASCII that is cut behind 78 0D leaves 78 (RFC 959, section 3.1.1.1)
+abbrev pub CutUpload : Type 0
+CutUpload =
+    (state : State)
+    → cut state (Ops.Put (codes "f") (120 ∷ 10 ∷ 121 ∷ []) text) 7 (120 ∷ 13 ∷ [])
+    ≡ (BrokenOff [] None, record state { table = installed state.table (named state (codes "f")) (120 ∷ []) 7 })

@@ -1,0 +1,85 @@
+-- Two ends and what lies between them: an octet queue each way on the control connection and on the data connection, and how the
+-- two connections stand (RFC 959, section 2.3). `near` is the client, `far` the server. Here is all that a world keeps; the map
+-- that it began with and the operations that were begun are kept nowhere.
+use Rattle.std.specs.Prelude.{ℕ, ◌+◌, ◌%◌, List, [], ◌∷◌, ◌++◌, Option, None}
+use Rattle.ftp_operation.specs.Answer.{Said}
+use Rattle.ftp_client_machine.specs.View.{View as Near}
+use Rattle.ftp_server_machine.specs.View.{View as Far}
+
+-- the control connection stands, was left by one end, or by both
+pub data Control : Type 0 where
+  Stands : Control
+  LeftByNear LeftByFar : Control
+  Parted : Control
+
+-- the data link: none, open, or ended, as one end closed it. That it is wanted is seen from what the ends want
+pub data Link : Type 0 where
+  Gone : Link
+  Open : Link
+  ClosedByNear ClosedByFar : Link
+
+-- a link that an operation asked for was refused, or broke when its receiving end had taken so many octets
+pub data Mark : Type 0 where
+  Refused : Mark
+  Broken : (came : ℕ) → Mark
+
+-- `asked` and `replied` are on their way over the control connection, `rising` and `falling` over the data link, each to the server
+-- and to the client; `came` counts the octets that were taken from the present link, `listens` the ports that were listened at;
+-- `marks` are those of each operation begun; `cutoff` is how many were begun when the control connection ended; `taken` are the octets
+-- that the last event took, where it was a delivery
+pub record World : Type 0 where
+  pub near : Near
+  pub far : Far
+  pub asked : List ℕ
+  pub replied : List ℕ
+  pub rising : List ℕ
+  pub falling : List ℕ
+  pub control : Control
+  pub link : Link
+  pub came : ℕ
+  pub listens : ℕ
+  pub marks : List (List Mark)
+  pub reports : List Said
+  pub cutoff : Option ℕ
+  pub taken : List ℕ
+
+-- two ends as they begin
+abbrev pub world : Near → Far → World
+world near far = record {
+  near = near;
+  far = far;
+  asked = [];
+  replied = [];
+  rising = [];
+  falling = [];
+  control = Stands;
+  link = Gone;
+  came = 0;
+  listens = 0;
+  marks = [];
+  reports = [];
+  cutoff = None;
+  taken = [];
+}
+
+-- a mark of the operation that was begun last
+abbrev pub marked_last : Mark → List (List Mark) → List (List Mark)
+marked_last mark [] = []
+marked_last mark (marks ∷ []) = (marks ++ mark ∷ []) ∷ []
+marked_last mark (marks ∷ next ∷ more) = marks ∷ marked_last mark (next ∷ more)
+
+-- the operation that was begun last has one mark more
+abbrev pub with_mark : Mark → World → World
+with_mark mark w = record w { marks = marked_last mark w.marks }
+
+-- the link is gone, and with it what is on its way
+abbrev pub gone : World → World
+gone w = record w { link = Gone; rising = []; falling = [] }
+
+-- both ends have left the control connection
+abbrev pub parted : World → World
+parted w = record w { control = Parted; asked = []; replied = [] }
+
+-- own choice: the k-th listen, from 0, over both ends together, gets this port
+abbrev pub port_at : ℕ → ℕ
+port_at k = 49152 + k % 16384

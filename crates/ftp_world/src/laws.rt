@@ -1,0 +1,12 @@
+//! Laws of what is claimed of a session: functions that do nothing, whose contracts are laws of `specs/`.
+ghost use Rattle.ftp_world.specs.Claims.{HeadlineFollows, UnmarkedIsDirect};
+
+/// Without breaks, refusals and an end of the control connection, agreement is the direct run.
+pub fn unmarked_agreement_is_the_direct_run()
+    ensures { UnmarkedIsDirect }
+{}
+
+/// The headline follows from agreement after every event, and from what holds where nothing is in flight.
+pub fn headline_follows_from_agreement()
+    ensures { HeadlineFollows }
+{}

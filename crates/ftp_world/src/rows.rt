@@ -1,0 +1,22 @@
+//! Worked rows of a world of both ends: functions that do nothing, whose contracts are rows of `specs/world/Rows`.
+ghost use Rattle.ftp_world.specs.Rows.{BrokenDownload, CutUpload, Login, WholeDownload};
+
+/// The greeting, USER, 331, PASS and 230 go from end to end, octet by octet.
+pub fn login()
+    ensures { Login }
+{}
+
+/// A download, its end and the 226.
+pub fn whole_download()
+    ensures { WholeDownload }
+{}
+
+/// A download that breaks behind a CR.
+pub fn broken_download()
+    ensures { BrokenDownload }
+{}
+
+/// What an upload leaves that is cut behind a CR.
+pub fn cut_upload()
+    ensures { CutUpload }
+{}
