@@ -1,6 +1,6 @@
 -- The writer gives the one text of a whole file, in each mode, type and structure.
 use Rattle.std.proofs.Common.{◌≡◌, ℕ, ◌+◌, ◌<◌, ◌^◌, List, [], ◌∷◌, length, refl, ap, ◌∙◌, arith}
-use Rattle.ftp_repr.specs.Machine.{gives}
+use Rattle.ftp_machine.specs.Machine.{gives}
 use Rattle.ftp_repr.specs.Signs.{Sign, octet, signs_of}
 use Rattle.ftp_representation.specs.Representation.{Form}
 use Rattle.ftp_representation.specs.declared.representation.Structure.{Structure}

@@ -1,7 +1,7 @@
 //! What holds of a whole file's text, in each mode, type and structure.
 
 ghost use Rattle.std.specs.Prelude.{◌≡◌, ◌+◌, ◌<◌, ◌^◌, ℕ, List, length};
-ghost use Rattle.ftp_repr.specs.Machine.{gives};
+ghost use Rattle.ftp_machine.specs.Machine.{gives};
 ghost use Rattle.ftp_repr.specs.Signs.{signs_of};
 ghost use Rattle.ftp_representation.specs.Representation.{Form};
 ghost use Rattle.ftp_representation.specs.declared.representation.Structure.TheVariants.{File};

@@ -2,8 +2,8 @@
 use Rattle.std.proofs.Common.{◌≡◌, ℕ, ◌+◌, ◌-◌, ◌<◌, ◌≤◌, List, [], ◌∷◌, ◌++◌, length, take, drop, get_or, false, ◌==◌, refl, ap, sym, subst, ◌∙◌, arith, inl, inr, ◌⊎◌, append-nil, length-append, length-drop}
 use Rattle.std.specs.List.{AllByRecursion}
 use Rattle.std.proofs.Math.Seq.{take-add}
-use Rattle.ftp_repr.specs.Machine.{after, gives}
-use Rattle.ftp_repr.proofs.MachineLemmas.{after-append, gives-append}
+use Rattle.ftp_machine.specs.Machine.{after, gives}
+use Rattle.ftp_machine.proofs.MachineLemmas.{after-append, gives-append}
 use Rattle.ftp_mode.specs.declared.deframer.Deframer.{Deframer}
 use Rattle.ftp_mode.specs.declared.deframer.Bite.{Bite}
 use Rattle.ftp_mode.specs.declared.step.Part.{Part}

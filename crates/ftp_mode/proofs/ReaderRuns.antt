@@ -2,7 +2,7 @@
 use Rattle.std.proofs.Common.{◌≡◌, ℕ, ◌-◌, ◌<◌, List, [], ◌∷◌, ◌++◌, length, true, false, ◌==◌, refl, ap, sym, ◌∙◌, arith, append-nil}
 use Rattle.std.specs.List.{AllByRecursion}
 use Rattle.std.proofs.lemmas.Bool.{ne_eqb}
-use Rattle.ftp_repr.specs.Machine.{after, gives}
+use Rattle.ftp_machine.specs.Machine.{after, gives}
 use Rattle.ftp_repr.specs.Signs.{octet}
 use Rattle.ftp_mode.specs.declared.fault.FrameFault.{FrameFault}
 use Rattle.ftp_framer.specs.Said.{says, octets_said}

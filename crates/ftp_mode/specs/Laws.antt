@@ -1,6 +1,6 @@
 -- What the reader makes of whole wires.
 use Rattle.std.specs.Prelude.{◌≡◌, ℕ, List, [], ◌∷◌, ◌++◌}
-use Rattle.ftp_repr.specs.Machine.{after, gives}
+use Rattle.ftp_machine.specs.Machine.{after, gives}
 use Rattle.ftp_repr.specs.Signs.{end_file}
 use Rattle.ftp_representation.specs.Representation.{Form}
 use Rattle.ftp_repr.specs.Content.{content}

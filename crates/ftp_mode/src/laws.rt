@@ -1,7 +1,7 @@
 //! What holds of whole files and wires, in each mode, type and structure.
 
 ghost use Rattle.std.specs.Prelude.{◌≡◌, ◌+◌, ◌<◌, ◌^◌, ◌++◌, ◌↔◌, ℕ, List, map, length};
-ghost use Rattle.ftp_repr.specs.Machine.{IsFront, after, gives};
+ghost use Rattle.ftp_machine.specs.Machine.{IsFront, after, gives};
 ghost use Rattle.ftp_repr.specs.Signs.{Sign, signs_of};
 ghost use Rattle.ftp_representation.specs.Representation.{Form};
 ghost use Rattle.ftp_representation.specs.declared.representation.Structure.{Structure};

@@ -11,7 +11,7 @@ use Rattle.ftp_nvt.specs.declared.line.Stage.{Stage}
 use Rattle.ftp_nvt.specs.declared.line.Stage.TheVariants.{Start, Inside, AfterReturn, Past}
 use Rattle.ftp_nvt.specs.declared.telnet.Place.{Place}
 use Rattle.ftp_nvt.specs.declared.telnet.Place.TheVariants as At
-use Rattle.ftp_repr.specs.Machine.{after}
+use Rattle.ftp_machine.specs.Machine.{after}
 use Rattle.ftp_nvt.specs.Fold.{Unfinished, no_line, liner, line_at, Ear, quiet, ear, ReaderIsEar}
 use Rattle.ftp_nvt.proofs.FoldLemmas.{Stands, StandsBehind, same_line, stands_nil, say_all, first_stands}
 

@@ -12,7 +12,7 @@ use Rattle.ftp_nvt.specs.declared.line.Stage.TheVariants.{Start, Inside, AfterRe
 use Rattle.ftp_nvt.specs.declared.line.TheConstants.{NUL, LF, CR}
 use Rattle.ftp_nvt.specs.declared.telnet.Place.{Place}
 use Rattle.ftp_nvt.specs.declared.telnet.Place.TheVariants as At
-use Rattle.ftp_repr.specs.Machine.{Machine, after, gives}
+use Rattle.ftp_machine.specs.Machine.{Machine, after, gives}
 
 -- ---- the unfinished line
 

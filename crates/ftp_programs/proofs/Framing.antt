@@ -4,7 +4,7 @@ use Rattle.std.proofs.lemmas.Bool.{false≢true}
 use Rattle.std.specs.Prelude.{Bool, ◌&&◌, flat_map, if◌then◌else◌, IsTrue, OnErr}
 use Rattle.std.proofs.KnownBytes.{Appends-trans, Appends-nil, Consumes-nil, Consumes-trans, Consumes-kept}
 use Rattle.std.specs.Io.KnownBytes.{Appends, Consumes, IsAtEnd, Keeps}
-use Rattle.ftp_repr.specs.Machine.{gives}
+use Rattle.ftp_machine.specs.Machine.{gives}
 use Rattle.ftp_repr.specs.Signs.{Sign, end_file, signs_of, signs_of_octet}
 use Rattle.ftp_representation.specs.Representation.{Form, form_of, has_markers}
 use Rattle.ftp_repr.specs.Sending.{sender_form, has_sent_end, still_to_send}

@@ -2,13 +2,13 @@
 use Rattle.std.proofs.Common.{◌≡◌, ℕ, ◌∙◌, List, [], ◌∷◌, ◌++◌, length, take, drop, map, refl, sym, ap, subst, arith, Bool, append_assoc, append-nil, inl, inr}
 use Rattle.std.proofs.Math.Seq.{take-length}
 use Rattle.std.proofs.lemmas.List.{take-append-drop}
-use Rattle.ftp_repr.specs.Machine.{after, gives}
+use Rattle.ftp_machine.specs.Machine.{after, gives}
 use Rattle.ftp_repr.specs.Signs.{octet}
 use Rattle.ftp_repr.specs.Content.{content}
 use Rattle.ftp_repr.specs.Receiving.{fresh, receiving}
 use Rattle.ftp_repr.specs.Received.{Receives, receiver_form, taking}
 use Rattle.ftp_repr.proofs.ContentLemmas.{gives-receiving}
-use Rattle.ftp_repr.proofs.MachineLemmas.{after-append, gives-append}
+use Rattle.ftp_machine.proofs.MachineLemmas.{after-append, gives-append}
 use Rattle.ftp_mode.specs.declared.deframer.Deframer.{Deframer}
 use Rattle.ftp_mode.specs.declared.fault.FrameFault.{FrameFault}
 use Rattle.ftp_mode.specs.declared.step.Part.TheVariants.{Need}

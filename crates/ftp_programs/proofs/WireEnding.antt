@@ -2,7 +2,7 @@
 use Rattle.std.proofs.Common.{◌≡◌, ℕ, ◌<◌, ◌^◌, ◌∙◌, List, [], ◌∷◌, ◌++◌, length, true, false, refl, sym, ap, subst, append_assoc, append-nil, ◌⊎◌, inl, inr}
 use Rattle.std.specs.Prelude.{Bool, if◌then◌else◌, ◌==◌, ◌||◌}
 use Rattle.std.proofs.lemmas.Bool.{eqb-true}
-use Rattle.ftp_repr.specs.Machine.{after, gives}
+use Rattle.ftp_machine.specs.Machine.{after, gives}
 use Rattle.ftp_repr.specs.Signs.{end_record, end_file}
 use Rattle.ftp_representation.specs.Representation.{Form, form_of}
 use Rattle.ftp_repr.specs.Content.{content}
@@ -12,7 +12,7 @@ use Rattle.ftp_representation.specs.declared.representation.Kind.{Kind}
 use Rattle.ftp_representation.specs.declared.representation.Structure.{Structure}
 use Rattle.ftp_representation.specs.declared.representation.Structure.TheVariants.{File, Record}
 use Rattle.ftp_repr.proofs.ContentLemmas.{gives-receiving}
-use Rattle.ftp_repr.proofs.MachineLemmas.{after-append, gives-append}
+use Rattle.ftp_machine.proofs.MachineLemmas.{after-append, gives-append}
 use Rattle.ftp_mode.specs.declared.fault.FrameFault.{FrameFault}
 use Rattle.ftp_mode.specs.declared.fault.FrameFault.TheVariants.{EndedEarly}
 use Rattle.ftp_representation.specs.declared.representation.Mode.{Mode}

@@ -3,10 +3,10 @@ use Rattle.std.proofs.Common.{◌≡◌, ℕ, ◌+◌, ◌*◌, ◌^◌, ◌≤�
 use Rattle.std.specs.Prelude.{Bool, IsErr, false, true}
 use Rattle.std.proofs.KnownBytes.{Appends-trans, Consumes-trans, Consumes-kept}
 use Rattle.std.specs.Io.KnownBytes.{Appends, Consumes, IsAtEnd, Keeps}
-use Rattle.ftp_repr.specs.Machine.{IsFront, after}
+use Rattle.ftp_machine.specs.Machine.{IsFront, after}
 use Rattle.ftp_repr.specs.Received.{receiver_form, taking}
 use Rattle.ftp_repr.proofs.ContentLemmas.{content_front}
-use Rattle.ftp_repr.proofs.MachineLemmas.{gives-front}
+use Rattle.ftp_machine.proofs.MachineLemmas.{gives-front}
 use Rattle.ftp_mode.specs.declared.fault.FrameFault.{FrameFault}
 use Rattle.ftp_framer.specs.Said.{Said, file_signs}
 use Rattle.ftp_mode.specs.Reading.{reader, start}

@@ -1,6 +1,6 @@
 -- Where a file that is read stands between two pieces of its wire.
 use Rattle.std.specs.Prelude.{◌≡◌, ℕ, List, [], ◌++◌, ◌⊎◌, Bool, true}
-use Rattle.ftp_repr.specs.Machine.{after, gives}
+use Rattle.ftp_machine.specs.Machine.{after, gives}
 use Rattle.ftp_repr.specs.Receiving.{fresh, receiving}
 use Rattle.ftp_repr.specs.Received.{receiver_form, taking}
 use Rattle.ftp_mode.specs.declared.fault.FrameFault.{FrameFault}

@@ -4,7 +4,7 @@ ghost use Rattle.std.specs.Io.KnownBytes.{Appends};
 ghost use Rattle.ftp_repr.specs.Items.{signs, given_signs};
 ghost use Rattle.ftp_repr.specs.Sending.{has_sent_end};
 ghost use Rattle.ftp_repr.specs.declared.item.Item.TheVariants.{EndFile};
-ghost use Rattle.ftp_repr.specs.Machine.{gives};
+ghost use Rattle.ftp_machine.specs.Machine.{gives};
 ghost use Rattle.ftp_repr.specs.Signs.{signs_of};
 ghost use Rattle.ftp_framer.specs.Framing.{owed_octets, writing};
 ghost use Rattle.ftp_framer.specs.Writing.{writer};

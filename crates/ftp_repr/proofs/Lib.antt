@@ -1,4 +1,3 @@
-pub mod MachineLemmas
 pub mod AsciiLemmas
 pub mod SignLemmas
 pub mod TakingLemmas
@@ -11,3 +10,4 @@ pub mod ReceivingLemmas
 pub mod RoomLemmas
 pub mod SkipLemmas
 pub mod LaneLemmas
+pub mod LineEndLemmas

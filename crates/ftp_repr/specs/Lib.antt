@@ -1,4 +1,3 @@
-pub mod Machine
 pub mod Ascii
 pub mod Signs
 pub mod Items

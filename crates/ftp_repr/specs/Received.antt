@@ -1,18 +1,25 @@
 -- What a receiver made of items.
-use Rattle.std.specs.Prelude.{◌≡◌, ℕ, ◌+◌, ◌<◌, ◌≤◌, List, ◌++◌, length, take, map}
-use Rattle.ftp_repr.specs.Machine.{after, gives}
+use Rattle.std.specs.Prelude.{◌≡◌, ℕ, ◌+◌, ◌<◌, ◌≤◌, List, ◌++◌, length, take, map, true, false}
+use Rattle.ftp_machine.specs.Machine.{after, gives}
 use Rattle.ftp_repr.specs.Signs.{Sign, octet}
 use Rattle.ftp_representation.specs.Representation.{Form}
-use Rattle.ftp_repr.specs.Receiving.{Taking, receiving}
+use Rattle.ftp_repr.specs.Receiving.{Taking, fresh, over, receiving}
 use Rattle.ftp_repr.specs.declared.receiver.Receiver.{Receiver}
+use Rattle.ftp_repr.specs.declared.receiver.Stage.{Stage}
+use Rattle.ftp_repr.specs.declared.receiver.Stage.TheVariants.{Settled, Held, Over}
 
 -- its type and structure
 abbrev pub receiver_form : Receiver → Form
 receiver_form r = record { kind = r.kind; structure = r.structure }
 
 -- its state
+abbrev pub taking_at : Stage → Taking
+taking_at Settled = fresh
+taking_at Held = record { held = true; ended = false }
+taking_at Over = over
+
 abbrev pub taking : Receiver → Taking
-taking r = record { held = r.held; ended = r.ended }
+taking r = taking_at r.stage
 
 -- the signs were taken, and the file has at its end what they settled
 pub record Receives (old : Receiver) (ss : List Sign) (new : Receiver) (before now : List ℕ) : Type 0 where

@@ -1,4 +1,4 @@
-ghost use Rattle.std.specs.Prelude.{◌≡◌, ◌≢◌, ◌+◌, ◌<◌, ◌≤◌, ◌⊎◌, ◌++◌, ℕ, List, [], ◌∷◌, length, take, drop, map, true, false, IfOk, OnOk, OnErr, vec_len, vec_capacity};
+ghost use Rattle.std.specs.Prelude.{◌≡◌, ◌≢◌, ◌+◌, ◌<◌, ◌≤◌, ◌⊎◌, ◌++◌, ℕ, List, [], ◌∷◌, length, take, drop, map, IfOk, OnOk, OnErr, vec_len, vec_capacity};
 ghost use Rattle.ftp_repr.specs.Signs.{Sign, octet as sign, end_record, end_file};
 ghost use Rattle.ftp_repr.specs.Items.{signs};
 ghost use Rattle.ftp_repr.specs.Receiving.{fresh, over};
@@ -11,14 +11,23 @@ use crate::run::before_return;
 use ftp_representation::{Kind, Structure};
 use std::alloc::{AllocError, Allocator};
 
+/// Where in a file a receiver stands.
+#[derive(Clone, Copy, Debug, PartialEq, Eq)]
+enum Stage {
+    /// All that came is settled.
+    Settled,
+    /// Behind a CR that the next sign settles.
+    Held,
+    /// The end came, or the wire broke.
+    Over,
+}
+
 /// Puts a file together from items. The file grows at the end of a vector of the caller's.
 #[derive(Clone, Copy, Debug, PartialEq, Eq)]
 pub struct Receiver {
     kind: Kind,
     structure: Structure,
-    /// A CR that the next sign settles.
-    held: bool,
-    ended: bool,
+    stage: Stage,
 }
 
 impl Receiver {
@@ -30,8 +39,7 @@ impl Receiver {
         Receiver {
             kind,
             structure,
-            held: false,
-            ended: false,
+            stage: Stage::Settled,
         }
     }
 
@@ -82,7 +90,7 @@ impl Receiver {
         ensures form { receiver_form self.new ≡ receiver_form self.old }
         ensures over { taking self.new ≡ over }
     {
-        (self.held, self.ended) = (false, true);
+        self.stage = Stage::Over; // a held CR goes with it
     }
 
     /// Puts at the end of the file what the item settles, or some of it.
@@ -92,7 +100,7 @@ impl Receiver {
         ensures full { OnErr result (HasNoRoom self.old (signs item.entry) (vec_capacity out.old) (vec_len out.old)) }
         ensures capacity { vec_capacity out.old ≤ vec_capacity out.new }
     {
-        if self.ended {
+        if let Stage::Over = self.stage {
             return Ok(());
         }
         match item {
@@ -107,7 +115,7 @@ impl Receiver {
     }
 
     fn add_record_end<A: Allocator>(&mut self, out: &mut Vec<u8, A>) -> Result<(), AllocError>
-        requires going { self.old.ended ≡ false }
+        requires going { self.old.stage ≢ Stage.Over }
         ensures ok { OnOk result (Receives self.old (end_record ∷ []) self.new out.old.items out.new.items) }
         ensures err { OnErr result ((rest : List ℕ) × (out.new.items ≡ out.old.items ++ rest)) }
         ensures full { OnErr result (HasNoRoom self.old (end_record ∷ []) (vec_capacity out.old) (vec_len out.old)) }
@@ -116,9 +124,9 @@ impl Receiver {
         match self.structure {
             Structure::File => {}
             Structure::Record => {
-                if self.held {
+                if let Stage::Held = self.stage {
                     out.push(13)?;
-                    self.held = false;
+                    self.stage = Stage::Settled;
                 }
                 out.push(10)?;
             }
@@ -127,17 +135,16 @@ impl Receiver {
     }
 
     fn add_file_end<A: Allocator>(&mut self, out: &mut Vec<u8, A>) -> Result<(), AllocError>
-        requires going { self.old.ended ≡ false }
+        requires going { self.old.stage ≢ Stage.Over }
         ensures ok { OnOk result (Receives self.old (end_file ∷ []) self.new out.old.items out.new.items) }
         ensures err { OnErr result ((rest : List ℕ) × (out.new.items ≡ out.old.items ++ rest)) }
         ensures full { OnErr result (HasNoRoom self.old (end_file ∷ []) (vec_capacity out.old) (vec_len out.old)) }
         ensures capacity { vec_capacity out.old ≤ vec_capacity out.new }
     {
-        if self.held {
+        if let Stage::Held = self.stage {
             out.push(13)?;
-            self.held = false;
         }
-        self.ended = true;
+        self.stage = Stage::Over;
         Ok(())
     }
 
@@ -147,7 +154,7 @@ impl Receiver {
         piece: &[u8],
         out: &mut Vec<u8, A>,
     ) -> Result<(), AllocError>
-        requires going { self.old.ended ≡ false }
+        requires going { self.old.stage ≢ Stage.Over }
         requires ascii { self.old.kind ≡ Ascii }
         ensures ok { OnOk result (Receives self.old (map sign piece.now) self.new out.old.items out.new.items) }
         ensures err { OnErr result ((rest : List ℕ) × (out.new.items ≡ out.old.items ++ rest)) }
@@ -168,16 +175,16 @@ impl Receiver {
         piece: &[u8],
         out: &mut Vec<u8, A>,
     ) -> Result<usize, AllocError>
-        requires going { self.old.ended ≡ false }
+        requires going { self.old.stage ≢ Stage.Over }
         requires ascii { self.old.kind ≡ Ascii }
         requires some { 0 < length piece.now }
         ensures ok { IfOk result (λ n. Bites self.old piece.now n self.new out.old.items out.new.items) }
         ensures err { OnErr result ((rest : List ℕ) × (out.new.items ≡ out.old.items ++ rest)) }
         ensures full { OnErr result (HasNoRoom self.old (map sign piece.now) (vec_capacity out.old) (vec_len out.old)) }
         ensures capacity { vec_capacity out.old ≤ vec_capacity out.new }
-        ensures stays { (self.new.ended ≡ self.old.ended) × (self.new.kind ≡ self.old.kind) }
+        ensures stays { (self.new.stage ≢ Stage.Over) × (self.new.kind ≡ self.old.kind) }
     {
-        if !self.held {
+        if let Stage::Settled = self.stage {
             let run = before_return(piece);
             if run > 0 {
                 let (front, _) = piece.split_at(run);
@@ -191,28 +198,28 @@ impl Receiver {
 
     /// An octet in type A.
     fn add_octet<A: Allocator>(&mut self, octet: u8, out: &mut Vec<u8, A>) -> Result<(), AllocError>
-        requires going { self.old.ended ≡ false }
+        requires going { self.old.stage ≢ Stage.Over }
         requires ascii { self.old.kind ≡ Ascii }
         ensures ok { OnOk result (Receives self.old (sign octet ∷ []) self.new out.old.items out.new.items) }
         ensures err { OnErr result ((rest : List ℕ) × (out.new.items ≡ out.old.items ++ rest)) }
         ensures full { OnErr result (HasNoRoom self.old (sign octet ∷ []) (vec_capacity out.old) (vec_len out.old)) }
         ensures capacity { vec_capacity out.old ≤ vec_capacity out.new }
-        ensures stays { (self.new.ended ≡ self.old.ended) × (self.new.kind ≡ self.old.kind) }
+        ensures stays { (self.new.stage ≢ Stage.Over) × (self.new.kind ≡ self.old.kind) }
     {
-        if self.held {
+        if let Stage::Held = self.stage {
             if octet == 10 {
                 out.push(10)?;
-                self.held = false;
+                self.stage = Stage::Settled;
                 return Ok(());
             }
             out.push(13)?;
-            self.held = false;
+            self.stage = Stage::Settled;
             if octet == 0 {
                 return Ok(());
             }
         }
         if octet == 13 {
-            self.held = true;
+            self.stage = Stage::Held;
             return Ok(());
         }
         out.push(octet)?;

@@ -2,11 +2,9 @@ ghost use Rattle.std.specs.Prelude.{◌≡◌, ◌+◌, ◌≤◌, length, take,
 ghost use Rattle.ftp_repr.specs.Ascii.{asc, ascii_octet};
 ghost use Rattle.ftp_repr.specs.Signs.{wire_row};
 
+use crate::run::LANES;
 use ftp_representation::Kind;
 use std::simd::prelude::*;
-
-/// How many octets are looked at at once.
-const LANES: usize = 32;
 
 /// How many octets these octets of a file are on the wire, in file structure and stream mode (RFC 959, section
 /// 3.1.1.1). It takes no memory.

@@ -11,7 +11,7 @@ use Rattle.ftp_operation.specs.declared.op.Op.{Op}
 use Rattle.ftp_operation.specs.declared.op.Op.TheVariants as Ops
 use Rattle.ftp_mode.specs.Laws.{settled_content}
 use Rattle.ftp_framer.specs.Said.{Said as WireSaid, says, marker}
-use Rattle.ftp_repr.specs.Machine.{IsFront}
+use Rattle.ftp_machine.specs.Machine.{IsFront}
 use Rattle.ftp_path.specs.Path.{Names}
 use Rattle.ftp_tree.specs.Tree.{installed, octets_or_none, octets_refusal}
 use Rattle.ftp_ends.specs.Decoder.{Decoder, no_octets, octet_says, decoded_octet}

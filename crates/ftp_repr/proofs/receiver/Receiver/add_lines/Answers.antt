@@ -16,7 +16,7 @@ loop-at-preserved g c =
     let R : List ℕ → Type 0 = λ l. Receives c.loop-at.self (map octet (take n l)) c.add_front.new.self c.loop-at.out.items c.add_front.new.out.items in
     record {
       within = omega (arith, bites.within, c.split_at.ensures.back_len);
-      going = c.add_front.ensures.stays.0 ∙ c.loop-at.invariant.going;
+      going = c.add_front.ensures.stays.0;
       ascii = c.add_front.ensures.stays.1 ∙ c.loop-at.invariant.ascii;
       room = omega (arith, c.loop-at.invariant.room, c.add_front.ensures.capacity);
       so_far = subst P (sym (signs_run piece c.loop-at.at n))

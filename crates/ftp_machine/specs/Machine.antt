@@ -1,6 +1,7 @@
 -- A machine that takes a row of one kind and gives a row of another.
 use Rattle.std.specs.Prelude.{◌≡◌, List, [], ◌∷◌, ◌++◌}
 
+-- what a state goes on to, and what it gives, for one of a row
 pub record Machine (S I O : Type 0) : Type 0 where
   pub step : S → I → S
   pub out : S → I → List O

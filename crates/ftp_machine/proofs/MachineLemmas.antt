@@ -1,6 +1,6 @@
 -- A machine over rows that are cut.
 use Rattle.std.proofs.Common.{◌≡◌, List, [], ◌∷◌, ◌++◌, refl, ap, sym, ◌∙◌, append_assoc}
-use Rattle.ftp_repr.specs.Machine.{Machine, after, gives, IsFront}
+use Rattle.ftp_machine.specs.Machine.{Machine, after, gives, IsFront}
 
 pub after-append : {S I O : Type 0} (m : Machine S I O) (s : S) (xs ys : List I) → after m s (xs ++ ys) ≡ after m (after m s xs) ys
 after-append m s [] ys = refl
