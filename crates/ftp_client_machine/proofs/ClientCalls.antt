@@ -11,22 +11,22 @@ use Rattle.ftp_operation.specs.Answer.{Refused, Foreign, Unopened}
 use Rattle.ftp_operation.specs.declared.op.Op.{Op}
 use Rattle.ftp_endpoint.specs.declared.endpoint.Endpoint.{Endpoint}
 use Rattle.ftp_endpoint.specs.declared.host.Host.{Host}
-use Rattle.ftp_reply.specs.Lines.{Text}
+use Rattle.ftp_reply.specs.Lines.{Text, joined}
 use Rattle.ftp_ends.specs.Ear.{Ear, Unfinished, ended_text, within_out, line_out, unit_says, ear_out, ear_step}
 use Rattle.ftp_ends.specs.Link.{same_host}
-use Rattle.ftp_client_machine.specs.Bounds.{login_left, transfer_left, job_left, to_begin, octets_left, upload_left, closes_left, still_to_give, Lowers, HearingLowers, ReceivingLowers, EventsLower, CallsLower}
-use Rattle.ftp_client_machine.specs.Calls.{reply_limit, line_taken, event_taken, events_taken, unless_closing, door_by, listening, doorless_by, listen_refused, connected, accepted, opened_by, data_opened, unopened_by, data_refused, ending_of, over_by, data_end, data_fault, heard_by, went, goes_by, gives_data, control_end}
-use Rattle.ftp_client_machine.specs.Dialogue.{begins, greeted, enters_with, enters, user_answered, pass_answered, set_accepted, dials, named, port_named, passive_named, joined_text, step_done, intermediate, awaits_reply, step_answered, answer_in, judged, answers_by, answers_job, closes_given_by, closes_given, moved_on, with_reply, awaited, transfer_opened, marked_flow, noted, unless_open, before_opening, behind_opening, transfer_answered, job_answered, stand_answered, judged_reply, answered, closes, has_begun, is_given}
-use Rattle.ftp_client_machine.specs.Moving.{flow_octet}
+use Rattle.ftp_client_machine.specs.Bounds.{login_left, transfer_left, job_left, to_begin, octets_left, upload_left, closes_left, still_to_give, AddsAtMost, HearingAddsAnAnswer, ReceivingAddsNone, EventsAdd, EventsAddAClose}
+use Rattle.ftp_client_machine.specs.Calls.{reply_limit, line_taken, event_taken, events_taken, unless_closing, listening_by, listening, no_port_by, listen_refused, connected, accepted, opened_by, data_opened, unopened_by, data_refused, ending_of, over_by, data_end, data_fault, heard_by, went, goes_by, gives_data, control_end}
+use Rattle.ftp_client_machine.specs.Dialogue.{begins, greeted, enters_with, enters, user_answered, pass_answered, set_accepted, dials, named, port_named, passive_named, step_done, intermediate, awaits_reply, step_answered, answer_in, judged, answers_by, answers_job, closes_once_given_by, closes_once_given, carries_on, with_reply, awaited, transfer_opened, marked_flow, noted, unless_open, before_opening, behind_opening, transfer_answered, job_answered, stand_answered, judged_reply, answered, closes, has_begun, is_given}
+use Rattle.ftp_client_machine.specs.Octets.{flow_octet}
 use Rattle.ftp_client_machine.specs.Plan.{asked_settings, settings_behind as set_by, is_extended}
 use Rattle.ftp_client_machine.specs.Replies.{Heard, GoesOn, Says, Faulty, line_heard, Between, Verdict, Preliminary, Completion, Intermediate, Negative, Closing, Displaced, verdict_of}
 use Rattle.ftp_client_machine.specs.Values.{passive_value, extended_value, mark_value}
-use Rattle.ftp_client_machine.specs.View.{View, Job, Idle, Waiting, Doing, Moving, Told, Transfer, Flow, Up, Down, stands, finishes, strange}
+use Rattle.ftp_client_machine.specs.View.{View, Job, Idle, Waiting, Doing, Transferring, Told, Transfer, Flow, Sending, Receiving, stands, finishes, strange}
 use Rattle.ftp_client_machine.specs.declared.client.Ending.{Ending}
 use Rattle.ftp_client_machine.specs.declared.client.Ending.TheVariants as Endings
 use Rattle.ftp_client_machine.specs.declared.client.Failure.TheVariants as Failures
-use Rattle.ftp_client_machine.specs.declared.client.Link.{Link}
-use Rattle.ftp_client_machine.specs.declared.client.Link.TheVariants as Links
+use Rattle.ftp_client_machine.specs.declared.client.DataConnection.{DataConnection}
+use Rattle.ftp_client_machine.specs.declared.client.DataConnection.TheVariants as Data
 use Rattle.ftp_client_machine.specs.declared.client.Replied.{Replied}
 use Rattle.ftp_client_machine.specs.declared.client.Replied.TheVariants as Replies
 use Rattle.ftp_client_machine.specs.declared.client.Standing.{Standing}
@@ -54,7 +54,7 @@ enters_with_low : (job : Job) (v : View) → v.job ≡ job → Low v (enters_wit
 enters_with_low (Waiting op) v is = begins_low op v (record v { standing = Stands.Entered }) is (omega arith)
 enters_with_low Idle v is = record { begins = omega arith; gives = inr (omega arith) }
 enters_with_low (Doing op step) v is = record { begins = omega arith; gives = inr (omega arith) }
-enters_with_low (Moving op transfer) v is = record { begins = omega arith; gives = inr (omega arith) }
+enters_with_low (Transferring op transfer) v is = record { begins = omega arith; gives = inr (omega arith) }
 enters_with_low (Told answer) v is = record { begins = omega arith; gives = inr (omega arith) }
 
 enters_low : (v : View) → Low v (enters v)
@@ -79,7 +79,7 @@ pass_low Displaced v = strange_low v
 -- ---- a step
 
 dials_low : (op : Op (List ℕ)) (endpoint : Endpoint) (v : View) → v.job ≡ Doing op Steps.Passive → Low v (dials op endpoint v)
-dials_low op endpoint v is = goes_on_low op Steps.Passive v (record v { link = Links.Dialing endpoint }) refl is refl
+dials_low op endpoint v is = goes_on_low op Steps.Passive v (record v { connection = Data.Connecting endpoint }) refl is refl
 
 named_low : (endpoint : Option Endpoint) (op : Op (List ℕ)) (v : View) → v.job ≡ Doing op Steps.Passive → Low v (named endpoint op v)
 named_low None op v is = strange_low v
@@ -99,7 +99,7 @@ set_low op step v goes is = goes_on_low op step v (record v { settings = set_by 
 
 completed_low : (op : Op (List ℕ)) (step : Step) (texts : List Text) (v : View) → v.job ≡ Doing op step → Low v (step_done op step texts v)
 completed_low op Steps.Port texts v is = goes_on_low op Steps.Port v v refl is refl
-completed_low op Steps.Passive texts v is = passive_low (is_extended v op) op (joined_text texts) v is
+completed_low op Steps.Passive texts v is = passive_low (is_extended v op) op (joined texts) v is
 completed_low op Steps.Last texts v is = tells_read_low (answer_in op texts) v
 completed_low op Steps.Listen texts v is = strange_low v
 completed_low op Steps.Connect texts v is = strange_low v
@@ -132,117 +132,117 @@ step_low op step Displaced code texts v is = strange_low v
 
 -- ---- a transfer
 
-checked_by_low : (replied : Replied) (link : Link) (op : Op (List ℕ)) (flow : Flow) (v : View) → Low v (answers_by replied link op flow v)
-checked_by_low (Replies.Final code) (Links.Over ending) op flow v = tells_read_low (judged ending code op flow) v
-checked_by_low (Replies.Final code) Links.Free op flow v = same v
-checked_by_low (Replies.Final code) Links.Asked op flow v = same v
-checked_by_low (Replies.Final code) (Links.Door port) op flow v = same v
-checked_by_low (Replies.Final code) (Links.Dialing endpoint) op flow v = same v
-checked_by_low (Replies.Final code) (Links.Awaiting port) op flow v = same v
-checked_by_low (Replies.Final code) Links.Open op flow v = same v
-checked_by_low Replies.Nothing link op flow v = same v
-checked_by_low Replies.Begun link op flow v = same v
+answers_by_low : (replied : Replied) (connection : DataConnection) (op : Op (List ℕ)) (flow : Flow) (v : View) → Low v (answers_by replied connection op flow v)
+answers_by_low (Replies.Final code) (Data.Over ending) op flow v = tells_read_low (judged ending code op flow) v
+answers_by_low (Replies.Final code) Data.Free op flow v = same v
+answers_by_low (Replies.Final code) Data.ListenWanted op flow v = same v
+answers_by_low (Replies.Final code) (Data.Listening port) op flow v = same v
+answers_by_low (Replies.Final code) (Data.Connecting endpoint) op flow v = same v
+answers_by_low (Replies.Final code) (Data.Accepting port) op flow v = same v
+answers_by_low (Replies.Final code) Data.Open op flow v = same v
+answers_by_low Replies.Nothing connection op flow v = same v
+answers_by_low Replies.Begun connection op flow v = same v
 
-checked_low : (job : Job) (v : View) → Low v (answers_job job v)
-checked_low (Moving op transfer) v = checked_by_low transfer.replied v.link op transfer.flow v
-checked_low Idle v = same v
-checked_low (Waiting op) v = same v
-checked_low (Doing op step) v = same v
-checked_low (Told answer) v = same v
+answers_job_low : (job : Job) (v : View) → Low v (answers_job job v)
+answers_job_low (Transferring op transfer) v = answers_by_low transfer.replied v.connection op transfer.flow v
+answers_job_low Idle v = same v
+answers_job_low (Waiting op) v = same v
+answers_job_low (Doing op step) v = same v
+answers_job_low (Told answer) v = same v
 
 closes_low : (v : View) → Low v (closes v)
-closes_low v = record { begins = omega arith; gives = inr (omega (arith, one_close v.closing (stands v.link))) }
+closes_low v = record { begins = omega arith; gives = inr (omega (arith, one_close v.closing (stands v.connection))) }
 
-more_by_low : (given : Bool) (link : Link) (v : View) → Low v (closes_given_by given link v)
-more_by_low true Links.Open v = closes_low v
-more_by_low true Links.Free v = same v
-more_by_low true Links.Asked v = same v
-more_by_low true (Links.Door port) v = same v
-more_by_low true (Links.Dialing endpoint) v = same v
-more_by_low true (Links.Awaiting port) v = same v
-more_by_low true (Links.Over ending) v = same v
-more_by_low false link v = same v
+closes_by_low : (given : Bool) (connection : DataConnection) (v : View) → Low v (closes_once_given_by given connection v)
+closes_by_low true Data.Open v = closes_low v
+closes_by_low true Data.Free v = same v
+closes_by_low true Data.ListenWanted v = same v
+closes_by_low true (Data.Listening port) v = same v
+closes_by_low true (Data.Connecting endpoint) v = same v
+closes_by_low true (Data.Accepting port) v = same v
+closes_by_low true (Data.Over ending) v = same v
+closes_by_low false connection v = same v
 
-more_job_low : (job : Job) (v : View) → Low v (closes_given job v)
-more_job_low (Moving op transfer) v = more_by_low (has_begun transfer.replied && is_given transfer.flow) v.link v
-more_job_low Idle v = same v
-more_job_low (Waiting op) v = same v
-more_job_low (Doing op step) v = same v
-more_job_low (Told answer) v = same v
+closes_once_low : (job : Job) (v : View) → Low v (closes_once_given job v)
+closes_once_low (Transferring op transfer) v = closes_by_low (has_begun transfer.replied && is_given transfer.flow) v.connection v
+closes_once_low Idle v = same v
+closes_once_low (Waiting op) v = same v
+closes_once_low (Doing op step) v = same v
+closes_once_low (Told answer) v = same v
 
-pub more_low : (v : View) → Low v (moved_on v)
-more_low v = both 0 v (closes_given v.job v) (moved_on v) (more_job_low v.job v) (checked_low (closes_given v.job v).job (closes_given v.job v))
+pub carries_on_low : (v : View) → Low v (carries_on v)
+carries_on_low v = both 0 v (closes_once_given v.job v) (carries_on v) (closes_once_low v.job v) (answers_job_low (closes_once_given v.job v).job (closes_once_given v.job v))
 
-behind_more : (old v : View) → Low old v → Low old (moved_on v)
-behind_more old v one = both 0 old v (moved_on v) one (more_low v)
+then_carries_on : (old v : View) → Low old v → Low old (carries_on v)
+then_carries_on old v one = both 0 old v (carries_on v) one (carries_on_low v)
 
 -- a transfer's replies change, in a view where no more is owed or stands
-reply_low : (replied : Replied) (op : Op (List ℕ)) (transfer : Transfer) (old w : View) → transfer_left replied ≡ 0 → old.job ≡ Moving op transfer
+reply_low : (replied : Replied) (op : Op (List ℕ)) (transfer : Transfer) (old w : View) → transfer_left replied ≡ 0 → old.job ≡ Transferring op transfer
     → w.standing ≡ old.standing → w.owed ≡ old.owed → closes_left w ≤ closes_left old → Low old (with_reply replied op transfer w)
 reply_low replied op transfer old w none is standing owes closing =
     let here : job_left old.job ≡ transfer_left transfer.replied = ap job_left is in
     let octets : upload_left old.job ≡ octets_left transfer.flow = ap upload_left is in
     let login : login_left w.standing ≡ login_left old.standing = ap login_left standing in
     let length_is : length w.owed ≡ length old.owed = ap length owes in
-    behind_more old (record w { job = Moving op (record transfer { replied = replied }) })
+    then_carries_on old (record w { job = Transferring op (record transfer { replied = replied }) })
     (record { begins = omega (arith, none, login); gives = inr (omega (arith, octets, length_is, closing)) })
 
 closes_less : (v : View) → closes_left (closes v) ≤ closes_left v
-closes_less v = omega (arith, one_close v.closing (stands v.link))
+closes_less v = omega (arith, one_close v.closing (stands v.connection))
 
-stands_awaited : (link : Link) → stands (awaited link) ≡ stands link
-stands_awaited Links.Free = refl
-stands_awaited Links.Asked = refl
-stands_awaited (Links.Door port) = refl
-stands_awaited (Links.Dialing endpoint) = refl
-stands_awaited (Links.Awaiting port) = refl
-stands_awaited Links.Open = refl
-stands_awaited (Links.Over ending) = refl
+stands_awaited : (connection : DataConnection) → stands (awaited connection) ≡ stands connection
+stands_awaited Data.Free = refl
+stands_awaited Data.ListenWanted = refl
+stands_awaited (Data.Listening port) = refl
+stands_awaited (Data.Connecting endpoint) = refl
+stands_awaited (Data.Accepting port) = refl
+stands_awaited Data.Open = refl
+stands_awaited (Data.Over ending) = refl
 
-opened_low : (code : ℕ) (op : Op (List ℕ)) (transfer : Transfer) (v : View) → v.job ≡ Moving op transfer → Low v (transfer_opened code op transfer v)
+opened_low : (code : ℕ) (op : Op (List ℕ)) (transfer : Transfer) (v : View) → v.job ≡ Transferring op transfer → Low v (transfer_opened code op transfer v)
 opened_low code op transfer v is =
-    let w : View = record v { link = awaited v.link } in
-    let stand : one_if (stands (awaited v.link)) ≡ one_if (stands v.link) = ap one_if (stands_awaited v.link) in
+    let w : View = record v { connection = awaited v.connection } in
+    let stand : one_if (stands (awaited v.connection)) ≡ one_if (stands v.connection) = ap one_if (stands_awaited v.connection) in
     if_low (code == 110) v v (with_reply Replies.Begun op transfer w) (same v)
     (reply_low Replies.Begun op transfer v w refl is refl refl (omega (arith, stand)))
 
 octets_marked : (mark : Option ℕ) (flow : Flow) → octets_left (marked_flow mark flow) ≡ octets_left flow
-octets_marked None (Up left before) = refl
-octets_marked (Some mark) (Up left before) = refl
-octets_marked None (Down decoder before) = refl
-octets_marked (Some mark) (Down decoder before) = refl
+octets_marked None (Sending left before) = refl
+octets_marked (Some mark) (Sending left before) = refl
+octets_marked None (Receiving decoder before) = refl
+octets_marked (Some mark) (Receiving decoder before) = refl
 
 -- another flow, of no more octets
-flow_low : (op : Op (List ℕ)) (transfer : Transfer) (flow : Flow) (v : View) → v.job ≡ Moving op transfer → octets_left flow ≤ octets_left transfer.flow
-    → Low v (record v { job = Moving op (record transfer { flow = flow }) })
+flow_low : (op : Op (List ℕ)) (transfer : Transfer) (flow : Flow) (v : View) → v.job ≡ Transferring op transfer → octets_left flow ≤ octets_left transfer.flow
+    → Low v (record v { job = Transferring op (record transfer { flow = flow }) })
 flow_low op transfer flow v is fewer =
     let here : job_left v.job ≡ transfer_left transfer.replied = ap job_left is in
     let octets : upload_left v.job ≡ octets_left transfer.flow = ap upload_left is in
     record { begins = omega (arith, here); gives = inr (omega (arith, octets, fewer)) }
 
-noted_low : (code : ℕ) (text : Text) (op : Op (List ℕ)) (transfer : Transfer) (v : View) → v.job ≡ Moving op transfer → Low v (noted code text op transfer v)
+noted_low : (code : ℕ) (text : Text) (op : Op (List ℕ)) (transfer : Transfer) (v : View) → v.job ≡ Transferring op transfer → Low v (noted code text op transfer v)
 noted_low code text op transfer v is =
     let flow : Flow = marked_flow (mark_value text) transfer.flow in
     let fewer : octets_left flow ≡ octets_left transfer.flow = octets_marked (mark_value text) transfer.flow in
-    if_low (code == 110) v (record v { job = Moving op (record transfer { flow = flow }) }) v (flow_low op transfer flow v is (omega (arith, fewer))) (same v)
+    if_low (code == 110) v (record v { job = Transferring op (record transfer { flow = flow }) }) v (flow_low op transfer flow v is (omega (arith, fewer))) (same v)
 
-final_low : (code : ℕ) (op : Op (List ℕ)) (transfer : Transfer) (v : View) → v.job ≡ Moving op transfer → Low v (with_reply (Replies.Final code) op transfer v)
+final_low : (code : ℕ) (op : Op (List ℕ)) (transfer : Transfer) (v : View) → v.job ≡ Transferring op transfer → Low v (with_reply (Replies.Final code) op transfer v)
 final_low code op transfer v is = reply_low (Replies.Final code) op transfer v v refl is refl refl (omega arith)
 
-closed_low : (code : ℕ) (op : Op (List ℕ)) (transfer : Transfer) (v : View) → v.job ≡ Moving op transfer → Low v (with_reply (Replies.Final code) op transfer (closes v))
+closed_low : (code : ℕ) (op : Op (List ℕ)) (transfer : Transfer) (v : View) → v.job ≡ Transferring op transfer → Low v (with_reply (Replies.Final code) op transfer (closes v))
 closed_low code op transfer v is = reply_low (Replies.Final code) op transfer v (closes v) refl is refl refl (closes_less v)
 
-unless_low : (link : Link) (code : ℕ) (op : Op (List ℕ)) (transfer : Transfer) (v : View) → v.job ≡ Moving op transfer
-    → Low v (with_reply (Replies.Final code) op transfer (unless_open link v))
-unless_low Links.Open code op transfer v is = final_low code op transfer v is
-unless_low (Links.Over ending) code op transfer v is = final_low code op transfer v is
-unless_low Links.Free code op transfer v is = closed_low code op transfer v is
-unless_low Links.Asked code op transfer v is = closed_low code op transfer v is
-unless_low (Links.Door port) code op transfer v is = closed_low code op transfer v is
-unless_low (Links.Dialing endpoint) code op transfer v is = closed_low code op transfer v is
-unless_low (Links.Awaiting port) code op transfer v is = closed_low code op transfer v is
+unless_low : (connection : DataConnection) (code : ℕ) (op : Op (List ℕ)) (transfer : Transfer) (v : View) → v.job ≡ Transferring op transfer
+    → Low v (with_reply (Replies.Final code) op transfer (unless_open connection v))
+unless_low Data.Open code op transfer v is = final_low code op transfer v is
+unless_low (Data.Over ending) code op transfer v is = final_low code op transfer v is
+unless_low Data.Free code op transfer v is = closed_low code op transfer v is
+unless_low Data.ListenWanted code op transfer v is = closed_low code op transfer v is
+unless_low (Data.Listening port) code op transfer v is = closed_low code op transfer v is
+unless_low (Data.Connecting endpoint) code op transfer v is = closed_low code op transfer v is
+unless_low (Data.Accepting port) code op transfer v is = closed_low code op transfer v is
 
-before_low : (verdict : Verdict) (code : ℕ) (op : Op (List ℕ)) (transfer : Transfer) (v : View) → v.job ≡ Moving op transfer → Low v (before_opening verdict code op transfer v)
+before_low : (verdict : Verdict) (code : ℕ) (op : Op (List ℕ)) (transfer : Transfer) (v : View) → v.job ≡ Transferring op transfer → Low v (before_opening verdict code op transfer v)
 before_low Preliminary code op transfer v is = opened_low code op transfer v is
 before_low Negative code op transfer v is = closed_low code op transfer v is
 before_low Completion code op transfer v is = strange_low v
@@ -250,16 +250,16 @@ before_low Intermediate code op transfer v is = strange_low v
 before_low Closing code op transfer v is = strange_low v
 before_low Displaced code op transfer v is = strange_low v
 
-behind_low : (verdict : Verdict) (code : ℕ) (text : Text) (op : Op (List ℕ)) (transfer : Transfer) (v : View) → v.job ≡ Moving op transfer
+behind_low : (verdict : Verdict) (code : ℕ) (text : Text) (op : Op (List ℕ)) (transfer : Transfer) (v : View) → v.job ≡ Transferring op transfer
     → Low v (behind_opening verdict code text op transfer v)
 behind_low Preliminary code text op transfer v is = noted_low code text op transfer v is
 behind_low Completion code text op transfer v is = final_low code op transfer v is
-behind_low Negative code text op transfer v is = unless_low v.link code op transfer v is
+behind_low Negative code text op transfer v is = unless_low v.connection code op transfer v is
 behind_low Intermediate code text op transfer v is = strange_low v
 behind_low Closing code text op transfer v is = strange_low v
 behind_low Displaced code text op transfer v is = strange_low v
 
-transfer_low : (replied : Replied) (verdict : Verdict) (code : ℕ) (text : Text) (op : Op (List ℕ)) (transfer : Transfer) (v : View) → v.job ≡ Moving op transfer
+transfer_low : (replied : Replied) (verdict : Verdict) (code : ℕ) (text : Text) (op : Op (List ℕ)) (transfer : Transfer) (v : View) → v.job ≡ Transferring op transfer
     → Low v (transfer_answered replied verdict code text op transfer v)
 transfer_low Replies.Nothing verdict code text op transfer v is = before_low verdict code op transfer v is
 transfer_low Replies.Begun verdict code text op transfer v is = behind_low verdict code text op transfer v is
@@ -269,7 +269,7 @@ transfer_low (Replies.Final before) verdict code text op transfer v is = strange
 
 job_low : (job : Job) (verdict : Verdict) (code : ℕ) (texts : List Text) (v : View) → v.job ≡ job → Low v (job_answered job verdict code texts v)
 job_low (Doing op step) verdict code texts v is = step_low op step verdict code texts v is
-job_low (Moving op transfer) verdict code texts v is = transfer_low transfer.replied verdict code (joined_text texts) op transfer v is
+job_low (Transferring op transfer) verdict code texts v is = transfer_low transfer.replied verdict code (joined texts) op transfer v is
 job_low Idle verdict code texts v is = strange_low v
 job_low (Waiting op) verdict code texts v is = strange_low v
 job_low (Told answer) verdict code texts v is = strange_low v
@@ -309,18 +309,18 @@ IsSmall (line text) = Unit {0}
 IsSmall too_long = Unit {0}
 IsSmall (owed answer) = length answer ≤ 3
 
-event_low : (event : NvtEvent) (v : View) → IsSmall event → Lowers 3 v (event_taken event v)
+event_low : (event : NvtEvent) (v : View) → IsSmall event → AddsAtMost 3 v (event_taken event v)
 event_low (line text) v small = let low = line_low (line_heard v.gathered text) v in by_cases low.begins low.gives
   where
     w : View
     w = line_taken (line_heard v.gathered text) v
 
-    by_cases : to_begin w ≤ to_begin v → (to_begin w < to_begin v) ⊎ (still_to_give w ≤ still_to_give v + 0) → Lowers 3 v w
+    by_cases : to_begin w ≤ to_begin v → (to_begin w < to_begin v) ⊎ (still_to_give w ≤ still_to_give v + 0) → AddsAtMost 3 v w
     by_cases begins (inl less) = record { begins = begins; gives = inl less }
     by_cases begins (inr few) = record { begins = begins; gives = inr (omega (arith, few)) }
 event_low too_long v small = let low = strange_low v in by_cases low.begins low.gives
   where
-    by_cases : to_begin (strange v) ≤ to_begin v → (to_begin (strange v) < to_begin v) ⊎ (still_to_give (strange v) ≤ still_to_give v + 0) → Lowers 3 v (strange v)
+    by_cases : to_begin (strange v) ≤ to_begin v → (to_begin (strange v) < to_begin v) ⊎ (still_to_give (strange v) ≤ still_to_give v + 0) → AddsAtMost 3 v (strange v)
     by_cases begins (inl less) = record { begins = begins; gives = inl less }
     by_cases begins (inr few) = record { begins = begins; gives = inr (omega (arith, few)) }
 event_low (owed answer) v small = record { begins = omega arith; gives = inr (omega (arith, length-append v.owed answer, small)) }
@@ -371,10 +371,10 @@ out_few e c =
       | inr f ↦ subst P (sym f.1) (with_none (unit_says reply_limit e.line f.0) (unit_few e.line f.0))
     ]
 
-pub hearing_lowers : HearingLowers
+pub hearing_lowers : HearingAddsAnAnswer
 hearing_lowers v octet =
     let w : View = record v { ear = ear_step reply_limit v.ear octet } in
-    let P : List NvtEvent → Type 0 = λ events. Lowers 3 v (events_taken events w) in
+    let P : List NvtEvent → Type 0 = λ events. AddsAtMost 3 v (events_taken events w) in
     elim (out_few v.ear octet) [
       | inl e ↦ subst P (sym e) (record { begins = omega arith; gives = inr (omega arith) })
       | inr e ↦ subst P (sym e.1) (let low = event_low e.0 w e.2 in record { begins = low.begins; gives = low.gives })
@@ -383,27 +383,27 @@ hearing_lowers v octet =
 -- ---- octets of the data connection
 
 octets_heard : (flow : Flow) (octet : ℕ) → octets_left (flow_octet flow octet) ≡ octets_left flow
-octets_heard (Up left mark) octet = refl
-octets_heard (Down decoder mark) octet = refl
+octets_heard (Sending left mark) octet = refl
+octets_heard (Receiving decoder mark) octet = refl
 
 heard_low : (job : Job) (octet : ℕ) (v : View) → v.job ≡ job → Low v (heard_by job octet v)
-heard_low (Moving op transfer) octet v is =
+heard_low (Transferring op transfer) octet v is =
     flow_low op transfer (flow_octet transfer.flow octet) v is (omega (arith, octets_heard transfer.flow octet))
 heard_low Idle octet v is = same v
 heard_low (Waiting op) octet v is = same v
 heard_low (Doing op step) octet v is = same v
 heard_low (Told answer) octet v is = same v
 
-pub receiving_lowers : ReceivingLowers
+pub receiving_lowers : ReceivingAddsNone
 receiving_lowers v octet = heard_low v.job octet v refl
 
 octets_went : (count : ℕ) (flow : Flow) → octets_left (went count flow) ≤ octets_left flow
-octets_went count (Up left mark) = omega (arith, length-drop count left)
-octets_went count (Down decoder mark) = omega arith
+octets_went count (Sending left mark) = omega (arith, length-drop count left)
+octets_went count (Receiving decoder mark) = omega arith
 
 goes_low : (count : ℕ) (job : Job) (v : View) → v.job ≡ job → Low v (goes_by count job v)
-goes_low count (Moving op transfer) v is =
-    behind_more v (record v { job = Moving op (record transfer { flow = went count transfer.flow }) })
+goes_low count (Transferring op transfer) v is =
+    then_carries_on v (record v { job = Transferring op (record transfer { flow = went count transfer.flow }) })
     (flow_low op transfer (went count transfer.flow) v is (octets_went count transfer.flow))
 goes_low count Idle v is = same v
 goes_low count (Waiting op) v is = same v
@@ -412,42 +412,42 @@ goes_low count (Told answer) v is = same v
 
 -- ---- events of the data connection
 
-door_step_low : (step : Step) (op : Op (List ℕ)) (port : ℕ) (v : View) → v.job ≡ Doing op step → Low v (door_by Links.Asked (Doing op step) port v)
-door_step_low Steps.Listen op port v is = goes_on_low op Steps.Listen v (record v { link = Links.Door port }) refl is refl
-door_step_low Steps.Kind op port v is = same v
-door_step_low Steps.Structure op port v is = same v
-door_step_low Steps.Mode op port v is = same v
-door_step_low Steps.Port op port v is = same v
-door_step_low Steps.Passive op port v is = same v
-door_step_low Steps.Connect op port v is = same v
-door_step_low Steps.Restart op port v is = same v
-door_step_low Steps.Source op port v is = same v
-door_step_low Steps.Last op port v is = same v
+listening_step_low : (step : Step) (op : Op (List ℕ)) (port : ℕ) (v : View) → v.job ≡ Doing op step → Low v (listening_by Data.ListenWanted (Doing op step) port v)
+listening_step_low Steps.Listen op port v is = goes_on_low op Steps.Listen v (record v { connection = Data.Listening port }) refl is refl
+listening_step_low Steps.Kind op port v is = same v
+listening_step_low Steps.Structure op port v is = same v
+listening_step_low Steps.Mode op port v is = same v
+listening_step_low Steps.Port op port v is = same v
+listening_step_low Steps.Passive op port v is = same v
+listening_step_low Steps.Connect op port v is = same v
+listening_step_low Steps.Restart op port v is = same v
+listening_step_low Steps.Source op port v is = same v
+listening_step_low Steps.Last op port v is = same v
 
-door_low : (link : Link) (job : Job) (port : ℕ) (v : View) → v.job ≡ job → Low v (door_by link job port v)
-door_low Links.Asked (Doing op step) port v is = door_step_low step op port v is
-door_low Links.Asked Idle port v is = same v
-door_low Links.Asked (Waiting op) port v is = same v
-door_low Links.Asked (Moving op transfer) port v is = same v
-door_low Links.Asked (Told answer) port v is = same v
-door_low Links.Free job port v is = same v
-door_low (Links.Door before) job port v is = same v
-door_low (Links.Dialing endpoint) job port v is = same v
-door_low (Links.Awaiting before) job port v is = same v
-door_low Links.Open job port v is = same v
-door_low (Links.Over ending) job port v is = same v
+listening_low : (connection : DataConnection) (job : Job) (port : ℕ) (v : View) → v.job ≡ job → Low v (listening_by connection job port v)
+listening_low Data.ListenWanted (Doing op step) port v is = listening_step_low step op port v is
+listening_low Data.ListenWanted Idle port v is = same v
+listening_low Data.ListenWanted (Waiting op) port v is = same v
+listening_low Data.ListenWanted (Transferring op transfer) port v is = same v
+listening_low Data.ListenWanted (Told answer) port v is = same v
+listening_low Data.Free job port v is = same v
+listening_low (Data.Listening before) job port v is = same v
+listening_low (Data.Connecting endpoint) job port v is = same v
+listening_low (Data.Accepting before) job port v is = same v
+listening_low Data.Open job port v is = same v
+listening_low (Data.Over ending) job port v is = same v
 
-doorless_low : (link : Link) (v : View) → Low v (doorless_by link v)
-doorless_low Links.Asked v = tells_low Unopened v
-doorless_low Links.Free v = same v
-doorless_low (Links.Door port) v = same v
-doorless_low (Links.Dialing endpoint) v = same v
-doorless_low (Links.Awaiting port) v = same v
-doorless_low Links.Open v = same v
-doorless_low (Links.Over ending) v = same v
+no_port_low : (connection : DataConnection) (v : View) → Low v (no_port_by connection v)
+no_port_low Data.ListenWanted v = tells_low Unopened v
+no_port_low Data.Free v = same v
+no_port_low (Data.Listening port) v = same v
+no_port_low (Data.Connecting endpoint) v = same v
+no_port_low (Data.Accepting port) v = same v
+no_port_low Data.Open v = same v
+no_port_low (Data.Over ending) v = same v
 
 connected_step_low : (step : Step) (op : Op (List ℕ)) (v : View) → v.job ≡ Doing op step → Low v (connected (Doing op step) v)
-connected_step_low Steps.Connect op v is = goes_on_low op Steps.Connect v (record v { link = Links.Open }) refl is refl
+connected_step_low Steps.Connect op v is = goes_on_low op Steps.Connect v (record v { connection = Data.Open }) refl is refl
 connected_step_low Steps.Kind op v is = same v
 connected_step_low Steps.Structure op v is = same v
 connected_step_low Steps.Mode op v is = same v
@@ -462,68 +462,68 @@ connected_low : (job : Job) (v : View) → v.job ≡ job → Low v (connected jo
 connected_low (Doing op step) v is = connected_step_low step op v is
 connected_low Idle v is = same v
 connected_low (Waiting op) v is = same v
-connected_low (Moving op transfer) v is = same v
+connected_low (Transferring op transfer) v is = same v
 connected_low (Told answer) v is = same v
 
-accepted_low : (ours : Bool) (port : ℕ) (v : View) → v.link ≡ Links.Awaiting port → Low v (accepted ours v)
+accepted_low : (ours : Bool) (port : ℕ) (v : View) → v.connection ≡ Data.Accepting port → Low v (accepted ours v)
 accepted_low true port v is =
-    let stand : one_if (stands v.link) ≡ 1 = ap (λ link. one_if (stands link)) is in
-    behind_more v (record v { link = Links.Open }) (record { begins = omega arith; gives = inr (omega (arith, stand)) })
+    let stand : one_if (stands v.connection) ≡ 1 = ap (λ connection. one_if (stands connection)) is in
+    then_carries_on v (record v { connection = Data.Open }) (record { begins = omega arith; gives = inr (omega (arith, stand)) })
 accepted_low false port v is =
-    let stand : one_if (stands v.link) ≡ 1 = ap (λ link. one_if (stands link)) is in
-    behind_more v (record v { link = Links.Over Endings.Foreign; closing = true }) (record { begins = omega arith; gives = inr (omega (arith, stand)) })
+    let stand : one_if (stands v.connection) ≡ 1 = ap (λ connection. one_if (stands connection)) is in
+    then_carries_on v (record v { connection = Data.Over Endings.Foreign; closing = true }) (record { begins = omega arith; gives = inr (omega (arith, stand)) })
 
-opened_by_low : (link : Link) (host : Host) (v : View) → v.link ≡ link → Low v (opened_by link host v)
-opened_by_low (Links.Dialing endpoint) host v is = connected_low v.job v refl
-opened_by_low (Links.Awaiting port) host v is = accepted_low (same_host host v.peer) port v is
-opened_by_low Links.Free host v is = same v
-opened_by_low Links.Asked host v is = same v
-opened_by_low (Links.Door port) host v is = same v
-opened_by_low Links.Open host v is = same v
-opened_by_low (Links.Over ending) host v is = same v
+opened_by_low : (connection : DataConnection) (host : Host) (v : View) → v.connection ≡ connection → Low v (opened_by connection host v)
+opened_by_low (Data.Connecting endpoint) host v is = connected_low v.job v refl
+opened_by_low (Data.Accepting port) host v is = accepted_low (same_host host v.peer) port v is
+opened_by_low Data.Free host v is = same v
+opened_by_low Data.ListenWanted host v is = same v
+opened_by_low (Data.Listening port) host v is = same v
+opened_by_low Data.Open host v is = same v
+opened_by_low (Data.Over ending) host v is = same v
 
-unopened_low : (link : Link) (v : View) → v.link ≡ link → Low v (unopened_by link v)
-unopened_low (Links.Dialing endpoint) v is = tells_low Unopened v
-unopened_low (Links.Awaiting port) v is =
-    let stand : one_if (stands v.link) ≡ 1 = ap (λ link. one_if (stands link)) is in
-    behind_more v (record v { link = Links.Over Endings.Broken; closing = true }) (record { begins = omega arith; gives = inr (omega (arith, stand)) })
-unopened_low Links.Free v is = same v
-unopened_low Links.Asked v is = same v
-unopened_low (Links.Door port) v is = same v
-unopened_low Links.Open v is = same v
-unopened_low (Links.Over ending) v is = same v
+unopened_low : (connection : DataConnection) (v : View) → v.connection ≡ connection → Low v (unopened_by connection v)
+unopened_low (Data.Connecting endpoint) v is = tells_low Unopened v
+unopened_low (Data.Accepting port) v is =
+    let stand : one_if (stands v.connection) ≡ 1 = ap (λ connection. one_if (stands connection)) is in
+    then_carries_on v (record v { connection = Data.Over Endings.Broken; closing = true }) (record { begins = omega arith; gives = inr (omega (arith, stand)) })
+unopened_low Data.Free v is = same v
+unopened_low Data.ListenWanted v is = same v
+unopened_low (Data.Listening port) v is = same v
+unopened_low Data.Open v is = same v
+unopened_low (Data.Over ending) v is = same v
 
-over_low : (link : Link) (ending : Ending) (v : View) → Low v (over_by link ending v)
-over_low Links.Open ending v =
-    behind_more v (record v { link = Links.Over ending }) (record { begins = omega arith; gives = inr (omega arith) })
-over_low Links.Free ending v = same v
-over_low Links.Asked ending v = same v
-over_low (Links.Door port) ending v = same v
-over_low (Links.Dialing endpoint) ending v = same v
-over_low (Links.Awaiting port) ending v = same v
-over_low (Links.Over before) ending v = same v
+over_low : (connection : DataConnection) (ending : Ending) (v : View) → Low v (over_by connection ending v)
+over_low Data.Open ending v =
+    then_carries_on v (record v { connection = Data.Over ending }) (record { begins = omega arith; gives = inr (omega arith) })
+over_low Data.Free ending v = same v
+over_low Data.ListenWanted ending v = same v
+over_low (Data.Listening port) ending v = same v
+over_low (Data.Connecting endpoint) ending v = same v
+over_low (Data.Accepting port) ending v = same v
+over_low (Data.Over before) ending v = same v
 
-pub one_more : (v w : View) → Low v w → Lowers 1 v w
+pub one_more : (v w : View) → Low v w → AddsAtMost 1 v w
 one_more v w low = record { begins = low.begins; gives = by_case low.gives }
   where
     by_case : (to_begin w < to_begin v) ⊎ (still_to_give w ≤ still_to_give v + 0) → (to_begin w < to_begin v) ⊎ (still_to_give w ≤ still_to_give v + 1)
     by_case (inl less) = inl less
     by_case (inr few) = inr (omega (arith, few))
 
-events_lower : (v : View) → EventsLower v
+events_lower : (v : View) → EventsAdd v
 unfolding listening listen_refused data_opened data_refused data_end data_fault control_end gives_data
 events_lower v = record {
-  listening_lowers = λ port. one_more v (unless_closing (λ u. door_by u.link u.job port u) v)
-      (if_low v.closing v v (door_by v.link v.job port v) (same v) (door_low v.link v.job port v refl));
-  refused_lowers = if_low v.closing v v (doorless_by v.link v) (same v) (doorless_low v.link v);
-  opened_lowers = λ host. one_more v (unless_closing (λ u. opened_by u.link host u) v)
-      (if_low v.closing v v (opened_by v.link host v) (same v) (opened_by_low v.link host v refl));
-  unopened_lowers = if_low v.closing v v (unopened_by v.link v) (same v) (unopened_low v.link v refl);
-  end_lowers = if_low v.closing v v (over_by v.link (ending_of v.job) v) (same v) (over_low v.link (ending_of v.job) v);
-  fault_lowers = if_low v.closing v v (over_by v.link Endings.Broken v) (same v) (over_low v.link Endings.Broken v);
+  listening_lowers = λ port. one_more v (unless_closing (λ u. listening_by u.connection u.job port u) v)
+      (if_low v.closing v v (listening_by v.connection v.job port v) (same v) (listening_low v.connection v.job port v refl));
+  refused_lowers = if_low v.closing v v (no_port_by v.connection v) (same v) (no_port_low v.connection v);
+  opened_lowers = λ host. one_more v (unless_closing (λ u. opened_by u.connection host u) v)
+      (if_low v.closing v v (opened_by v.connection host v) (same v) (opened_by_low v.connection host v refl));
+  unopened_lowers = if_low v.closing v v (unopened_by v.connection v) (same v) (unopened_low v.connection v refl);
+  end_lowers = if_low v.closing v v (over_by v.connection (ending_of v.job) v) (same v) (over_low v.connection (ending_of v.job) v);
+  fault_lowers = if_low v.closing v v (over_by v.connection Endings.Broken v) (same v) (over_low v.connection Endings.Broken v);
   control_end_lowers = fails_low v.standing Failures.Lost v;
   gives_lowers = λ count. goes_low count v.job v refl;
 }
 
-pub calls_lower : CallsLower
+pub calls_lower : EventsAddAClose
 calls_lower v = events_lower v

@@ -2,18 +2,18 @@
 use Rattle.std.proofs.Common.{◌≡◌, ℕ, ◌+◌, ◌<◌, ◌≤◌, ◌⊎◌, inl, inr, [], Bool, true, false, None, refl, ap, arith, length}
 use Rattle.std.specs.Prelude.{if◌then◌else◌}
 use Rattle.std.proofs.lemmas.List.{length-drop}
-use Rattle.ftp_client_machine.specs.Bounds.{login_left, transfer_left, job_left, to_begin, octets_left, upload_left, closes_left, still_to_give, Lowers, Pays, GivingPays, WantLowers}
-use Rattle.ftp_client_machine.specs.Calls.{moving_over, left_in, given_of, to_give, went, goes_by, gives_data}
-use Rattle.ftp_client_machine.specs.Dialogue.{has_begun, moved_on}
-use Rattle.ftp_client_machine.specs.Failing.{short, door_short, opened_short, over_short}
-use Rattle.ftp_client_machine.specs.View.{View, Job, Idle, Waiting, Doing, Moving, Told, Flow, Up, Down}
+use Rattle.ftp_client_machine.specs.Bounds.{login_left, transfer_left, job_left, to_begin, octets_left, upload_left, closes_left, still_to_give, AddsAtMost, Pays, GivingPays, ShortAddsAClose}
+use Rattle.ftp_client_machine.specs.Calls.{transfer_over, left_in, given_of, to_give, went, goes_by, gives_data}
+use Rattle.ftp_client_machine.specs.Dialogue.{has_begun, carries_on}
+use Rattle.ftp_client_machine.specs.Failing.{short, port_short, opened_short, over_short}
+use Rattle.ftp_client_machine.specs.View.{View, Job, Idle, Waiting, Doing, Transferring, Told, Flow, Sending, Receiving}
 use Rattle.ftp_client_machine.specs.declared.client.Ending.TheVariants as Endings
 use Rattle.ftp_client_machine.specs.declared.client.Failure.TheVariants as Failures
-use Rattle.ftp_client_machine.specs.declared.client.Link.{Link}
-use Rattle.ftp_client_machine.specs.declared.client.Link.TheVariants as Links
+use Rattle.ftp_client_machine.specs.declared.client.DataConnection.{DataConnection}
+use Rattle.ftp_client_machine.specs.declared.client.DataConnection.TheVariants as Data
 use Rattle.ftp_ends.proofs.Counts.{one_if}
 use Rattle.ftp_client_machine.proofs.ClientBounds.{Low, same, both, if_low, fails_low}
-use Rattle.ftp_client_machine.proofs.ClientCalls.{more_low, one_more}
+use Rattle.ftp_client_machine.proofs.ClientCalls.{carries_on_low, one_more}
 
 -- ---- octets that go out
 
@@ -31,37 +31,37 @@ none_pays count v none = record { begins = omega arith; gives = inr (omega (arit
 
 -- what may go out is of the upload
 given_if : (begun : Bool) (flow : Flow) → length (if begun then left_in flow else []) ≤ octets_left flow
-given_if true (Up left mark) = omega arith
-given_if true (Down decoder mark) = omega arith
+given_if true (Sending left mark) = omega arith
+given_if true (Receiving decoder mark) = omega arith
 given_if false flow = omega arith
 
-over_le : (link : Link) (job : Job) → length (given_of (moving_over link job)) ≤ upload_left job
-over_le Links.Open (Moving op transfer) = given_if (has_begun transfer.replied) transfer.flow
-over_le Links.Open Idle = omega arith
-over_le Links.Open (Waiting op) = omega arith
-over_le Links.Open (Doing op step) = omega arith
-over_le Links.Open (Told answer) = omega arith
-over_le Links.Free job = omega arith
-over_le Links.Asked job = omega arith
-over_le (Links.Door port) job = omega arith
-over_le (Links.Dialing endpoint) job = omega arith
-over_le (Links.Awaiting port) job = omega arith
-over_le (Links.Over ending) job = omega arith
+over_le : (connection : DataConnection) (job : Job) → length (given_of (transfer_over connection job)) ≤ upload_left job
+over_le Data.Open (Transferring op transfer) = given_if (has_begun transfer.replied) transfer.flow
+over_le Data.Open Idle = omega arith
+over_le Data.Open (Waiting op) = omega arith
+over_le Data.Open (Doing op step) = omega arith
+over_le Data.Open (Told answer) = omega arith
+over_le Data.Free job = omega arith
+over_le Data.ListenWanted job = omega arith
+over_le (Data.Listening port) job = omega arith
+over_le (Data.Connecting endpoint) job = omega arith
+over_le (Data.Accepting port) job = omega arith
+over_le (Data.Over ending) job = omega arith
 
-given_le : (closing : Bool) (link : Link) (job : Job) → length (given_of (if closing then None else moving_over link job)) ≤ upload_left job
-given_le true link job = omega arith
-given_le false link job = over_le link job
+given_le : (closing : Bool) (connection : DataConnection) (job : Job) → length (given_of (if closing then None else transfer_over connection job)) ≤ upload_left job
+given_le true connection job = omega arith
+given_le false connection job = over_le connection job
 
 went_pays : (count : ℕ) (flow : Flow) → count ≤ octets_left flow → octets_left (went count flow) + count ≤ octets_left flow
-went_pays count (Up left mark) few = omega (arith, length-drop count left, few)
-went_pays count (Down decoder mark) few = omega (arith, few)
+went_pays count (Sending left mark) few = omega (arith, length-drop count left, few)
+went_pays count (Receiving decoder mark) few = omega (arith, few)
 
 goes_pays : (count : ℕ) (job : Job) (v : View) → v.job ≡ job → count ≤ upload_left job → Pays count v (goes_by count job v)
-goes_pays count (Moving op transfer) v is few =
-    let w : View = record v { job = Moving op (record transfer { flow = went count transfer.flow }) } in
+goes_pays count (Transferring op transfer) v is few =
+    let w : View = record v { job = Transferring op (record transfer { flow = went count transfer.flow }) } in
     let here : job_left v.job ≡ transfer_left transfer.replied = ap job_left is in
     let octets : upload_left v.job ≡ octets_left transfer.flow = ap upload_left is in
-    pays_then count v w (moved_on w) (record { begins = omega (arith, here); gives = inr (omega (arith, octets, went_pays count transfer.flow few)) }) (more_low w)
+    pays_then count v w (carries_on w) (record { begins = omega (arith, here); gives = inr (omega (arith, octets, went_pays count transfer.flow few)) }) (carries_on_low w)
 goes_pays count Idle v is few = none_pays count v few
 goes_pays count (Waiting op) v is few = none_pays count v few
 goes_pays count (Doing op step) v is few = none_pays count v few
@@ -69,7 +69,7 @@ goes_pays count (Told answer) v is few = none_pays count v few
 
 data_pays : (count : ℕ) (v : View) → count ≤ length (to_give v) → Pays count v (gives_data count v)
 unfolding gives_data
-data_pays count v few = goes_pays count v.job v refl (omega (arith, few, given_le v.closing v.link v.job))
+data_pays count v few = goes_pays count v.job v refl (omega (arith, few, given_le v.closing v.connection v.job))
 
 pub giving_pays : GivingPays
 giving_pays v = record {
@@ -81,7 +81,7 @@ giving_pays v = record {
 -- ---- want of memory
 
 -- a view of which one close more stands, and which fails
-short_low : (v w : View) → w.standing ≡ v.standing → w.job ≡ v.job → w.owed ≡ v.owed → closes_left w ≤ closes_left v + 1 → Lowers 1 v (short w)
+short_low : (v w : View) → w.standing ≡ v.standing → w.job ≡ v.job → w.owed ≡ v.owed → closes_left w ≤ closes_left v + 1 → AddsAtMost 1 v (short w)
 short_low v w standing job owes closing =
     let low = fails_low w.standing Failures.Memory w in
     let login : login_left w.standing ≡ login_left v.standing = ap login_left standing in
@@ -96,43 +96,43 @@ short_low v w standing job owes closing =
     by_case (inl less) login left octets length_is = inl (omega (arith, less, login, left))
     by_case (inr few) login left octets length_is = inr (omega (arith, few, octets, length_is, closing))
 
-door_short_low : (link : Link) (port : ℕ) (v : View) → Lowers 1 v (door_short link port v)
-door_short_low Links.Asked port v = short_low v (record v { link = Links.Door port }) refl refl refl (omega arith)
-door_short_low Links.Free port v = one_more v v (same v)
-door_short_low (Links.Door before) port v = one_more v v (same v)
-door_short_low (Links.Dialing endpoint) port v = one_more v v (same v)
-door_short_low (Links.Awaiting before) port v = one_more v v (same v)
-door_short_low Links.Open port v = one_more v v (same v)
-door_short_low (Links.Over ending) port v = one_more v v (same v)
+port_short_low : (connection : DataConnection) (port : ℕ) (v : View) → AddsAtMost 1 v (port_short connection port v)
+port_short_low Data.ListenWanted port v = short_low v (record v { connection = Data.Listening port }) refl refl refl (omega arith)
+port_short_low Data.Free port v = one_more v v (same v)
+port_short_low (Data.Listening before) port v = one_more v v (same v)
+port_short_low (Data.Connecting endpoint) port v = one_more v v (same v)
+port_short_low (Data.Accepting before) port v = one_more v v (same v)
+port_short_low Data.Open port v = one_more v v (same v)
+port_short_low (Data.Over ending) port v = one_more v v (same v)
 
-opened_short_low : (link : Link) (v : View) → Lowers 1 v (opened_short link v)
-opened_short_low (Links.Dialing endpoint) v = short_low v (record v { link = Links.Open }) refl refl refl (omega arith)
-opened_short_low (Links.Awaiting port) v = short_low v (record v { link = Links.Open }) refl refl refl (omega arith)
-opened_short_low Links.Free v = one_more v v (same v)
-opened_short_low Links.Asked v = one_more v v (same v)
-opened_short_low (Links.Door port) v = one_more v v (same v)
-opened_short_low Links.Open v = one_more v v (same v)
-opened_short_low (Links.Over ending) v = one_more v v (same v)
+opened_short_low : (connection : DataConnection) (v : View) → AddsAtMost 1 v (opened_short connection v)
+opened_short_low (Data.Connecting endpoint) v = short_low v (record v { connection = Data.Open }) refl refl refl (omega arith)
+opened_short_low (Data.Accepting port) v = short_low v (record v { connection = Data.Open }) refl refl refl (omega arith)
+opened_short_low Data.Free v = one_more v v (same v)
+opened_short_low Data.ListenWanted v = one_more v v (same v)
+opened_short_low (Data.Listening port) v = one_more v v (same v)
+opened_short_low Data.Open v = one_more v v (same v)
+opened_short_low (Data.Over ending) v = one_more v v (same v)
 
-over_short_low : (link : Link) (v : View) → Low v (over_short link v)
-over_short_low Links.Open v =
-    let w : View = record v { link = Links.Over Endings.Clean } in
+over_short_low : (connection : DataConnection) (v : View) → Low v (over_short connection v)
+over_short_low Data.Open v =
+    let w : View = record v { connection = Data.Over Endings.Clean } in
     both 0 v w (short w) (record { begins = omega arith; gives = inr (omega arith) }) (fails_low v.standing Failures.Memory w)
-over_short_low Links.Free v = same v
-over_short_low Links.Asked v = same v
-over_short_low (Links.Door port) v = same v
-over_short_low (Links.Dialing endpoint) v = same v
-over_short_low (Links.Awaiting port) v = same v
-over_short_low (Links.Over ending) v = same v
+over_short_low Data.Free v = same v
+over_short_low Data.ListenWanted v = same v
+over_short_low (Data.Listening port) v = same v
+over_short_low (Data.Connecting endpoint) v = same v
+over_short_low (Data.Accepting port) v = same v
+over_short_low (Data.Over ending) v = same v
 
-if_lowers : (b : Bool) (v w : View) → Lowers 1 v w → Lowers 1 v (if b then v else w)
+if_lowers : (b : Bool) (v w : View) → AddsAtMost 1 v w → AddsAtMost 1 v (if b then v else w)
 if_lowers true v w one = one_more v v (same v)
 if_lowers false v w one = one
 
-pub want_lowers : WantLowers
+pub want_lowers : ShortAddsAClose
 want_lowers v = record {
   hearing = fails_low v.standing Failures.Memory v;
-  listening_lowers = λ port. if_lowers v.closing v (door_short v.link port v) (door_short_low v.link port v);
-  opened_lowers = if_lowers v.closing v (opened_short v.link v) (opened_short_low v.link v);
-  end_lowers = if_low v.closing v v (over_short v.link v) (same v) (over_short_low v.link v);
+  listening_lowers = λ port. if_lowers v.closing v (port_short v.connection port v) (port_short_low v.connection port v);
+  opened_lowers = if_lowers v.closing v (opened_short v.connection v) (opened_short_low v.connection v);
+  end_lowers = if_low v.closing v v (over_short v.connection v) (same v) (over_short_low v.connection v);
 }

@@ -7,9 +7,9 @@ use Rattle.ftp_client_machine.specs.Dialogue.{answered}
 use Rattle.ftp_client_machine.specs.Listing.{moment_value}
 use Rattle.ftp_client_machine.specs.Replies.{line_heard}
 use Rattle.ftp_client_machine.specs.Values.{passive_value, extended_value, quoted_value, path_value, mark_value}
-use Rattle.ftp_client_machine.specs.Rows.{ActiveDownload, ActiveReport, BrokenDownload, BrokenUpload, Endpoints, Judged, Login, LongGreeting, MarkRead, Moment, NotOpened, OtherHosts, OtherOrders, OwnCode, PassiveDownload, PassiveUpload, PassivePort, Quoted, Rename, TwoCodes, Unasked, Unsendable}
+use Rattle.ftp_client_machine.specs.Rows.{ActiveDownload, ActiveReport, BrokenDownload, BrokenUpload, Endpoints, Judged, LogsIn, LongGreeting, MarkRead, Moment, NotOpened, OtherHosts, OtherOrders, OwnCode, PassiveDownload, PassiveUpload, PassivePort, Quoted, Renames, TwoCodes, Unasked, Unsendable}
 
-pub login : Login
+pub login : LogsIn
 unfolding answered
 login = refl
 
@@ -53,7 +53,7 @@ pub unasked : Unasked
 unfolding answered starts
 unasked = (refl, refl)
 
-pub rename : Rename
+pub rename : Renames
 unfolding answered starts path_on_literals
 rename = (refl, refl)
 

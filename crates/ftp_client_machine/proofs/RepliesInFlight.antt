@@ -16,7 +16,7 @@ use Rattle.ftp_machine.specs.Machine.{after, gives}
 use Rattle.ftp_ends.specs.Ear.{Ear, quiet, ear, ear_out, ear_step}
 use Rattle.ftp_client_machine.specs.Calls.{reply_limit, line_taken, events_taken, hears_octet, hears, may_hear}
 use Rattle.ftp_client_machine.specs.Dialogue.{answered}
-use Rattle.ftp_client_machine.specs.InFlight.{HeardInPieces, OnlyHeard, IsCarried, octets_of, ReplyIsHeard, AnswerIsDropped, CodeAndTexts, RowIsHeard}
+use Rattle.ftp_client_machine.specs.InFlight.{ClientHearsInPieces, OnlyHeard, IsCarried, octets_of, ReplyIsHeard, ClientDropsAnswer, CodeAndTexts, ClientHearsRow}
 use Rattle.ftp_client_machine.specs.Replies.{Gathered, Between, Begun, GoesOn, Says, are_within, is_last, line_heard}
 use Rattle.ftp_client_machine.specs.Values.{number_within}
 use Rattle.ftp_client_machine.specs.View.{View}
@@ -26,7 +26,7 @@ use Rattle.ftp_ends.proofs.LineInFlight.{no_more, Closes, unended, line_closes, 
 
 -- ---- octets of which nothing is said
 
-pub in_pieces : HeardInPieces
+pub in_pieces : ClientHearsInPieces
 in_pieces v [] back = refl
 in_pieces v (octet ∷ front) back = in_pieces (hears_octet v octet) front back
 
@@ -274,7 +274,7 @@ reply_is_heard code texts v is rest =
       may = λ fronts backs octet cut. ap may_hear (cuts fronts backs octet cut).is;
     }
 
-pub row_is_heard : RowIsHeard
+pub row_is_heard : ClientHearsRow
 row_is_heard [] v all rest = refl
 row_is_heard ((code, texts) ∷ replies) v all rest =
     let one = reply_is_heard code texts v all.0 rest in
@@ -290,7 +290,7 @@ answer_dropped v octets rest none leads =
     silence v octets (ap (λ s. gives (ear reply_limit) s octets) rest ∙ none)
     ∙ ap (λ s. with_ear s v) (ap (λ s. after (ear reply_limit) s octets) rest ∙ leads ∙ sym rest)
 
-pub answer_is_dropped_here : AnswerIsDropped
+pub answer_is_dropped_here : ClientDropsAnswer
 answer_is_dropped_here octet v rest =
     let both = answer_is_dropped reply_limit octet in
     (answer_dropped v (255 ∷ 252 ∷ octet ∷ []) rest (both.0.front 3) both.0.rest, answer_dropped v (255 ∷ 254 ∷ octet ∷ []) rest (both.1.front 3) both.1.rest)

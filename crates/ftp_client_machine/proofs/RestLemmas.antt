@@ -5,19 +5,19 @@ use Rattle.ftp_command.specs.declared.command.Command.{Command}
 use Rattle.ftp_operation.specs.Answer.{Said, Refused, Foreign}
 use Rattle.ftp_operation.specs.declared.op.Op.{Op}
 use Rattle.ftp_endpoint.specs.declared.endpoint.Endpoint.{Endpoint}
-use Rattle.ftp_reply.specs.Lines.{Text}
+use Rattle.ftp_reply.specs.Lines.{Text, joined}
 use Rattle.ftp_ends.specs.Link.{same_host}
-use Rattle.ftp_client_machine.specs.Dialogue.{sends_if, last_job, answer_in, awaited, marked_flow, placed, goes_on, greeted, enters_with, enters, user_answered, pass_answered, set_accepted, dials, named, port_named, passive_named, joined_text, step_done, intermediate, awaits_reply, step_answered, judged, answers_by, answers_job, closes_given_by, closes_given, moved_on, with_reply, transfer_opened, noted, unless_open, before_opening, behind_opening, transfer_answered, job_answered, stand_answered, judged_reply, answered, closes, has_begun, is_given}
+use Rattle.ftp_client_machine.specs.Dialogue.{sends_if, last_job, answer_in, awaited, marked_flow, placed, goes_on, greeted, enters_with, enters, user_answered, pass_answered, set_accepted, dials, named, port_named, passive_named, step_done, intermediate, awaits_reply, step_answered, judged, answers_by, answers_job, closes_once_given_by, closes_once_given, carries_on, with_reply, transfer_opened, noted, unless_open, before_opening, behind_opening, transfer_answered, job_answered, stand_answered, judged_reply, answered, closes, has_begun, is_given}
 use Rattle.ftp_client_machine.specs.InFlight.{IsAtRest, AnsweredAtRest}
-use Rattle.ftp_client_machine.specs.Moving.{flow_of}
+use Rattle.ftp_client_machine.specs.Octets.{flow_of}
 use Rattle.ftp_client_machine.specs.Plan.{asked_settings, first_step, next_step, settings_behind, command_of, is_extended}
 use Rattle.ftp_client_machine.specs.Replies.{Verdict, Preliminary, Completion, Intermediate, Negative, Closing, Displaced, verdict_of}
 use Rattle.ftp_client_machine.specs.Values.{passive_value, extended_value, mark_value}
-use Rattle.ftp_client_machine.specs.View.{View, Job, Idle, Waiting, Doing, Moving, Told, Transfer, Flow, finishes, finishes_read, fails_by, strange}
+use Rattle.ftp_client_machine.specs.View.{View, Job, Idle, Waiting, Doing, Transferring, Told, Transfer, Flow, finishes, finishes_read, fails_by, strange}
 use Rattle.ftp_client_machine.specs.declared.client.Failure.{Failure}
 use Rattle.ftp_client_machine.specs.declared.client.Failure.TheVariants as Failures
-use Rattle.ftp_client_machine.specs.declared.client.Link.{Link}
-use Rattle.ftp_client_machine.specs.declared.client.Link.TheVariants as Links
+use Rattle.ftp_client_machine.specs.declared.client.DataConnection.{DataConnection}
+use Rattle.ftp_client_machine.specs.declared.client.DataConnection.TheVariants as Data
 use Rattle.ftp_client_machine.specs.declared.client.Replied.{Replied}
 use Rattle.ftp_client_machine.specs.declared.client.Replied.TheVariants as Replies
 use Rattle.ftp_client_machine.specs.declared.client.Standing.{Standing}
@@ -87,7 +87,7 @@ enters_with_rest : (job : Job) (v : View) → Rests v (enters_with job)
 enters_with_rest (Waiting op) v r = placed_rest op (first_step v.settings op) v r
 enters_with_rest Idle v r = r
 enters_with_rest (Doing op step) v r = r
-enters_with_rest (Moving op transfer) v r = r
+enters_with_rest (Transferring op transfer) v r = r
 enters_with_rest (Told answer) v r = r
 
 enters_rest : (v : View) → Rests v enters
@@ -115,7 +115,7 @@ set_rest : (op : Op (List ℕ)) (step : Step) (v : View) → Rests v (set_accept
 set_rest op step v r = goes_on_rest op step (record v { settings = settings_behind step v.settings (asked_settings op) }) (record { ear = r.ear; gathered = r.gathered })
 
 dials_rest : (op : Op (List ℕ)) (endpoint : Endpoint) (v : View) → Rests v (dials op endpoint)
-dials_rest op endpoint v r = goes_on_rest op Steps.Passive (record v { link = Links.Dialing endpoint }) (record { ear = r.ear; gathered = r.gathered })
+dials_rest op endpoint v r = goes_on_rest op Steps.Passive (record v { connection = Data.Connecting endpoint }) (record { ear = r.ear; gathered = r.gathered })
 
 named_rest : (endpoint : Option Endpoint) (op : Op (List ℕ)) (v : View) → Rests v (named endpoint op)
 named_rest None op v r = strange_rest v r
@@ -132,7 +132,7 @@ passive_rest false op text v r = named_rest (passive_value text) op v r
 
 completed_rest : (op : Op (List ℕ)) (step : Step) (texts : List Text) (v : View) → Rests v (step_done op step texts)
 completed_rest op Steps.Port texts v r = goes_on_rest op Steps.Port v r
-completed_rest op Steps.Passive texts v r = passive_rest (is_extended v op) op (joined_text texts) v r
+completed_rest op Steps.Passive texts v r = passive_rest (is_extended v op) op (joined texts) v r
 completed_rest op Steps.Last texts v r = tells_read_rest (answer_in op texts) v r
 completed_rest op Steps.Listen texts v r = strange_rest v r
 completed_rest op Steps.Connect texts v r = strange_rest v r
@@ -164,68 +164,68 @@ step_rest op step Displaced code texts v r = strange_rest v r
 
 -- ---- a transfer
 
-checked_by_rest : (replied : Replied) (link : Link) (op : Op (List ℕ)) (flow : Flow) (v : View) → Rests v (answers_by replied link op flow)
-checked_by_rest (Replies.Final code) (Links.Over ending) op flow v r = tells_read_rest (judged ending code op flow) v r
-checked_by_rest (Replies.Final code) Links.Free op flow v r = r
-checked_by_rest (Replies.Final code) Links.Asked op flow v r = r
-checked_by_rest (Replies.Final code) (Links.Door port) op flow v r = r
-checked_by_rest (Replies.Final code) (Links.Dialing endpoint) op flow v r = r
-checked_by_rest (Replies.Final code) (Links.Awaiting port) op flow v r = r
-checked_by_rest (Replies.Final code) Links.Open op flow v r = r
-checked_by_rest Replies.Nothing link op flow v r = r
-checked_by_rest Replies.Begun link op flow v r = r
+answers_by_rest : (replied : Replied) (connection : DataConnection) (op : Op (List ℕ)) (flow : Flow) (v : View) → Rests v (answers_by replied connection op flow)
+answers_by_rest (Replies.Final code) (Data.Over ending) op flow v r = tells_read_rest (judged ending code op flow) v r
+answers_by_rest (Replies.Final code) Data.Free op flow v r = r
+answers_by_rest (Replies.Final code) Data.ListenWanted op flow v r = r
+answers_by_rest (Replies.Final code) (Data.Listening port) op flow v r = r
+answers_by_rest (Replies.Final code) (Data.Connecting endpoint) op flow v r = r
+answers_by_rest (Replies.Final code) (Data.Accepting port) op flow v r = r
+answers_by_rest (Replies.Final code) Data.Open op flow v r = r
+answers_by_rest Replies.Nothing connection op flow v r = r
+answers_by_rest Replies.Begun connection op flow v r = r
 
-checked_rest : (job : Job) (v : View) → Rests v (answers_job job)
-checked_rest (Moving op transfer) v r = checked_by_rest transfer.replied v.link op transfer.flow v r
-checked_rest Idle v r = r
-checked_rest (Waiting op) v r = r
-checked_rest (Doing op step) v r = r
-checked_rest (Told answer) v r = r
+answers_job_rest : (job : Job) (v : View) → Rests v (answers_job job)
+answers_job_rest (Transferring op transfer) v r = answers_by_rest transfer.replied v.connection op transfer.flow v r
+answers_job_rest Idle v r = r
+answers_job_rest (Waiting op) v r = r
+answers_job_rest (Doing op step) v r = r
+answers_job_rest (Told answer) v r = r
 
 closes_rest : (v : View) → Rests v closes
 closes_rest v r = record { ear = r.ear; gathered = r.gathered }
 
-more_by_rest : (given : Bool) (link : Link) (v : View) → Rests v (closes_given_by given link)
-more_by_rest true Links.Open v r = closes_rest v r
-more_by_rest true Links.Free v r = r
-more_by_rest true Links.Asked v r = r
-more_by_rest true (Links.Door port) v r = r
-more_by_rest true (Links.Dialing endpoint) v r = r
-more_by_rest true (Links.Awaiting port) v r = r
-more_by_rest true (Links.Over ending) v r = r
-more_by_rest false link v r = r
+closes_by_rest : (given : Bool) (connection : DataConnection) (v : View) → Rests v (closes_once_given_by given connection)
+closes_by_rest true Data.Open v r = closes_rest v r
+closes_by_rest true Data.Free v r = r
+closes_by_rest true Data.ListenWanted v r = r
+closes_by_rest true (Data.Listening port) v r = r
+closes_by_rest true (Data.Connecting endpoint) v r = r
+closes_by_rest true (Data.Accepting port) v r = r
+closes_by_rest true (Data.Over ending) v r = r
+closes_by_rest false connection v r = r
 
-more_job_rest : (job : Job) (v : View) → Rests v (closes_given job)
-more_job_rest (Moving op transfer) v r = more_by_rest (has_begun transfer.replied && is_given transfer.flow) v.link v r
-more_job_rest Idle v r = r
-more_job_rest (Waiting op) v r = r
-more_job_rest (Doing op step) v r = r
-more_job_rest (Told answer) v r = r
+closes_once_rest : (job : Job) (v : View) → Rests v (closes_once_given job)
+closes_once_rest (Transferring op transfer) v r = closes_by_rest (has_begun transfer.replied && is_given transfer.flow) v.connection v r
+closes_once_rest Idle v r = r
+closes_once_rest (Waiting op) v r = r
+closes_once_rest (Doing op step) v r = r
+closes_once_rest (Told answer) v r = r
 
-more_rest : (v : View) → Rests v moved_on
-more_rest v r = checked_rest (closes_given v.job v).job (closes_given v.job v) (more_job_rest v.job v r)
+carries_on_rest : (v : View) → Rests v carries_on
+carries_on_rest v r = answers_job_rest (closes_once_given v.job v).job (closes_once_given v.job v) (closes_once_rest v.job v r)
 
 with_reply_rest : (replied : Replied) (op : Op (List ℕ)) (transfer : Transfer) (v : View) → Rests v (with_reply replied op transfer)
-with_reply_rest replied op transfer v r = more_rest (record v { job = Moving op (record transfer { replied = replied }) }) (record { ear = r.ear; gathered = r.gathered })
+with_reply_rest replied op transfer v r = carries_on_rest (record v { job = Transferring op (record transfer { replied = replied }) }) (record { ear = r.ear; gathered = r.gathered })
 
 opened_rest : (code : ℕ) (op : Op (List ℕ)) (transfer : Transfer) (v : View) → Rests v (transfer_opened code op transfer)
 opened_rest code op transfer v r =
-    let w : View = record v { link = awaited v.link } in
+    let w : View = record v { connection = awaited v.connection } in
     if_rest (code == 110) v (with_reply Replies.Begun op transfer w) r (with_reply_rest Replies.Begun op transfer w (record { ear = r.ear; gathered = r.gathered }))
 
 noted_rest : (code : ℕ) (text : Text) (op : Op (List ℕ)) (transfer : Transfer) (v : View) → Rests v (noted code text op transfer)
 noted_rest code text op transfer v r =
-    let w : View = record v { job = Moving op (record transfer { flow = marked_flow (mark_value text) transfer.flow }) } in
+    let w : View = record v { job = Transferring op (record transfer { flow = marked_flow (mark_value text) transfer.flow }) } in
     if_rest (code == 110) w v (record { ear = r.ear; gathered = r.gathered }) r
 
-unless_open_rest : (link : Link) (v : View) → Rests v (unless_open link)
-unless_open_rest Links.Open v r = r
-unless_open_rest (Links.Over ending) v r = r
-unless_open_rest Links.Free v r = closes_rest v r
-unless_open_rest Links.Asked v r = closes_rest v r
-unless_open_rest (Links.Door port) v r = closes_rest v r
-unless_open_rest (Links.Dialing endpoint) v r = closes_rest v r
-unless_open_rest (Links.Awaiting port) v r = closes_rest v r
+unless_open_rest : (connection : DataConnection) (v : View) → Rests v (unless_open connection)
+unless_open_rest Data.Open v r = r
+unless_open_rest (Data.Over ending) v r = r
+unless_open_rest Data.Free v r = closes_rest v r
+unless_open_rest Data.ListenWanted v r = closes_rest v r
+unless_open_rest (Data.Listening port) v r = closes_rest v r
+unless_open_rest (Data.Connecting endpoint) v r = closes_rest v r
+unless_open_rest (Data.Accepting port) v r = closes_rest v r
 
 before_rest : (verdict : Verdict) (code : ℕ) (op : Op (List ℕ)) (transfer : Transfer) (v : View) → Rests v (before_opening verdict code op transfer)
 before_rest Preliminary code op transfer v r = opened_rest code op transfer v r
@@ -239,7 +239,7 @@ behind_rest : (verdict : Verdict) (code : ℕ) (text : Text) (op : Op (List ℕ)
 behind_rest Preliminary code text op transfer v r = noted_rest code text op transfer v r
 behind_rest Completion code text op transfer v r = with_reply_rest (Replies.Final code) op transfer v r
 behind_rest Negative code text op transfer v r =
-    with_reply_rest (Replies.Final code) op transfer (unless_open v.link v) (unless_open_rest v.link v r)
+    with_reply_rest (Replies.Final code) op transfer (unless_open v.connection v) (unless_open_rest v.connection v r)
 behind_rest Intermediate code text op transfer v r = strange_rest v r
 behind_rest Closing code text op transfer v r = strange_rest v r
 behind_rest Displaced code text op transfer v r = strange_rest v r
@@ -254,7 +254,7 @@ transfer_rest (Replies.Final before) verdict code text op transfer v r = strange
 
 job_rest : (job : Job) (verdict : Verdict) (code : ℕ) (texts : List Text) (v : View) → Rests v (job_answered job verdict code texts)
 job_rest (Doing op step) verdict code texts v r = step_rest op step verdict code texts v r
-job_rest (Moving op transfer) verdict code texts v r = transfer_rest transfer.replied verdict code (joined_text texts) op transfer v r
+job_rest (Transferring op transfer) verdict code texts v r = transfer_rest transfer.replied verdict code (joined texts) op transfer v r
 job_rest Idle verdict code texts v r = strange_rest v r
 job_rest (Waiting op) verdict code texts v r = strange_rest v r
 job_rest (Told answer) verdict code texts v r = strange_rest v r

@@ -1,10 +1,10 @@
 -- How much a client has still to do, whatever comes of it: what is begun, and what is given. A world of both ends comes to rest by
 -- these numbers, and needs no clause of its own for it.
-use Rattle.std.specs.Prelude.{◌≡◌, ℕ, ◌+◌, ◌<◌, ◌≤◌, ◌⊎◌, true, length, if◌then◌else◌}
+use Rattle.std.specs.Prelude.{◌≡◌, ℕ, suc, ◌+◌, ◌<◌, ◌≤◌, ◌⊎◌, true, List, [], ◌∷◌, length, if◌then◌else◌}
 use Rattle.ftp_endpoint.specs.declared.host.Host.{Host}
 use Rattle.ftp_client_machine.specs.Calls.{hears_octet, listening, listen_refused, data_opened, data_refused, data_end, data_fault, receives_octet, gives_control, gives_data, to_give, data_closed, control_end}
 use Rattle.ftp_client_machine.specs.Failing.{short, listening_short, data_opened_short, data_end_short}
-use Rattle.ftp_client_machine.specs.View.{View, Job, Idle, Waiting, Doing, Moving, Told, Flow, Up, Down, stands}
+use Rattle.ftp_client_machine.specs.View.{View, Job, Idle, Waiting, Doing, Transferring, Told, Flow, Sending, Receiving, stands}
 use Rattle.ftp_client_machine.specs.declared.client.Replied.{Replied}
 use Rattle.ftp_client_machine.specs.declared.client.Replied.TheVariants as Replies
 use Rattle.ftp_client_machine.specs.declared.client.Standing.{Standing}
@@ -20,19 +20,22 @@ login_left Stands.Greeting = 2
 login_left Stands.User = 1
 login_left other = 0
 
--- what follows a step at most: TYPE by STRU, MODE, the port, PORT, REST, the command itself and its 1yz; PASV by the link, REST, the
--- command and its 1yz
+-- the steps that can follow one, in the order of `next_step`, where as many follow as can: the client listens, and sends REST
+abbrev pub steps_behind : Step → List Step
+steps_behind Steps.Kind = Steps.Structure ∷ Steps.Mode ∷ Steps.Listen ∷ Steps.Port ∷ Steps.Restart ∷ Steps.Last ∷ []
+steps_behind Steps.Structure = Steps.Mode ∷ Steps.Listen ∷ Steps.Port ∷ Steps.Restart ∷ Steps.Last ∷ []
+steps_behind Steps.Mode = Steps.Listen ∷ Steps.Port ∷ Steps.Restart ∷ Steps.Last ∷ []
+steps_behind Steps.Listen = Steps.Port ∷ Steps.Restart ∷ Steps.Last ∷ []
+steps_behind Steps.Port = Steps.Restart ∷ Steps.Last ∷ []
+steps_behind Steps.Passive = Steps.Connect ∷ Steps.Restart ∷ Steps.Last ∷ []
+steps_behind Steps.Connect = Steps.Restart ∷ Steps.Last ∷ []
+steps_behind Steps.Restart = Steps.Last ∷ []
+steps_behind Steps.Source = Steps.Last ∷ []
+steps_behind Steps.Last = []
+
+-- what follows a step: those steps, and the reply to the last
 abbrev pub steps_left : Step → ℕ
-steps_left Steps.Kind = 7
-steps_left Steps.Structure = 6
-steps_left Steps.Mode = 5
-steps_left Steps.Listen = 4
-steps_left Steps.Passive = 4
-steps_left Steps.Port = 3
-steps_left Steps.Connect = 3
-steps_left Steps.Restart = 2
-steps_left Steps.Source = 2
-steps_left Steps.Last = 0
+steps_left step = suc (length (steps_behind step))
 
 -- a transfer whose 1yz is awaited has still to begin. (An operation that sends an ABOR has that still to begin, and an upload over
 -- breaks all commands of the tries that are left.)
@@ -43,9 +46,9 @@ transfer_left other = 0
 -- of the operation: one that waits for the login has all its steps before it
 abbrev pub job_left : Job → ℕ
 job_left Idle = 0
-job_left (Waiting op) = 9
+job_left (Waiting op) = suc (steps_left Steps.Kind)
 job_left (Doing op step) = steps_left step
-job_left (Moving op transfer) = transfer_left transfer.replied
+job_left (Transferring op transfer) = transfer_left transfer.replied
 job_left (Told answer) = 0
 
 -- what is to begin of the login and of the operation
@@ -56,17 +59,17 @@ to_begin v = login_left v.standing + job_left v.job
 
 -- of what goes over the data connection, what the client has to give
 abbrev pub octets_left : Flow → ℕ
-octets_left (Up left mark) = length left
-octets_left (Down decoder mark) = 0
+octets_left (Sending left mark) = length left
+octets_left (Receiving decoder mark) = 0
 
 -- the octets of the operation under way
 abbrev pub upload_left : Job → ℕ
-upload_left (Moving op transfer) = octets_left transfer.flow
+upload_left (Transferring op transfer) = octets_left transfer.flow
 upload_left other = 0
 
 -- a close that is wanted, and one that will be when what stands is over
 abbrev pub closes_left : View → ℕ
-closes_left v = (if v.closing then 1 else 0) + (if stands v.link then 1 else 0)
+closes_left v = (if v.closing then 1 else 0) + (if stands v.connection then 1 else 0)
 
 -- control octets, data octets and closes
 abbrev pub still_to_give : View → ℕ
@@ -75,33 +78,33 @@ still_to_give v = length v.owed + upload_left v.job + closes_left v
 -- ---- the laws
 
 -- a call gives more to do only where it begins something; the answer that a Telnet octet is owed has three octets at most
-pub record Lowers (most : ℕ) (old new : View) : Type 0 where
+pub record AddsAtMost (most : ℕ) (old new : View) : Type 0 where
   pub begins : to_begin new ≤ to_begin old
   pub gives : (to_begin new < to_begin old) ⊎ (still_to_give new ≤ still_to_give old + most)
 
 -- a control octet: the answer that it may be owed has three octets
-abbrev pub HearingLowers : Type 0
-HearingLowers = (v : View) (octet : ℕ) → Lowers 3 v (hears_octet v octet)
+abbrev pub HearingAddsAnAnswer : Type 0
+HearingAddsAnAnswer = (v : View) (octet : ℕ) → AddsAtMost 3 v (hears_octet v octet)
 
 -- a data octet is owed no answer
-abbrev pub ReceivingLowers : Type 0
-ReceivingLowers = (v : View) (octet : ℕ) → Lowers 0 v (receives_octet v octet)
+abbrev pub ReceivingAddsNone : Type 0
+ReceivingAddsNone = (v : View) (octet : ℕ) → AddsAtMost 0 v (receives_octet v octet)
 
 -- so does each event of the data connection, and the end of the control connection; a port that is told, and a link that is
 -- opened, are a close more
-pub record EventsLower (v : View) : Type 0 where
-  pub listening_lowers : (port : ℕ) → Lowers 1 v (listening port v)
-  pub refused_lowers : Lowers 0 v (listen_refused v)
-  pub opened_lowers : (host : Host) → Lowers 1 v (data_opened host v)
-  pub unopened_lowers : Lowers 0 v (data_refused v)
-  pub end_lowers : Lowers 0 v (data_end v)
-  pub fault_lowers : Lowers 0 v (data_fault v)
-  pub control_end_lowers : Lowers 0 v (control_end v)
-  pub gives_lowers : (count : ℕ) → Lowers 0 v (gives_data count v)
+pub record EventsAdd (v : View) : Type 0 where
+  pub listening_lowers : (port : ℕ) → AddsAtMost 1 v (listening port v)
+  pub refused_lowers : AddsAtMost 0 v (listen_refused v)
+  pub opened_lowers : (host : Host) → AddsAtMost 1 v (data_opened host v)
+  pub unopened_lowers : AddsAtMost 0 v (data_refused v)
+  pub end_lowers : AddsAtMost 0 v (data_end v)
+  pub fault_lowers : AddsAtMost 0 v (data_fault v)
+  pub control_end_lowers : AddsAtMost 0 v (control_end v)
+  pub gives_lowers : (count : ℕ) → AddsAtMost 0 v (gives_data count v)
 
 -- however the client stands
-abbrev pub CallsLower : Type 0
-CallsLower = (v : View) → EventsLower v
+abbrev pub EventsAddAClose : Type 0
+EventsAddAClose = (v : View) → EventsAdd v
 
 -- octets that go out, and a close that is done, are so much less to be given
 pub record Pays (count : ℕ) (old new : View) : Type 0 where
@@ -119,12 +122,12 @@ abbrev pub GivingPays : Type 0
 GivingPays = (v : View) → PullsPay v
 
 -- want of memory makes no more to do either; `hear` and `data_hear` end by it behind the octets that they took
-pub record ShortLowers (v : View) : Type 0 where
-  pub hearing : Lowers 0 v (short v)
-  pub listening_lowers : (port : ℕ) → Lowers 1 v (listening_short port v)
-  pub opened_lowers : Lowers 1 v (data_opened_short v)
-  pub end_lowers : Lowers 0 v (data_end_short v)
+pub record ShortAdds (v : View) : Type 0 where
+  pub hearing : AddsAtMost 0 v (short v)
+  pub listening_lowers : (port : ℕ) → AddsAtMost 1 v (listening_short port v)
+  pub opened_lowers : AddsAtMost 1 v (data_opened_short v)
+  pub end_lowers : AddsAtMost 0 v (data_end_short v)
 
 -- however the client stands
-abbrev pub WantLowers : Type 0
-WantLowers = (v : View) → ShortLowers v
+abbrev pub ShortAddsAClose : Type 0
+ShortAddsAClose = (v : View) → ShortAdds v

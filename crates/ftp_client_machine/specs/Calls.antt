@@ -7,15 +7,15 @@ use Rattle.ftp_operation.specs.declared.op.Op.{Op}
 use Rattle.ftp_nvt.specs.Lines.{NvtEvent, line, too_long, owed}
 use Rattle.ftp_ends.specs.Ear.{ear}
 use Rattle.ftp_ends.specs.Link.{same_host}
-use Rattle.ftp_client_machine.specs.Dialogue.{begins, goes_on, answered, moved_on, has_begun}
-use Rattle.ftp_client_machine.specs.Moving.{flow_octet}
+use Rattle.ftp_client_machine.specs.Dialogue.{begins, goes_on, answered, carries_on, has_begun}
+use Rattle.ftp_client_machine.specs.Octets.{flow_octet}
 use Rattle.ftp_client_machine.specs.Replies.{Between, Heard, GoesOn, Says, Faulty, line_heard}
-use Rattle.ftp_client_machine.specs.View.{View, Job, Idle, Waiting, Doing, Moving, Told, Transfer, Flow, Up, Down, finishes, fails, failure_said, strange}
+use Rattle.ftp_client_machine.specs.View.{View, Job, Idle, Waiting, Doing, Transferring, Told, Transfer, Flow, Sending, Receiving, finishes, fails, failure_said, strange}
 use Rattle.ftp_client_machine.specs.declared.client.Ending.{Ending}
 use Rattle.ftp_client_machine.specs.declared.client.Ending.TheVariants as Endings
 use Rattle.ftp_client_machine.specs.declared.client.Failure.TheVariants as Failures
-use Rattle.ftp_client_machine.specs.declared.client.Link.{Link}
-use Rattle.ftp_client_machine.specs.declared.client.Link.TheVariants as Links
+use Rattle.ftp_client_machine.specs.declared.client.DataConnection.{DataConnection}
+use Rattle.ftp_client_machine.specs.declared.client.DataConnection.TheVariants as Data
 use Rattle.ftp_client_machine.specs.declared.client.Standing.{Standing}
 use Rattle.ftp_client_machine.specs.declared.client.Standing.TheVariants as Stands
 use Rattle.ftp_client_machine.specs.declared.client.Step.TheVariants as Steps
@@ -122,71 +122,75 @@ abbrev pub unless_closing : (View → View) → View → View
 unless_closing f v = if v.closing then v else f v
 
 -- a port is listened at: PORT names it
-abbrev pub door_by : Link → Job → ℕ → View → View
-door_by Links.Asked (Doing op Steps.Listen) port v = goes_on op Steps.Listen (record v { link = Links.Door port })
-door_by link job port v = v
+abbrev pub listening_by : DataConnection → Job → ℕ → View → View
+listening_by Data.ListenWanted (Doing op Steps.Listen) port v = goes_on op Steps.Listen (record v { connection = Data.Listening port })
+listening_by connection job port v = v
 
+-- a wanted port is there
 unfoldable pub listening : ℕ → View → View
-listening port v = unless_closing (λ v. door_by v.link v.job port v) v
+listening port v = unless_closing (λ v. listening_by v.connection v.job port v) v
 
 -- no port can be had: the operation is not opened
-abbrev pub doorless_by : Link → View → View
-doorless_by Links.Asked v = finishes Unopened v
-doorless_by link v = v
+abbrev pub no_port_by : DataConnection → View → View
+no_port_by Data.ListenWanted v = finishes Unopened v
+no_port_by connection v = v
 
+-- no port is there
 unfoldable pub listen_refused : View → View
-listen_refused v = unless_closing (λ v. doorless_by v.link v) v
+listen_refused v = unless_closing (λ v. no_port_by v.connection v) v
 
 -- the link that the client opened is there, and the next command is sent
 abbrev pub connected : Job → View → View
-connected (Doing op Steps.Connect) v = goes_on op Steps.Connect (record v { link = Links.Open })
+connected (Doing op Steps.Connect) v = goes_on op Steps.Connect (record v { connection = Data.Open })
 connected job v = v
 
 -- own choice: the link at the client's port has to come from the server's host, and another is closed
 abbrev pub accepted : Bool → View → View
-accepted true v = moved_on (record v { link = Links.Open })
-accepted false v = moved_on (record v { link = Links.Over Endings.Foreign; closing = true })
+accepted true v = carries_on (record v { connection = Data.Open })
+accepted false v = carries_on (record v { connection = Data.Over Endings.Foreign; closing = true })
 
 -- an open link is the one that the client dialled, or one at its port
-abbrev pub opened_by : Link → Host → View → View
-opened_by (Links.Dialing endpoint) host v = connected v.job v
-opened_by (Links.Awaiting port) host v = accepted (same_host host v.peer) v
-opened_by link host v = v
+abbrev pub opened_by : DataConnection → Host → View → View
+opened_by (Data.Connecting endpoint) host v = connected v.job v
+opened_by (Data.Accepting port) host v = accepted (same_host host v.peer) v
+opened_by connection host v = v
 
+-- the link is open, with this host at its other end
 unfoldable pub data_opened : Host → View → View
-data_opened host v = unless_closing (λ v. opened_by v.link host v) v
+data_opened host v = unless_closing (λ v. opened_by v.connection host v) v
 
 -- the link can't be had: before a transfer command the operation is not opened; own choice: at the client's port it counts as broken
-abbrev pub unopened_by : Link → View → View
-unopened_by (Links.Dialing endpoint) v = finishes Unopened v
-unopened_by (Links.Awaiting port) v = moved_on (record v { link = Links.Over Endings.Broken; closing = true })
-unopened_by link v = v
+abbrev pub unopened_by : DataConnection → View → View
+unopened_by (Data.Connecting endpoint) v = finishes Unopened v
+unopened_by (Data.Accepting port) v = carries_on (record v { connection = Data.Over Endings.Broken; closing = true })
+unopened_by connection v = v
 
+-- the link is not had
 unfoldable pub data_refused : View → View
-data_refused v = unless_closing (λ v. unopened_by v.link v) v
+data_refused v = unless_closing (λ v. unopened_by v.connection v) v
 
 -- a download
 abbrev pub is_down : Flow → Bool
-is_down (Up left mark) = false
-is_down (Down decoder mark) = true
+is_down (Sending left mark) = false
+is_down (Receiving decoder mark) = true
 
 -- own choice: the server's close ends a download; before the transfer command, and of an upload that still has octets, it is a break
 abbrev pub ending_of : Job → Ending
-ending_of (Moving op transfer) = if is_down transfer.flow then Endings.Clean else Endings.Broken
+ending_of (Transferring op transfer) = if is_down transfer.flow then Endings.Clean else Endings.Broken
 ending_of other = Endings.Broken
 
 -- an open link is over, in this way
-abbrev pub over_by : Link → Ending → View → View
-over_by Links.Open ending v = moved_on (record v { link = Links.Over ending })
-over_by link ending v = v
+abbrev pub over_by : DataConnection → Ending → View → View
+over_by Data.Open ending v = carries_on (record v { connection = Data.Over ending })
+over_by connection ending v = v
 
--- the server closed the open link; it broke
+-- the server closed the open link
 unfoldable pub data_end : View → View
-data_end v = unless_closing (λ v. over_by v.link (ending_of v.job) v) v
+data_end v = unless_closing (λ v. over_by v.connection (ending_of v.job) v) v
 
 -- the link broke
 unfoldable pub data_fault : View → View
-data_fault v = unless_closing (λ v. over_by v.link Endings.Broken v) v
+data_fault v = unless_closing (λ v. over_by v.connection Endings.Broken v) v
 
 -- a close that was wanted is done
 abbrev pub data_closed : View → View
@@ -196,7 +200,7 @@ data_closed v = record v { closing = false }
 
 -- one octet of a download
 abbrev pub heard_by : Job → ℕ → View → View
-heard_by (Moving op transfer) octet v = record v { job = Moving op (record transfer { flow = flow_octet transfer.flow octet }) }
+heard_by (Transferring op transfer) octet v = record v { job = Transferring op (record transfer { flow = flow_octet transfer.flow octet }) }
 heard_by job octet v = v
 
 -- one octet of the data connection
@@ -209,13 +213,13 @@ receives v [] = v
 receives v (octet ∷ octets) = receives (receives_octet v octet) octets
 
 -- the transfer whose octets go over the open link
-abbrev pub moving_over : Link → Job → Option Transfer
-moving_over Links.Open (Moving op transfer) = Some transfer
-moving_over link job = None
+abbrev pub transfer_over : DataConnection → Job → Option Transfer
+transfer_over Data.Open (Transferring op transfer) = Some transfer
+transfer_over connection job = None
 
 -- the transfer under way; none while a close is wanted
-abbrev pub moving : View → Option Transfer
-moving v = if v.closing then None else moving_over v.link v.job
+abbrev pub transfer_under_way : View → Option Transfer
+transfer_under_way v = if v.closing then None else transfer_over v.connection v.job
 
 -- it brings octets
 abbrev pub downloads : Option Transfer → Bool
@@ -224,12 +228,12 @@ downloads (Some transfer) = is_down transfer.flow
 
 -- an octet of the data connection may be taken: of a download whose command was sent, while its link is open
 abbrev pub may_receive : View → Bool
-may_receive v = downloads (moving v)
+may_receive v = downloads (transfer_under_way v)
 
 -- the octets of an upload that are still to give: only after the 1yz, while its link is open
 abbrev pub left_in : Flow → List ℕ
-left_in (Up left mark) = left
-left_in (Down decoder mark) = []
+left_in (Sending left mark) = left
+left_in (Receiving decoder mark) = []
 
 -- of a transfer that has begun
 abbrev pub given_of : Option Transfer → List ℕ
@@ -238,16 +242,16 @@ given_of (Some transfer) = if has_begun transfer.replied then left_in transfer.f
 
 -- the octets that the open link is still to carry
 abbrev pub to_give : View → List ℕ
-to_give v = given_of (moving v)
+to_give v = given_of (transfer_under_way v)
 
 -- so many of them went out; behind the last the link is to be closed
 abbrev pub went : ℕ → Flow → Flow
-went count (Up left mark) = Up (drop count left) mark
-went count (Down decoder mark) = Down decoder mark
+went count (Sending left mark) = Sending (drop count left) mark
+went count (Receiving decoder mark) = Receiving decoder mark
 
 -- of the transfer under way
 abbrev pub goes_by : ℕ → Job → View → View
-goes_by count (Moving op transfer) v = moved_on (record v { job = Moving op (record transfer { flow = went count transfer.flow }) })
+goes_by count (Transferring op transfer) v = carries_on (record v { job = Transferring op (record transfer { flow = went count transfer.flow }) })
 goes_by count job v = v
 
 -- `data_out` gave so many octets
@@ -262,16 +266,16 @@ data_wants None = Want.Nothing
 data_wants (Some transfer) = if is_down transfer.flow then Want.Receive else (if has_begun transfer.replied then Want.Send else Want.Nothing)
 
 -- what each state of the data connection asks of who owns it
-abbrev pub link_wants : Link → View → Wants
-link_wants Links.Asked v = Want.Listen
-link_wants (Links.Dialing endpoint) v = Want.Connect endpoint
-link_wants (Links.Awaiting port) v = Want.Accept
-link_wants Links.Open v = data_wants (moving v)
+abbrev pub link_wants : DataConnection → View → Wants
+link_wants Data.ListenWanted v = Want.Listen
+link_wants (Data.Connecting endpoint) v = Want.Connect endpoint
+link_wants (Data.Accepting port) v = Want.Accept
+link_wants Data.Open v = data_wants (transfer_under_way v)
 link_wants other v = Want.Nothing
 
 -- own choice: a close before all others; after a failure the control connection is done with
 unfoldable pub wants : View → Wants
-wants v = if v.closing then Want.CloseData else (if is_sound v.standing then link_wants v.link v else Want.CloseAll)
+wants v = if v.closing then Want.CloseData else (if is_sound v.standing then link_wants v.connection v else Want.CloseAll)
 
 -- ---- how many octets a call may take or give
 

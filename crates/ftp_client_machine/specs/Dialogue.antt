@@ -14,16 +14,16 @@ use Rattle.ftp_reply.specs.Lines.{Text, joined}
 use Rattle.ftp_ends.specs.Decoder.{is_whole, ended}
 use Rattle.ftp_ends.specs.Link.{same_host}
 use Rattle.ftp_client_machine.specs.Listing.{moment_value, facts_in}
-use Rattle.ftp_client_machine.specs.Moving.{flow_of, content_answer, broken_answer}
+use Rattle.ftp_client_machine.specs.Octets.{flow_of, content_answer, broken_answer}
 use Rattle.ftp_client_machine.specs.Plan.{asked_settings, first_step, next_step, settings_behind, command_of, is_extended}
 use Rattle.ftp_client_machine.specs.Replies.{Verdict, Preliminary, Completion, Intermediate, Negative, Closing, Displaced, verdict_of}
 use Rattle.ftp_client_machine.specs.Values.{passive_value, extended_value, path_value, number_value, mark_value}
-use Rattle.ftp_client_machine.specs.View.{View, Job, Waiting, Doing, Moving, Transfer, Flow, Up, Down, stands, finishes, finishes_read, fails, strange}
+use Rattle.ftp_client_machine.specs.View.{View, Job, Waiting, Doing, Transferring, Transfer, Flow, Sending, Receiving, stands, finishes, finishes_read, fails, strange}
 use Rattle.ftp_client_machine.specs.declared.client.Ending.{Ending}
 use Rattle.ftp_client_machine.specs.declared.client.Ending.TheVariants as Endings
 use Rattle.ftp_client_machine.specs.declared.client.Failure.TheVariants as Failures
-use Rattle.ftp_client_machine.specs.declared.client.Link.{Link}
-use Rattle.ftp_client_machine.specs.declared.client.Link.TheVariants as Links
+use Rattle.ftp_client_machine.specs.declared.client.DataConnection.{DataConnection}
+use Rattle.ftp_client_machine.specs.declared.client.DataConnection.TheVariants as Data
 use Rattle.ftp_client_machine.specs.declared.client.Replied.{Replied}
 use Rattle.ftp_client_machine.specs.declared.client.Replied.TheVariants as Replies
 use Rattle.ftp_client_machine.specs.declared.client.Standing.{Standing}
@@ -45,11 +45,11 @@ sends_if (Some command) v = sends command v
 -- with its own command an operation's transfer begins, where it has one
 abbrev pub last_job : Op (List ℕ) → Option Flow → Job
 last_job op None = Doing op Steps.Last
-last_job op (Some flow) = Moving op (record { replied = Replies.Nothing; flow = flow })
+last_job op (Some flow) = Transferring op (record { replied = Replies.Nothing; flow = flow })
 
 -- an operation at a step: its command is sent, or a port is wanted
 abbrev pub placed : Op (List ℕ) → Step → View → View
-placed op Steps.Listen v = record v { job = Doing op Steps.Listen; link = Links.Asked }
+placed op Steps.Listen v = record v { job = Doing op Steps.Listen; connection = Data.ListenWanted }
 placed op Steps.Last v = sends_if (command_of v op Steps.Last) (record v { job = last_job op (flow_of op) })
 placed op step v = sends_if (command_of v op step) (record v { job = Doing op step })
 
@@ -93,16 +93,13 @@ pass_answered other v = strange v
 
 -- ---- an answer at a step
 
--- the text of a reply: its lines joined by LF
-abbrev pub joined_text : List Text → Text
-joined_text texts = joined texts
-
--- what an operation's own command is answered: a row an operation, and none where the text has no value that is asked for
+-- what an operation's own command is answered, a row an operation: a value in the reply's lines, joined by LF; none where the text
+-- has no value that is asked for
 abbrev pub answer_in : Op (List ℕ) → List Text → Option Said
-answer_in Ops.Where texts = option_map Path (path_value (joined_text texts))
-answer_in (Ops.MakeDir path) texts = option_map Path (path_value (joined_text texts))
-answer_in (Ops.Size path how) texts = option_map Number (number_value (joined_text texts))
-answer_in (Ops.Modified path) texts = option_map Stamp (moment_value (joined_text texts))
+answer_in Ops.Where texts = option_map Path (path_value (joined texts))
+answer_in (Ops.MakeDir path) texts = option_map Path (path_value (joined texts))
+answer_in (Ops.Size path how) texts = option_map Number (number_value (joined texts))
+answer_in (Ops.Modified path) texts = option_map Stamp (moment_value (joined texts))
 answer_in (Ops.Facts path) texts = option_map Entry (facts_in texts)
 answer_in other texts = Some Done
 
@@ -112,7 +109,7 @@ set_accepted op step v = goes_on op step (record v { settings = settings_behind 
 
 -- the link is to be opened to an endpoint
 abbrev pub dials : Op (List ℕ) → Endpoint → View → View
-dials op endpoint v = goes_on op Steps.Passive (record v { link = Links.Dialing endpoint })
+dials op endpoint v = goes_on op Steps.Passive (record v { connection = Data.Connecting endpoint })
 
 -- the endpoint of a 227 has to be on the server's host: own choice, no other is contacted
 abbrev pub named : Option Endpoint → Op (List ℕ) → View → View
@@ -132,7 +129,7 @@ passive_named false op text v = named (passive_value text) op v
 -- a 2yz at a step: a row a step
 abbrev pub step_done : Op (List ℕ) → Step → List Text → View → View
 step_done op Steps.Port texts v = goes_on op Steps.Port v
-step_done op Steps.Passive texts v = passive_named (is_extended v op) op (joined_text texts) v
+step_done op Steps.Passive texts v = passive_named (is_extended v op) op (joined texts) v
 step_done op Steps.Last texts v = finishes_read (answer_in op texts) v
 step_done op Steps.Listen texts v = strange v
 step_done op Steps.Connect texts v = strange v
@@ -171,9 +168,9 @@ refusal_answer code flow = if code == 425 then Unopened else (if code == 426 the
 
 -- after a clean end: an upload is done, and a download is whole, or counts as broken
 abbrev pub whole_answer : Op (List ℕ) → Flow → Option Said
-whole_answer op (Up left mark) = Some Done
-whole_answer op (Down decoder mark) =
-    if is_whole decoder then content_answer op (ended decoder).content else Some (broken_answer (Down decoder mark))
+whole_answer op (Sending left mark) = Some Done
+whole_answer op (Receiving decoder mark) =
+    if is_whole decoder then content_answer op (ended decoder).content else Some (broken_answer (Receiving decoder mark))
 
 -- after a 2yz, by the link's end
 abbrev pub ended_answer : Ending → Op (List ℕ) → Flow → Option Said
@@ -192,13 +189,13 @@ judged Endings.Foreign code op flow = Some Foreign
 judged ending code op flow = if is_refusal code then Some (refusal_answer code flow) else ended_answer ending op flow
 
 -- it is answered when its final reply and its link's end are both in
-abbrev pub answers_by : Replied → Link → Op (List ℕ) → Flow → View → View
-answers_by (Replies.Final code) (Links.Over ending) op flow v = finishes_read (judged ending code op flow) v
-answers_by replied link op flow v = v
+abbrev pub answers_by : Replied → DataConnection → Op (List ℕ) → Flow → View → View
+answers_by (Replies.Final code) (Data.Over ending) op flow v = finishes_read (judged ending code op flow) v
+answers_by replied connection op flow v = v
 
 -- of the transfer under way
 abbrev pub answers_job : Job → View → View
-answers_job (Moving op transfer) v = answers_by transfer.replied v.link op transfer.flow v
+answers_job (Transferring op transfer) v = answers_by transfer.replied v.connection op transfer.flow v
 answers_job job v = v
 
 -- the answer of a transfer stands as soon as both are in
@@ -207,7 +204,7 @@ answers_once_over v = answers_job v.job v
 
 -- the client's own end of a link: what stands is to be closed
 abbrev pub closes : View → View
-closes v = record v { link = Links.Over Endings.Ours; closing = v.closing || stands v.link }
+closes v = record v { connection = Data.Over Endings.Ours; closing = v.closing || stands v.connection }
 
 -- a transfer that has begun closes the open link of an upload once all is given
 abbrev pub has_begun : Replied → Bool
@@ -216,52 +213,52 @@ has_begun other = true
 
 -- all octets of an upload are out; of a download there are none to give
 abbrev pub is_given : Flow → Bool
-is_given (Up [] mark) = true
-is_given (Up (octet ∷ left) mark) = false
-is_given (Down decoder mark) = false
+is_given (Sending [] mark) = true
+is_given (Sending (octet ∷ left) mark) = false
+is_given (Receiving decoder mark) = false
 
 -- an upload ends by the client's close (RFC 959, section 3.4.1)
-abbrev pub closes_given_by : Bool → Link → View → View
-closes_given_by true Links.Open v = closes v
-closes_given_by given link v = v
+abbrev pub closes_once_given_by : Bool → DataConnection → View → View
+closes_once_given_by true Data.Open v = closes v
+closes_once_given_by given connection v = v
 
 -- of the transfer under way
-abbrev pub closes_given : Job → View → View
-closes_given (Moving op transfer) v = closes_given_by (has_begun transfer.replied && is_given transfer.flow) v.link v
-closes_given job v = v
+abbrev pub closes_once_given : Job → View → View
+closes_once_given (Transferring op transfer) v = closes_once_given_by (has_begun transfer.replied && is_given transfer.flow) v.connection v
+closes_once_given job v = v
 
 -- what follows of where a transfer stands: the close of an upload, and the answer
-abbrev pub moved_on : View → View
-moved_on v = answers_once_over (closes_given v.job v)
+abbrev pub carries_on : View → View
+carries_on v = answers_once_over (closes_once_given v.job v)
 
 -- a transfer's replies change
 abbrev pub with_reply : Replied → Op (List ℕ) → Transfer → View → View
-with_reply replied op transfer v = moved_on (record v { job = Moving op (record transfer { replied = replied }) })
+with_reply replied op transfer v = carries_on (record v { job = Transferring op (record transfer { replied = replied }) })
 
 -- after the 1yz the server is awaited at the port
-abbrev pub awaited : Link → Link
-awaited (Links.Door port) = Links.Awaiting port
+abbrev pub awaited : DataConnection → DataConnection
+awaited (Data.Listening port) = Data.Accepting port
 awaited other = other
 
 -- a 1yz opens the transfer; own choice: a 110 doesn't
 abbrev pub transfer_opened : ℕ → Op (List ℕ) → Transfer → View → View
-transfer_opened code op transfer v = if code == 110 then v else with_reply Replies.Begun op transfer (record v { link = awaited v.link })
+transfer_opened code op transfer v = if code == 110 then v else with_reply Replies.Begun op transfer (record v { connection = awaited v.connection })
 
 -- a 110 of an upload tells its mmmm; one without a mark is passed over, and so is any further 1yz (own choice)
 abbrev pub marked_flow : Option ℕ → Flow → Flow
-marked_flow (Some mark) (Up left before) = Up left (Some mark)
+marked_flow (Some mark) (Sending left before) = Sending left (Some mark)
 marked_flow read flow = flow
 
 -- a 110 during a transfer is noted, and any other 1yz is passed over
 abbrev pub noted : ℕ → Text → Op (List ℕ) → Transfer → View → View
 noted code text op transfer v =
-    if code == 110 then record v { job = Moving op (record transfer { flow = marked_flow (mark_value text) transfer.flow }) } else v
+    if code == 110 then record v { job = Transferring op (record transfer { flow = marked_flow (mark_value text) transfer.flow }) } else v
 
 -- a refusal ends the wait for a link that never opened
-abbrev pub unless_open : Link → View → View
-unless_open Links.Open v = v
-unless_open (Links.Over ending) v = v
-unless_open link v = closes v
+abbrev pub unless_open : DataConnection → View → View
+unless_open Data.Open v = v
+unless_open (Data.Over ending) v = v
+unless_open connection v = closes v
 
 -- before its 1yz a transfer is refused or begins; a 2yz or 3yz has no place
 abbrev pub before_opening : Verdict → ℕ → Op (List ℕ) → Transfer → View → View
@@ -273,7 +270,7 @@ before_opening other code op transfer v = strange v
 abbrev pub behind_opening : Verdict → ℕ → Text → Op (List ℕ) → Transfer → View → View
 behind_opening Preliminary code text op transfer v = noted code text op transfer v
 behind_opening Completion code text op transfer v = with_reply (Replies.Final code) op transfer v
-behind_opening Negative code text op transfer v = with_reply (Replies.Final code) op transfer (unless_open v.link v)
+behind_opening Negative code text op transfer v = with_reply (Replies.Final code) op transfer (unless_open v.connection v)
 behind_opening other code text op transfer v = strange v
 
 -- nobody waits for a reply behind the final one
@@ -287,7 +284,7 @@ transfer_answered (Replies.Final before) verdict code text op transfer v = stran
 -- a reply that comes while an operation is under way, or that nobody waits for
 abbrev pub job_answered : Job → Verdict → ℕ → List Text → View → View
 job_answered (Doing op step) verdict code texts v = step_answered op step verdict code texts v
-job_answered (Moving op transfer) verdict code texts v = transfer_answered transfer.replied verdict code (joined_text texts) op transfer v
+job_answered (Transferring op transfer) verdict code texts v = transfer_answered transfer.replied verdict code (joined texts) op transfer v
 job_answered other verdict code texts v = strange v
 
 -- who is answered: the greeting, USER, PASS, or the operation under way

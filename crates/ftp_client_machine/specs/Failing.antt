@@ -8,29 +8,29 @@ use Rattle.ftp_client_machine.specs.Calls.{hears, receives, starts, is_sound, un
 use Rattle.ftp_client_machine.specs.View.{View, Waiting, fails}
 use Rattle.ftp_client_machine.specs.declared.client.Ending.TheVariants as Endings
 use Rattle.ftp_client_machine.specs.declared.client.Failure.TheVariants as Failures
-use Rattle.ftp_client_machine.specs.declared.client.Link.{Link}
-use Rattle.ftp_client_machine.specs.declared.client.Link.TheVariants as Links
+use Rattle.ftp_client_machine.specs.declared.client.DataConnection.{DataConnection}
+use Rattle.ftp_client_machine.specs.declared.client.DataConnection.TheVariants as Data
 
 -- the client is short of memory: it has failed for good
 abbrev pub short : View → View
 short v = fails Failures.Memory v
 
--- the octets before one were taken, each of which could be when its turn came, and at that one a growth was refused; the octet
--- itself counts as taken or not
-pub record ShortAt (May : View → List ℕ → ℕ → Type 0) (takes : View → List ℕ → View) (old : View) (piece : List ℕ) (count : ℕ) (new : View) : Type 0 where
+-- `hear` ended short: the octets before one were heard, each of which could be when its turn came, and at that one a growth was
+-- refused; that octet counts as taken or not
+pub record HearsShort (old : View) (piece : List ℕ) (count : ℕ) (new : View) : Type 0 where
   pub taken : ℕ
   pub least : taken ≤ count
   pub most : count ≤ taken + 1
-  pub may : May old piece count
-  pub is : new ≡ short (takes old (take taken piece))
+  pub may : MayHear old piece taken
+  pub is : new ≡ short (hears old (take taken piece))
 
--- of `hear` and of `data_hear`, which took so many octets of a piece
-abbrev pub HearsShort : View → List ℕ → ℕ → View → Type 0
-HearsShort = ShortAt MayHear hears
-
--- of `data_hear`
-abbrev pub ReceivesShort : View → List ℕ → ℕ → View → Type 0
-ReceivesShort = ShortAt MayReceive receives
+-- so did `data_hear`
+pub record ReceivesShort (old : View) (piece : List ℕ) (count : ℕ) (new : View) : Type 0 where
+  pub taken : ℕ
+  pub least : taken ≤ count
+  pub most : count ≤ taken + 1
+  pub may : MayReceive old piece taken
+  pub is : new ≡ short (receives old (take taken piece))
 
 -- of a start: only of an operation that can be sent, by a client that has not failed; else it is as if no growth had been refused
 abbrev pub starts_short : Op (List ℕ) → View → View
@@ -38,45 +38,56 @@ starts_short op v = if can_be_sent op && is_sound v.standing then short (record 
 
 -- of the calls that send a command where the client waits for them: its data connection is where it was told to be; a call that
 -- the client has no use for changes nothing
-abbrev pub door_short : Link → ℕ → View → View
-door_short Links.Asked port v = short (record v { link = Links.Door port })
-door_short link port v = v
+abbrev pub port_short : DataConnection → ℕ → View → View
+port_short Data.ListenWanted port v = short (record v { connection = Data.Listening port })
+port_short connection port v = v
 
 -- of `listening`
 abbrev pub listening_short : ℕ → View → View
-listening_short port v = unless_closing (λ v. door_short v.link port v) v
+listening_short port v = unless_closing (λ v. port_short v.connection port v) v
 
 -- the link that was dialled or awaited is open, and the command behind it could not be made
-abbrev pub opened_short : Link → View → View
-opened_short (Links.Dialing endpoint) v = short (record v { link = Links.Open })
-opened_short (Links.Awaiting port) v = short (record v { link = Links.Open })
-opened_short link v = v
+abbrev pub opened_short : DataConnection → View → View
+opened_short (Data.Connecting endpoint) v = short (record v { connection = Data.Open })
+opened_short (Data.Accepting port) v = short (record v { connection = Data.Open })
+opened_short connection v = v
 
 -- of `data_opened`
 abbrev pub data_opened_short : View → View
-data_opened_short v = unless_closing (λ v. opened_short v.link v) v
+data_opened_short v = unless_closing (λ v. opened_short v.connection v) v
 
 -- of the end of the data connection, where the entries or names of a listing are made: the link is gone
-abbrev pub over_short : Link → View → View
-over_short Links.Open v = short (record v { link = Links.Over Endings.Clean })
-over_short link v = v
+abbrev pub over_short : DataConnection → View → View
+over_short Data.Open v = short (record v { connection = Data.Over Endings.Clean })
+over_short connection v = v
 
 -- of `data_end`
 abbrev pub data_end_short : View → View
-data_end_short v = unless_closing (λ v. over_short v.link v) v
+data_end_short v = unless_closing (λ v. over_short v.connection v) v
 
--- ---- a call's clause, where it may be short of memory
+-- ---- a call's clause
 
--- the count of refused growths stayed, and the client is what the call makes of it; or it changed, and the client is short
-abbrev pub Acts : (before after : ℕ) → (new step short : View) → Type 0
-Acts before after new step short = (after ≡ before → new ≡ step) × (after ≢ before → new ≡ short)
+-- a client as a call finds and leaves it: what it holds, and how many growths were refused to it; the count moves on by wrapping
+pub record Counted : Type 0 where
+  pub view : View
+  pub refusals : ℕ
 
--- the same of a call that takes octets, each of which could be taken when its turn came
-abbrev pub Heard : (before after : ℕ) → (old : View) → (piece : List ℕ) → (count : ℕ) → (new : View) → Type 0
-Heard before after old piece count new =
-    (after ≡ before → (new ≡ hears old (take count piece)) × MayHear old piece count) × (after ≢ before → HearsShort old piece count new)
+-- a call that takes no memory: the client holds this, and the count stays
+abbrev pub Holds : (old new : Counted) → View → Type 0
+Holds old new view = (new.view ≡ view) × (new.refusals ≡ old.refusals)
 
--- of `data_hear`
-abbrev pub Received : (before after : ℕ) → (old : View) → (piece : List ℕ) → (count : ℕ) → (new : View) → Type 0
-Received before after old piece count new =
-    (after ≡ before → (new ≡ receives old (take count piece)) × MayReceive old piece count) × (after ≢ before → ReceivesShort old piece count new)
+-- a call that may take some: the count stayed, and the client holds the first; or it changed, and the client holds the second
+abbrev pub HoldsIfRoom : (old new : Counted) → (view short : View) → Type 0
+HoldsIfRoom old new view short = (new.refusals ≡ old.refusals → new.view ≡ view) × (new.refusals ≢ old.refusals → new.view ≡ short)
+
+-- `hear` took so many octets of a piece, each of which could be taken when its turn came
+abbrev pub HearsIfRoom : (old new : Counted) → (piece : List ℕ) → (count : ℕ) → Type 0
+HearsIfRoom old new piece count =
+    (new.refusals ≡ old.refusals → (new.view ≡ hears old.view (take count piece)) × MayHear old.view piece count)
+    × (new.refusals ≢ old.refusals → HearsShort old.view piece count new.view)
+
+-- so did `data_hear`
+abbrev pub ReceivesIfRoom : (old new : Counted) → (piece : List ℕ) → (count : ℕ) → Type 0
+ReceivesIfRoom old new piece count =
+    (new.refusals ≡ old.refusals → (new.view ≡ receives old.view (take count piece)) × MayReceive old.view piece count)
+    × (new.refusals ≢ old.refusals → ReceivesShort old.view piece count new.view)

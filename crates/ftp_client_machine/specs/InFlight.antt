@@ -15,8 +15,8 @@ use Rattle.ftp_client_machine.specs.View.{View}
 use Rattle.ftp_ends.specs.Reply.{reply_octets}
 
 -- octets are heard alike in any pieces
-abbrev pub HeardInPieces : Type 0
-HeardInPieces = (v : View) (front back : List ℕ) → hears v (front ++ back) ≡ hears (hears v front) back
+abbrev pub ClientHearsInPieces : Type 0
+ClientHearsInPieces = (v : View) (front back : List ℕ) → hears v (front ++ back) ≡ hears (hears v front) back
 
 -- nothing was answered yet: only the ear has heard, and the reader of replies has gathered lines
 pub record OnlyHeard (old new : View) : Type 0 where
@@ -57,8 +57,8 @@ abbrev pub ReplyIsHeard : Type 0
 ReplyIsHeard = (code : ℕ) (texts : List Text) (v : View) → IsWritten code texts → IsAtRest v → HearsReply code texts v
 
 -- an answer to a Telnet octet changes nothing
-abbrev pub AnswerIsDropped : Type 0
-AnswerIsDropped =
+abbrev pub ClientDropsAnswer : Type 0
+ClientDropsAnswer =
     (octet : ℕ) (v : View) → v.ear ≡ quiet → (hears v (answer_of WONT octet) ≡ v) × (hears v (answer_of DONT octet) ≡ v)
 
 -- what a reply does leaves the client between two replies, so that a row of them is heard one after another
@@ -77,7 +77,7 @@ answered_all [] v = v
 answered_all ((code, texts) ∷ replies) v = answered_all replies (answered code texts v)
 
 -- every row of replies is heard reply by reply
-abbrev pub RowIsHeard : Type 0
-RowIsHeard =
+abbrev pub ClientHearsRow : Type 0
+ClientHearsRow =
     (replies : List CodeAndTexts) (v : View) → AllByRecursion (λ reply. IsWritten reply.0 reply.1) replies → IsAtRest v
     → hears v (flat_map (λ reply. octets_of reply.0 reply.1) replies) ≡ answered_all replies v

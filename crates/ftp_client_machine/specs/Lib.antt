@@ -4,7 +4,7 @@ pub mod Listing
 pub mod Replies
 pub mod View
 pub mod Plan
-pub mod Moving
+pub mod Octets
 pub mod Dialogue
 pub mod Calls
 pub mod InFlight

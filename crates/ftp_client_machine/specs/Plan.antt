@@ -1,5 +1,5 @@
 -- An operation as the commands that it sends, one after the reply to the other (RFC 959, sections 4.1 and 5.4; RFC 2428; RFC 3659).
-use Rattle.std.specs.Prelude.{ℕ, Bool, true, false, ◌||◌, List, [], ◌∷◌, Option, Some, None, if◌then◌else◌}
+use Rattle.std.specs.Prelude.{ℕ, Bool, false, ◌||◌, List, [], ◌∷◌, Option, Some, None, if◌then◌else◌}
 use Rattle.ftp_command.specs.declared.command.Command.{Command}
 use Rattle.ftp_command.specs.declared.command.Command.TheVariants as Commands
 use Rattle.ftp_command.specs.declared.command.Passive.TheVariants as Passives
@@ -14,8 +14,8 @@ use Rattle.ftp_representation.specs.declared.representation.Structure.TheVariant
 use Rattle.ftp_representation.specs.Representation.{same_kind, same_structure, same_mode}
 use Rattle.ftp_ends.specs.Link.{is_v6}
 use Rattle.ftp_client_machine.specs.View.{View}
-use Rattle.ftp_client_machine.specs.declared.client.Link.{Link}
-use Rattle.ftp_client_machine.specs.declared.client.Link.TheVariants as Links
+use Rattle.ftp_client_machine.specs.declared.client.DataConnection.{DataConnection}
+use Rattle.ftp_client_machine.specs.declared.client.DataConnection.TheVariants as Data
 use Rattle.ftp_client_machine.specs.declared.client.Step.{Step}
 use Rattle.ftp_client_machine.specs.declared.client.Step.TheVariants as Steps
 use Rattle.ftp_representation.specs.declared.representation.Representation.{Representation}
@@ -139,13 +139,13 @@ abbrev pub is_extended : View → Op (List ℕ) → Bool
 is_extended v op = asks_extended (how_of op) || is_v6 v.peer
 
 -- the port that is listened at
-abbrev pub door_of : Link → ℕ
-door_of (Links.Door port) = port
-door_of other = 0
+abbrev pub port_of : DataConnection → ℕ
+port_of (Data.Listening port) = port
+port_of other = 0
 
 -- the endpoint that PORT or EPRT names
-abbrev pub door_endpoint : View → Endpoint
-door_endpoint v = record { host = v.here; port = door_of v.link }
+abbrev pub own_endpoint : View → Endpoint
+own_endpoint v = record { host = v.here; port = port_of v.connection }
 
 -- PORT or EPRT
 abbrev pub port_command : Bool → Endpoint → Command (List ℕ)
@@ -208,7 +208,7 @@ command_of v op Steps.Kind = set_command Steps.Kind (asked_settings op)
 command_of v op Steps.Structure = set_command Steps.Structure (asked_settings op)
 command_of v op Steps.Mode = set_command Steps.Mode (asked_settings op)
 command_of v op Steps.Listen = None
-command_of v op Steps.Port = Some (port_command (is_extended v op) (door_endpoint v))
+command_of v op Steps.Port = Some (port_command (is_extended v op) (own_endpoint v))
 command_of v op Steps.Passive = Some (passive_command (is_extended v op))
 command_of v op Steps.Connect = None
 command_of v op Steps.Restart = restart_command (offset_of op)

@@ -26,19 +26,19 @@ use Rattle.ftp_ends.specs.declared.link.Wants.TheVariants as Want
 -- ---- how a row is written
 
 -- what happens to a client: an operation is begun, a reply of one line comes, a call
-pub data Event : Type 0 where
-  asks : (op : Op (List ℕ)) → Event
-  replied : (code : ℕ) → (text : List ℕ) → Event
-  port : (number : ℕ) → Event
-  no_port : Event
-  opened : (host : Host) → Event
-  refused : Event
-  octets : (came : List ℕ) → Event
-  given : (count : ℕ) → Event
-  ended broken : Event
+pub data Happening : Type 0 where
+  asks : (op : Op (List ℕ)) → Happening
+  replied : (code : ℕ) → (text : List ℕ) → Happening
+  port : (number : ℕ) → Happening
+  no_port : Happening
+  opened : (host : Host) → Happening
+  refused : Happening
+  octets : (came : List ℕ) → Happening
+  given : (count : ℕ) → Happening
+  ended broken : Happening
 
 -- each event is one call of the client
-abbrev pub happens : Event → View → View
+abbrev pub happens : Happening → View → View
 happens (asks op) v = starts op v
 happens (replied code text) v = answered code (text ∷ []) v
 happens (port number) v = listening number v
@@ -51,40 +51,43 @@ happens ended v = data_end v
 happens broken v = data_fault v
 
 -- events, one after another
-abbrev pub behind : List Event → View → View
-behind [] v = v
-behind (event ∷ events) v = behind events (happens event v)
+abbrev pub after_all : List Happening → View → View
+after_all [] v = v
+after_all (event ∷ events) v = after_all events (happens event v)
 
 -- a client as it begins, and one that is logged in and whose commands went out
 abbrev pub guest : View
 guest = client (codes "guest") (codes "secret") here here
 
 -- the greeting, 331 and 230
-abbrev pub login_events : List Event
+abbrev pub login_events : List Happening
 login_events = replied 220 (codes "Ready") ∷ replied 331 (codes "Password needed") ∷ replied 230 (codes "Logged in") ∷ []
 
 -- a client that is logged in, with nothing owed
 abbrev pub entered : View
-entered = record (behind login_events guest) { owed = [] }
+entered = record (after_all login_events guest) { owed = [] }
 
--- what a client that is logged in owes, wants, gives and has to report behind some events
-abbrev pub sent : List Event → List ℕ
-sent events = (behind events entered).owed
+-- what a client that is logged in owes behind some events
+abbrev pub sent : List Happening → List ℕ
+sent events = (after_all events entered).owed
 
-abbrev pub wanted : List Event → Wants
-wanted events = wants (behind events entered)
+-- what it wants of the connections
+abbrev pub wanted : List Happening → Wants
+wanted events = wants (after_all events entered)
 
-abbrev pub gives : List Event → List ℕ
-gives events = to_give (behind events entered)
+-- what its data connection is still to carry
+abbrev pub gives : List Happening → List ℕ
+gives events = to_give (after_all events entered)
 
-abbrev pub reported : List Event → Option Said
-reported events = report_of (behind events entered)
+-- what it has to report
+abbrev pub reported : List Happening → Option Said
+reported events = report_of (after_all events entered)
 
 -- ---- the login (RFC 959, section 5.4)
 
 -- the greeting is answered with USER, and a 331 with PASS
-abbrev pub Login : Type 0
-Login = (behind login_events guest).owed ≡ lines (codes "USER guest" ∷ codes "PASS secret" ∷ [])
+abbrev pub LogsIn : Type 0
+LogsIn = (after_all login_events guest).owed ≡ lines (codes "USER guest" ∷ codes "PASS secret" ∷ [])
 
 -- a greeting of several lines is one reply, octet by octet
 abbrev pub LongGreeting : Type 0
@@ -92,10 +95,11 @@ LongGreeting = (hears guest (lines (codes "220-a" ∷ codes "220 b" ∷ []))).ow
 
 -- ---- what replies say
 
--- six numbers are an endpoint, in parentheses or not (RFC 1123, section 4.1.2.6)
+-- 7 times 256 and 138
 abbrev pub endpoint_1930 : Option Endpoint
 endpoint_1930 = Some (record { host = here; port = 1930 })
 
+-- six numbers are an endpoint, in parentheses or not (RFC 1123, section 4.1.2.6)
 abbrev pub Endpoints : Type 0
 Endpoints =
     (passive_value (codes "Entering (127,0,0,1,7,138)") ≡ endpoint_1930)
@@ -157,15 +161,16 @@ Moment = reported (asks (Ops.Modified (codes "f")) ∷ replied 213 (codes "20000
 -- a reply that nobody waits for is strange, and every later operation answers so
 abbrev pub Unasked : Type 0
 Unasked =
-    ((behind (replied 226 [] ∷ []) entered).standing ≡ Stands.Failed Failures.Strange)
+    ((after_all (replied 226 [] ∷ []) entered).standing ≡ Stands.Failed Failures.Strange)
     × (reported (replied 226 [] ∷ asks Ops.Up ∷ []) ≡ Some Strange)
 
--- RNFR wants a 3yz, and RNTO follows it (RFC 959, section 4.1.3)
-abbrev pub rename_events : List Event
+-- a rename, 350 and 250
+abbrev pub rename_events : List Happening
 rename_events = asks (Ops.Rename (codes "f") (codes "g")) ∷ replied 350 [] ∷ replied 250 [] ∷ []
 
-abbrev pub Rename : Type 0
-Rename = (sent rename_events ≡ lines (codes "RNFR f" ∷ codes "RNTO g" ∷ [])) × (reported rename_events ≡ Some Done)
+-- RNFR wants a 3yz, and RNTO follows it (RFC 959, section 4.1.3)
+abbrev pub Renames : Type 0
+Renames = (sent rename_events ≡ lines (codes "RNFR f" ∷ codes "RNTO g" ∷ [])) × (reported rename_events ≡ Some Done)
 
 -- an operation that can't be sent is answered at once, before the login too, and nothing is sent
 abbrev pub Unsendable : Type 0
@@ -191,34 +196,35 @@ abbrev pub active : How
 active = record plain { active = true }
 
 -- the file f, with the octets `abc`
-abbrev pub get : How → Event
+abbrev pub get : How → Happening
 get how = asks (Ops.Get (codes "f") how)
 
 -- the octets `abc` to the file f
-abbrev pub put : How → Event
+abbrev pub put : How → Happening
 put how = asks (Ops.Put (codes "f") (codes "abc") how)
 
 -- 200 to TYPE
-abbrev pub set : Event
+abbrev pub set : Happening
 set = replied 200 (codes "Type set")
 
 -- 227: port 49152 is 192 times 256
-abbrev pub entering : Event
+abbrev pub entering : Happening
 entering = replied 227 (codes "Entering Passive Mode (127,0,0,1,192,0)")
 
-abbrev pub opening : Event
+-- 150
+abbrev pub opening : Happening
 opening = replied 150 (codes "Opening data connection")
 
 -- the final reply of a whole transfer
-abbrev pub complete : Event
+abbrev pub complete : Happening
 complete = replied 226 (codes "Transfer complete")
 
 -- the final reply of a broken one
-abbrev pub broken_off : Event
+abbrev pub broken_off : Happening
 broken_off = replied 426 (codes "Transfer broken")
 
 -- the final reply where no link came about
-abbrev pub unopened : Event
+abbrev pub unopened : Happening
 unopened = replied 425 (codes "No data connection")
 
 -- TYPE is sent where it differs, then PASV; the client connects, and only then sends RETR
@@ -271,7 +277,7 @@ PassiveUpload =
     × (reported (put plain ∷ set ∷ entering ∷ opened here ∷ opening ∷ given 3 ∷ complete ∷ []) ≡ Some Done)
 
 -- the octets 78 0A 79 in ASCII, up to the 150: a line end goes as CR LF
-abbrev pub lines_up : List Event
+abbrev pub lines_up : List Happening
 lines_up = asks (Ops.Put (codes "f") (120 ∷ 10 ∷ 121 ∷ []) text) ∷ entering ∷ opened here ∷ opening ∷ []
 
 -- an upload that breaks behind a CR: no octet is given any more, and it is broken once the final reply is in

@@ -10,8 +10,8 @@ use Rattle.ftp_representation.specs.Representation.{defaults}
 use Rattle.ftp_client_machine.specs.Replies.{Gathered, Between}
 use Rattle.ftp_client_machine.specs.declared.client.Failure.{Failure}
 use Rattle.ftp_client_machine.specs.declared.client.Failure.TheVariants as Failures
-use Rattle.ftp_client_machine.specs.declared.client.Link.{Link}
-use Rattle.ftp_client_machine.specs.declared.client.Link.TheVariants as Links
+use Rattle.ftp_client_machine.specs.declared.client.DataConnection.{DataConnection}
+use Rattle.ftp_client_machine.specs.declared.client.DataConnection.TheVariants as Data
 use Rattle.ftp_client_machine.specs.declared.client.Replied.{Replied}
 use Rattle.ftp_client_machine.specs.declared.client.Standing.{Standing}
 use Rattle.ftp_client_machine.specs.declared.client.Standing.TheVariants as Stands
@@ -21,8 +21,8 @@ use Rattle.ftp_representation.specs.declared.representation.Representation.{Repr
 -- what goes over the data connection: the octets of an upload that are still to give, with the last mmmm of a 110 reply; or what
 -- the octets of a download have said, with its last marker that is a number
 pub data Flow : Type 0 where
-  Up : (left : List ℕ) → (mark : Option ℕ) → Flow
-  Down : (decoder : Decoder) → (mark : Option ℕ) → Flow
+  Sending : (left : List ℕ) → (mark : Option ℕ) → Flow
+  Receiving : (decoder : Decoder) → (mark : Option ℕ) → Flow
 
 -- a transfer whose command was sent. (An operation that reads a first part of a file alone will carry here whether it sent its
 -- ABOR and whether that was answered.)
@@ -37,7 +37,7 @@ pub data Job : Type 0 where
   Idle : Job
   Waiting : (op : Op (List ℕ)) → Job
   Doing : (op : Op (List ℕ)) → (step : Step) → Job
-  Moving : (op : Op (List ℕ)) → (transfer : Transfer) → Job
+  Transferring : (op : Op (List ℕ)) → (transfer : Transfer) → Job
   Told : (answer : Said) → Job
 
 -- `closing`: a link, or a port that is listened at, is to be closed, and no other call on the data connection means anything
@@ -49,7 +49,7 @@ pub record View : Type 0 where
   pub standing : Standing
   pub job : Job
   pub settings : Representation
-  pub link : Link
+  pub connection : DataConnection
   pub closing : Bool
   pub ear : Ear
   pub gathered : Gathered
@@ -65,7 +65,7 @@ client user pass here peer = record {
   standing = Stands.Greeting;
   job = Idle;
   settings = defaults;
-  link = Links.Free;
+  connection = Data.Free;
   closing = false;
   ear = quiet;
   gathered = Between;
@@ -75,18 +75,18 @@ client user pass here peer = record {
 -- ---- what is left behind
 
 -- a link, or a port that is listened at, stands
-abbrev pub stands : Link → Bool
-stands Links.Free = false
-stands Links.Asked = false
-stands (Links.Door port) = true
-stands (Links.Dialing endpoint) = false
-stands (Links.Awaiting port) = true
-stands Links.Open = true
-stands (Links.Over ending) = false
+abbrev pub stands : DataConnection → Bool
+stands Data.Free = false
+stands Data.ListenWanted = false
+stands (Data.Listening port) = true
+stands (Data.Connecting endpoint) = false
+stands (Data.Accepting port) = true
+stands Data.Open = true
+stands (Data.Over ending) = false
 
 -- what stands is to be closed
 abbrev pub dropped : View → View
-dropped v = record v { link = Links.Free; closing = v.closing || stands v.link }
+dropped v = record v { connection = Data.Free; closing = v.closing || stands v.connection }
 
 -- an operation is done: its answer stands until it is taken, and no link of it is needed
 abbrev pub finishes : Said → View → View
@@ -103,7 +103,7 @@ abbrev pub failed_job : Said → Job → Job
 failed_job answer Idle = Idle
 failed_job answer (Waiting op) = Told answer
 failed_job answer (Doing op step) = Told answer
-failed_job answer (Moving op transfer) = Told answer
+failed_job answer (Transferring op transfer) = Told answer
 failed_job answer (Told other) = Told other
 
 -- nothing is being heard or owed any more

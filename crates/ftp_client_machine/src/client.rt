@@ -67,20 +67,20 @@ pub enum Ending {
 
 /// Where the client's data connection is.
 #[derive(Clone, Copy, Debug, PartialEq, Eq)]
-pub enum Link {
+pub enum DataConnection {
     /// There is none.
     Free,
     /// A port to listen at is wanted.
-    Asked,
-    /// This port is listened at.
-    Door(u16),
-    /// The link is to be opened to this endpoint.
-    Dialing(Endpoint),
-    /// The server is awaited at this port.
-    Awaiting(u16),
-    /// It is open.
+    ListenWanted,
+    /// This port is listened at; the server was not told yet to connect.
+    Listening(u16),
+    /// The link to this endpoint is to be opened.
+    Connecting(Endpoint),
+    /// The server is to connect to this port.
+    Accepting(u16),
+    /// The link is open.
     Open,
-    /// It was open, or was given up.
+    /// The link came to its end, or was given up.
     Over(Ending),
 }
 

@@ -1,22 +1,22 @@
 //! What holds of the client's machine: functions that do nothing, whose contracts are laws.
-ghost use Rattle.ftp_client_machine.specs.Bounds.{CallsLower, GivingPays, HearingLowers, ReceivingLowers, WantLowers};
-ghost use Rattle.ftp_client_machine.specs.InFlight.{AnswerIsDropped, AnsweredAtRest, HeardInPieces, ReplyIsHeard, RowIsHeard};
+ghost use Rattle.ftp_client_machine.specs.Bounds.{EventsAddAClose, GivingPays, HearingAddsAnAnswer, ReceivingAddsNone, ShortAddsAClose};
+ghost use Rattle.ftp_client_machine.specs.InFlight.{ClientDropsAnswer, AnsweredAtRest, ClientHearsInPieces, ReplyIsHeard, ClientHearsRow};
 
 /// A reply and an answer to a Telnet octet are heard by the client as themselves and as nothing else, wherever they are cut; so is
 /// a row of replies, one after another.
 pub fn replies_in_flight()
-    ensures pieces { HeardInPieces }
+    ensures pieces { ClientHearsInPieces }
     ensures reply { ReplyIsHeard }
-    ensures answer { AnswerIsDropped }
+    ensures answer { ClientDropsAnswer }
     ensures rest { AnsweredAtRest }
-    ensures row { RowIsHeard }
+    ensures row { ClientHearsRow }
 {}
 
 /// No call of the client that begins nothing makes more to do for it, but for the answers that Telnet octets are owed.
 pub fn comes_to_rest()
-    ensures hearing { HearingLowers }
-    ensures receiving { ReceivingLowers }
-    ensures events { CallsLower }
+    ensures hearing { HearingAddsAnAnswer }
+    ensures receiving { ReceivingAddsNone }
+    ensures events { EventsAddAClose }
     ensures giving { GivingPays }
-    ensures want { WantLowers }
+    ensures want { ShortAddsAClose }
 {}

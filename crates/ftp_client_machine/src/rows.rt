@@ -1,9 +1,9 @@
 //! Worked rows of a client: functions that do nothing, whose contracts are rows of `specs/client/Rows`.
-ghost use Rattle.ftp_client_machine.specs.Rows.{ActiveDownload, ActiveReport, BrokenDownload, BrokenUpload, Endpoints, Judged, Login, LongGreeting, MarkRead, Moment, NotOpened, OtherHosts, OtherOrders, OwnCode, PassiveDownload, PassiveUpload, PassivePort, Quoted, Rename, TwoCodes, Unasked, Unsendable};
+ghost use Rattle.ftp_client_machine.specs.Rows.{ActiveDownload, ActiveReport, BrokenDownload, BrokenUpload, Endpoints, Judged, LogsIn, LongGreeting, MarkRead, Moment, NotOpened, OtherHosts, OtherOrders, OwnCode, PassiveDownload, PassiveUpload, PassivePort, Quoted, Renames, TwoCodes, Unasked, Unsendable};
 
 /// The greeting is answered with USER, and a 331 with PASS.
 pub fn login()
-    ensures { Login }
+    ensures { LogsIn }
 {}
 
 /// A greeting of several lines is one reply, octet by octet.
@@ -58,7 +58,7 @@ pub fn unasked()
 
 /// RNFR wants a 3yz, and RNTO follows it.
 pub fn rename()
-    ensures { Rename }
+    ensures { Renames }
 {}
 
 /// An operation that can't be sent is answered at once.

@@ -6,7 +6,7 @@ use Rattle.ftp_direct.specs.Direct.{State, answer, answers}
 use Rattle.ftp_tree.specs.Tree.{Table}
 use Rattle.ftp_world.specs.Agreement.{Order, Item, IsItemOf, item_did, item_reports, state_after, Allows, ItemsHold}
 use Rattle.ftp_world.specs.Claims.{AreUnmarked, UnmarkedIsDirect}
-use Rattle.ftp_world.specs.Outcome.{Fate, Whole, Cut, Unopened, Lost, Nothing, All, Front}
+use Rattle.ftp_world.specs.Outcome.{Outcome, Whole, Cut, Unopened, Lost, Nothing, All, Front}
 use Rattle.ftp_world.specs.World.{Mark}
 
 -- nothing is among no marks
@@ -15,18 +15,18 @@ none_among mark [] empty has = absurd (omega (arith, has.1))
 none_among mark (other ∷ marks) empty has = absurd (let long : suc (length marks) ≡ 0 = ap length empty in omega (arith, long))
 
 -- without marks and cutoff each operation is whole
-whole_fate : (fate : Fate) (marks : List Mark) (index : ℕ) → marks ≡ [] → Allows fate marks None index → fate ≡ Whole
-whole_fate Whole marks index empty allows = refl
-whole_fate (Cut wire) marks index empty allows = absurd (none_among _ marks empty allows.1)
-whole_fate Unopened marks index empty (_, inl refused) = absurd (none_among _ marks empty refused)
-whole_fate Unopened marks index empty (_, inr broken) = absurd (none_among _ marks empty broken)
-whole_fate (Lost Nothing) marks index empty (inl last) = absurd last
-whole_fate (Lost Nothing) marks index empty (inr behind) = absurd behind
-whole_fate (Lost All) marks index empty allows = absurd allows
-whole_fate (Lost (Front wire)) marks index empty allows = absurd allows.0
+whole_outcome : (outcome : Outcome) (marks : List Mark) (index : ℕ) → marks ≡ [] → Allows outcome marks None index → outcome ≡ Whole
+whole_outcome Whole marks index empty allows = refl
+whole_outcome (Cut wire) marks index empty allows = absurd (none_among _ marks empty allows.1)
+whole_outcome Unopened marks index empty (_, inl refused) = absurd (none_among _ marks empty refused)
+whole_outcome Unopened marks index empty (_, inr broken) = absurd (none_among _ marks empty broken)
+whole_outcome (Lost Nothing) marks index empty (inl last) = absurd last
+whole_outcome (Lost Nothing) marks index empty (inr behind) = absurd behind
+whole_outcome (Lost All) marks index empty allows = absurd allows
+whole_outcome (Lost (Front wire)) marks index empty allows = absurd allows.0
 
 -- the item of a whole operation did what the direct run does
-whole_item : (state : State) (order : Order) (item : Item) → IsItemOf order item → item.first.fate ≡ Whole
+whole_item : (state : State) (order : Order) (item : Item) → IsItemOf order item → item.first.outcome ≡ Whole
     → item_did state item ≡ answer state order.0 order.1
 whole_item state order item is whole = rw (is.1, whole, is.0) refl
 
@@ -45,7 +45,7 @@ unmarked_runs from index [] (marks ∷ more) items unmarked hold = absurd hold
 unmarked_runs from index (order ∷ orders) [] items unmarked hold = absurd hold
 unmarked_runs from index (order ∷ orders) (marks ∷ more) [] unmarked hold = absurd hold
 unmarked_runs from index (order ∷ orders) (marks ∷ more) (item ∷ items) unmarked hold =
-    let whole : item.first.fate ≡ Whole = whole_fate item.first.fate marks index unmarked.0 hold.1.0.1 in
+    let whole : item.first.outcome ≡ Whole = whole_outcome item.first.outcome marks index unmarked.0 hold.1.0.1 in
     let did : item_did from item ≡ answer from order.0 order.1 = whole_item from order item hold.0 whole in
     let rest : ItemsHold (answer from order.0 order.1).1 (suc index) orders more None items =
     subst (λ done. ItemsHold done.1 (suc index) orders more None items) did hold.2 in

@@ -8,9 +8,9 @@ use Rattle.ftp_ends.specs.declared.link.Wants.{Wants}
 use Rattle.ftp_ends.specs.declared.link.Wants.TheVariants as Want
 use Rattle.ftp_world.specs.Agreement.{Order, Agrees, WorldAgrees, Leads, IsHonest, AreHonest}
 use Rattle.ftp_world.specs.Claims.{AreUnmarked, HeadlineFollows, world_of, state_of}
-use Rattle.ftp_world.specs.Events.{Queue, Asked, Replied, Rising, Falling, Event, Deliver, Open, Refuse, End, Break, EndControl, Next, pulled, pushed, filled, told, DeliversBy, Does, Happens}
+use Rattle.ftp_world.specs.Events.{Queue, ControlToServer, ControlToClient, DataToServer, DataToClient, Event, Deliver, Open, Refuse, End, Break, EndControl, Next, pulled, pushed, filled, told, DeliversBy, Does, Happens}
 use Rattle.ftp_world.specs.Serving.{link_closed_by_near, link_closed_by_far, left_by_near, left_by_far, near_served_by, far_served_by, near_served, far_served, served, collected_by, after_event}
-use Rattle.ftp_world.specs.World.{World, Mark, Control, Stands, LeftByNear, LeftByFar, Parted, Link, Gone, Open as Opened, ClosedByNear, ClosedByFar}
+use Rattle.ftp_world.specs.World.{World, Mark, Control, Stands, LeftByNear, LeftByFar, Parted, Link, Gone, Opened, ClosedByNear, ClosedByFar}
 use Rattle.ftp_world.proofs.AgreementLemmas.{unmarked_is_direct}
 
 -- no mark, and no end of the control connection
@@ -79,26 +79,26 @@ settled_clean : (w : World) → Clean w → Clean (after_event w)
 settled_clean w c = collected_clean (near.report_of (served w).near) (served w) (served_clean w c)
 
 pulled_clean : (queue : Queue) (w : World) (count : ℕ) → Clean w → Clean (pulled queue w count)
-pulled_clean Asked w count c = record { marks = c.marks; cutoff = c.cutoff }
-pulled_clean Replied w count c = record { marks = c.marks; cutoff = c.cutoff }
-pulled_clean Rising w count c = record { marks = c.marks; cutoff = c.cutoff }
-pulled_clean Falling w count c = record { marks = c.marks; cutoff = c.cutoff }
+pulled_clean ControlToServer w count c = record { marks = c.marks; cutoff = c.cutoff }
+pulled_clean ControlToClient w count c = record { marks = c.marks; cutoff = c.cutoff }
+pulled_clean DataToServer w count c = record { marks = c.marks; cutoff = c.cutoff }
+pulled_clean DataToClient w count c = record { marks = c.marks; cutoff = c.cutoff }
 
 pushed_clean : (read : Reading) (queue : Queue) (count : ℕ) (w : World) → Clean w → Clean (pushed read queue count w)
-pushed_clean read Asked count w c = record { marks = c.marks; cutoff = c.cutoff }
-pushed_clean read Replied count w c = record { marks = c.marks; cutoff = c.cutoff }
-pushed_clean read Rising count w c = record { marks = c.marks; cutoff = c.cutoff }
-pushed_clean read Falling count w c = record { marks = c.marks; cutoff = c.cutoff }
+pushed_clean read ControlToServer count w c = record { marks = c.marks; cutoff = c.cutoff }
+pushed_clean read ControlToClient count w c = record { marks = c.marks; cutoff = c.cutoff }
+pushed_clean read DataToServer count w c = record { marks = c.marks; cutoff = c.cutoff }
+pushed_clean read DataToClient count w c = record { marks = c.marks; cutoff = c.cutoff }
 
 filled_clean : (queue : Queue) (w : World) (counts : List ℕ) → Clean w → Clean (filled queue w counts)
 filled_clean queue w [] c = c
 filled_clean queue w (count ∷ counts) c = filled_clean queue (pulled queue w count) counts (pulled_clean queue w count c)
 
 told_clean : (queue : Queue) (w : World) → Clean w → Clean (told queue w)
-told_clean Asked w c = record { marks = c.marks; cutoff = c.cutoff }
-told_clean Replied w c = record { marks = c.marks; cutoff = c.cutoff }
-told_clean Rising w c = record { marks = c.marks; cutoff = c.cutoff }
-told_clean Falling w c = record { marks = c.marks; cutoff = c.cutoff }
+told_clean ControlToServer w c = record { marks = c.marks; cutoff = c.cutoff }
+told_clean ControlToClient w c = record { marks = c.marks; cutoff = c.cutoff }
+told_clean DataToServer w c = record { marks = c.marks; cutoff = c.cutoff }
+told_clean DataToClient w c = record { marks = c.marks; cutoff = c.cutoff }
 
 more_unmarked : (marks : List (List Mark)) → AreUnmarked marks → AreUnmarked (marks ++ [] ∷ [])
 more_unmarked [] unmarked = (refl, tt)

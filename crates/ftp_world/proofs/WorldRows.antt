@@ -7,13 +7,13 @@ use Rattle.ftp_client_machine.specs.Replies.{line_heard}
 use Rattle.ftp_client_machine.specs.Calls.{wants, data_end, data_fault}
 use Rattle.ftp_server_machine.specs.Machine.{obeyed, hears_octet}
 use Rattle.ftp_server_machine.specs.Calls.{gives_control, gives_data, data_closed, data_fault as far_fault}
-use Rattle.ftp_world.specs.Rows.{Login, BrokenDownload, WholeDownload, CutUpload}
+use Rattle.ftp_world.specs.Rows.{SessionLogsIn, DownloadBreaks, WholeDownload, CutUpload}
 
-pub login : Login
+pub login : SessionLogsIn
 unfolding answered line_heard wants obeyed hears_octet gives_control is_known
 login table = refl
 
-pub broken_download : BrokenDownload
+pub broken_download : DownloadBreaks
 unfolding answered line_heard wants data_fault obeyed gives_control gives_data far_fault is_known
 broken_download table = (refl, refl, refl)
 

@@ -2,16 +2,13 @@
 -- outcome that the marks and the cutoff allow. Without marks and without a cutoff that is the direct run.
 use Rattle.std.specs.Prelude.{◌≡◌, ◌⊎◌, ℕ, suc, ◌+◌, ◌<◌, ◌≤◌, Bool, true, List, [], ◌∷◌, ◌++◌, length, take, Option, Some, None}
 use Rattle.std.specs.List.{Contains}
-use Rattle.ftp_operation.specs.Account.{is_known}
 use Rattle.ftp_operation.specs.Answer.{Said}
-use Rattle.ftp_direct.specs.Direct.{State, start, answers}
+use Rattle.ftp_direct.specs.Direct.{State, answers}
 use Rattle.ftp_operation.specs.declared.op.Op.{Op}
 use Rattle.ftp_tree.specs.Tree.{Table}
-use Rattle.ftp_client_machine.specs.View.{View as Near}
 use Rattle.ftp_server_machine.specs.Machine.{Reading}
-use Rattle.ftp_server_machine.specs.View.{View as Far}
 use Rattle.ftp_world.specs.Events.{Event, Refuse, Break, EndControl, Next, Happens}
-use Rattle.ftp_world.specs.Outcome.{Fate, Whole, Cut, Unopened, Lost, Part, Nothing, All, Front, did, CanBe}
+use Rattle.ftp_world.specs.Outcome.{Outcome, Whole, Cut, Unopened, Lost, Part, Nothing, All, Front, did, CanBe}
 use Rattle.ftp_world.specs.World.{World, Mark, Refused, Broken}
 
 -- an operation that was begun, and its moment
@@ -20,28 +17,28 @@ Order = Op (List ℕ) × ℕ
 
 -- ---- items
 
--- an operation, its moment and how it fared
-pub record Deed : Type 0 where
+-- an operation that was tried: its moment, and its outcome
+pub record Attempt : Type 0 where
   pub order : Order
-  pub fate : Fate
+  pub outcome : Outcome
 
 -- an item: a run of operations that has one report, that of the last
 pub record Item : Type 0 where
-  pub first : Deed
-  pub more : List Deed
+  pub first : Attempt
+  pub more : List Attempt
 
--- what a deed answers, and the state after it
-abbrev pub deed_did : State → Deed → Said × State
-deed_did state deed = did deed.fate state deed.order.0 deed.order.1
+-- what an attempt answers, and the state after it
+abbrev pub attempt_did : State → Attempt → Said × State
+attempt_did state attempt = did attempt.outcome state attempt.order.0 attempt.order.1
 
--- the answer and the state behind a run of deeds; the answer is that of the last
-abbrev pub run_from : Said × State → List Deed → Said × State
+-- the answer and the state behind a run of attempts; the answer is that of the last
+abbrev pub run_from : Said × State → List Attempt → Said × State
 run_from now [] = now
-run_from now (deed ∷ deeds) = run_from (deed_did now.1 deed) deeds
+run_from now (attempt ∷ attempts) = run_from (attempt_did now.1 attempt) attempts
 
 -- the report of an item, and the state after it
 abbrev pub item_did : State → Item → Said × State
-item_did state item = run_from (deed_did state item.first) item.more
+item_did state item = run_from (attempt_did state item.first) item.more
 
 -- the item of an operation that was begun is that operation alone. (An upload that goes on after breaks will be a run of tries.)
 abbrev pub IsItemOf : Order → Item → Type 0
@@ -57,7 +54,7 @@ abbrev pub state_after : State → List Item → State
 state_after state [] = state
 state_after state (item ∷ items) = state_after (item_did state item).1 items
 
--- ---- which fates marks and a cutoff allow
+-- ---- which outcomes marks and a cutoff allow
 
 -- such a mark was made of the operation
 abbrev pub IsAmong : Mark → List Mark → Type 0
@@ -90,7 +87,7 @@ AllowsPart (Front wire) marks cutoff index = IsLastBefore cutoff index × HasBro
 
 -- cut only by a break, not opened only by a refusal or a break before the first octet, lost only by the end of the control
 -- connection; every other operation is whole
-abbrev pub Allows : Fate → List Mark → Option ℕ → ℕ → Type 0
+abbrev pub Allows : Outcome → List Mark → Option ℕ → ℕ → Type 0
 Allows Whole marks cutoff index = IsBefore cutoff index
 Allows (Cut wire) marks cutoff index = IsBefore cutoff index × HasBroken wire marks
 Allows Unopened marks cutoff index = IsBefore cutoff index × (IsAmong Refused marks ⊎ IsAmong (Broken 0) marks)
@@ -98,17 +95,17 @@ Allows (Lost part) marks cutoff index = AllowsPart part marks cutoff index
 
 -- ---- agreement
 
--- a deed can have fared so, in this state and with these marks
-abbrev pub DeedHolds : State → List Mark → Option ℕ → ℕ → Deed → Type 0
-DeedHolds state marks cutoff index deed = CanBe deed.fate state deed.order.0 × Allows deed.fate marks cutoff index
+-- an attempt can have fared so, in this state and with these marks
+abbrev pub AttemptHolds : State → List Mark → Option ℕ → ℕ → Attempt → Type 0
+AttemptHolds state marks cutoff index attempt = CanBe attempt.outcome state attempt.order.0 × Allows attempt.outcome marks cutoff index
 
--- each deed of a run can have fared so, in the state that those before it leave
-abbrev pub RunHolds : State → List Mark → Option ℕ → ℕ → List Deed → Type 0
+-- each attempt of a run can have fared so, in the state that those before it leave
+abbrev pub RunHolds : State → List Mark → Option ℕ → ℕ → List Attempt → Type 0
 RunHolds state marks cutoff index [] = Unit {0}
-RunHolds state marks cutoff index (deed ∷ deeds) =
-    DeedHolds state marks cutoff index deed × RunHolds (deed_did state deed).1 marks cutoff index deeds
+RunHolds state marks cutoff index (attempt ∷ attempts) =
+    AttemptHolds state marks cutoff index attempt × RunHolds (attempt_did state attempt).1 marks cutoff index attempts
 
--- each deed of an item can have fared so
+-- each attempt of an item can have fared so
 abbrev pub ItemHolds : State → List Mark → Option ℕ → ℕ → Item → Type 0
 ItemHolds state marks cutoff index item = RunHolds state marks cutoff index (item.first ∷ item.more)
 

@@ -7,12 +7,12 @@ use Rattle.ftp_server_machine.specs.Calls as far
 use Rattle.ftp_server_machine.specs.Machine as machine
 use Rattle.ftp_server_machine.specs.Machine.{Reading}
 use Rattle.ftp_world.specs.Serving.{after_event}
-use Rattle.ftp_world.specs.World.{World, Control, LeftByNear, LeftByFar, Parted, Link, Gone, Open as Opened, ClosedByNear, ClosedByFar, Refused, Broken, with_mark, gone, parted}
+use Rattle.ftp_world.specs.World.{World, Control, LeftByNear, LeftByFar, Parted, Link, Gone, Opened, ClosedByNear, ClosedByFar, Refused, Broken, with_mark, gone, parted}
 
 -- the four queues: to the server and to the client, over the control connection and over the data link
 pub data Queue : Type 0 where
-  Asked Replied : Queue
-  Rising Falling : Queue
+  ControlToServer ControlToClient : Queue
+  DataToServer DataToClient : Queue
 
 -- octets are moved or taken; a wanted link opens, or is refused; an end is told that the other has closed; the link breaks; the
 -- control connection ends; an operation is begun at a moment. (An upload that goes on after breaks will be an event of its own.)
@@ -29,38 +29,38 @@ pub data Event : Type 0 where
 
 -- the octets on their way
 abbrev pub in_queue : Queue → World → List ℕ
-in_queue Asked w = w.asked
-in_queue Replied w = w.replied
-in_queue Rising w = w.rising
-in_queue Falling w = w.falling
+in_queue ControlToServer w = w.control_to_server
+in_queue ControlToClient w = w.control_to_client
+in_queue DataToServer w = w.data_to_server
+in_queue DataToClient w = w.data_to_client
 
 -- what the sender of a queue has still to give
 abbrev pub due : Queue → World → List ℕ
-due Asked w = w.near.owed
-due Replied w = w.far.owed
-due Rising w = near.to_give w.near
-due Falling w = far.to_give w.far
+due ControlToServer w = w.near.owed
+due ControlToClient w = w.far.owed
+due DataToServer w = near.to_give w.near
+due DataToClient w = far.to_give w.far
 
 -- one output call of the sender gave so many octets
 abbrev pub pulled : Queue → World → ℕ → World
-pulled Asked w count = record w { asked = w.asked ++ take count w.near.owed; near = near.gives_control count w.near }
-pulled Replied w count = record w { replied = w.replied ++ take count w.far.owed; far = far.gives_control count w.far }
-pulled Rising w count = record w { rising = w.rising ++ take count (near.to_give w.near); near = near.gives_data count w.near }
-pulled Falling w count = record w { falling = w.falling ++ take count (far.to_give w.far); far = far.gives_data count w.far }
+pulled ControlToServer w count = record w { control_to_server = w.control_to_server ++ take count w.near.owed; near = near.gives_control count w.near }
+pulled ControlToClient w count = record w { control_to_client = w.control_to_client ++ take count w.far.owed; far = far.gives_control count w.far }
+pulled DataToServer w count = record w { data_to_server = w.data_to_server ++ take count (near.to_give w.near); near = near.gives_data count w.near }
+pulled DataToClient w count = record w { data_to_client = w.data_to_client ++ take count (far.to_give w.far); far = far.gives_data count w.far }
 
 -- the receiver took so many octets; `read` is how the server reads its lines
 abbrev pub pushed : Reading → Queue → ℕ → World → World
-pushed read Asked count w = record w { far = machine.hears read w.far (take count w.asked); asked = drop count w.asked }
-pushed read Replied count w = record w { near = near.hears w.near (take count w.replied); replied = drop count w.replied }
-pushed read Rising count w = record w { far = far.receives w.far (take count w.rising); rising = drop count w.rising; came = w.came + count }
-pushed read Falling count w = record w { near = near.receives w.near (take count w.falling); falling = drop count w.falling; came = w.came + count }
+pushed read ControlToServer count w = record w { far = machine.hears read w.far (take count w.control_to_server); control_to_server = drop count w.control_to_server }
+pushed read ControlToClient count w = record w { near = near.hears w.near (take count w.control_to_client); control_to_client = drop count w.control_to_client }
+pushed read DataToServer count w = record w { far = far.receives w.far (take count w.data_to_server); data_to_server = drop count w.data_to_server; came = w.came + count }
+pushed read DataToClient count w = record w { near = near.receives w.near (take count w.data_to_client); data_to_client = drop count w.data_to_client; came = w.came + count }
 
 -- the receiver may take an octet
 abbrev pub may_take : Queue → World → Bool
-may_take Asked w = machine.may_hear w.far
-may_take Replied w = near.may_hear w.near
-may_take Rising w = far.may_receive w.far
-may_take Falling w = near.may_receive w.near
+may_take ControlToServer w = machine.may_hear w.far
+may_take ControlToClient w = near.may_hear w.near
+may_take DataToServer w = far.may_receive w.far
+may_take DataToClient w = near.may_receive w.near
 
 -- so many octets of a queue could be taken, each when its turn came
 abbrev pub MayTakeFrom : Reading → Queue → World → ℕ → Type 0
@@ -180,17 +180,17 @@ is_closed_by_far other = false
 
 -- the sender of a queue has closed its connection
 abbrev pub is_closed : Queue → World → Bool
-is_closed Asked w = is_left_by_near w.control
-is_closed Replied w = is_left_by_far w.control
-is_closed Rising w = is_closed_by_near w.link
-is_closed Falling w = is_closed_by_far w.link
+is_closed ControlToServer w = is_left_by_near w.control
+is_closed ControlToClient w = is_left_by_far w.control
+is_closed DataToServer w = is_closed_by_near w.link
+is_closed DataToClient w = is_closed_by_far w.link
 
 -- the receiver is told; a data link is gone
 abbrev pub told : Queue → World → World
-told Asked w = record w { far = far.control_end w.far }
-told Replied w = record w { near = near.control_end w.near }
-told Rising w = gone (record w { far = far.data_end w.far })
-told Falling w = gone (record w { near = near.data_end w.near })
+told ControlToServer w = record w { far = far.control_end w.far }
+told ControlToClient w = record w { near = near.control_end w.near }
+told DataToServer w = gone (record w { far = far.data_end w.far })
+told DataToClient w = gone (record w { near = near.data_end w.near })
 
 -- ---- a break, and the end of the control connection
 

@@ -16,7 +16,7 @@ use Rattle.ftp_path.specs.Path.{Names}
 use Rattle.ftp_tree.specs.Tree.{installed, octets_or_none, octets_refusal}
 use Rattle.ftp_ends.specs.Decoder.{Decoder, no_octets, octet_says, decoded_octet}
 use Rattle.ftp_representation.specs.Representation.{form_of, has_markers}
-use Rattle.ftp_client_machine.specs.Moving.{written, upload_text, last_mark}
+use Rattle.ftp_client_machine.specs.Octets.{written, upload_text, last_mark}
 use Rattle.ftp_client_machine.specs.Plan.{settings_of, listing_settings, how_of}
 use Rattle.ftp_server_machine.specs.Entries.{listed_line}
 use Rattle.ftp_server_machine.specs.View.{all_facts}
@@ -28,11 +28,11 @@ pub data Part : Type 0 where
   Front : (wire : List ℕ) → Part
 
 -- how an operation fared
-pub data Fate : Type 0 where
-  Whole : Fate
-  Cut : (wire : List ℕ) → Fate
-  Unopened : Fate
-  Lost : (part : Part) → Fate
+pub data Outcome : Type 0 where
+  Whole : Outcome
+  Cut : (wire : List ℕ) → Outcome
+  Unopened : Outcome
+  Lost : (part : Part) → Outcome
 
 -- ---- the wire of a transfer
 
@@ -137,7 +137,7 @@ lost_state All state op moment = (answer state op moment).1
 lost_state (Front wire) state op moment = (cut state op moment wire).1
 
 -- the answer of an operation that fared so, and the state after it
-abbrev pub did : Fate → State → Op (List ℕ) → ℕ → Said × State
+abbrev pub did : Outcome → State → Op (List ℕ) → ℕ → Said × State
 did Whole state op moment = answer state op moment
 did (Cut wire) state op moment = cut state op moment wire
 did Unopened state op moment = (NotOpened, state)
@@ -172,7 +172,7 @@ abbrev pub HasLink : Op (List ℕ) → Type 0
 HasLink op = IsTrue (is_some (how_of op))
 
 -- an operation can have fared so
-abbrev pub CanBe : Fate → State → Op (List ℕ) → Type 0
+abbrev pub CanBe : Outcome → State → Op (List ℕ) → Type 0
 CanBe Whole state op = Unit {0}
 CanBe (Cut wire) state op = CanBeCut state op wire
 CanBe Unopened state op = HasLink op

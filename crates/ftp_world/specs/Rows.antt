@@ -10,13 +10,13 @@ use Rattle.ftp_operation.specs.declared.op.Op.{Op}
 use Rattle.ftp_operation.specs.declared.op.Op.TheVariants as Ops
 use Rattle.ftp_tree.specs.Tree.{Table, installed}
 use Rattle.ftp_direct.specs.Direct.{State, named}
-use Rattle.ftp_client_machine.specs.Moving.{download}
+use Rattle.ftp_client_machine.specs.Octets.{download_flow}
 use Rattle.ftp_client_machine.specs.Plan.{settings_of}
 use Rattle.ftp_world.specs.Outcome.{cut}
 use Rattle.ftp_ends.specs.RowWords.{here}
 use Rattle.ftp_client_machine.specs.Rows.{entered, text}
-use Rattle.ftp_client_machine.specs.View.{View as Near, Moving}
-use Rattle.ftp_client_machine.specs.declared.client.Link.TheVariants as Links
+use Rattle.ftp_client_machine.specs.View.{View as Near, Transferring}
+use Rattle.ftp_client_machine.specs.declared.client.DataConnection.TheVariants as DataConnections
 use Rattle.ftp_client_machine.specs.declared.client.Replied.TheVariants as Replies
 use Rattle.ftp_server_machine.specs.declared.session.Link.TheVariants as At
 use Rattle.ftp_server_machine.specs.declared.session.Transfer.TheVariants as Moves
@@ -24,9 +24,9 @@ use Rattle.ftp_server_machine.specs.Machine.{Reading}
 use Rattle.ftp_server_machine.specs.Rows.{accounts, member}
 use Rattle.ftp_server_machine.specs.View.{View as Far}
 use Rattle.ftp_world.specs.Claims.{Beginning, world_of}
-use Rattle.ftp_world.specs.Events.{Queue, Asked, Replied, Falling, due, pulled, pushed, link_opens, told, link_breaks, operation_begins}
+use Rattle.ftp_world.specs.Events.{Queue, ControlToServer, ControlToClient, DataToClient, due, pulled, pushed, link_opens, told, link_breaks, operation_begins}
 use Rattle.ftp_world.specs.Serving.{after_event}
-use Rattle.ftp_world.specs.World.{World, world, Open, Broken}
+use Rattle.ftp_world.specs.World.{World, world, Opened, Broken}
 use Rattle.ftp_client_machine.specs.declared.client.Standing.TheVariants as Stands
 use Rattle.ftp_server_machine.specs.declared.heard.Heard.{Heard}
 use Rattle.ftp_server_machine.specs.declared.heard.Heard.TheVariants.{Bad, Asks}
@@ -67,9 +67,9 @@ does cuts w = after_event (link_breaks w)
 does (asks op) w = after_event (operation_begins op 7 w)
 
 -- acts, one after another
-abbrev pub behind : List Act → World → World
-behind [] w = w
-behind (act ∷ acts) w = behind acts (does act w)
+abbrev pub played : List Act → World → World
+played [] w = w
+played (act ∷ acts) w = played acts (does act w)
 
 -- `guest` logs in, over a map
 abbrev pub beginning : Table → Beginning
@@ -77,25 +77,25 @@ beginning table = record { user = codes "guest"; pass = codes "secret"; accounts
 
 -- a world behind acts
 abbrev pub session : Table → List Act → World
-session table acts = behind acts (world_of (beginning table))
+session table acts = played acts (world_of (beginning table))
 
 -- ---- rows
 
 -- the greeting, USER, 331, PASS, 230
 abbrev pub login_acts : List Act
-login_acts = moves Replied ∷ moves Asked ∷ moves Replied ∷ moves Asked ∷ moves Replied ∷ []
+login_acts = moves ControlToClient ∷ moves ControlToServer ∷ moves ControlToClient ∷ moves ControlToServer ∷ moves ControlToClient ∷ []
 
 -- behind it the client may send operations
-abbrev pub Login : Type 0
-Login = (table : Table) → (session table login_acts).near.standing ≡ Stands.Entered
+abbrev pub SessionLogsIn : Type 0
+SessionLogsIn = (table : Table) → (session table login_acts).near.standing ≡ Stands.Entered
 
 -- ---- breaks
 
 -- the client behind the 150 of a download of `f` in ASCII, and the server, which has 61 0D 0A to give: the link is open
 abbrev pub near_down : Near
 near_down = record entered {
-  job = Moving (Ops.Get (codes "f") text) (record { replied = Replies.Begun; flow = download (settings_of text) });
-  link = Links.Open;
+  job = Transferring (Ops.Get (codes "f") text) (record { replied = Replies.Begun; flow = download_flow (settings_of text) });
+  connection = DataConnections.Open;
 }
 
 -- the server's side of that download
@@ -107,15 +107,15 @@ far_down table = record (member table []) {
 
 -- both, with the link open and one operation begun
 abbrev pub down : Table → World
-down table = record (world near_down (far_down table)) { link = Open; marks = [] ∷ [] }
+down table = record (world near_down (far_down table)) { link = Opened; marks = [] ∷ [] }
 
 -- the link breaks when the client has taken 61 0D: it reports 61, as an unpaired CR is dropped
 abbrev pub broken_download : Table → World
-broken_download table = behind (moves_some Falling 2 ∷ cuts ∷ moves Replied ∷ []) (down table)
+broken_download table = played (moves_some DataToClient 2 ∷ cuts ∷ moves ControlToClient ∷ []) (down table)
 
 -- the report says that it broke, the mark says where, and the map stays
-abbrev pub BrokenDownload : Type 0
-BrokenDownload =
+abbrev pub DownloadBreaks : Type 0
+DownloadBreaks =
     (table : Table)
     → ((broken_download table).reports ≡ BrokenOff (97 ∷ []) None ∷ [])
     × ((broken_download table).marks ≡ (Broken 2 ∷ []) ∷ [])
@@ -123,7 +123,7 @@ BrokenDownload =
 
 -- all octets move, the end is told, and the 226 comes
 abbrev pub whole_download : Table → World
-whole_download table = behind (moves Falling ∷ tells Falling ∷ moves Replied ∷ []) (down table)
+whole_download table = played (moves DataToClient ∷ tells DataToClient ∷ moves ControlToClient ∷ []) (down table)
 
 -- the report has the file: 61 0A
 abbrev pub WholeDownload : Type 0

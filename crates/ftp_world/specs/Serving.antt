@@ -6,14 +6,14 @@ use Rattle.ftp_client_machine.specs.Calls as near
 use Rattle.ftp_server_machine.specs.Calls as far
 use Rattle.ftp_ends.specs.declared.link.Wants.{Wants}
 use Rattle.ftp_ends.specs.declared.link.Wants.TheVariants as Want
-use Rattle.ftp_world.specs.World.{World, Control, Stands, LeftByNear, LeftByFar, Parted, Link, Gone, Open, ClosedByNear, ClosedByFar, gone, parted, port_at}
+use Rattle.ftp_world.specs.World.{World, Control, Stands, LeftByNear, LeftByFar, Parted, Link, Gone, Opened, ClosedByNear, ClosedByFar, gone, parted, port_at}
 
 -- ---- an end closes its side of the link: where both have, it is gone; where there is none, it was a port
 
 -- the client's side is closed
 abbrev pub link_closed_by_near : Link → World → World
 link_closed_by_near Gone w = w
-link_closed_by_near Open w = record w { link = ClosedByNear }
+link_closed_by_near Opened w = record w { link = ClosedByNear }
 link_closed_by_near ClosedByNear w = w
 link_closed_by_near ClosedByFar w = gone w
 
@@ -24,7 +24,7 @@ near_closes w = link_closed_by_near w.link (record w { near = near.data_closed w
 -- the server's side is closed
 abbrev pub link_closed_by_far : Link → World → World
 link_closed_by_far Gone w = w
-link_closed_by_far Open w = record w { link = ClosedByFar }
+link_closed_by_far Opened w = record w { link = ClosedByFar }
 link_closed_by_far ClosedByNear w = gone w
 link_closed_by_far ClosedByFar w = w
 

@@ -15,7 +15,7 @@ pub data Control : Type 0 where
 -- the data link: none, open, or ended, as one end closed it. That it is wanted is seen from what the ends want
 pub data Link : Type 0 where
   Gone : Link
-  Open : Link
+  Opened : Link
   ClosedByNear ClosedByFar : Link
 
 -- a link that an operation asked for was refused, or broke when its receiving end had taken so many octets
@@ -23,17 +23,17 @@ pub data Mark : Type 0 where
   Refused : Mark
   Broken : (came : ℕ) → Mark
 
--- `asked` and `replied` are on their way over the control connection, `rising` and `falling` over the data link, each to the server
--- and to the client; `came` counts the octets that were taken from the present link, `listens` the ports that were listened at;
+-- the four queues hold what is on its way over the control connection and over the data link, to the server and to the client;
+-- `came` counts the octets that were taken from the present link, `listens` the ports that were listened at;
 -- `marks` are those of each operation begun; `cutoff` is how many were begun when the control connection ended; `taken` are the octets
 -- that the last event took, where it was a delivery
 pub record World : Type 0 where
   pub near : Near
   pub far : Far
-  pub asked : List ℕ
-  pub replied : List ℕ
-  pub rising : List ℕ
-  pub falling : List ℕ
+  pub control_to_server : List ℕ
+  pub control_to_client : List ℕ
+  pub data_to_server : List ℕ
+  pub data_to_client : List ℕ
   pub control : Control
   pub link : Link
   pub came : ℕ
@@ -48,10 +48,10 @@ abbrev pub world : Near → Far → World
 world near far = record {
   near = near;
   far = far;
-  asked = [];
-  replied = [];
-  rising = [];
-  falling = [];
+  control_to_server = [];
+  control_to_client = [];
+  data_to_server = [];
+  data_to_client = [];
   control = Stands;
   link = Gone;
   came = 0;
@@ -74,11 +74,11 @@ with_mark mark w = record w { marks = marked_last mark w.marks }
 
 -- the link is gone, and with it what is on its way
 abbrev pub gone : World → World
-gone w = record w { link = Gone; rising = []; falling = [] }
+gone w = record w { link = Gone; data_to_server = []; data_to_client = [] }
 
 -- both ends have left the control connection
 abbrev pub parted : World → World
-parted w = record w { control = Parted; asked = []; replied = [] }
+parted w = record w { control = Parted; control_to_server = []; control_to_client = [] }
 
 -- own choice: the k-th listen, from 0, over both ends together, gets this port
 abbrev pub port_at : ℕ → ℕ

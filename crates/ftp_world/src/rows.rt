@@ -1,9 +1,9 @@
 //! Worked rows of a world of both ends: functions that do nothing, whose contracts are rows of `specs/world/Rows`.
-ghost use Rattle.ftp_world.specs.Rows.{BrokenDownload, CutUpload, Login, WholeDownload};
+ghost use Rattle.ftp_world.specs.Rows.{DownloadBreaks, CutUpload, SessionLogsIn, WholeDownload};
 
 /// The greeting, USER, 331, PASS and 230 go from end to end, octet by octet.
 pub fn login()
-    ensures { Login }
+    ensures { SessionLogsIn }
 {}
 
 /// A download, its end and the 226.
@@ -13,7 +13,7 @@ pub fn whole_download()
 
 /// A download that breaks behind a CR.
 pub fn broken_download()
-    ensures { BrokenDownload }
+    ensures { DownloadBreaks }
 {}
 
 /// What an upload leaves that is cut behind a CR.

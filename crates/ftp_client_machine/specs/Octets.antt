@@ -13,7 +13,7 @@ use Rattle.ftp_representation.specs.Representation.{form_of, has_markers}
 use Rattle.ftp_client_machine.specs.Listing.{entries_value, names_value}
 use Rattle.ftp_client_machine.specs.Plan.{settings_of, listing_settings}
 use Rattle.ftp_client_machine.specs.Values.{number_value}
-use Rattle.ftp_client_machine.specs.View.{Flow, Up, Down}
+use Rattle.ftp_client_machine.specs.View.{Flow, Sending, Receiving}
 use Rattle.ftp_representation.specs.declared.representation.Representation.{Representation}
 
 -- ---- an upload
@@ -28,25 +28,25 @@ abbrev pub upload_text : How → ℕ → List ℕ → List ℕ
 upload_text how start octets = written (how.marks && has_markers (settings_of how)) (settings_of how) start octets
 
 -- an upload at its start: all its text is to be given, and no 110 came
-abbrev pub upload : How → ℕ → List ℕ → Flow
-upload how start octets = Up (upload_text how start octets) None
+abbrev pub upload_flow : How → ℕ → List ℕ → Flow
+upload_flow how start octets = Sending (upload_text how start octets) None
 
 -- ---- a download
 
 -- a download at its start: no octet came
-abbrev pub download : Representation → Flow
-download settings = Down (no_octets settings) None
+abbrev pub download_flow : Representation → Flow
+download_flow settings = Receiving (no_octets settings) None
 
 -- what an operation's transfer carries at its start, where it has one: a PutFrom counts its markers from its offset, an Append
 -- from 0 (own choice)
 abbrev pub flow_of : Op (List ℕ) → Option Flow
-flow_of (Ops.Put path octets how) = Some (upload how 0 octets)
-flow_of (Ops.Append path octets how) = Some (upload how 0 octets)
-flow_of (Ops.PutFrom path offset octets how) = Some (upload how offset octets)
-flow_of (Ops.Get path how) = Some (download (settings_of how))
-flow_of (Ops.GetFrom path offset how) = Some (download (settings_of how))
-flow_of (Ops.List path how) = Some (download (listing_settings how.representation.mode))
-flow_of (Ops.Names path how) = Some (download (listing_settings how.representation.mode))
+flow_of (Ops.Put path octets how) = Some (upload_flow how 0 octets)
+flow_of (Ops.Append path octets how) = Some (upload_flow how 0 octets)
+flow_of (Ops.PutFrom path offset octets how) = Some (upload_flow how offset octets)
+flow_of (Ops.Get path how) = Some (download_flow (settings_of how))
+flow_of (Ops.GetFrom path offset how) = Some (download_flow (settings_of how))
+flow_of (Ops.List path how) = Some (download_flow (listing_settings how.representation.mode))
+flow_of (Ops.Names path how) = Some (download_flow (listing_settings how.representation.mode))
 flow_of other = None
 
 -- the last restart marker that is a number of 1 to 18 digits (own choice); others are passed over
@@ -57,8 +57,8 @@ last_mark mark (marker text ∷ more) = last_mark (option_or (number_value text)
 
 -- one octet of the data connection; an upload hears none
 abbrev pub flow_octet : Flow → ℕ → Flow
-flow_octet (Up left mark) octet = Up left mark
-flow_octet (Down decoder mark) octet = Down (decoded_octet decoder octet) (last_mark mark (octet_says decoder octet))
+flow_octet (Sending left mark) octet = Sending left mark
+flow_octet (Receiving decoder mark) octet = Receiving (decoded_octet decoder octet) (last_mark mark (octet_says decoder octet))
 
 -- ---- what came of it
 
@@ -70,5 +70,5 @@ content_answer op octets = Some (Octets octets)
 
 -- a break: the content that came of a download, and the last mark
 abbrev pub broken_answer : Flow → Said
-broken_answer (Up left mark) = Broken [] mark
-broken_answer (Down decoder mark) = Broken (broken decoder).content mark
+broken_answer (Sending left mark) = Broken [] mark
+broken_answer (Receiving decoder mark) = Broken (broken decoder).content mark
