@@ -12,7 +12,7 @@ use Rattle.ftp_nvt.proofs.CutLemmas.{decided}
 use Rattle.ftp_machine.specs.Machine.{IsFront, after, gives}
 use Rattle.ftp_nvt.proofs.ReaderLemmas.{same_ear}
 use Rattle.ftp_machine.proofs.MachineLemmas.{after-append, gives-append, gives-front}
-use Rattle.ftp_ends.specs.Ear.{Ear, Unfinished, quiet, no_line, within_step, within_out, line_step, line_out, liner, unit_says, ear, ear_step, ear_out, line_len, LineIsHeard, AnswerIsDropped}
+use Rattle.ftp_ends.specs.Ear.{Ear, Unfinished, quiet, no_line, within_step, within_out, line_step, line_out, liner, unit_says, ear, ear_step, ear_out, line_len, EarHearsEachLine, EarDropsAnswer}
 
 -- ---- octets of which nothing is said
 
@@ -223,7 +223,7 @@ pub front_says : (limit : ℕ) (e new : Ear) (front row : List ℕ) → IsFront 
 front_says limit e new front row is keeps =
     front_of_none (gives (ear limit) e front) (subst (IsFront (gives (ear limit) e front)) keeps.says (gives-front (ear limit) e front row is))
 
-pub line_is_heard : LineIsHeard
+pub line_is_heard : EarHearsEachLine
 line_is_heard limit text no_feed fits =
     let closes = line_closes limit text no_feed fits in
     let is = written_is text in
@@ -239,7 +239,7 @@ line_is_heard limit text no_feed fits =
 
 -- ---- an answer
 
-pub answer_is_dropped : AnswerIsDropped
+pub answer_is_dropped : EarDropsAnswer
 answer_is_dropped limit octet =
     (record { front = λ n. wont n; rest = refl }, record { front = λ n. dont n; rest = refl })
   where

@@ -13,21 +13,21 @@ line_len text = length text + count_by (λ c. c == CR) text
 
 -- a line as it is written, heard between two lines: of a front of it nothing is said, wherever it is cut; the whole says this
 -- line and no more, and the ear is between two lines again
-pub record HearsLine (limit : ℕ) (text : List ℕ) : Type 0 where
+pub record EarHearsLine (limit : ℕ) (text : List ℕ) : Type 0 where
   pub front : (front back : List ℕ) (octet : ℕ) → front ++ octet ∷ back ≡ written_line text → gives (ear limit) quiet front ≡ []
   pub whole : gives (ear limit) quiet (written_line text) ≡ line text ∷ []
   pub rest : after (ear limit) quiet (written_line text) ≡ quiet
 
-abbrev pub LineIsHeard : Type 0
-LineIsHeard = (limit : ℕ) (text : List ℕ) → Lacks LF text → line_len text + 2 ≤ limit → HearsLine limit text
+abbrev pub EarHearsEachLine : Type 0
+EarHearsEachLine = (limit : ℕ) (text : List ℕ) → Lacks LF text → line_len text + 2 ≤ limit → EarHearsLine limit text
 
 -- the answer to a Telnet octet, which the other end is owed: nothing is said of it, and nothing is owed to it
 abbrev pub answer_of : ℕ → ℕ → List ℕ
 answer_of verb octet = IAC ∷ verb ∷ octet ∷ []
 
-pub record HearsAnswer (limit verb octet : ℕ) : Type 0 where
+pub record EarHearsAnswer (limit verb octet : ℕ) : Type 0 where
   pub front : (n : ℕ) → gives (ear limit) quiet (take n (answer_of verb octet)) ≡ []
   pub rest : after (ear limit) quiet (answer_of verb octet) ≡ quiet
 
-abbrev pub AnswerIsDropped : Type 0
-AnswerIsDropped = (limit octet : ℕ) → HearsAnswer limit WONT octet × HearsAnswer limit DONT octet
+abbrev pub EarDropsAnswer : Type 0
+EarDropsAnswer = (limit octet : ℕ) → EarHearsAnswer limit WONT octet × EarHearsAnswer limit DONT octet

@@ -7,19 +7,19 @@ use Rattle.ftp_command.specs.Line.{IsLine, is_no_feed, line_of}
 use Rattle.ftp_command.proofs.CarriedLemmas.{carried}
 use Rattle.ftp_machine.specs.Machine.{after, gives}
 use Rattle.ftp_ends.specs.Ear.{Ear, quiet, ear, ear_out, ear_step}
-use Rattle.ftp_server_machine.specs.InFlight.{HeardInPieces, HearsLine, LineIsHeard, CommandIsHeard, AnswerIsDropped, LineLeavesEar, RowIsHeard}
-use Rattle.ftp_server_machine.specs.Machine.{Reading, given_out, obeyed, waited, later, is_idle, aborts, abort_said, aborted, is_abor, is_moving, heard_line, heard_events, hears_octet, hears, may_hear, MayHear}
-use Rattle.ftp_server_machine.specs.View.{Move, View, line_limit}
+use Rattle.ftp_server_machine.specs.InFlight.{ServerHearsPieces, ServerHearsLine, ServerHearsEachLine, ServerHearsCommand, ServerDropsAnswer, LineLeavesEar, ServerHearsRow}
+use Rattle.ftp_server_machine.specs.Machine.{Reading, given_out, obeyed, waited, later, is_idle, aborts, abort_said, aborted, is_abort, heard_line, heard_events, hears_octet, hears, may_hear, MayHear}
+use Rattle.ftp_server_machine.specs.View.{Transfer, View, line_limit}
 use Rattle.ftp_server_machine.specs.declared.heard.Heard.{Heard}
-use Rattle.ftp_server_machine.specs.declared.session.Link.{Link}
-use Rattle.ftp_server_machine.specs.declared.session.Link.TheVariants as At
-use Rattle.ftp_server_machine.specs.declared.session.Transfer.TheVariants as Moves
+use Rattle.ftp_server_machine.specs.declared.session.DataConnection.{DataConnection}
+use Rattle.ftp_server_machine.specs.declared.session.DataConnection.TheVariants as Data
+use Rattle.ftp_server_machine.specs.declared.session.Transfer.TheVariants as Transfers
 use Rattle.ftp_ends.proofs.LineInFlight.{no_more, Closes, unended, line_closes, written_is, front_of_front, front_says, answer_is_dropped}
 use Rattle.ftp_server_machine.proofs.ReadingLemmas.{reads_stated}
 
 -- ---- octets of which nothing is said
 
-pub in_pieces : HeardInPieces
+pub in_pieces : ServerHearsPieces
 in_pieces read v [] back = refl
 in_pieces read v (octet ∷ front) back = in_pieces read (hears_octet read v octet) front back
 
@@ -72,7 +72,7 @@ lacks_feed (c ∷ cs) none = (first (c == 10) (list_all is_no_feed cs) none, lac
 closes : (text : List ℕ) → IsLine text → Closes line_limit text
 closes text is = line_closes line_limit text (lacks_feed text is.0) (omega (arith, is.1))
 
-hears_line : (read : Reading) (text : List ℕ) (v : View) → IsLine text → v.ear ≡ quiet → HearsLine read text v
+hears_line : (read : Reading) (text : List ℕ) (v : View) → IsLine text → v.ear ≡ quiet → ServerHearsLine read text v
 unfolding hears_octet
 hears_line read text v is rest =
     let c = closes text is in
@@ -97,10 +97,10 @@ hears_line read text v is rest =
           (may_both read v (unended text) (10 ∷ []) (silence_may read v (unended text) none may) (subst Q (sym here) (may, tt)));
     }
 
-pub line_is_heard : LineIsHeard
+pub line_is_heard : ServerHearsEachLine
 line_is_heard read text v is rest = hears_line read text v is rest
 
-pub command_is_heard : CommandIsHeard
+pub command_is_heard : ServerHearsCommand
 command_is_heard read command v reads typed stated rest =
     (hears_line read (line_of command) v (carried command typed stated) rest).whole ∙ ap (λ heard. heard_line heard v) (reads_stated read command reads typed stated)
 
@@ -110,26 +110,26 @@ answer_dropped read v octets rest none leads =
     silence read v octets (ap (λ s. gives (ear line_limit) s octets) rest ∙ none)
     ∙ ap (λ s. with_ear s v) (ap (λ s. after (ear line_limit) s octets) rest ∙ leads ∙ sym rest)
 
-pub answer_is_dropped_here : AnswerIsDropped
+pub answer_is_dropped_here : ServerDropsAnswer
 answer_is_dropped_here read octet v rest =
     let both = answer_is_dropped line_limit octet in
     (answer_dropped read v (255 ∷ 252 ∷ octet ∷ []) rest (both.0.front 3) both.0.rest, answer_dropped read v (255 ∷ 254 ∷ octet ∷ []) rest (both.1.front 3) both.1.rest)
 
 -- ---- what a line does leaves the ear as it is
 
-given_out_ear : (link : Link Move) (v : View) → (given_out link v).ear ≡ v.ear
-given_out_ear (At.Moving (Moves.Down [])) v = refl
-given_out_ear (At.Moving (Moves.Down (octet ∷ rest))) v = refl
-given_out_ear (At.Moving (Moves.Listing [])) v = refl
-given_out_ear (At.Moving (Moves.Listing (octet ∷ rest))) v = refl
-given_out_ear (At.Moving (Moves.Up path keep d)) v = refl
-given_out_ear (At.Moving Moves.Past) v = refl
-given_out_ear (At.Asked asked) v = refl
-given_out_ear (At.Opening move way) v = refl
-given_out_ear At.Free v = refl
-given_out_ear (At.Port endpoint) v = refl
-given_out_ear At.Door v = refl
-given_out_ear At.Ready v = refl
+given_out_ear : (connection : DataConnection Transfer) (v : View) → (given_out connection v).ear ≡ v.ear
+given_out_ear (Data.Transferring (Transfers.Download [])) v = refl
+given_out_ear (Data.Transferring (Transfers.Download (octet ∷ rest))) v = refl
+given_out_ear (Data.Transferring (Transfers.Listing [])) v = refl
+given_out_ear (Data.Transferring (Transfers.Listing (octet ∷ rest))) v = refl
+given_out_ear (Data.Transferring (Transfers.Upload path keep d)) v = refl
+given_out_ear (Data.Transferring Transfers.OverLimit) v = refl
+given_out_ear (Data.Asked asked) v = refl
+given_out_ear (Data.Opening transfer way) v = refl
+given_out_ear Data.Free v = refl
+given_out_ear (Data.Active endpoint) v = refl
+given_out_ear Data.Passive v = refl
+given_out_ear Data.Ready v = refl
 
 obeyed_ear : (heard : Heard (List ℕ)) (v : View) → (obeyed heard v).ear ≡ v.ear
 unfolding obeyed
@@ -146,26 +146,26 @@ waited_ear (Some heard) v = by_idle (is_idle v)
 later_ear : (v : View) → (later v).ear ≡ v.ear
 later_ear v = waited_ear v.waiting v
 
-aborts_ear : (link : Link Move) (v : View) → (aborts link v).ear ≡ v.ear
-aborts_ear (At.Moving move) v = refl
-aborts_ear (At.Opening move way) v = refl
-aborts_ear (At.Asked asked) v = refl
-aborts_ear At.Free v = refl
-aborts_ear (At.Port endpoint) v = refl
-aborts_ear At.Door v = refl
-aborts_ear At.Ready v = refl
+aborts_ear : (connection : DataConnection Transfer) (v : View) → (aborts connection v).ear ≡ v.ear
+aborts_ear (Data.Transferring transfer) v = refl
+aborts_ear (Data.Opening transfer way) v = refl
+aborts_ear (Data.Asked asked) v = refl
+aborts_ear Data.Free v = refl
+aborts_ear (Data.Active endpoint) v = refl
+aborts_ear Data.Passive v = refl
+aborts_ear Data.Ready v = refl
 
 heard_line_ear : (heard : Heard (List ℕ)) (v : View) → (heard_line heard v).ear ≡ v.ear
-heard_line_ear heard v = by_abort (is_abor heard && is_moving v.session.link)
+heard_line_ear heard v = by_abort (is_abort heard v)
   where
     by_abort : (abort : Bool) → (if abort then aborted v else later (record v { waiting = Some heard })).ear ≡ v.ear
-    by_abort true = later_ear (abort_said (aborts v.session.link v)) ∙ aborts_ear v.session.link v
+    by_abort true = later_ear (abort_said (aborts v.session.connection v)) ∙ aborts_ear v.session.connection v
     by_abort false = later_ear (record v { waiting = Some heard })
 
 pub line_leaves_ear : LineLeavesEar
 line_leaves_ear read text v = heard_line_ear (read text) v
 
-pub row_is_heard : RowIsHeard
+pub row_is_heard : ServerHearsRow
 row_is_heard read [] v all rest = refl
 row_is_heard read (text ∷ texts) v all rest =
     let one = hears_line read text v all.0 rest in

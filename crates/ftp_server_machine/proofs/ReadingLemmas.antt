@@ -1,8 +1,9 @@
--- Lines are read in one way.
-use Rattle.std.proofs.Common.{◌≡◌, ℕ, List, ap}
+-- Lines are read in one way; and which of them may fail.
+use Rattle.std.proofs.Common.{◌≡◌, ℕ, List, true, false, sym, ap, ◌∙◌}
 use Rattle.ftp_command.specs.Line.{line_of}
 use Rattle.ftp_command.proofs.LawLemmas.{not_refused, one_command, one_fault}
 use Rattle.ftp_command.proofs.RoundTripLemmas.{round_trip}
+use Rattle.ftp_server_machine.specs.Failing.{NeverFailsWithoutLogin}
 use Rattle.ftp_server_machine.specs.Machine.{IsRead, OneReading, ReadsStated}
 use Rattle.ftp_server_machine.specs.declared.heard.Heard.{Heard}
 use Rattle.ftp_server_machine.specs.declared.heard.Heard.TheVariants.{TooLong, Bad, Asks}
@@ -22,3 +23,6 @@ one_reading read other text is also = one_read text (read text) (other text) (is
 pub reads_stated : ReadsStated
 reads_stated read command is typed stated =
     one_read (line_of command) (read (line_of command)) (Asks command) (is (line_of command)) (round_trip command typed stated)
+
+pub never_fails : NeverFailsWithoutLogin
+never_fails command v w out fails = absurd (let no : true ≡ false = sym fails.0 ∙ out in cc)

@@ -13,22 +13,22 @@ use Rattle.ftp_representation.specs.declared.representation.Structure.TheVariant
 use Rattle.ftp_representation.specs.Representation.{defaults}
 use Rattle.ftp_ends.specs.Decoder.{Decoder, no_octets, decoder_of, ended}
 use Rattle.ftp_ends.specs.Ear.{quiet}
-use Rattle.ftp_server_machine.specs.View.{Footing, Move, Session, View, all_facts, direct_of}
+use Rattle.ftp_server_machine.specs.View.{Footing, Transfer, Session, View, all_facts, direct_of}
 use Rattle.ftp_server_machine.specs.Replies.{reply_octets, reply_of, fixed_reply}
 use Rattle.ftp_server_machine.specs.Transfer.{refused_to_hold}
-use Rattle.ftp_server_machine.specs.Machine.{obeyed, Outcome, is_over, put_in, owes, with_session}
+use Rattle.ftp_server_machine.specs.Machine.{obeyed, Ending, is_over, put_in, owes, with_session}
 use Rattle.ftp_server_machine.specs.Calls.{listening, data_opened, receives, receives_octet, data_end, data_fault, wants}
 use Rattle.ftp_ends.specs.RowWords.{here}
-use Rattle.ftp_server_machine.specs.Rows.{Event, accounts, behind, said_to_member, member, at, of, asks, opened, octets, port, ended as ends, broken as breaks, PassiveUpload, BrokenUpload, TooMuch, Marker, Abort}
-use Rattle.ftp_server_machine.specs.declared.said.Text.{Text}
-use Rattle.ftp_server_machine.specs.declared.said.Text.TheVariants as Texts
+use Rattle.ftp_server_machine.specs.Rows.{RowEvent, accounts, after_events, said_to_member, member, at, of, asks, opened, octets, port, ended as ends, broken as breaks, UploadInstalled, BrokenUploadKept, TooMuchRefused, MarkerAnswered, AbortAnswered}
+use Rattle.ftp_server_machine.specs.declared.reply.Text.{Text}
+use Rattle.ftp_server_machine.specs.declared.reply.Text.TheVariants as Texts
 use Rattle.ftp_representation.specs.declared.representation.Representation.{Representation}
 use Rattle.ftp_server_machine.specs.declared.session.Access.TheVariants as Accesses
-use Rattle.ftp_server_machine.specs.declared.session.Once.TheVariants as Onces
+use Rattle.ftp_server_machine.specs.declared.session.Pending.TheVariants as Pendings
 use Rattle.ftp_server_machine.specs.declared.session.Life.TheVariants as Lives
-use Rattle.ftp_server_machine.specs.declared.session.Link.{Link}
-use Rattle.ftp_server_machine.specs.declared.session.Link.TheVariants as At
-use Rattle.ftp_server_machine.specs.declared.session.Transfer.TheVariants as Moves
+use Rattle.ftp_server_machine.specs.declared.session.DataConnection.{DataConnection}
+use Rattle.ftp_server_machine.specs.declared.session.DataConnection.TheVariants as Data
+use Rattle.ftp_server_machine.specs.declared.session.Transfer.TheVariants as Transfers
 use Rattle.ftp_server_machine.proofs.ServerRows.{started}
 use Rattle.ftp_server_machine.proofs.RowNumbers.{of_4, six_is}
 
@@ -44,21 +44,21 @@ unfolding fits text_of octets_at room_refusal
 stor_code s home f = rw f refl
 
 abbrev stored : View → Option Refusal → View
-stored v code = started v (Moves.Up f_path 0 (no_octets v.session.settings)) code
+stored v code = started v (Transfers.Upload f_path 0 (no_octets v.session.settings)) code
 
 -- an upload is under way, whatever was said before
-abbrev uploading : Footing → Table → Representation → List ℕ → Link Move → View
-uploading footing table settings said link = record {
+abbrev uploading : Footing → Table → Representation → List ℕ → DataConnection Transfer → View
+uploading footing table settings said connection = record {
   footing = footing;
   session = record {
     table = table;
     access = Accesses.Known;
     cwd = [];
-    once = Onces.Nothing;
+    pending = Pendings.Nothing;
     settings = settings;
     facts = all_facts;
     only_extended = false;
-    link = link;
+    connection = connection;
     closing = false;
     life = Lives.Running;
   };
@@ -67,36 +67,36 @@ uploading footing table settings said link = record {
   owed = said;
 }
 
-abbrev up : Decoder → Link Move
-up d = At.Moving (Moves.Up f_path 0 d)
+abbrev up : Decoder → DataConnection Transfer
+up d = Data.Transferring (Transfers.Upload f_path 0 d)
 
 -- the same once a limit was looked at
-abbrev limited : Decoder → Bool → Link Move
-limited d over = if over then At.Moving Moves.Past else up d
+abbrev limited : Decoder → Bool → DataConnection Transfer
+limited d over = if over then Data.Transferring Transfers.OverLimit else up d
 
 -- the upload is over
-abbrev left : Footing → Representation → List ℕ → Outcome → Bool → View
-left footing settings said outcome closing = record {
+abbrev left : Footing → Representation → List ℕ → Ending → Bool → View
+left footing settings said ending closing = record {
   footing = footing;
   session = record {
-    table = outcome.0;
+    table = ending.0;
     access = Accesses.Known;
     cwd = [];
-    once = Onces.Nothing;
+    pending = Pendings.Nothing;
     settings = settings;
     facts = all_facts;
     only_extended = false;
-    link = At.Free;
+    connection = Data.Free;
     closing = closing;
     life = Lives.Running;
   };
   ear = quiet;
   waiting = None;
-  owed = said ++ reply_octets (fixed_reply outcome.1);
+  owed = said ++ reply_octets (fixed_reply ending.1);
 }
 
-abbrev outcome : Footing → Table → List ℕ → Text → Bool → Outcome
-outcome footing table content text over = if over then (table, Texts.TooMuch) else (put_in footing table f_path 0 content, text)
+abbrev ending : Footing → Table → List ℕ → Text → Bool → Ending
+ending footing table content text over = if over then (table, Texts.TooMuch) else (put_in footing table f_path 0 content, text)
 
 -- decoders of a file in type I and of one in type A
 abbrev image_settings : Representation
@@ -158,27 +158,27 @@ image_c footing table said over is = ap (λ b. uploading footing table image_set
 -- ---- ends
 
 aborts : (footing : Footing) (table : Table) (said : List ℕ) → is_over table f_path 0 (ascii (97 ∷ 98 ∷ [])) ≡ false
-    → behind (asks command.Abor ∷ []) (uploading footing table defaults said (up (ascii (97 ∷ 98 ∷ []))))
-    ≡ owes (reply_octets (fixed_reply Texts.AbortDone)) (left footing defaults said (outcome footing table (codes "ab") Texts.Broken false) true)
+    → after_events (asks command.Abor ∷ []) (uploading footing table defaults said (up (ascii (97 ∷ 98 ∷ []))))
+    ≡ owes (reply_octets (fixed_reply Texts.AbortDone)) (left footing defaults said (ending footing table (codes "ab") Texts.Broken false) true)
 aborts footing table said is =
-    ap (λ b. owes (reply_octets (fixed_reply Texts.AbortDone)) (left footing defaults said (outcome footing table (codes "ab") Texts.Broken b) true)) is
+    ap (λ b. owes (reply_octets (fixed_reply Texts.AbortDone)) (left footing defaults said (ending footing table (codes "ab") Texts.Broken b) true)) is
 
 breaks_off : (footing : Footing) (table : Table) (said : List ℕ) → is_over table f_path 0 (ascii (120 ∷ 13 ∷ [])) ≡ false
     → data_fault (uploading footing table defaults said (up (ascii (120 ∷ 13 ∷ []))))
-    ≡ left footing defaults said (outcome footing table (codes "x") Texts.Broken false) false
+    ≡ left footing defaults said (ending footing table (codes "x") Texts.Broken false) false
 unfolding data_fault
-breaks_off footing table said is = ap (λ b. left footing defaults said (outcome footing table (codes "x") Texts.Broken b) false) is
+breaks_off footing table said is = ap (λ b. left footing defaults said (ending footing table (codes "x") Texts.Broken b) false) is
 
 ends_past : (footing : Footing) (table : Table) (said : List ℕ)
-    → data_end (uploading footing table defaults said (At.Moving Moves.Past)) ≡ left footing defaults said (table, Texts.TooMuch) false
+    → data_end (uploading footing table defaults said (Data.Transferring Transfers.OverLimit)) ≡ left footing defaults said (table, Texts.TooMuch) false
 unfolding data_end
 ends_past footing table said = refl
 
 ends_whole : (footing : Footing) (table : Table) (said : List ℕ) → is_over table f_path 0 (ended (image (97 ∷ 98 ∷ 99 ∷ []))) ≡ false
     → data_end (uploading footing table image_settings said (up (image (97 ∷ 98 ∷ 99 ∷ []))))
-    ≡ left footing image_settings said (outcome footing table (codes "abc") Texts.Complete false) false
+    ≡ left footing image_settings said (ending footing table (codes "abc") Texts.Complete false) false
 unfolding data_end
-ends_whole footing table said is = ap (λ b. left footing image_settings said (outcome footing table (codes "abc") Texts.Complete b) false) is
+ends_whole footing table said is = ap (λ b. left footing image_settings said (ending footing table (codes "abc") Texts.Complete b) false) is
 
 -- ---- the rows
 
@@ -194,42 +194,42 @@ begun : (table : Table) → node_at table f_path ≡ Some (File [] 0)
 unfolding obeyed is_known fits text_of resolved data_opened
 begun table f =
     let v : View = member table (asks (command.Port (at here)) ∷ []) in
-    ap (λ c. behind (opened here ∷ []) (stored v c)) (stor_code v.session refl f)
+    ap (λ c. after_events (opened here ∷ []) (stored v c)) (stor_code v.session refl f)
 
-pub abort : Abort
+pub abort : AbortAnswered
 abort table f room =
-    let rest : List Event = asks command.Abor ∷ [] in
-    let is = ap (λ w. behind (octets (codes "ab") ∷ rest) w) (begun table f)
-    ∙ ap (λ w. behind rest (receives_octet w 98)) (a_comes standing table active_said false (fits_room table 1000 (ascii (97 ∷ [])) room refl refl))
-    ∙ ap (λ w. behind rest w) (b_comes standing table active_said false (fits_room table 1000 (ascii (97 ∷ 98 ∷ [])) room refl refl))
+    let rest : List RowEvent = asks command.Abor ∷ [] in
+    let is = ap (λ w. after_events (octets (codes "ab") ∷ rest) w) (begun table f)
+    ∙ ap (λ w. after_events rest (receives_octet w 98)) (a_comes standing table active_said false (fits_room table 1000 (ascii (97 ∷ [])) room refl refl))
+    ∙ ap (λ w. after_events rest w) (b_comes standing table active_said false (fits_room table 1000 (ascii (97 ∷ 98 ∷ [])) room refl refl))
     ∙ aborts standing table active_said (fits_room table 1000 (ascii (97 ∷ 98 ∷ [])) room refl refl) in
     (ap (λ w. w.owed) is, ap (λ w. w.session.table) is, ap wants is)
 
-pub broken_upload : BrokenUpload
+pub broken_upload : BrokenUploadKept
 broken_upload table f room =
-    let is = ap (λ w. behind (octets (120 ∷ 13 ∷ []) ∷ breaks ∷ []) w) (begun table f)
-    ∙ ap (λ w. behind (breaks ∷ []) (receives_octet w 13)) (x_comes standing table active_said false (fits_room table 1000 (ascii (120 ∷ [])) room refl refl))
-    ∙ ap (λ w. behind (breaks ∷ []) w) (return_comes standing table active_said false (fits_room table 1000 (ascii (120 ∷ 13 ∷ [])) room refl refl))
+    let is = ap (λ w. after_events (octets (120 ∷ 13 ∷ []) ∷ breaks ∷ []) w) (begun table f)
+    ∙ ap (λ w. after_events (breaks ∷ []) (receives_octet w 13)) (x_comes standing table active_said false (fits_room table 1000 (ascii (120 ∷ [])) room refl refl))
+    ∙ ap (λ w. after_events (breaks ∷ []) w) (return_comes standing table active_said false (fits_room table 1000 (ascii (120 ∷ 13 ∷ [])) room refl refl))
     ∙ breaks_off standing table active_said (fits_room table 1000 (ascii (120 ∷ 13 ∷ [])) room refl refl) in
     (ap (λ w. w.owed) is, ap (λ w. w.session.table) is)
 
 past_room : (table : Table) → room_at table f_path ≡ 2 → is_over table f_path 0 (ascii (97 ∷ 98 ∷ 99 ∷ [])) ≡ true
 past_room table room = rw room refl
 
-pub too_much : TooMuch
+pub too_much : TooMuchRefused
 too_much table f room =
-    let is = ap (λ w. behind (octets (codes "abc") ∷ ends ∷ []) w) (begun table f)
-    ∙ ap (λ w. behind (ends ∷ []) (receives_octet (receives_octet w 98) 99)) (a_comes standing table active_said false (fits_room table 2 (ascii (97 ∷ [])) room refl refl))
-    ∙ ap (λ w. behind (ends ∷ []) (receives_octet w 99)) (b_comes standing table active_said false (fits_room table 2 (ascii (97 ∷ 98 ∷ [])) room refl refl))
-    ∙ ap (λ w. behind (ends ∷ []) w) (c_comes standing table active_said true (past_room table room))
+    let is = ap (λ w. after_events (octets (codes "abc") ∷ ends ∷ []) w) (begun table f)
+    ∙ ap (λ w. after_events (ends ∷ []) (receives_octet (receives_octet w 98) 99)) (a_comes standing table active_said false (fits_room table 2 (ascii (97 ∷ [])) room refl refl))
+    ∙ ap (λ w. after_events (ends ∷ []) (receives_octet w 99)) (b_comes standing table active_said false (fits_room table 2 (ascii (97 ∷ 98 ∷ [])) room refl refl))
+    ∙ ap (λ w. after_events (ends ∷ []) w) (c_comes standing table active_said true (past_room table room))
     ∙ ends_past standing table active_said in
     (ap (λ w. w.owed) is, ap (λ w. w.session.table) is)
 
 -- TYPE I, PASV, the opening of the link and STOR, by the text of what is told
-abbrev door_view : Table → List ℕ → View
-door_view table six =
+abbrev port_view : Table → List ℕ → View
+port_view table six =
     let v : View = member table (asks (command.Repr Kinds.Image) ∷ asks command.Pasv ∷ []) in
-    owes (reply_octets (reply_of 227 (codes "Entering Passive Mode (" ++ (six ++ codes ")")))) (with_session (record v.session { link = At.Door }) v)
+    owes (reply_octets (reply_of 227 (codes "Entering Passive Mode (" ++ (six ++ codes ")")))) (with_session (record v.session { connection = Data.Passive }) v)
 
 abbrev passive_said : List ℕ
 passive_said =
@@ -240,17 +240,17 @@ begun_passive : (table : Table) → node_at table f_path ≡ Some (File [] 0)
     ≡ uploading standing table image_settings passive_said (up (image []))
 unfolding obeyed is_known fits text_of resolved listening data_opened
 begun_passive table f =
-    let v : View = behind (opened here ∷ []) (door_view table (codes "127,0,0,1,7,138")) in
-    ap (λ six. behind (opened here ∷ asks (command.Stor (codes "f")) ∷ []) (door_view table six)) six_is
+    let v : View = after_events (opened here ∷ []) (port_view table (codes "127,0,0,1,7,138")) in
+    ap (λ six. after_events (opened here ∷ asks (command.Stor (codes "f")) ∷ []) (port_view table six)) six_is
     ∙ ap (λ c. stored v c) (stor_code v.session refl f)
 
-pub passive_upload : PassiveUpload
+pub passive_upload : UploadInstalled
 passive_upload table f room =
-    let rest : List Event = octets (codes "c") ∷ ends ∷ [] in
-    let is = ap (λ w. behind (octets (codes "ab") ∷ rest) w) (begun_passive table f)
-    ∙ ap (λ w. behind rest (receives_octet w 98)) (image_a standing table passive_said false (fits_room table 1000 (image (97 ∷ [])) room refl refl))
-    ∙ ap (λ w. behind rest w) (image_b standing table passive_said false (fits_room table 1000 (image (97 ∷ 98 ∷ [])) room refl refl))
-    ∙ ap (λ w. behind (ends ∷ []) w) (image_c standing table passive_said false (fits_room table 1000 (image (97 ∷ 98 ∷ 99 ∷ [])) room refl refl))
+    let rest : List RowEvent = octets (codes "c") ∷ ends ∷ [] in
+    let is = ap (λ w. after_events (octets (codes "ab") ∷ rest) w) (begun_passive table f)
+    ∙ ap (λ w. after_events rest (receives_octet w 98)) (image_a standing table passive_said false (fits_room table 1000 (image (97 ∷ [])) room refl refl))
+    ∙ ap (λ w. after_events rest w) (image_b standing table passive_said false (fits_room table 1000 (image (97 ∷ 98 ∷ [])) room refl refl))
+    ∙ ap (λ w. after_events (ends ∷ []) w) (image_c standing table passive_said false (fits_room table 1000 (image (97 ∷ 98 ∷ 99 ∷ [])) room refl refl))
     ∙ ends_whole standing table passive_said (fits_room table 1000 (ended (image (97 ∷ 98 ∷ 99 ∷ []))) room refl refl) in
     (ap (λ w. w.owed) is, ap (λ w. w.session.table) is, ap wants is)
 
@@ -262,8 +262,8 @@ block_settings = record { kind = Kinds.Image; structure = Structures.File; mode 
 abbrev blocks : List ℕ → Decoder
 blocks w = decoder_of block_settings w
 
-abbrev appending : Decoder → Bool → Link Move
-appending d over = if over then At.Moving Moves.Past else At.Moving (Moves.Up f_path 3 d)
+abbrev appending : Decoder → Bool → DataConnection Transfer
+appending d over = if over then Data.Transferring Transfers.OverLimit else Data.Transferring (Transfers.Upload f_path 3 d)
 
 appe_code : (s : Session) → s.cwd ≡ [] → node_at s.table f_path ≡ Some (File (codes "abc") 0) → refused_to_hold s f_path ≡ None
 unfolding fits text_of room_refusal
@@ -274,7 +274,7 @@ unfolding octets_at
 abc_length table f = rw f refl
 
 abbrev appended : View → Option Refusal → ℕ → View
-appended v code keep = behind (opened here ∷ []) (started v (Moves.Up f_path keep (no_octets v.session.settings)) code)
+appended v code keep = after_events (opened here ∷ []) (started v (Transfers.Upload f_path keep (no_octets v.session.settings)) code)
 
 abbrev block_said : List ℕ
 block_said = said_to_member (codes "200 Type set" ∷ codes "200 Mode set" ∷ codes "200 Endpoint taken" ∷ codes "150 Opening data connection" ∷ [])
@@ -299,7 +299,7 @@ marker_comes : (footing : Footing) (table : Table) (said : List ℕ)
 unfolding receives_octet
 marker_comes footing table said = refl
 
-pub marker : Marker
+pub marker : MarkerAnswered
 marker table f room =
     let over : is_over table f_path 3 (blocks (0 ∷ 0 ∷ 1 ∷ 100 ∷ [])) ≡ false = rw room refl in
     ap (λ w. (receives w (0 ∷ 0 ∷ 1 ∷ 100 ∷ 16 ∷ 0 ∷ 1 ∷ 77 ∷ [])).owed) (begun_append table f)

@@ -6,64 +6,62 @@ use Rattle.ftp_command.specs.declared.fault.CommandFault.{CommandFault}
 use Rattle.ftp_command.specs.declared.fault.CommandFault.TheVariants as Faults
 use Rattle.ftp_path.specs.Path.{Names}
 use Rattle.ftp_server_machine.specs.View.{Footing, Session}
-use Rattle.ftp_server_machine.specs.Entries.{option_facts}
 use Rattle.ftp_server_machine.specs.Replies.{Turn, tells}
 use Rattle.ftp_server_machine.specs.Endpoint.{forgotten, port, pasv, epsv}
 use Rattle.ftp_server_machine.specs.Login.{user, pass, rein, quit}
-use Rattle.ftp_server_machine.specs.Setting.{set_kind, set_structure, set_mode, choose}
+use Rattle.ftp_server_machine.specs.Setting.{set_kind, set_structure, set_mode, opts}
 use Rattle.ftp_server_machine.specs.Walk.{cwd, cdup, mkd, rmd, dele, rnfr, rnto}
 use Rattle.ftp_server_machine.specs.Ask.{size, mdtm, mlst}
 use Rattle.ftp_server_machine.specs.Transfer.{rest, retr, stor, appe, list, nlst, mlsd}
 use Rattle.ftp_server_machine.specs.declared.heard.Heard.{Heard}
 use Rattle.ftp_server_machine.specs.declared.heard.Heard.TheVariants.{TooLong, Bad, Asks}
-use Rattle.ftp_server_machine.specs.declared.said.Text.{Text}
-use Rattle.ftp_server_machine.specs.declared.said.Text.TheVariants as Texts
-use Rattle.ftp_server_machine.specs.declared.said.Said.TheVariants as Say
+use Rattle.ftp_server_machine.specs.declared.reply.Text.{Text}
+use Rattle.ftp_server_machine.specs.declared.reply.Text.TheVariants as Texts
+use Rattle.ftp_server_machine.specs.declared.reply.ReplyKind.TheVariants as Replies
 use Rattle.ftp_server_machine.specs.declared.session.Access.{Access}
 use Rattle.ftp_server_machine.specs.declared.session.Access.TheVariants.{Nobody, AwaitsPass, Known}
-use Rattle.ftp_server_machine.specs.declared.session.Once.{Once}
+use Rattle.ftp_server_machine.specs.declared.session.Pending.{Pending}
 
--- a command that is done, where `once` stood for it from the line before. An ABOR that comes during a transfer is not done
--- here (`Machine`)
-abbrev pub act : Footing → Command (List ℕ) → Once Names → Session → Turn
-act footing (command.User name) once v = user footing.accounts name v
-act footing (command.Pass word) once v = pass v.access footing.accounts word v
-act footing (command.Acct text) once v = tells Texts.NotNeeded v
-act footing (command.Cwd text) once v = cwd text v
-act footing command.Cdup once v = cdup v
-act footing command.Rein once v = rein v
-act footing command.Quit once v = quit v
-act footing (command.Port endpoint) once v = port footing endpoint v
-act footing command.Pasv once v = pasv footing v
-act footing (command.Eprt endpoint) once v = port footing endpoint v
-act footing (command.Epsv family) once v = epsv footing family v
-act footing (command.Repr kind) once v = set_kind kind v
-act footing (command.Stru structure) once v = set_structure structure v
-act footing (command.Mode mode) once v = set_mode mode v
-act footing (command.Retr text) once v = retr once text v
-act footing (command.Stor text) once v = stor once text v
-act footing (command.Appe text) once v = appe text v
-act footing (command.Allo octets longest) once v = tells Texts.NotNeeded v
-act footing (command.Rest place) once v = rest place v
-act footing (command.Rnfr text) once v = rnfr text v
-act footing (command.Rnto text) once v = rnto once text v
-act footing command.Abor once v = tells Texts.AbortDone v
-act footing (command.Dele text) once v = dele text v
-act footing (command.Rmd text) once v = rmd text v
-act footing (command.Mkd text) once v = mkd text v
-act footing command.Pwd once v = (v, Say.Here)
-act footing (command.List text) once v = list text v
-act footing (command.Nlst text) once v = nlst text v
-act footing (command.Mlst text) once v = mlst text v
-act footing (command.Mlsd text) once v = mlsd text v
-act footing (command.Size text) once v = size text v
-act footing (command.Mdtm text) once v = mdtm text v
-act footing command.Syst once v = tells Texts.System v
-act footing command.Stat once v = tells Texts.Serving v
-act footing (command.Help text) once v = tells Texts.Help v
-act footing command.Noop once v = tells Texts.Fine v
-act footing command.Feat once v = (v, Say.Features)
-act footing (command.Opts text) once v = choose (option_facts text) v
+-- each command, with what the line before left pending for it. An ABOR during a transfer is not done here (`Machine`)
+abbrev pub act : Footing → Command (List ℕ) → Pending Names → Session → Turn
+act footing (command.User name) pending s = user footing.accounts name s
+act footing (command.Pass word) pending s = pass s.access footing.accounts word s
+act footing (command.Acct text) pending s = tells Texts.NotNeeded s
+act footing (command.Cwd text) pending s = cwd text s
+act footing command.Cdup pending s = cdup s
+act footing command.Rein pending s = rein s
+act footing command.Quit pending s = quit s
+act footing (command.Port endpoint) pending s = port footing endpoint s
+act footing command.Pasv pending s = pasv footing s
+act footing (command.Eprt endpoint) pending s = port footing endpoint s
+act footing (command.Epsv family) pending s = epsv footing family s
+act footing (command.Repr kind) pending s = set_kind kind s
+act footing (command.Stru structure) pending s = set_structure structure s
+act footing (command.Mode mode) pending s = set_mode mode s
+act footing (command.Retr text) pending s = retr pending text s
+act footing (command.Stor text) pending s = stor pending text s
+act footing (command.Appe text) pending s = appe text s
+act footing (command.Allo octets longest) pending s = tells Texts.NotNeeded s
+act footing (command.Rest place) pending s = rest place s
+act footing (command.Rnfr text) pending s = rnfr text s
+act footing (command.Rnto text) pending s = rnto pending text s
+act footing command.Abor pending s = tells Texts.AbortDone s
+act footing (command.Dele text) pending s = dele text s
+act footing (command.Rmd text) pending s = rmd text s
+act footing (command.Mkd text) pending s = mkd text s
+act footing command.Pwd pending s = (s, Replies.Here)
+act footing (command.List text) pending s = list text s
+act footing (command.Nlst text) pending s = nlst text s
+act footing (command.Mlst text) pending s = mlst text s
+act footing (command.Mlsd text) pending s = mlsd text s
+act footing (command.Size text) pending s = size text s
+act footing (command.Mdtm text) pending s = mdtm text s
+act footing command.Syst pending s = tells Texts.System s
+act footing command.Stat pending s = tells Texts.Serving s
+act footing (command.Help text) pending s = tells Texts.Help s
+act footing command.Noop pending s = tells Texts.Fine s
+act footing command.Feat pending s = (s, Replies.Features)
+act footing (command.Opts text) pending s = opts text s
 
 -- ---- the order of decisions on a line (own choice)
 
@@ -76,7 +74,7 @@ fault_text Faults.BadParameter = Texts.BadParameter
 fault_text Faults.Protocol = Texts.Protocol
 fault_text Faults.Memory = Texts.LocalFault
 
--- what is done for who is not logged in too
+-- the commands that are done before a login too (own choice)
 abbrev pub is_free : Command (List ℕ) → Bool
 is_free (command.User name) = true
 is_free (command.Pass word) = true
@@ -96,7 +94,7 @@ is_in Nobody = false
 is_in (AwaitsPass name) = false
 is_in Known = true
 
--- the commands that need a data connection (RFC 959, section 4.1.3; RFC 3659, section 7)
+-- the transfer commands: those that need a data connection (RFC 959, section 4.1.3; RFC 3659, section 7)
 abbrev pub is_transfer : Command (List ℕ) → Bool
 is_transfer (command.Retr text) = true
 is_transfer (command.Stor text) = true
@@ -106,14 +104,18 @@ is_transfer (command.Nlst text) = true
 is_transfer (command.Mlsd text) = true
 is_transfer other = false
 
--- a transfer command forgets the endpoint, whatever comes of it
+-- a transfer command forgets the endpoint, whatever comes of it (own choice)
 abbrev pub forgets : Command (List ℕ) → Session → Session
-forgets command v = if is_transfer command then forgotten v else v
+forgets command s = if is_transfer command then forgotten s else s
 
--- a line that is too long; one that says no command; a command of who is not logged in; then the command's own answer, which
--- begins, after EPSV ALL, with the 503 of PORT, PASV and EPRT
-abbrev pub decided : Footing → Heard (List ℕ) → Once Names → Session → Turn
-decided footing TooLong once v = tells Texts.LineTooLong v
-decided footing (Bad fault) once v = tells (fault_text fault) v
-decided footing (Asks command) once v =
-    if is_in v.access || is_free command then act footing command once v else tells Texts.NotLoggedIn (forgets command v)
+-- a command has its own answer where somebody is logged in, or where it needs no login; else it is 530
+abbrev pub is_allowed : Command (List ℕ) → Session → Bool
+is_allowed command s = is_in s.access || is_free command
+
+-- in this order: the line is too long; it says no command, and why; nobody is logged in; the command's own answer. That begins,
+-- after EPSV ALL, with the 503 of PORT, PASV and EPRT
+abbrev pub decided : Footing → Heard (List ℕ) → Pending Names → Session → Turn
+decided footing TooLong pending s = tells Texts.LineTooLong s
+decided footing (Bad fault) pending s = tells (fault_text fault) s
+decided footing (Asks command) pending s =
+    if is_allowed command s then act footing command pending s else tells Texts.NotLoggedIn (forgets command s)

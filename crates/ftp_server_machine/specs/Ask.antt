@@ -12,12 +12,12 @@ use Rattle.ftp_server_machine.specs.View.{Session, direct_of, how_in_force}
 use Rattle.ftp_server_machine.specs.Replies.{Turn, tells}
 use Rattle.ftp_server_machine.specs.Walk.{unless, path_of}
 use Rattle.ftp_representation.specs.declared.representation.Representation.{Representation}
-use Rattle.ftp_server_machine.specs.declared.said.Text.TheVariants as Texts
-use Rattle.ftp_server_machine.specs.declared.said.Said.TheVariants as Say
+use Rattle.ftp_server_machine.specs.declared.reply.Text.TheVariants as Texts
+use Rattle.ftp_server_machine.specs.declared.reply.ReplyKind.TheVariants as Replies
 
 -- the octets that a transfer of the file would have, in the type in force
 abbrev pub size_of : Session → List ℕ → ℕ
-size_of v text = size_in v.settings.kind (octets_or_none v.table (path_of v text))
+size_of s text = size_in s.settings.kind (octets_or_none s.table (path_of s text))
 
 -- the settings in which a size is told
 abbrev pub has_size : Representation → Bool
@@ -25,17 +25,17 @@ has_size settings = same_structure settings.structure Structures.File && same_mo
 
 -- SIZE; own choice: a size is told in file structure and stream mode alone
 abbrev pub size : List ℕ → Session → Turn
-size text v =
-    if has_size v.settings then unless (refusal (direct_of v) (Ops.Size text (how_in_force v.settings))) v (v, Say.Size (size_of v text))
-    else tells Texts.Refused v
+size text s =
+    if has_size s.settings then unless (refusal (direct_of s) (Ops.Size text (how_in_force s.settings))) s (s, Replies.Size (size_of s text))
+    else tells Texts.Refused s
 
 -- MDTM: the second in which a file was installed
 abbrev pub stamp_of : Session → List ℕ → ℕ
-stamp_of v text = unwrap_or (stamp_at v.table (path_of v text)) 0
+stamp_of s text = unwrap_or (stamp_at s.table (path_of s text)) 0
 
 -- MDTM: YYYYMMDDHHMMSS in UTC (RFC 3659, section 3)
 abbrev pub mdtm : List ℕ → Session → Turn
-mdtm text v = unless (refusal (direct_of v) (Ops.Modified text)) v (v, Say.Stamp (moment_digits (stamp_of v text)))
+mdtm text s = unless (refusal (direct_of s) (Ops.Modified text)) s (s, Replies.Stamp (moment_digits (stamp_of s text)))
 
 -- an argument that may be left out; an empty text names the current directory
 abbrev pub or_empty : Option (List ℕ) → List ℕ
@@ -43,4 +43,4 @@ or_empty text = unwrap_or text []
 
 -- MLST: the entry of what stands at a path
 abbrev pub mlst : Option (List ℕ) → Session → Turn
-mlst text v = unless (refusal (direct_of v) (Ops.Facts (or_empty text))) v (v, Say.Entry (named_or_here (direct_of v) (or_empty text)))
+mlst text s = unless (refusal (direct_of s) (Ops.Facts (or_empty text))) s (s, Replies.Entry (named_or_here (direct_of s) (or_empty text)))

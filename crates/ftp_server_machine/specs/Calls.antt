@@ -10,22 +10,22 @@ use Rattle.ftp_tree.specs.Tree.{Table}
 use Rattle.ftp_ends.specs.Ear.{quiet}
 use Rattle.ftp_ends.specs.Decoder.{Decoder, with_sign, with_said, read_on, octet_says, fault_of}
 use Rattle.ftp_ends.specs.Link.{same_host}
-use Rattle.ftp_server_machine.specs.View.{Accounts, Footing, Move, Session, View, first_session}
+use Rattle.ftp_server_machine.specs.View.{Accounts, Footing, Transfer, Session, View, first_session}
 use Rattle.ftp_server_machine.specs.Replies.{Turn, fixed_reply, reply_octets, mark_reply}
-use Rattle.ftp_server_machine.specs.Endpoint.{forgotten, unlinked}
-use Rattle.ftp_server_machine.specs.Machine.{with_session, owes, turned, replied, completed, has_room, later, is_over, at_end, at_break, ends_unlinked, lost}
+use Rattle.ftp_server_machine.specs.Endpoint.{forgotten, disconnected}
+use Rattle.ftp_server_machine.specs.Machine.{with_session, owes, turned, replied, completed, has_room, later, is_over, at_end, at_break, ends_disconnected, faulted}
 use Rattle.ftp_ends.specs.declared.link.Wants.{Wants}
 use Rattle.ftp_ends.specs.declared.link.Wants.TheVariants as Want
-use Rattle.ftp_server_machine.specs.declared.said.Text.TheVariants as Texts
-use Rattle.ftp_server_machine.specs.declared.said.Said.TheVariants as Say
+use Rattle.ftp_server_machine.specs.declared.reply.Text.TheVariants as Texts
+use Rattle.ftp_server_machine.specs.declared.reply.ReplyKind.TheVariants as Replies
 use Rattle.ftp_server_machine.specs.declared.session.Asked.TheVariants as Asking
 use Rattle.ftp_server_machine.specs.declared.session.Life.{Life}
 use Rattle.ftp_server_machine.specs.declared.session.Life.TheVariants as Lives
-use Rattle.ftp_server_machine.specs.declared.session.Once.TheVariants as Onces
+use Rattle.ftp_server_machine.specs.declared.session.Pending.TheVariants as Pendings
 use Rattle.ftp_server_machine.specs.declared.session.Way.TheVariants as Ways
-use Rattle.ftp_server_machine.specs.declared.session.Transfer.TheVariants as Moves
-use Rattle.ftp_server_machine.specs.declared.session.Link.{Link}
-use Rattle.ftp_server_machine.specs.declared.session.Link.TheVariants as At
+use Rattle.ftp_server_machine.specs.declared.session.Transfer.TheVariants as Transfers
+use Rattle.ftp_server_machine.specs.declared.session.DataConnection.{DataConnection}
+use Rattle.ftp_server_machine.specs.declared.session.DataConnection.TheVariants as Data
 
 -- ---- the start
 
@@ -55,75 +55,75 @@ clock_step moment v = record v { footing = record v.footing { moment = moment } 
 unfoldable pub clocked : ℕ → View → View
 clocked moment v = later (clock_step moment v)
 
--- ---- which calls have a use: while a close is wanted, none of the link has
+-- ---- the data connection as events see it
 
--- the link as events see it: while its close is wanted, they see none
-abbrev pub link_of : Session → Link Move
-link_of v = if v.closing then At.Free else v.link
+-- while a close is wanted, events find none
+abbrev pub connection_of : Session → DataConnection Transfer
+connection_of s = if s.closing then Data.Free else s.connection
 
 -- ---- listening
 
--- the port that was asked for
-abbrev pub listening_turn : Link Move → Footing → ℕ → Session → Turn
-listening_turn (At.Asked Asking.Pasv) footing port v = (record v { link = At.Door }, Say.Passive (record { host = footing.here; port = port }))
-listening_turn (At.Asked Asking.Epsv) footing port v = (record v { link = At.Door }, Say.Extended port)
-listening_turn link footing port v = (v, Say.Nothing)
+-- the port that was asked for is told, by the reply of PASV or EPSV (RFC 959, section 4.1.2; RFC 2428, section 3)
+abbrev pub listening_turn : DataConnection Transfer → Footing → ℕ → Session → Turn
+listening_turn (Data.Asked Asking.Pasv) footing port s = (record s { connection = Data.Passive }, Replies.Passive (record { host = footing.here; port = port }))
+listening_turn (Data.Asked Asking.Epsv) footing port s = (record s { connection = Data.Passive }, Replies.Extended port)
+listening_turn connection footing port s = (s, Replies.Nothing)
 
--- the reply of PASV or EPSV is owed, with this port (RFC 959, section 4.1.2; RFC 2428, section 3)
+-- this port is listened at
 abbrev pub listening_step : ℕ → View → View
-listening_step port v = turned (listening_turn (link_of v.session) v.footing port v.session) v
+listening_step port v = turned (listening_turn (connection_of v.session) v.footing port v.session) v
 
 unfoldable pub listening : ℕ → View → View
 listening port v = later (listening_step port v)
 
--- none was had
-abbrev pub unheard : Link Move → View → View
-unheard (At.Asked asked) v = replied Texts.NoConnection (unlinked v.session) v
-unheard link v = v
+-- PASV or EPSV is answered 425, where no port was had
+abbrev pub unheard : DataConnection Transfer → View → View
+unheard (Data.Asked asked) v = replied Texts.NoConnection (disconnected v.session) v
+unheard connection v = v
 
--- what waits for a port is answered 425
+-- no port was had
 abbrev pub no_port_step : View → View
-no_port_step v = unheard (link_of v.session) v
+no_port_step v = unheard (connection_of v.session) v
 
 unfoldable pub listen_refused : View → View
 listen_refused v = later (no_port_step v)
 
--- ---- the link opens, or is refused
+-- ---- the data connection opens, or is refused
 
--- own choice: only the peer of the control connection may open a port; another host's link is closed, and the endpoint is
--- forgotten, which is told only behind a 150
-abbrev pub door_opens : Bool → View → View
-door_opens true v = with_session (record v.session { link = At.Ready }) v
-door_opens false v = with_session (forgotten v.session) v
+-- only the peer of the control connection may open a port; another host's is closed, and the endpoint is forgotten, which is told
+-- only after a 150 (own choice)
+abbrev pub port_opens : Bool → View → View
+port_opens true v = with_session (record v.session { connection = Data.Ready }) v
+port_opens false v = with_session (forgotten v.session) v
 
--- the same behind the 150 of a transfer: it goes on, or is answered 425
-abbrev pub door_opens_for : Bool → Move → View → View
-door_opens_for true move v = with_session (record v.session { link = At.Moving move }) v
-door_opens_for false move v = replied Texts.NoConnection (forgotten v.session) v
+-- the same after the 150 of a transfer: it goes on, or is answered 425
+abbrev pub port_opens_for : Bool → Transfer → View → View
+port_opens_for true transfer v = with_session (record v.session { connection = Data.Transferring transfer }) v
+port_opens_for false transfer v = replied Texts.NoConnection (forgotten v.session) v
 
--- what an open link is for: the next transfer command, or the transfer that waits for it
-abbrev pub opens : Link Move → Bool → View → View
-opens At.Door is_peer v = door_opens is_peer v
-opens (At.Opening move Ways.Door) is_peer v = door_opens_for is_peer move v
-opens (At.Opening move (Ways.To endpoint)) is_peer v = door_opens_for true move v
-opens link is_peer v = v
+-- what it is for: the next transfer command, or the transfer that waits for it
+abbrev pub opens : DataConnection Transfer → Bool → View → View
+opens Data.Passive is_peer v = port_opens is_peer v
+opens (Data.Opening transfer Ways.Accept) is_peer v = port_opens_for is_peer transfer v
+opens (Data.Opening transfer (Ways.Connect endpoint)) is_peer v = port_opens_for true transfer v
+opens connection is_peer v = v
 
--- the link is open, and this host is at its other end
+-- the data connection is open, and this host is at its other end
 abbrev pub opened_step : Host → View → View
-opened_step host v = completed (opens (link_of v.session) (same_host host v.footing.peer) v)
+opened_step host v = completed (opens (connection_of v.session) (same_host host v.footing.peer) v)
 
 unfoldable pub data_opened : Host → View → View
 data_opened host v = later (opened_step host v)
 
--- a link that was not had: before a transfer command nothing is said; a port that is listened at is to be closed
-abbrev pub refuses : Link Move → View → View
-refuses At.Door v = with_session (forgotten v.session) v
-refuses (At.Opening move way) v = replied Texts.NoConnection (forgotten v.session) v
-refuses link v = v
+-- it was not had: before a transfer command nothing is said; a port that is listened at is to be closed
+abbrev pub refuses : DataConnection Transfer → View → View
+refuses Data.Passive v = with_session (forgotten v.session) v
+refuses (Data.Opening transfer way) v = replied Texts.NoConnection (forgotten v.session) v
+refuses connection v = v
 
--- the link was not had: a transfer that waits for it is answered 425
+-- the data connection was not had
 abbrev pub refused_step : View → View
-refused_step v = refuses (link_of v.session) v
+refused_step v = refuses (connection_of v.session) v
 
 unfoldable pub data_refused : View → View
 data_refused v = later (refused_step v)
@@ -131,58 +131,58 @@ data_refused v = later (refused_step v)
 -- ---- the octets of an upload
 
 -- an upload with more octets settled, or past a limit: from then on the rest is dropped unread (own choice)
-abbrev pub grown : Table → Names → ℕ → Decoder → Link Move
-grown table path keep d = if is_over table path keep d then At.Moving Moves.Past else At.Moving (Moves.Up path keep d)
+abbrev pub grown : Table → Names → ℕ → Decoder → DataConnection Transfer
+grown table path keep d = if is_over table path keep d then Data.Transferring Transfers.OverLimit else Data.Transferring (Transfers.Upload path keep d)
 
 -- the data connection is in another state; all else stays
-abbrev pub with_link : Link Move → View → View
-with_link link v = with_session (record v.session { link = link }) v
+abbrev pub with_connection : DataConnection Transfer → View → View
+with_connection connection v = with_session (record v.session { connection = connection }) v
 
--- a marker is answered by how many octets of the file are held: those kept and those settled (RFC 959, section 3.5)
-abbrev pub marks : List ℕ → ℕ → View → View
-marks theirs held v = owes (reply_octets (mark_reply theirs held)) v
+-- a marker is answered by how many octets of the file are held, kept and settled ones (RFC 959, sections 3.5 and 4.2)
+abbrev pub marker_answered : List ℕ → ℕ → View → View
+marker_answered theirs held v = owes (reply_octets (mark_reply theirs held)) v
 
--- one thing that the wire says of an upload
-abbrev pub takes_said : Link Move → Said → View → View
-takes_said (At.Moving (Moves.Up path keep d)) (says sign) v = with_link (grown v.session.table path keep (with_sign d sign)) v
-takes_said (At.Moving (Moves.Up path keep d)) (marker text) v =
-    marks text (keep + length d.content) (with_link (At.Moving (Moves.Up path keep (with_said d (marker text)))) v)
-takes_said link said v = v
+-- one thing that the wire says: a sign of the file, or a marker
+abbrev pub takes_said : DataConnection Transfer → Said → View → View
+takes_said (Data.Transferring (Transfers.Upload path keep d)) (says sign) v = with_connection (grown v.session.table path keep (with_sign d sign)) v
+takes_said (Data.Transferring (Transfers.Upload path keep d)) (marker text) v =
+    marker_answered text (keep + length d.content) (with_connection (Data.Transferring (Transfers.Upload path keep (with_said d (marker text)))) v)
+takes_said connection said v = v
 
 -- all that an octet says, in order
 abbrev pub takes_all : List Said → View → View
 takes_all [] v = v
-takes_all (said ∷ more) v = takes_all more (takes_said v.session.link said v)
+takes_all (said ∷ more) v = takes_all more (takes_said v.session.connection said v)
 
--- an octet that stands in no text ends the transfer, and the map is as it was
+-- an octet with which a fault is met ends the transfer, and the map is as it was
 abbrev pub takes_octet : Option FrameFault → Names → ℕ → Decoder → List Said → View → View
-takes_octet None path keep d said v = takes_all said (with_link (At.Moving (Moves.Up path keep d)) v)
-takes_octet (Some fault) path keep d said v = lost v
+takes_octet None path keep d said v = takes_all said (with_connection (Data.Transferring (Transfers.Upload path keep d)) v)
+takes_octet (Some fault) path keep d said v = faulted v
 
 -- an octet of the data connection, while an upload is under way
-abbrev pub takes_data : Link Move → ℕ → View → View
-takes_data (At.Moving (Moves.Up path keep d)) octet v =
+abbrev pub takes_data : DataConnection Transfer → ℕ → View → View
+takes_data (Data.Transferring (Transfers.Upload path keep d)) octet v =
     takes_octet (fault_of (read_on d octet)) path keep (read_on d octet) (octet_says d octet) v
-takes_data link octet v = v
+takes_data connection octet v = v
 
 -- one octet of the data connection, and then the line that waits
 unfoldable pub receives_octet : View → ℕ → View
-receives_octet v octet = later (takes_data (link_of v.session) octet v)
+receives_octet v octet = later (takes_data (connection_of v.session) octet v)
 
 -- octets of the data connection, one by one
 abbrev pub receives : View → List ℕ → View
 receives v [] = v
 receives v (octet ∷ octets) = receives (receives_octet v octet) octets
 
--- data octets are taken while an upload's link is open
-abbrev pub is_upload : Link Move → Bool
-is_upload (At.Moving (Moves.Up path keep d)) = true
-is_upload (At.Moving Moves.Past) = true
-is_upload link = false
+-- data octets are taken while an upload is under way
+abbrev pub is_upload : DataConnection Transfer → Bool
+is_upload (Data.Transferring (Transfers.Upload path keep d)) = true
+is_upload (Data.Transferring Transfers.OverLimit) = true
+is_upload connection = false
 
 -- a data octet may be taken: an upload is under way, and its markers have room to be answered
 abbrev pub may_receive : View → Bool
-may_receive v = is_upload (link_of v.session) && has_room v
+may_receive v = is_upload (connection_of v.session) && has_room v
 
 -- each of these octets may be taken, once those before it were
 abbrev pub MayReceive : View → List ℕ → Type 0
@@ -192,52 +192,52 @@ MayReceive v (octet ∷ octets) = (may_receive v ≡ true) × MayReceive (receiv
 -- ---- the octets of a download or a listing
 
 -- what is still to be given
-abbrev pub given_by : Link Move → List ℕ
-given_by (At.Moving (Moves.Down rest)) = rest
-given_by (At.Moving (Moves.Listing rest)) = rest
-given_by link = []
+abbrev pub given_by : DataConnection Transfer → List ℕ
+given_by (Data.Transferring (Transfers.Download rest)) = rest
+given_by (Data.Transferring (Transfers.Listing rest)) = rest
+given_by connection = []
 
--- the octets that the open link is still to carry
+-- the data octets that are still to be given
 abbrev pub to_give : View → List ℕ
-to_give v = given_by (link_of v.session)
+to_give v = given_by (connection_of v.session)
 
--- so many octets were given; with the last the transfer is complete
-abbrev pub takes_given : Link Move → ℕ → View → View
-takes_given (At.Moving (Moves.Down rest)) count v = with_link (At.Moving (Moves.Down (drop count rest))) v
-takes_given (At.Moving (Moves.Listing rest)) count v = with_link (At.Moving (Moves.Listing (drop count rest))) v
-takes_given link count v = v
+-- so many octets were given
+abbrev pub takes_given : DataConnection Transfer → ℕ → View → View
+takes_given (Data.Transferring (Transfers.Download rest)) count v = with_connection (Data.Transferring (Transfers.Download (drop count rest))) v
+takes_given (Data.Transferring (Transfers.Listing rest)) count v = with_connection (Data.Transferring (Transfers.Listing (drop count rest))) v
+takes_given connection count v = v
 
--- those octets are out; with the last the link is to be closed, and the 226 is owed
+-- the same; with the last the data connection is to be closed, and the 226 is owed
 abbrev pub given_step : ℕ → View → View
-given_step count v = completed (takes_given (link_of v.session) count v)
+given_step count v = completed (takes_given (connection_of v.session) count v)
 
 unfoldable pub gives_data : ℕ → View → View
 gives_data count v = later (given_step count v)
 
--- ---- the link ends, breaks, or is closed
+-- ---- the data connection ends, breaks, or is closed
 
--- the client closed it; before a transfer command the endpoint is forgotten, and nothing is said (own choice)
-abbrev pub ends : Link Move → View → View
-ends At.Ready v = with_session (unlinked v.session) v
-ends (At.Moving move) v = ends_unlinked (at_end v.footing v.session.table move) v
-ends link v = v
+-- the client closed it; before a transfer command the endpoint is forgotten and nothing is said (own choice)
+abbrev pub ends : DataConnection Transfer → View → View
+ends Data.Ready v = with_session (disconnected v.session) v
+ends (Data.Transferring transfer) v = ends_disconnected (at_end v.footing v.session.table transfer) v
+ends connection v = v
 
--- what the end of the link means for the transfer that it carried
+-- what that means for the transfer that it carried
 abbrev pub end_step : View → View
-end_step v = ends (link_of v.session) v
+end_step v = ends (connection_of v.session) v
 
 unfoldable pub data_end : View → View
 data_end v = later (end_step v)
 
 -- it broke
-abbrev pub breaks : Link Move → View → View
-breaks At.Ready v = with_session (unlinked v.session) v
-breaks (At.Moving move) v = ends_unlinked (at_break v.footing v.session.table move) v
-breaks link v = v
+abbrev pub breaks : DataConnection Transfer → View → View
+breaks Data.Ready v = with_session (disconnected v.session) v
+breaks (Data.Transferring transfer) v = ends_disconnected (at_break v.footing v.session.table transfer) v
+breaks connection v = v
 
--- what the break of the link means for the transfer that it carried
+-- what that means for the transfer that it carried
 abbrev pub break_step : View → View
-break_step v = breaks (link_of v.session) v
+break_step v = breaks (connection_of v.session) v
 
 unfoldable pub data_fault : View → View
 data_fault v = later (break_step v)
@@ -249,31 +249,31 @@ close_step v = with_session (record v.session { closing = false }) v
 unfoldable pub data_closed : View → View
 data_closed v = later (close_step v)
 
--- ---- the control connection ends: a transfer under way is dropped, with the map as it was, and so is what waits or is owed
+-- ---- the control connection ends: a transfer under way is dropped, with the map as it was (own choice)
 
--- the session behind it: the data connection is forgotten, and nothing is heard any more
+-- the session after that: the data connection is forgotten, and nothing is heard any more
 abbrev pub session_cut : Session → Session
-session_cut v = record (forgotten v) { once = Onces.Nothing; life = Lives.Cut }
+session_cut s = record (forgotten s) { pending = Pendings.Nothing; life = Lives.Cut }
 
--- the line that waits is dropped, so nothing comes later
+-- what waits and what is owed is dropped, so nothing comes later
 unfoldable pub control_end : View → View
 control_end v = record v { session = session_cut v.session; waiting = None; owed = [] }
 
 -- ---- what the server wants
 
 -- what each state of the data connection asks of who owns it
-abbrev pub wants_link : Link Move → Wants
-wants_link At.Free = Want.Nothing
-wants_link (At.Asked asked) = Want.Listen
-wants_link (At.Port endpoint) = Want.Nothing
-wants_link At.Door = Want.Accept
-wants_link At.Ready = Want.Nothing
-wants_link (At.Opening move (Ways.To endpoint)) = Want.Connect endpoint
-wants_link (At.Opening move Ways.Door) = Want.Accept
-wants_link (At.Moving (Moves.Up path keep d)) = Want.Receive
-wants_link (At.Moving Moves.Past) = Want.Receive
-wants_link (At.Moving (Moves.Down rest)) = Want.Send
-wants_link (At.Moving (Moves.Listing rest)) = Want.Send
+abbrev pub wants_of : DataConnection Transfer → Wants
+wants_of Data.Free = Want.Nothing
+wants_of (Data.Asked asked) = Want.Listen
+wants_of (Data.Active endpoint) = Want.Nothing
+wants_of Data.Passive = Want.Accept
+wants_of Data.Ready = Want.Nothing
+wants_of (Data.Opening transfer (Ways.Connect endpoint)) = Want.Connect endpoint
+wants_of (Data.Opening transfer Ways.Accept) = Want.Accept
+wants_of (Data.Transferring (Transfers.Upload path keep d)) = Want.Receive
+wants_of (Data.Transferring Transfers.OverLimit) = Want.Receive
+wants_of (Data.Transferring (Transfers.Download rest)) = Want.Send
+wants_of (Data.Transferring (Transfers.Listing rest)) = Want.Send
 
 -- done with the control connection: it ended, or the reply to QUIT is out
 abbrev pub is_done : Life → List ℕ → Bool
@@ -282,8 +282,8 @@ is_done Lives.Quit [] = true
 is_done Lives.Quit (octet ∷ octets) = false
 is_done Lives.Cut owed = true
 
--- a close comes before all else, then the end of the control connection, then the link
+-- a close comes before all else, then the end of the control connection, then the data connection
 abbrev pub wants : View → Wants
 wants v =
     if v.session.closing then Want.CloseData
-    else (if is_done v.session.life v.owed then Want.CloseAll else wants_link v.session.link)
+    else (if is_done v.session.life v.owed then Want.CloseAll else wants_of v.session.connection)

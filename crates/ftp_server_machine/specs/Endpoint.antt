@@ -5,62 +5,64 @@ use Rattle.ftp_endpoint.specs.declared.host.Host.{Host}
 use Rattle.ftp_command.specs.declared.command.Passive.{Passive}
 use Rattle.ftp_command.specs.declared.command.Passive.TheVariants.{Any, Ipv4, Ipv6, Only}
 use Rattle.ftp_ends.specs.Link.{same_host, is_v6}
-use Rattle.ftp_server_machine.specs.View.{Footing, Move, Session}
+use Rattle.ftp_server_machine.specs.View.{Footing, Transfer, Session}
 use Rattle.ftp_server_machine.specs.Replies.{Turn, tells}
-use Rattle.ftp_server_machine.specs.declared.said.Text.TheVariants as Texts
-use Rattle.ftp_server_machine.specs.declared.said.Said.TheVariants as Say
+use Rattle.ftp_server_machine.specs.declared.reply.Text.TheVariants as Texts
+use Rattle.ftp_server_machine.specs.declared.reply.ReplyKind.TheVariants as Replies
 use Rattle.ftp_server_machine.specs.declared.session.Asked.{Asked}
 use Rattle.ftp_server_machine.specs.declared.session.Asked.TheVariants as Asking
 use Rattle.ftp_server_machine.specs.declared.session.Way.TheVariants as Ways
-use Rattle.ftp_server_machine.specs.declared.session.Link.{Link}
-use Rattle.ftp_server_machine.specs.declared.session.Link.TheVariants as At
+use Rattle.ftp_server_machine.specs.declared.session.DataConnection.{DataConnection}
+use Rattle.ftp_server_machine.specs.declared.session.DataConnection.TheVariants as Data
 
--- a link is open, or a port is listened at
-abbrev pub is_standing : Link Move → Bool
-is_standing At.Free = false
-is_standing (At.Asked asked) = false
-is_standing (At.Port endpoint) = false
-is_standing At.Door = true
-is_standing At.Ready = true
-is_standing (At.Opening move (Ways.To endpoint)) = false
-is_standing (At.Opening move Ways.Door) = true
-is_standing (At.Moving move) = true
+-- it is open, or a port is listened at: there is something to close
+abbrev pub is_standing : DataConnection Transfer → Bool
+is_standing Data.Free = false
+is_standing (Data.Asked asked) = false
+is_standing (Data.Active endpoint) = false
+is_standing Data.Passive = true
+is_standing Data.Ready = true
+is_standing (Data.Opening transfer (Ways.Connect endpoint)) = false
+is_standing (Data.Opening transfer Ways.Accept) = true
+is_standing (Data.Transferring transfer) = true
 
 -- the endpoint is forgotten, and what stands of it is to be closed
 abbrev pub forgotten : Session → Session
-forgotten v = record v { link = At.Free; closing = v.closing || is_standing v.link }
+forgotten s = record s { connection = Data.Free; closing = s.closing || is_standing s.connection }
 
--- the link ended by itself: nothing is left to close
-abbrev pub unlinked : Session → Session
-unlinked v = record v { link = At.Free }
+-- the data connection is gone, and nothing is left to close
+abbrev pub disconnected : Session → Session
+disconnected s = record s { connection = Data.Free }
 
--- own choice: the endpoint of the client is on its own host, and on no port below 1024
+-- the endpoint of the client is on its own host, and on no port below 1024 (own choice; RFC 2577, section 3)
 abbrev pub is_taken : Host → Endpoint → Bool
 is_taken peer endpoint = same_host endpoint.host peer && nat_le 1024 endpoint.port
 
 -- an endpoint is taken in place of the one before, or refused with 504
 abbrev pub takes : Bool → Endpoint → Session → Turn
-takes true endpoint v = tells Texts.EndpointTaken (record v { link = At.Port endpoint })
-takes false endpoint v = tells Texts.BadParameter v
+takes true endpoint s = tells Texts.EndpointTaken (record s { connection = Data.Active endpoint })
+takes false endpoint s = tells Texts.BadParameter s
 
--- PORT and EPRT: the endpoint that stood is forgotten whether the new one is taken or not; after EPSV ALL neither is done
+-- PORT and EPRT: the endpoint before is forgotten whether the new one is taken or not; after EPSV ALL neither is done (RFC 2428,
+-- section 4; that it is 503 is an own choice)
 abbrev pub port : Footing → Endpoint → Session → Turn
-port footing endpoint v =
-    if v.only_extended then tells Texts.BadSequence v else takes (is_taken footing.peer endpoint) endpoint (forgotten v)
+port footing endpoint s =
+    if s.only_extended then tells Texts.BadSequence s else takes (is_taken footing.peer endpoint) endpoint (forgotten s)
 
 -- a port is asked for; the reply follows when it is told, or refused
 abbrev pub asks : Asked → Session → Turn
-asks asked v = (record (forgotten v) { link = At.Asked asked }, Say.Nothing)
+asks asked s = (record (forgotten s) { connection = Data.Asked asked }, Replies.Nothing)
 
--- PASV; own choice: it names no endpoint of IPv6
+-- PASV: it names no endpoint of IPv6, and is 425 there (own choice)
 abbrev pub pasv : Footing → Session → Turn
-pasv footing v =
-    if v.only_extended then tells Texts.BadSequence v
-    else (if is_v6 footing.here then tells Texts.NoConnection v else asks Asking.Pasv v)
+pasv footing s =
+    if s.only_extended then tells Texts.BadSequence s
+    else (if is_v6 footing.here then tells Texts.NoConnection s else asks Asking.Pasv s)
 
--- EPSV: of the family of the control connection, or none; or that no other command opens a data connection from now on
+-- EPSV: of the family of the control connection, or of none; ALL: no other command opens a data connection from now on (RFC 2428,
+-- sections 3 and 4)
 abbrev pub epsv : Footing → Passive → Session → Turn
-epsv footing Any v = asks Asking.Epsv v
-epsv footing Ipv4 v = if is_v6 footing.here then tells Texts.OnlyIpv6 v else asks Asking.Epsv v
-epsv footing Ipv6 v = if is_v6 footing.here then asks Asking.Epsv v else tells Texts.OnlyIpv4 v
-epsv footing Only v = tells Texts.OnlyExtended (record v { only_extended = true })
+epsv footing Any s = asks Asking.Epsv s
+epsv footing Ipv4 s = if is_v6 footing.here then tells Texts.OnlyIpv6 s else asks Asking.Epsv s
+epsv footing Ipv6 s = if is_v6 footing.here then asks Asking.Epsv s else tells Texts.OnlyIpv4 s
+epsv footing Only s = tells Texts.OnlyExtended (record s { only_extended = true })

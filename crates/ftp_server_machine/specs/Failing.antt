@@ -1,6 +1,6 @@
--- What a call leaves that met want of memory or a failure of the device. Beside its view a server has two counts, of growths
--- that were refused to it and of its tree's device failures, which move on by wrapping. Where neither changed in a call, the
--- call is the function of `Machine` or `Calls`; else it is one of these relations. After it each call is a step again.
+-- What a call leaves that was refused memory or whose device failed. Beside its view a server has two counts, of refused growths
+-- and of its tree's device failures; both wrap. Where neither changed in a call, the call is the function of `Machine` or `Calls`;
+-- else it leaves one of these. Every later call is a function again.
 use Rattle.std.specs.Prelude.{◌++◌, ◌≡◌, ◌⊎◌, ◌<◌, ℕ, Bool, true, false, ◌&&◌, List, [], ◌∷◌, length, Option, Some, None, is_some}
 use Rattle.ftp_nvt.specs.Lines.{NvtEvent, line, too_long, owed}
 use Rattle.ftp_command.specs.declared.command.Command.{Command}
@@ -9,18 +9,18 @@ use Rattle.ftp_command.specs.declared.fault.CommandFault.TheVariants as Faults
 use Rattle.ftp_framer.specs.Said.{Said}
 use Rattle.ftp_ends.specs.Decoder.{read_on, octet_says}
 use Rattle.ftp_ends.specs.Ear.{ear_step, ear_out}
-use Rattle.ftp_server_machine.specs.View.{Move, Session, View, line_limit}
-use Rattle.ftp_server_machine.specs.Endpoint.{forgotten, unlinked}
-use Rattle.ftp_server_machine.specs.Act.{forgets}
-use Rattle.ftp_server_machine.specs.Machine.{owes, replied, later, may_hear, is_idle, is_abor, is_moving, heard_line, abort_said, Reading, lost}
-use Rattle.ftp_server_machine.specs.Calls.{link_of, may_receive, receives_octet, takes_given, given_step, takes_all, with_link}
+use Rattle.ftp_server_machine.specs.View.{Transfer, Session, View, line_limit}
+use Rattle.ftp_server_machine.specs.Endpoint.{forgotten, disconnected}
+use Rattle.ftp_server_machine.specs.Act.{forgets, is_allowed}
+use Rattle.ftp_server_machine.specs.Machine.{owes, replied, later, may_hear, is_idle, is_abort, heard_line, abort_said, Reading, faulted}
+use Rattle.ftp_server_machine.specs.Calls.{connection_of, may_receive, receives_octet, takes_given, given_step, takes_all, with_connection}
 use Rattle.ftp_server_machine.specs.declared.heard.Heard.{Heard}
 use Rattle.ftp_server_machine.specs.declared.heard.Heard.TheVariants.{TooLong, Bad, Asks}
-use Rattle.ftp_server_machine.specs.declared.said.Text.TheVariants as Texts
-use Rattle.ftp_server_machine.specs.declared.session.Once.TheVariants as Onces
-use Rattle.ftp_server_machine.specs.declared.session.Transfer.TheVariants as Moves
-use Rattle.ftp_server_machine.specs.declared.session.Link.{Link}
-use Rattle.ftp_server_machine.specs.declared.session.Link.TheVariants as At
+use Rattle.ftp_server_machine.specs.declared.reply.Text.TheVariants as Texts
+use Rattle.ftp_server_machine.specs.declared.session.Pending.TheVariants as Pendings
+use Rattle.ftp_server_machine.specs.declared.session.Transfer.TheVariants as Transfers
+use Rattle.ftp_server_machine.specs.declared.session.DataConnection.{DataConnection}
+use Rattle.ftp_server_machine.specs.declared.session.DataConnection.TheVariants as Data
 
 -- the two counts
 pub record Counts : Type 0 where
@@ -29,10 +29,10 @@ pub record Counts : Type 0 where
 
 -- ---- a line
 
--- a command that could be read is answered 451, and what stood for it alone is gone; a transfer command has forgotten the
--- endpoint; all else is as before
+-- a command that could be read is answered 451, and what was pending for it is gone; a transfer command has forgotten the
+-- endpoint; all else is as before (own choice)
 abbrev pub line_lost : Command (List ℕ) → View → View
-line_lost command v = replied Texts.LocalFault (forgets command (record v.session { once = Onces.Nothing })) v
+line_lost command v = replied Texts.LocalFault (forgets command (record v.session { pending = Pendings.Nothing })) v
 
 -- the commands that may take memory, or ask something of the device: those with a path, a name or another text, and those that
 -- tell entries
@@ -59,11 +59,15 @@ may_fail (command.Help text) = is_some text
 may_fail (command.Opts text) = true
 may_fail other = false
 
--- a command that may fail has failed, and is answered 451
+-- a command that may fail has failed, and is answered 451; one that wants a login is 530 without it, and takes no memory for that
 abbrev pub LineFails : Heard (List ℕ) → View → View → Type 0
 LineFails TooLong v w = ⊥
 LineFails (Bad fault) v w = ⊥
-LineFails (Asks command) v w = (may_fail command ≡ true) × (w ≡ line_lost command v)
+LineFails (Asks command) v w = (is_allowed command v.session ≡ true) × (may_fail command ≡ true) × (w ≡ line_lost command v)
+
+-- so a command that is answered 530 is never answered 451
+abbrev pub NeverFailsWithoutLogin : Type 0
+NeverFailsWithoutLogin = (command : Command (List ℕ)) (v w : View) → is_allowed command v.session ≡ false → LineFails (Asks command) v w → ⊥
 
 -- the line that waits is acted on, and fails
 abbrev pub WaitingFails : Option (Heard (List ℕ)) → View → View → Type 0
@@ -76,54 +80,53 @@ Late v w = (w ≡ later v) ⊎ WaitingFails v.waiting v w
 
 -- ---- a transfer
 
--- an upload that cannot be installed: the map is as it was, and its link is gone, or to be closed
+-- an upload that cannot be installed is answered 451, with the map as it was
 abbrev pub install_lost : Session → View → View
 install_lost session v = replied Texts.LocalFault session v
 
--- ABOR of an upload that cannot be installed: its own reply follows
-abbrev pub AbortFails : Link Move → View → View → Type 0
-AbortFails (At.Moving (Moves.Up path keep d)) v w =
+-- ABOR ends an upload that cannot be installed; its own reply follows
+abbrev pub AbortFails : DataConnection Transfer → View → View → Type 0
+AbortFails (Data.Transferring (Transfers.Upload path keep d)) v w =
     Late (abort_said (install_lost (forgotten v.session) v)) w
-AbortFails link v w = ⊥
+AbortFails connection v w = ⊥
 
 -- the end or the break of an upload that cannot be installed
-abbrev pub InstallFails : Link Move → View → View → Type 0
-InstallFails (At.Moving (Moves.Up path keep d)) v w = Late (install_lost (unlinked v.session) v) w
-InstallFails link v w = ⊥
+abbrev pub InstallFails : DataConnection Transfer → View → View → Type 0
+InstallFails (Data.Transferring (Transfers.Upload path keep d)) v w = Late (install_lost (disconnected v.session) v) w
+InstallFails connection v w = ⊥
 
--- the link ended or broke, and the upload that it carried could not be installed
+-- the data connection ended or broke, and the upload could not be installed
 abbrev pub EndFails : View → View → Type 0
-EndFails v w = InstallFails (link_of v.session) v w
+EndFails v w = InstallFails (connection_of v.session) v w
 
--- an upload whose octets have no room, behind the first things that an octet says, each of which was taken: the link is to be
--- closed, the map is as it was
-abbrev pub is_taking : Link Move → Bool
-is_taking (At.Moving (Moves.Up path keep d)) = true
-is_taking link = false
+-- an upload that is below its limits is under way
+abbrev pub is_taking : DataConnection Transfer → Bool
+is_taking (Data.Transferring (Transfers.Upload path keep d)) = true
+is_taking connection = false
 
--- the upload is lost while it is still under way
+-- it ends with 451 and the map as it was; its data connection is to be closed
 abbrev pub NoRoom : View → View → Type 0
-NoRoom v w = (is_taking v.session.link ≡ true) × Late (lost v) w
+NoRoom v w = (is_taking v.session.connection ≡ true) × Late (faulted v) w
 
--- one data octet of an upload had no room
-abbrev pub UploadFails : Link Move → ℕ → View → View → Type 0
-UploadFails (At.Moving (Moves.Up path keep d)) octet v w =
+-- an octet of an upload had no room, behind the first things that it says, each of which was taken
+abbrev pub UploadFails : DataConnection Transfer → ℕ → View → View → Type 0
+UploadFails (Data.Transferring (Transfers.Upload path keep d)) octet v w =
     (taken : List Said) × (rest : List Said) × (octet_says d octet ≡ taken ++ rest)
-    × NoRoom (takes_all taken (with_link (At.Moving (Moves.Up path keep (read_on d octet))) v)) w
-UploadFails link octet v w = ⊥
+    × NoRoom (takes_all taken (with_connection (Data.Transferring (Transfers.Upload path keep (read_on d octet))) v)) w
+UploadFails connection octet v w = ⊥
 
--- a listing whose next line has no room, behind the octets that were given
-abbrev pub ListingFails : Link Move → ℕ → View → View → Type 0
-ListingFails (At.Moving (Moves.Listing rest)) count v w = (count < length rest) × Late (lost (takes_given (link_of v.session) count v)) w
-ListingFails link count v w = ⊥
+-- so many octets of a listing were given, and its next line had no room
+abbrev pub ListingFails : DataConnection Transfer → ℕ → View → View → Type 0
+ListingFails (Data.Transferring (Transfers.Listing rest)) count v w = (count < length rest) × Late (faulted (takes_given (connection_of v.session) count v)) w
+ListingFails connection count v w = ⊥
 
--- so many octets of a listing were given, and the next were not had
+-- the same, of whatever stands
 abbrev pub GiveFails : ℕ → View → View → Type 0
-GiveFails count v w = ListingFails (link_of v.session) count v w
+GiveFails count v w = ListingFails (connection_of v.session) count v w
 
--- ---- what a call on the link leaves where a count changed
+-- ---- what a call on the data connection leaves where a count changed
 
--- the end or the break of a link: the upload could not be installed, or the line that waits failed
+-- its end or its break: the upload could not be installed, or the line that waits failed
 abbrev pub Ended : View → View → View → Type 0
 Ended step old new = EndFails old new ⊎ Late step new
 
@@ -133,15 +136,10 @@ Given count old new = GiveFails count old new ⊎ Late (given_step count old) ne
 
 -- ---- octets
 
--- a line that comes whole: it fails as it is read, or as it is acted on
-abbrev pub HeardFails : Heard (List ℕ) → View → View → Type 0
-HeardFails heard v w =
-    ((is_abor heard && is_moving v.session.link ≡ true) × AbortFails v.session.link v w)
-    ⊎ ((is_abor heard && is_moving v.session.link ≡ false) × Late (record v { waiting = Some heard }) w)
-
--- a whole line is heard as ever, or fails
-abbrev pub WholeLineIsHeard : Heard (List ℕ) → View → View → Type 0
-WholeLineIsHeard heard v w = (w ≡ heard_line heard v) ⊎ HeardFails heard v w
+-- a line fails as it is acted on: an ABOR of an upload, or any other line
+abbrev pub ActingFails : (is_abort : Bool) → Heard (List ℕ) → View → View → Type 0
+ActingFails true heard v w = AbortFails v.session.connection v w
+ActingFails false heard v w = Late (record v { waiting = Some heard }) w
 
 -- a command that holds a text; one without an argument takes no memory to be read
 abbrev pub holds_text : Command (List ℕ) → Bool
@@ -151,15 +149,21 @@ holds_text (command.Mlst text) = is_some text
 holds_text (command.Mlsd text) = is_some text
 holds_text other = may_fail other
 
--- a line whose command takes memory to hold, and which is read as none for want of it: the line is answered 451 when its turn comes
+-- a command that takes memory to hold could not be read for want of it: the line is answered 451 when its turn comes, login or not
 abbrev pub ReadingFails : Heard (List ℕ) → View → View → Type 0
 ReadingFails (Asks command) v w = (holds_text command ≡ true) × (w ≡ heard_line (Bad Faults.Memory) v)
 ReadingFails heard v w = ⊥
 
--- an event of the ear
+-- a whole line: it is heard as ever, could not be read, or failed as it was acted on
+pub data LineIsHeard (heard : Heard (List ℕ)) (v w : View) : Type 0 where
+  as_ever : w ≡ heard_line heard v → LineIsHeard heard v w
+  not_read : ReadingFails heard v w → LineIsHeard heard v w
+  not_done : ActingFails (is_abort heard v) heard v w → LineIsHeard heard v w
+
+-- an event of the ear: a line, one that is too long, or an answer that is owed
 abbrev pub EventIsHeard : Reading → NvtEvent → View → View → Type 0
-EventIsHeard read (line text) v w = WholeLineIsHeard (read text) v w ⊎ ReadingFails (read text) v w
-EventIsHeard read too_long v w = WholeLineIsHeard TooLong v w
+EventIsHeard read (line text) v w = LineIsHeard (read text) v w
+EventIsHeard read too_long v w = LineIsHeard TooLong v w
 EventIsHeard read (owed answer) v w = w ≡ owes answer v
 
 -- events in order, each of which may fail
@@ -167,7 +171,7 @@ abbrev pub EventsAreHeard : Reading → List NvtEvent → View → View → Type
 EventsAreHeard read [] v w = w ≡ v
 EventsAreHeard read (event ∷ events) v w = (x : View) × EventIsHeard read event v x × EventsAreHeard read events x w
 
--- one control octet, with want of memory or without
+-- one control octet
 abbrev pub OctetIsHeard : Reading → View → ℕ → View → Type 0
 OctetIsHeard read v octet w = EventsAreHeard read (ear_out line_limit v.ear octet) (record v { ear = ear_step line_limit v.ear octet }) w
 
@@ -178,7 +182,7 @@ AreHeard read v (octet ∷ octets) w = (may_hear v ≡ true) × (x : View) × Oc
 
 -- one data octet
 abbrev pub OctetIsReceived : View → ℕ → View → Type 0
-OctetIsReceived v octet w = (w ≡ receives_octet v octet) ⊎ UploadFails (link_of v.session) octet v w
+OctetIsReceived v octet w = (w ≡ receives_octet v octet) ⊎ UploadFails (connection_of v.session) octet v w
 
 -- data octets in order, each of which may be taken when its turn comes
 abbrev pub AreReceived : View → List ℕ → View → Type 0

@@ -1,29 +1,37 @@
--- What each call of the server's end does, with want of memory or a failure of the device or without: the function of the call
--- where neither count changed, and else what the call leaves, to which a line that waits belongs that could not be acted on.
-use Rattle.std.specs.Prelude.{◌≡◌, ◌≢◌, ℕ, List, take}
+-- What each call of the server does, as the clauses of the trait `Far` say it: its step and then the line that waits, where neither
+-- count changed; else what the call leaves that was refused memory or whose device failed.
+use Rattle.std.specs.Prelude.{◌≡◌, ◌≢◌, ◌⊎◌, ℕ, List}
 use Rattle.ftp_server_machine.specs.Calls.{receives, MayReceive}
-use Rattle.ftp_server_machine.specs.Failing.{Counts, AreHeard, AreReceived}
-use Rattle.ftp_server_machine.specs.Machine.{Reading, IsReading, hears, MayHear}
+use Rattle.ftp_server_machine.specs.Failing.{Counts, Late, AreHeard, AreReceived}
+use Rattle.ftp_server_machine.specs.Machine.{Reading, IsReading, later, hears, MayHear}
 use Rattle.ftp_server_machine.specs.View.{View}
 
--- neither count changed, and the server is what the call makes of it; or one changed, and the call left this
-abbrev pub Acts : (before after : Counts) → (new step : View) → Type 0 → Type 0
-Acts before after new step Fails = (after ≡ before → new ≡ step) × (after ≢ before → Fails)
+-- a server as clauses speak of it: what it holds, and the two counts beside it
+pub record Server : Type 0 where
+  pub view : View
+  pub counts : Counts
 
--- ---- octets, of which so many of a piece were taken
+-- a call by its step; where a count changed, the step failed, or the line that waits did
+pub record Steps (Fails : View → View → Type 0) (step : View → View) (old new : Server) : Type 0 where
+  pub done : new.counts ≡ old.counts → new.view ≡ later (step old.view)
+  pub failed : new.counts ≢ old.counts → Fails old.view new.view ⊎ Late (step old.view) new.view
 
--- so many octets were taken: all as they are to be heard, or with a failure among them
-abbrev pub HeardBy : Reading → (before after : Counts) → (old : View) → List ℕ → ℕ → (new : View) → Type 0
-HeardBy read before after old piece count new =
-    (after ≡ before → (new ≡ hears read old (take count piece)) × MayHear read old (take count piece))
-    × (after ≢ before → AreHeard read old (take count piece) new)
+-- a call whose step takes no memory and asks nothing of the device
+abbrev pub Acts : (View → View) → (old new : Server) → Type 0
+Acts step old new = Steps (λ v w. ⊥) step old new
 
--- however lines are read
-abbrev pub Heard : (before after : Counts) → (old : View) → List ℕ → ℕ → (new : View) → Type 0
-Heard before after old piece count new = (read : Reading) → IsReading read → HeardBy read before after old piece count new
+-- control octets are heard, as lines are read by this reading
+pub record HearsBy (read : Reading) (octets : List ℕ) (old new : Server) : Type 0 where
+  pub done : new.counts ≡ old.counts → new.view ≡ hears read old.view octets
+  pub may : new.counts ≡ old.counts → MayHear read old.view octets
+  pub failed : new.counts ≢ old.counts → AreHeard read old.view octets new.view
 
--- data octets, of which so many were taken
-abbrev pub Received : (before after : Counts) → (old : View) → List ℕ → ℕ → (new : View) → Type 0
-Received before after old piece count new =
-    (after ≡ before → (new ≡ receives old (take count piece)) × MayReceive old (take count piece))
-    × (after ≢ before → AreReceived old (take count piece) new)
+-- there is one reading of lines, so this is however they are read
+abbrev pub Hears : List ℕ → (old new : Server) → Type 0
+Hears octets old new = (read : Reading) → IsReading read → HearsBy read octets old new
+
+-- data octets are taken
+pub record Receives (octets : List ℕ) (old new : Server) : Type 0 where
+  pub done : new.counts ≡ old.counts → new.view ≡ receives old.view octets
+  pub may : new.counts ≡ old.counts → MayReceive old.view octets
+  pub failed : new.counts ≢ old.counts → AreReceived old.view octets new.view

@@ -13,8 +13,8 @@ use Rattle.ftp_server_machine.specs.View.{View, line_limit}
 use Rattle.ftp_server_machine.specs.declared.heard.Heard.TheVariants.{Asks}
 
 -- octets are heard alike in any pieces
-abbrev pub HeardInPieces : Type 0
-HeardInPieces = (read : Reading) (v : View) (front back : List ℕ) → hears read v (front ++ back) ≡ hears read (hears read v front) back
+abbrev pub ServerHearsPieces : Type 0
+ServerHearsPieces = (read : Reading) (v : View) (front back : List ℕ) → hears read v (front ++ back) ≡ hears read (hears read v front) back
 
 -- nothing was acted on yet: only the ear has heard
 abbrev pub only_heard : View → List ℕ → View
@@ -22,28 +22,28 @@ only_heard v octets = record v { ear = after (ear line_limit) quiet octets }
 
 -- a line that a control connection can carry, heard between two lines: a front of it changes nothing but the ear; the whole is
 -- heard as this line, and then the ear is between two lines; where its first octet may be taken, all may
-pub record HearsLine (read : Reading) (text : List ℕ) (v : View) : Type 0 where
+pub record ServerHearsLine (read : Reading) (text : List ℕ) (v : View) : Type 0 where
   pub cut : (front back : List ℕ) (octet : ℕ) → front ++ octet ∷ back ≡ written_line text → hears read v front ≡ only_heard v front
   pub whole : hears read v (written_line text) ≡ heard_line (read text) v
   pub may : may_hear v ≡ true → MayHear read v (written_line text)
 
 -- every line that a control connection can carry, whatever else the server holds
-abbrev pub LineIsHeard : Type 0
-LineIsHeard = (read : Reading) (text : List ℕ) (v : View) → IsLine text → v.ear ≡ quiet → HearsLine read text v
+abbrev pub ServerHearsEachLine : Type 0
+ServerHearsEachLine = (read : Reading) (text : List ℕ) (v : View) → IsLine text → v.ear ≡ quiet → ServerHearsLine read text v
 
 -- each command that has a line has one that a control connection can carry
 abbrev pub StatedIsLine : Type 0
 StatedIsLine = (command : Command (List ℕ)) → IsTyped command → IsStated command → IsLine (line_of command)
 
 -- so the line of a command is heard as that command
-abbrev pub CommandIsHeard : Type 0
-CommandIsHeard =
+abbrev pub ServerHearsCommand : Type 0
+ServerHearsCommand =
     (read : Reading) (command : Command (List ℕ)) (v : View) → IsReading read → IsTyped command → IsStated command → v.ear ≡ quiet
     → hears read v (written_line (line_of command)) ≡ heard_line (Asks command) v
 
 -- an answer to a Telnet octet changes nothing
-abbrev pub AnswerIsDropped : Type 0
-AnswerIsDropped =
+abbrev pub ServerDropsAnswer : Type 0
+ServerDropsAnswer =
     (read : Reading) (octet : ℕ) (v : View) → v.ear ≡ quiet
     → (hears read v (answer_of WONT octet) ≡ v) × (hears read v (answer_of DONT octet) ≡ v)
 
@@ -59,7 +59,7 @@ heard_lines read [] v = v
 heard_lines read (text ∷ texts) v = heard_lines read texts (heard_line (read text) v)
 
 -- every row of lines is heard line by line
-abbrev pub RowIsHeard : Type 0
-RowIsHeard =
+abbrev pub ServerHearsRow : Type 0
+ServerHearsRow =
     (read : Reading) (texts : List (List ℕ)) (v : View) → AllByRecursion IsLine texts → v.ear ≡ quiet
     → hears read v (flat_map written_line texts) ≡ heard_lines read texts v

@@ -1,4 +1,5 @@
--- The server's calls, as functions of its view. Each ends by `later`: the line that waits is acted on once it may be.
+-- Lines of the control connection, as functions of the view: a line is acted on, or waits; how an upload ends; ABOR; control octets
+-- (RFC 959, sections 4.1.3 and 5.4). Each call ends by `later`: the line that waits is acted on once it may be.
 use Rattle.std.specs.Prelude.{◌≡◌, ℕ, ◌+◌, Bool, true, false, not, ◌&&◌, List, [], ◌∷◌, ◌++◌, length, take, nat_le, Option, Some, None, is_some, is_none, if◌then◌else◌}
 use Rattle.ftp_nvt.specs.Lines.{NvtEvent, line, too_long, owed}
 use Rattle.ftp_command.specs.Command.{Says, Refuses}
@@ -9,24 +10,24 @@ use Rattle.ftp_path.specs.Path.{Names}
 use Rattle.ftp_tree.specs.Tree.{Table, octets_or_none, octets_refusal, installed}
 use Rattle.ftp_ends.specs.Ear.{ear_step, ear_out}
 use Rattle.ftp_ends.specs.Decoder.{Decoder, is_whole, ended, broken}
-use Rattle.ftp_server_machine.specs.View.{Footing, Move, Session, View, line_limit}
+use Rattle.ftp_server_machine.specs.View.{Footing, Transfer, Session, View, line_limit}
 use Rattle.ftp_server_machine.specs.Replies.{Turn, fixed_reply, reply_octets, said_octets}
-use Rattle.ftp_server_machine.specs.Endpoint.{forgotten, unlinked}
+use Rattle.ftp_server_machine.specs.Endpoint.{forgotten, disconnected}
 use Rattle.ftp_server_machine.specs.Act.{decided}
 use Rattle.ftp_server_machine.specs.declared.heard.Heard.{Heard}
 use Rattle.ftp_server_machine.specs.declared.heard.Heard.TheVariants.{TooLong, Bad, Asks}
-use Rattle.ftp_server_machine.specs.declared.said.Text.{Text}
-use Rattle.ftp_server_machine.specs.declared.said.Text.TheVariants as Texts
+use Rattle.ftp_server_machine.specs.declared.reply.Text.{Text}
+use Rattle.ftp_server_machine.specs.declared.reply.Text.TheVariants as Texts
 use Rattle.ftp_server_machine.specs.declared.session.Life.{Life}
 use Rattle.ftp_server_machine.specs.declared.session.Life.TheVariants as Lives
-use Rattle.ftp_server_machine.specs.declared.session.Once.TheVariants as Onces
-use Rattle.ftp_server_machine.specs.declared.session.Transfer.TheVariants as Moves
-use Rattle.ftp_server_machine.specs.declared.session.Link.{Link}
-use Rattle.ftp_server_machine.specs.declared.session.Link.TheVariants as At
+use Rattle.ftp_server_machine.specs.declared.session.Pending.TheVariants as Pendings
+use Rattle.ftp_server_machine.specs.declared.session.Transfer.TheVariants as Transfers
+use Rattle.ftp_server_machine.specs.declared.session.DataConnection.{DataConnection}
+use Rattle.ftp_server_machine.specs.declared.session.DataConnection.TheVariants as Data
 
 -- ---- what is said
 
--- the session changes; lines, octets owed and footing stay
+-- with another session; lines, octets that are owed and footing stay
 abbrev pub with_session : Session → View → View
 with_session session v = record v { session = session }
 
@@ -34,7 +35,7 @@ with_session session v = record v { session = session }
 abbrev pub owes : List ℕ → View → View
 owes octets v = record v { owed = v.owed ++ octets }
 
--- a session takes the place of the one before, and what is said of it is owed
+-- what a command makes: another session, and its reply, which is owed
 abbrev pub turned : Turn → View → View
 turned turn v = owes (said_octets turn.0 turn.1) (with_session turn.0 v)
 
@@ -44,40 +45,40 @@ replied text session v = owes (reply_octets (fixed_reply text)) (with_session se
 
 -- ---- a line is acted on (RFC 959, section 5.4)
 
--- own choice: a download of which no octet is left to give is over, once its link is open; the server closes it
-abbrev pub given_out : Link Move → View → View
-given_out (At.Moving (Moves.Down [])) v = replied Texts.Complete (forgotten v.session) v
-given_out (At.Moving (Moves.Listing [])) v = replied Texts.Complete (forgotten v.session) v
-given_out link v = v
+-- a download or a listing whose last octet was given is over, and the server closes its data connection (own choice)
+abbrev pub given_out : DataConnection Transfer → View → View
+given_out (Data.Transferring (Transfers.Download [])) v = replied Texts.Complete (forgotten v.session) v
+given_out (Data.Transferring (Transfers.Listing [])) v = replied Texts.Complete (forgotten v.session) v
+given_out connection v = v
 
--- a transfer that has nothing left to give ends here
+-- the same, of what stands in a view
 abbrev pub completed : View → View
-completed v = given_out v.session.link v
+completed v = given_out v.session.connection v
 
--- what stood for this line only is taken away before it is decided, a line that cannot be read too
+-- a line is acted on. RNFR and REST hold for one line: cleared first, even if it cannot be read
 unfoldable pub obeyed : Heard (List ℕ) → View → View
 obeyed heard v =
-    completed (turned (decided v.footing heard v.session.once (record v.session { once = Onces.Nothing })) v)
+    completed (turned (decided v.footing heard v.session.pending (record v.session { pending = Pendings.Nothing })) v)
 
 -- a transfer is under way, or a port was asked for
-abbrev pub is_link_busy : Link Move → Bool
-is_link_busy (At.Asked asked) = true
-is_link_busy (At.Opening move way) = true
-is_link_busy (At.Moving move) = true
-is_link_busy At.Free = false
-is_link_busy (At.Port endpoint) = false
-is_link_busy At.Door = false
-is_link_busy At.Ready = false
+abbrev pub is_connection_busy : DataConnection Transfer → Bool
+is_connection_busy (Data.Asked asked) = true
+is_connection_busy (Data.Opening transfer way) = true
+is_connection_busy (Data.Transferring transfer) = true
+is_connection_busy Data.Free = false
+is_connection_busy (Data.Active endpoint) = false
+is_connection_busy Data.Passive = false
+is_connection_busy Data.Ready = false
 
--- own choice: 4,096 of the 8,192 octets of control output are free, so that whatever comes of an octet has room
+-- 4,096 of the 8,192 octets of control output are free, so that whatever comes of an octet has room (own choice)
 abbrev pub has_room : View → Bool
 has_room v = nat_le (length v.owed) 4096
 
--- a line may be acted on
+-- a line may be acted on: no transfer is under way, no port is asked for, and there is room for its reply
 abbrev pub is_idle : View → Bool
-is_idle v = not (is_link_busy v.session.link) && has_room v
+is_idle v = not (is_connection_busy v.session.connection) && has_room v
 
--- the line that waits is acted on where it may be, and waits on where it may not
+-- the line that waits is acted on if it may be, and waits on if not
 abbrev pub waited : Option (Heard (List ℕ)) → View → View
 waited None v = v
 waited (Some heard) v = if is_idle v then obeyed heard (record v { waiting = None }) else v
@@ -88,9 +89,9 @@ later v = waited v.waiting v
 
 -- ---- how an upload ends
 
--- what a transfer leaves: the map, and its last reply
-abbrev pub Outcome : Type 0
-Outcome = Table × Text
+-- how a transfer ends: the map that it leaves, and its last reply
+abbrev pub Ending : Type 0
+Ending = Table × Text
 
 -- the octets kept and these pass a limit of octets
 abbrev pub is_over : Table → Names → ℕ → Decoder → Bool
@@ -100,71 +101,74 @@ is_over table path keep d = is_some (octets_refusal table path (keep + length d.
 abbrev pub put_in : Footing → Table → Names → ℕ → List ℕ → Table
 put_in footing table path keep octets = installed table path (take keep (octets_or_none table path) ++ octets) footing.moment
 
--- own choice: what came is installed, and past a limit of octets nothing
-abbrev pub settled : Footing → Table → Names → ℕ → Decoder → Text → Outcome
-settled footing table path keep d text =
+-- what came is installed and answered so; past a limit of octets nothing is, and the reply is 552 (own choice)
+abbrev pub installs : Footing → Table → Names → ℕ → Decoder → Text → Ending
+installs footing table path keep d text =
     if is_over table path keep d then (table, Texts.TooMuch) else (put_in footing table path keep d.content, text)
 
--- the link broke, or the transfer is aborted (own choice: what was settled is kept)
-abbrev pub at_break : Footing → Table → Move → Outcome
-at_break footing table (Moves.Up path keep d) = settled footing table path keep (broken d) Texts.Broken
-at_break footing table Moves.Past = (table, Texts.TooMuch)
-at_break footing table (Moves.Down rest) = (table, Texts.Broken)
-at_break footing table (Moves.Listing rest) = (table, Texts.Broken)
+-- the data connection broke, or the transfer is aborted: what was settled of an upload is kept (own choice)
+abbrev pub at_break : Footing → Table → Transfer → Ending
+at_break footing table (Transfers.Upload path keep d) = installs footing table path keep (broken d) Texts.Broken
+at_break footing table Transfers.OverLimit = (table, Texts.TooMuch)
+at_break footing table (Transfers.Download rest) = (table, Texts.Broken)
+at_break footing table (Transfers.Listing rest) = (table, Texts.Broken)
 
--- the client closed the link: the file is whole, or it ended early, which counts as broken
-abbrev pub at_end : Footing → Table → Move → Outcome
-at_end footing table (Moves.Up path keep d) =
-    if is_whole d then settled footing table path keep (ended d) Texts.Complete else at_break footing table (Moves.Up path keep d)
-at_end footing table move = at_break footing table move
+-- the client closed the data connection: the file is whole, or it ended early, which counts as broken (RFC 959, section 3.4)
+abbrev pub at_end : Footing → Table → Transfer → Ending
+at_end footing table (Transfers.Upload path keep d) =
+    if is_whole d then installs footing table path keep (ended d) Texts.Complete else at_break footing table (Transfers.Upload path keep d)
+at_end footing table transfer = at_break footing table transfer
 
--- the transfer is over: the map that it leaves, and its last reply; its link is gone, or to be closed
-abbrev pub concluded : Outcome → Session → View → View
-concluded outcome session v = replied outcome.1 (record session { table = outcome.0 }) v
+-- the transfer is over: its map is in force, in this session, and its last reply is owed
+abbrev pub concluded : Ending → Session → View → View
+concluded ending session v = replied ending.1 (record session { table = ending.0 }) v
 
--- the link ended by itself; the server closes it
-abbrev pub ends_unlinked : Outcome → View → View
-ends_unlinked outcome v = concluded outcome (unlinked v.session) v
+-- the data connection is gone
+abbrev pub ends_disconnected : Ending → View → View
+ends_disconnected ending v = concluded ending (disconnected v.session) v
 
--- the server ends the transfer, and its side of the link is still to be closed
-abbrev pub ends_closing : Outcome → View → View
-ends_closing outcome v = concluded outcome (forgotten v.session) v
+-- the server ends the transfer, and its side of the data connection is still to be closed
+abbrev pub ends_closing : Ending → View → View
+ends_closing ending v = concluded ending (forgotten v.session) v
 
--- a fault of the wire, or want of memory: the map is as it was
-abbrev pub lost : View → View
-lost v = ends_closing (v.session.table, Texts.LocalFault) v
+-- a fault of the wire, or want of memory: 451, and the map is as it was
+abbrev pub faulted : View → View
+faulted v = ends_closing (v.session.table, Texts.LocalFault) v
 
--- ---- ABOR during a transfer (RFC 959, section 4.1.3). A client that peeks into a file will end its download by it
+-- ---- ABOR during a transfer (RFC 959, section 4.1.3); a client that peeks into a file ends its download by it
 
--- it acts as a break, or as a refused opening; then its own reply
-abbrev pub aborts : Link Move → View → View
-aborts (At.Moving move) v = ends_closing (at_break v.footing v.session.table move) v
-aborts (At.Opening move way) v = replied Texts.NoConnection (forgotten v.session) v
-aborts link v = v
+-- it acts as a break; before the data connection is open, as a refused opening
+abbrev pub aborts : DataConnection Transfer → View → View
+aborts (Data.Transferring transfer) v = ends_closing (at_break v.footing v.session.table transfer) v
+aborts (Data.Opening transfer way) v = replied Texts.NoConnection (forgotten v.session) v
+aborts connection v = v
 
--- the 226 of ABOR itself
+-- the reply to ABOR itself
 abbrev pub abort_said : View → View
 abort_said v = replied Texts.AbortDone v.session v
 
--- the transfer ends first, then ABOR is answered, then the line that waits is acted on
+-- the transfer ends, ABOR is answered, and the line that waits is acted on, in this order
 abbrev pub aborted : View → View
-aborted v = later (abort_said (aborts v.session.link v))
+aborted v = later (abort_said (aborts v.session.connection v))
 
--- a transfer is under way, its link open or still to come
-abbrev pub is_moving : Link Move → Bool
-is_moving (At.Opening move way) = true
-is_moving (At.Moving move) = true
-is_moving link = false
+-- a transfer is under way, its data connection open or still to come
+abbrev pub is_transferring : DataConnection Transfer → Bool
+is_transferring (Data.Opening transfer way) = true
+is_transferring (Data.Transferring transfer) = true
+is_transferring connection = false
 
 -- the one command that is taken at once during a transfer (RFC 959, section 4.1.3)
 abbrev pub is_abor : Heard (List ℕ) → Bool
 is_abor (Asks command.Abor) = true
 is_abor heard = false
 
+-- it comes during a transfer
+abbrev pub is_abort : Heard (List ℕ) → View → Bool
+is_abort heard v = is_abor heard && is_transferring v.session.connection
+
 -- a whole line: an ABOR is taken at once during a transfer, any other line waits until it may be acted on
 abbrev pub heard_line : Heard (List ℕ) → View → View
-heard_line heard v =
-    if is_abor heard && is_moving v.session.link then aborted v else later (record v { waiting = Some heard })
+heard_line heard v = if is_abort heard v then aborted v else later (record v { waiting = Some heard })
 
 -- ---- control octets
 
@@ -174,7 +178,7 @@ IsRead text (Asks command) = Says text command
 IsRead text (Bad fault) = Refuses text fault
 IsRead text TooLong = ⊥
 
--- a function that reads lines. There is one only, since no line says two commands or is refused in two ways
+-- a function that reads lines; there is one only, since no line says two commands or is refused in two ways
 abbrev pub Reading : Type 0
 Reading = List ℕ → Heard (List ℕ)
 

@@ -1,5 +1,6 @@
--- What is said of a command, its lines and its octets (RFC 959, section 4.2; RFC 2389, section 3.2; RFC 3659, section 7).
-use Rattle.std.specs.Prelude.{ℕ, List, [], ◌∷◌, ◌++◌, codes, decimal, if◌then◌else◌}
+-- The replies to commands: their codes, lines and octets (RFC 959, section 4.2; RFC 2389, section 3.2; RFC 2640, section 3.2;
+-- RFC 3659, section 7).
+use Rattle.std.specs.Prelude.{ℕ, List, [], ◌∷◌, ◌++◌, Option, Some, None, codes, decimal, if◌then◌else◌}
 use Rattle.ftp_endpoint.specs.Written.{six_text}
 use Rattle.ftp_endpoint.specs.declared.endpoint.Endpoint.{Endpoint}
 use Rattle.ftp_reply.specs.Values.{doubled}
@@ -10,9 +11,9 @@ use Rattle.ftp_server_machine.specs.Texts.{code_of, text_of}
 use Rattle.ftp_server_machine.specs.View.{Session}
 use Rattle.ftp_server_machine.specs.Entries.{listed_line, features_text, chosen_text, is_any_chosen}
 use Rattle.ftp_server_machine.specs.declared.session.Facts.{Facts}
-use Rattle.ftp_server_machine.specs.declared.said.Text.{Text}
-use Rattle.ftp_server_machine.specs.declared.said.Said.{Said}
-use Rattle.ftp_server_machine.specs.declared.said.Said.TheVariants as Say
+use Rattle.ftp_server_machine.specs.declared.reply.Text.{Text}
+use Rattle.ftp_server_machine.specs.declared.reply.ReplyKind.{ReplyKind}
+use Rattle.ftp_server_machine.specs.declared.reply.ReplyKind.TheVariants as Replies
 
 -- a reply of the table of texts (`Texts`)
 abbrev pub fixed_reply : Text → Reply
@@ -30,30 +31,30 @@ here_text path = quoted path ++ codes " is the current directory"
 abbrev pub made_text : Names → List ℕ
 made_text path = quoted path ++ codes " created"
 
--- (h1,h2,h3,h4,p1,p2)
+-- the text of 227: (h1,h2,h3,h4,p1,p2) (RFC 959, section 4.1.2)
 abbrev pub passive_text : Endpoint → List ℕ
 passive_text endpoint = codes "Entering Passive Mode (" ++ (six_text endpoint ++ codes ")")
 
--- (|||port|) (RFC 2428, section 3)
+-- the text of 229: (|||port|) (RFC 2428, section 3)
 abbrev pub extended_text : ℕ → List ℕ
 extended_text port = codes "Entering Extended Passive Mode (|||" ++ (decimal port ++ codes "|)")
 
--- three lines; the pathname of the entry is the canonical text (own choice)
+-- MLST: three lines (RFC 3659, section 7.3); the pathname of the entry is the canonical text (own choice)
 abbrev pub entry_reply : Session → Names → Reply
-entry_reply v path = record {
+entry_reply s path = record {
   code = 250;
-  lines = codes "Listing" ∷ (32 ∷ listed_line v.facts (entry_at v.table path (path_text path))) ∷ codes "End" ∷ [];
+  lines = codes "Listing" ∷ (32 ∷ listed_line s.facts (entry_at s.table path (path_text path))) ∷ codes "End" ∷ [];
 }
 
--- eight lines, those between in the order of the alphabet
+-- FEAT: nine lines, those between in the order of the alphabet (RFC 2389, section 3.2; UTF8 by RFC 2640, section 3.2)
 abbrev pub features_reply : Facts → Reply
 features_reply facts = record {
   code = 211;
   lines = codes "Features" ∷ codes " EPRT" ∷ codes " EPSV" ∷ codes " MDTM"
-      ∷ (codes " MLST " ++ features_text facts) ∷ codes " REST STREAM" ∷ codes " SIZE" ∷ codes "End" ∷ [];
+      ∷ (codes " MLST " ++ features_text facts) ∷ codes " REST STREAM" ∷ codes " SIZE" ∷ codes " UTF8" ∷ codes "End" ∷ [];
 }
 
--- MLST OPTS, and behind SP the facts that are now in force
+-- the text of 200 to OPTS MLST: behind SP the facts that are now in force (RFC 3659, section 7.9)
 abbrev pub chosen_reply : Facts → List ℕ
 chosen_reply facts = codes "MLST OPTS" ++ (if is_any_chosen facts then 32 ∷ chosen_text facts else [])
 
@@ -61,25 +62,34 @@ chosen_reply facts = codes "MLST OPTS" ++ (if is_any_chosen facts then 32 ∷ ch
 abbrev pub mark_reply : List ℕ → ℕ → Reply
 mark_reply theirs held = reply_of 110 (codes "MARK " ++ (theirs ++ (codes " = " ++ decimal held)))
 
--- what is said of a command, where the session after it is this
-abbrev pub said_octets : Session → Said Names → List ℕ
-said_octets v Say.Nothing = []
-said_octets v (Say.Fixed text) = reply_octets (fixed_reply text)
-said_octets v Say.Here = reply_octets (reply_of 257 (here_text v.cwd))
-said_octets v (Say.Made path) = reply_octets (reply_of 257 (made_text path))
-said_octets v (Say.Restarting place) = reply_octets (reply_of 350 (codes "Restarting at " ++ decimal place))
-said_octets v (Say.Passive endpoint) = reply_octets (reply_of 227 (passive_text endpoint))
-said_octets v (Say.Extended port) = reply_octets (reply_of 229 (extended_text port))
-said_octets v (Say.Size count) = reply_octets (reply_of 213 (decimal count))
-said_octets v (Say.Stamp digits) = reply_octets (reply_of 213 digits)
-said_octets v (Say.Entry path) = reply_octets (entry_reply v path)
-said_octets v Say.Features = reply_octets (features_reply v.facts)
-said_octets v Say.Chosen = reply_octets (reply_of 200 (chosen_reply v.facts))
+-- the reply that is said, where the session after the command is this; to PASV and EPSV it follows once a port is had
+abbrev pub reply_said : Session → ReplyKind Names → Option Reply
+reply_said s Replies.Nothing = None
+reply_said s (Replies.Fixed text) = Some (fixed_reply text)
+reply_said s Replies.Here = Some (reply_of 257 (here_text s.cwd))
+reply_said s (Replies.Made path) = Some (reply_of 257 (made_text path))
+reply_said s (Replies.Restarting place) = Some (reply_of 350 (codes "Restarting at " ++ decimal place))
+reply_said s (Replies.Passive endpoint) = Some (reply_of 227 (passive_text endpoint))
+reply_said s (Replies.Extended port) = Some (reply_of 229 (extended_text port))
+reply_said s (Replies.Size count) = Some (reply_of 213 (decimal count))
+reply_said s (Replies.Stamp digits) = Some (reply_of 213 digits)
+reply_said s (Replies.Entry path) = Some (entry_reply s path)
+reply_said s Replies.Features = Some (features_reply s.facts)
+reply_said s Replies.Chosen = Some (reply_of 200 (chosen_reply s.facts))
 
--- the session after a command, and what is said of it
+-- the octets of a reply, if there is one
+abbrev pub octets_if_any : Option Reply → List ℕ
+octets_if_any None = []
+octets_if_any (Some reply) = reply_octets reply
+
+-- the octets of the reply that is said
+abbrev pub said_octets : Session → ReplyKind Names → List ℕ
+said_octets s kind = octets_if_any (reply_said s kind)
+
+-- what a command makes: the session after it, and the reply
 abbrev pub Turn : Type 0
-Turn = Session × Said Names
+Turn = Session × ReplyKind Names
 
 -- a fixed reply to a command that changes nothing
 abbrev pub tells : Text → Session → Turn
-tells text v = (v, Say.Fixed text)
+tells text s = (s, Replies.Fixed text)

@@ -22,35 +22,35 @@ use Rattle.ftp_server_machine.specs.declared.heard.Heard.TheVariants.{TooLong, B
 -- ---- how a row is written
 
 -- what happens to a server: a line that is read as a command, one that is none, a call
-pub data Event : Type 0 where
-  asks : (command : Command (List ℕ)) → Event
-  line : (heard : Heard (List ℕ)) → Event
-  port : (number : ℕ) → Event
-  no_port : Event
-  opened : (host : Host) → Event
-  refused : Event
-  octets : (came : List ℕ) → Event
-  given : (count : ℕ) → Event
-  ended broken closed : Event
+pub data RowEvent : Type 0 where
+  asks : (command : Command (List ℕ)) → RowEvent
+  line : (heard : Heard (List ℕ)) → RowEvent
+  port : (number : ℕ) → RowEvent
+  no_port : RowEvent
+  opened : (host : Host) → RowEvent
+  refused : RowEvent
+  octets : (came : List ℕ) → RowEvent
+  given : (count : ℕ) → RowEvent
+  ended broken closed : RowEvent
 
 -- each event is one call of the server
-abbrev pub happens : Event → View → View
-happens (asks command) v = heard_line (Asks command) v
-happens (line heard) v = heard_line heard v
-happens (port number) v = listening number v
-happens no_port v = listen_refused v
-happens (opened host) v = data_opened host v
-happens refused v = data_refused v
-happens (octets came) v = receives v came
-happens (given count) v = gives_data count v
-happens ended v = data_end v
-happens broken v = data_fault v
-happens closed v = data_closed v
+abbrev pub happening : RowEvent → View → View
+happening (asks command) v = heard_line (Asks command) v
+happening (line heard) v = heard_line heard v
+happening (port number) v = listening number v
+happening no_port v = listen_refused v
+happening (opened host) v = data_opened host v
+happening refused v = data_refused v
+happening (octets came) v = receives v came
+happening (given count) v = gives_data count v
+happening ended v = data_end v
+happening broken v = data_fault v
+happening closed v = data_closed v
 
 -- events, one after another
-abbrev pub behind : List Event → View → View
-behind [] v = v
-behind (event ∷ events) v = behind events (happens event v)
+abbrev pub after_events : List RowEvent → View → View
+after_events [] v = v
+after_events (event ∷ events) v = after_events events (happening event v)
 
 -- port 1930 of a host: 7 times 256 and 138
 abbrev pub at : Host → Endpoint
@@ -61,11 +61,11 @@ abbrev pub accounts : Accounts
 accounts = record { user = codes "guest"; pass = Some (codes "secret") } ∷ record { user = codes "anonymous"; pass = None } ∷ []
 
 -- a server of a map, whatever it holds, behind events
-abbrev pub server : Table → List Event → View
-server table events = behind events (start table accounts here here)
+abbrev pub server : Table → List RowEvent → View
+server table events = after_events events (start table accounts here here)
 
 -- the same of somebody who is logged in
-abbrev pub member : Table → List Event → View
+abbrev pub member : Table → List RowEvent → View
 member table events = server table (asks (command.User (codes "anonymous")) ∷ events)
 
 -- what it has said, the login of that somebody left out
@@ -79,8 +79,8 @@ of name = name ∷ []
 -- ---- login (RFC 959, section 5.4)
 
 -- USER is asked for a password, and PASS with it logs in
-abbrev pub Login : Type 0
-Login =
+abbrev pub LoginAnswered : Type 0
+LoginAnswered =
     (table : Table) → (server table (asks (command.User (codes "guest")) ∷ asks (command.Pass (codes "secret")) ∷ [])).owed
     ≡ lines (codes "220 Ready" ∷ codes "331 Password needed" ∷ codes "230 Logged in" ∷ [])
 
@@ -99,6 +99,38 @@ OrderOfDecisions =
     (table : Table) → (server table (line TooLong ∷ line (Bad Faults.BadArgument) ∷ asks command.Pwd ∷ asks command.Noop ∷ [])).owed
     ≡ lines (codes "220 Ready" ∷ codes "500 Line too long" ∷ codes "501 Bad argument" ∷ codes "530 Not logged in" ∷ codes "200 Ok" ∷ [])
 
+-- before a login ABOR, REIN, HELP, SYST and OPTS are done, and a command that wants one is not
+abbrev pub BeforeLogin : Type 0
+BeforeLogin =
+    (table : Table)
+    → (server table (asks command.Abor ∷ asks command.Rein ∷ asks (command.Help None) ∷ asks command.Syst
+    ∷ asks (command.Opts (codes "UTF8 ON")) ∷ asks (command.Retr (codes "f")) ∷ [])).owed
+    ≡ lines (codes "220 Ready" ∷ codes "226 Abort done" ∷ codes "220 Ready" ∷ codes "214 See RFC 959, RFC 2428 and RFC 3659"
+    ∷ codes "215 UNIX Type: L8" ∷ codes "200 UTF8 set" ∷ codes "530 Not logged in" ∷ [])
+
+-- FEAT before a login (RFC 2389, section 3.2)
+abbrev pub FeaturesTold : Type 0
+FeaturesTold =
+    (table : Table) → (server table (asks command.Feat ∷ [])).owed
+    ≡ lines (codes "220 Ready" ∷ codes "211-Features" ∷ codes " EPRT" ∷ codes " EPSV" ∷ codes " MDTM" ∷ codes " MLST Type*;Size*;Modify*;Perm*;"
+    ∷ codes " REST STREAM" ∷ codes " SIZE" ∷ codes " UTF8" ∷ codes "211 End" ∷ [])
+
+-- OPTS UTF8 ON, its words without case; with another word behind UTF8, or none, it is refused
+abbrev pub Utf8Chosen : Type 0
+Utf8Chosen =
+    (table : Table)
+    → (server table (asks (command.Opts (codes "UTF8 ON")) ∷ asks (command.Opts (codes "utf8 on")) ∷ asks (command.Opts (codes "UTF8 OFF"))
+    ∷ asks (command.Opts (codes "UTF8")) ∷ [])).owed
+    ≡ lines (codes "220 Ready" ∷ codes "200 UTF8 set" ∷ codes "200 UTF8 set" ∷ codes "501 Bad argument" ∷ codes "501 Bad argument" ∷ [])
+
+-- OPTS MLST: facts in the server's order, those that are not known passed over; none of them is in force behind it (RFC 3659, section
+-- 7.9)
+abbrev pub FactsChosen : Type 0
+FactsChosen =
+    (table : Table)
+    → (server table (asks (command.Opts (codes "MLST perm;Type;Unique;")) ∷ asks (command.Opts (codes "MLST")) ∷ asks (command.Opts (codes "MLST Type")) ∷ [])).owed
+    ≡ lines (codes "220 Ready" ∷ codes "200 MLST OPTS Type;Perm;" ∷ codes "200 MLST OPTS" ∷ codes "501 Bad argument" ∷ [])
+
 -- after EPSV ALL no other command opens a data connection, whatever endpoint it names
 abbrev pub OnlyExtended : Type 0
 OnlyExtended =
@@ -113,8 +145,8 @@ Reinitialized =
     (table : Table) → (member table (asks command.Rein ∷ asks command.Pwd ∷ [])).owed ≡ said_to_member (codes "220 Ready" ∷ codes "530 Not logged in" ∷ [])
 
 -- QUIT: nothing is heard behind it, and the connection is closed once the reply is out
-abbrev pub Quit : Type 0
-Quit =
+abbrev pub QuitHeard : Type 0
+QuitHeard =
     (table : Table)
     → let v = member table (asks command.Quit ∷ []) in
     (v.owed ≡ said_to_member (codes "221 Goodbye" ∷ [])) × (may_hear v ≡ false) × (wants v ≡ Want.Nothing) × (wants (gives_control (length v.owed) v) ≡ Want.CloseAll)
@@ -160,8 +192,8 @@ ForeignOpener =
 -- ---- the map
 
 -- RNFR and RNTO
-abbrev pub Rename : Type 0
-Rename =
+abbrev pub RenameDone : Type 0
+RenameDone =
     (table : Table) → node_at table [] ≡ Some Dir → node_at table (of (codes "d")) ≡ Some Dir → node_at table (of (codes "e")) ≡ None
     → moves_fit table (of (codes "d")) (of (codes "e")) ≡ true
     → let v = member table (asks (command.Rnfr (codes "d")) ∷ asks (command.Rnto (codes "e")) ∷ []) in
@@ -178,8 +210,8 @@ LateRename =
 -- ---- downloads
 
 -- TYPE I, PORT and RETR: the link is opened by the server, the octets are given, and with the last the link is to be closed
-abbrev pub ActiveDownload : Type 0
-ActiveDownload =
+abbrev pub DownloadSent : Type 0
+DownloadSent =
     (table : Table) (moment : ℕ) → node_at table (of (codes "f")) ≡ Some (File (codes "abc") moment)
     → let asked = asks (command.Repr Kinds.Image) ∷ asks (command.Port (at here)) ∷ asks (command.Retr (codes "f")) ∷ [] in
     (wants (member table asked) ≡ Want.Connect (at here))
@@ -190,8 +222,8 @@ ActiveDownload =
     ≡ said_to_member (codes "200 Type set" ∷ codes "200 Endpoint taken" ∷ codes "150 Opening data connection" ∷ codes "226 Transfer complete" ∷ []))
 
 -- REST right before RETR
-abbrev pub Restart : Type 0
-Restart =
+abbrev pub RestartSent : Type 0
+RestartSent =
     (table : Table) (moment : ℕ) → node_at table (of (codes "f")) ≡ Some (File (codes "0123456789") moment)
     → let asked = asks (command.Repr Kinds.Image) ∷ asks (command.Port (at here)) ∷ asks (command.Rest 5) ∷ asks (command.Retr (codes "f")) ∷ [] in
     to_give (member table (asked ++ opened here ∷ [])) ≡ codes "56789"
@@ -204,8 +236,8 @@ LateRestart =
     to_give (member table (asked ++ opened here ∷ [])) ≡ codes "0123456789"
 
 -- LIST of a directory with one file
-abbrev pub Listing : Type 0
-Listing =
+abbrev pub ListingSent : Type 0
+ListingSent =
     (table : Table) → node_at table (of (codes "d")) ≡ Some Dir → children table (of (codes "d")) ≡ codes "x" ∷ []
     → node_at table (codes "d" ∷ codes "x" ∷ []) ≡ Some (File (codes "abc") 946684800)
     → to_give (member table (asks (command.Port (at here)) ∷ asks (command.List (Some (codes "d"))) ∷ opened here ∷ []))
@@ -214,8 +246,8 @@ Listing =
 -- ---- uploads
 
 -- PASV and STOR: the client opens the link, and at its end the file is installed
-abbrev pub PassiveUpload : Type 0
-PassiveUpload =
+abbrev pub UploadInstalled : Type 0
+UploadInstalled =
     (table : Table) → node_at table (of (codes "f")) ≡ Some (File [] 0) → room_at table (of (codes "f")) ≡ 1000
     → let v = member table (asks (command.Repr Kinds.Image) ∷ asks command.Pasv ∷ port 1930 ∷ opened here ∷ asks (command.Stor (codes "f"))
     ∷ octets (codes "ab") ∷ octets (codes "c") ∷ ended ∷ []) in
@@ -225,24 +257,24 @@ PassiveUpload =
     × (wants v ≡ Want.Nothing)
 
 -- in ASCII a CR that the break leaves unpaired is dropped, and what was settled is kept
-abbrev pub BrokenUpload : Type 0
-BrokenUpload =
+abbrev pub BrokenUploadKept : Type 0
+BrokenUploadKept =
     (table : Table) → node_at table (of (codes "f")) ≡ Some (File [] 0) → room_at table (of (codes "f")) ≡ 1000
     → let v = member table (asks (command.Port (at here)) ∷ asks (command.Stor (codes "f")) ∷ opened here ∷ octets (120 ∷ 13 ∷ []) ∷ broken ∷ []) in
     (v.owed ≡ said_to_member (codes "200 Endpoint taken" ∷ codes "150 Opening data connection" ∷ codes "426 Transfer broken" ∷ []))
     × (v.session.table ≡ installed table (of (codes "f")) (codes "x") 0)
 
 -- 552: past the room for the file the rest is dropped, and the map is as it was
-abbrev pub TooMuch : Type 0
-TooMuch =
+abbrev pub TooMuchRefused : Type 0
+TooMuchRefused =
     (table : Table) → node_at table (of (codes "f")) ≡ Some (File [] 0) → room_at table (of (codes "f")) ≡ 2
     → let v = member table (asks (command.Port (at here)) ∷ asks (command.Stor (codes "f")) ∷ opened here ∷ octets (codes "abc") ∷ ended ∷ []) in
     (v.owed ≡ said_to_member (codes "200 Endpoint taken" ∷ codes "150 Opening data connection" ∷ codes "552 Too much" ∷ []))
     × (v.session.table ≡ table)
 
 -- 110: a marker in block mode is answered by the octets that are held behind those kept, here of an APPE
-abbrev pub Marker : Type 0
-Marker =
+abbrev pub MarkerAnswered : Type 0
+MarkerAnswered =
     (table : Table) → node_at table (of (codes "f")) ≡ Some (File (codes "abc") 0) → room_at table (of (codes "f")) ≡ 1000
     → (member table (asks (command.Repr Kinds.Image) ∷ asks (command.Mode Modes.Block) ∷ asks (command.Port (at here)) ∷ asks (command.Appe (codes "f"))
     ∷ opened here ∷ octets (0 ∷ 0 ∷ 1 ∷ 100 ∷ 16 ∷ 0 ∷ 1 ∷ 77 ∷ []) ∷ [])).owed
@@ -266,8 +298,8 @@ WaitingLine =
     ≡ said_to_member (codes "200 Endpoint taken" ∷ codes "150 Opening data connection" ∷ codes "425 No data connection" ∷ codes "200 Ok" ∷ [])
 
 -- ABOR during an upload acts as a break, and its own reply follows
-abbrev pub Abort : Type 0
-Abort =
+abbrev pub AbortAnswered : Type 0
+AbortAnswered =
     (table : Table) → node_at table (of (codes "f")) ≡ Some (File [] 0) → room_at table (of (codes "f")) ≡ 1000
     → let v = member table (asks (command.Port (at here)) ∷ asks (command.Stor (codes "f")) ∷ opened here ∷ octets (codes "ab") ∷ asks command.Abor ∷ []) in
     (v.owed ≡ said_to_member (codes "200 Endpoint taken" ∷ codes "150 Opening data connection" ∷ codes "426 Transfer broken" ∷ codes "226 Abort done" ∷ []))

@@ -1,8 +1,8 @@
--- The fixed replies of the server: each a code and a text (the codes by RFC 959, section 4.2; RFC 2428, section 3; the texts
--- are own choices).
+-- The fixed replies of the server: each a code and a text (the codes by RFC 959, section 4.2; RFC 2389, section 4; RFC 2428,
+-- section 3; the texts are own choices).
 use Rattle.std.specs.Prelude.{ℕ, List, codes}
-use Rattle.ftp_server_machine.specs.declared.said.Text.{Text}
-use Rattle.ftp_server_machine.specs.declared.said.Text.TheVariants as Texts
+use Rattle.ftp_server_machine.specs.declared.reply.Text.{Text}
+use Rattle.ftp_server_machine.specs.declared.reply.Text.TheVariants as Texts
 
 -- the code of a fixed reply
 abbrev pub code_of : Text → ℕ
@@ -36,6 +36,7 @@ code_of Texts.AbortDone = 226
 code_of Texts.TypeSet = 200
 code_of Texts.StructureSet = 200
 code_of Texts.ModeSet = 200
+code_of Texts.Utf8Set = 200
 code_of Texts.Fine = 200
 code_of Texts.EndpointTaken = 200
 code_of Texts.OnlyExtended = 200
@@ -76,6 +77,7 @@ text_of Texts.AbortDone = codes "Abort done"
 text_of Texts.TypeSet = codes "Type set"
 text_of Texts.StructureSet = codes "Structure set"
 text_of Texts.ModeSet = codes "Mode set"
+text_of Texts.Utf8Set = codes "UTF8 set"
 text_of Texts.Fine = codes "Ok"
 text_of Texts.EndpointTaken = codes "Endpoint taken"
 text_of Texts.OnlyExtended = codes "Only EPSV from now on"

@@ -1,5 +1,5 @@
--- What a server is, for who looks at it from outside: plain records, whose parts are the states of RFC 959, sections 3.2
--- and 4.1. Beside them stand two counts, of refused growths and of device failures (`Failing`).
+-- What a server holds, as plain records whose parts are the states of RFC 959, sections 3.2 and 4.1. Beside them are two counts,
+-- of refused growths and of device failures (`Failing`).
 use Rattle.std.specs.Prelude.{ℕ, Bool, true, false, List, [], Option}
 use Rattle.ftp_endpoint.specs.declared.host.Host.{Host}
 use Rattle.ftp_path.specs.Path.{Names}
@@ -15,41 +15,41 @@ use Rattle.ftp_representation.specs.declared.representation.Representation.{Repr
 use Rattle.ftp_server_machine.specs.declared.heard.Heard.{Heard}
 use Rattle.ftp_server_machine.specs.declared.session.Access.{Access}
 use Rattle.ftp_server_machine.specs.declared.session.Access.TheVariants as Accesses
-use Rattle.ftp_server_machine.specs.declared.session.Once.{Once}
-use Rattle.ftp_server_machine.specs.declared.session.Once.TheVariants as Onces
+use Rattle.ftp_server_machine.specs.declared.session.Pending.{Pending}
+use Rattle.ftp_server_machine.specs.declared.session.Pending.TheVariants as Pendings
 use Rattle.ftp_server_machine.specs.declared.session.Facts.{Facts}
 use Rattle.ftp_server_machine.specs.declared.session.Life.{Life}
 use Rattle.ftp_server_machine.specs.declared.session.Life.TheVariants as Lives
-use Rattle.ftp_server_machine.specs.declared.session.Link.{Link}
-use Rattle.ftp_server_machine.specs.declared.session.Link.TheVariants as At
-use Rattle.ftp_server_machine.specs.declared.session.Transfer.{Transfer}
+use Rattle.ftp_server_machine.specs.declared.session.DataConnection.{DataConnection}
+use Rattle.ftp_server_machine.specs.declared.session.DataConnection.TheVariants as Data
+use Rattle.ftp_server_machine.specs.declared.session.Transfer.{Transfer as TransferOf}
 
 -- who may log in (RFC 959, section 4.1.1). Account roots will enter here, as a third part of an account, and in `Known`: the
 -- map that commands see is then the part below the root of the login
 abbrev pub Accounts : Type 0
 Accounts = List (Account (List ℕ))
 
--- what a session stands on and no command changes: who may log in, the hosts of the control connection, the moment in force
+-- what no command changes: who may log in, the hosts of the control connection, the moment in force
 pub record Footing : Type 0 where
   pub accounts : Accounts
   pub here : Host
   pub peer : Host
   pub moment : ℕ
 
--- a transfer: of an upload what its decoder has settled, of a download and a listing the wire octets that are still to be given
-abbrev pub Move : Type 0
-Move = Transfer Names Decoder (List ℕ) (List ℕ)
+-- a transfer: an upload with what its decoder has settled, a download or a listing with the octets that are still to be given
+abbrev pub Transfer : Type 0
+Transfer = TransferOf Names Decoder (List ℕ) (List ℕ)
 
 -- what commands and the data connection change
 pub record Session : Type 0 where
   pub table : Table
   pub access : Access (List ℕ)
   pub cwd : Names
-  pub once : Once Names
+  pub pending : Pending Names
   pub settings : Representation
   pub facts : Facts
   pub only_extended : Bool
-  pub link : Link Move
+  pub connection : DataConnection Transfer
   pub closing : Bool
   pub life : Life
 
@@ -71,11 +71,11 @@ first_session table = record {
   table = table;
   access = Accesses.Nobody;
   cwd = [];
-  once = Onces.Nothing;
+  pending = Pendings.Nothing;
   settings = defaults;
   facts = all_facts;
   only_extended = false;
-  link = At.Free;
+  connection = Data.Free;
   closing = false;
   life = Lives.Running;
 }
@@ -87,4 +87,8 @@ how_in_force settings =
 
 -- how the direct run sees the session of somebody who is logged in: the same map and current directory
 abbrev pub direct_of : Session → State
-direct_of v = record { table = v.table; cwd = v.cwd; known = true }
+direct_of s = record { table = s.table; cwd = s.cwd; known = true }
+
+-- the session with the map and the current directory that the direct run leaves
+abbrev pub as_direct : State → Session → Session
+as_direct state s = record s { table = state.table; cwd = state.cwd }

@@ -1,19 +1,21 @@
--- The map and the current directory: CWD, CDUP, MKD, RMD, DELE, RNFR, RNTO (RFC 959, section 4.1.3). What is refused, and
--- why, is said as the direct run says it of the operation.
+-- The map and the current directory: CWD, CDUP, MKD, RMD, DELE, RNFR, RNTO (RFC 959, section 4.1.3). What a command refuses and
+-- what it changes are the words of the direct run (`ftp_direct`).
 use Rattle.std.specs.Prelude.{ℕ, List, Option, Some, None}
-use Rattle.ftp_path.specs.Path.{parent, resolved, Names}
-use Rattle.ftp_tree.specs.Tree.{or_else, made, removed, moved, source_refusal, rename_refusal}
+use Rattle.ftp_path.specs.Path.{resolved, Names}
+use Rattle.ftp_tree.specs.Tree.{or_else, moved, source_refusal, rename_refusal}
 use Rattle.ftp_direct.specs.declared.refusal.Refusal.{Refusal}
 use Rattle.ftp_direct.specs.declared.refusal.Refusal.TheVariants as Refusals
-use Rattle.ftp_direct.specs.Direct.{refusal, refused_there, refused_name, limited, busy_refusal}
+use Rattle.ftp_direct.specs.Direct.{refusal, done, refused_there, refused_name, limited, busy_refusal}
+use Rattle.ftp_operation.specs.declared.op.Op.{Op}
 use Rattle.ftp_operation.specs.declared.op.Op.TheVariants as Ops
-use Rattle.ftp_server_machine.specs.View.{Session, direct_of}
+use Rattle.ftp_server_machine.specs.View.{Session, direct_of, as_direct}
 use Rattle.ftp_server_machine.specs.Replies.{Turn, tells}
-use Rattle.ftp_server_machine.specs.declared.said.Text.{Text}
-use Rattle.ftp_server_machine.specs.declared.said.Text.TheVariants as Texts
-use Rattle.ftp_server_machine.specs.declared.said.Said.TheVariants as Say
-use Rattle.ftp_server_machine.specs.declared.session.Once.{Once}
-use Rattle.ftp_server_machine.specs.declared.session.Once.TheVariants as Onces
+use Rattle.ftp_server_machine.specs.declared.reply.Text.{Text}
+use Rattle.ftp_server_machine.specs.declared.reply.Text.TheVariants as Texts
+use Rattle.ftp_server_machine.specs.declared.reply.ReplyKind.{ReplyKind}
+use Rattle.ftp_server_machine.specs.declared.reply.ReplyKind.TheVariants as Replies
+use Rattle.ftp_server_machine.specs.declared.session.Pending.{Pending}
+use Rattle.ftp_server_machine.specs.declared.session.Pending.TheVariants as Pendings
 
 -- the reply that tells a refusal
 abbrev pub refusal_text : Refusal → Text
@@ -28,48 +30,53 @@ refusal_text Refusals.BadName = Texts.NameRefused
 
 -- a command is refused, and changes nothing, or has this turn
 abbrev pub unless : Option Refusal → Session → Turn → Turn
-unless None v turn = turn
-unless (Some why) v turn = tells (refusal_text why) v
+unless None s turn = turn
+unless (Some why) s turn = tells (refusal_text why) s
 
 -- the path that a text names from the current directory
 abbrev pub path_of : Session → List ℕ → Names
-path_of v text = resolved v.cwd text
+path_of s text = resolved s.cwd text
 
--- CWD
+-- a command that is an operation of the direct run: refused as that refuses it, or done as that does it, which is then answered.
+-- None of these looks at the moment
+abbrev pub performs : Op (List ℕ) → ReplyKind Names → Session → Turn
+performs op kind s = unless (refusal (direct_of s) op) s (as_direct (done (direct_of s) op 0).1 s, kind)
+
+-- CWD (RFC 959, section 4.1.1)
 abbrev pub cwd : List ℕ → Session → Turn
-cwd text v = unless (refusal (direct_of v) (Ops.ChangeDir text)) v (tells Texts.Done (record v { cwd = path_of v text }))
+cwd text s = performs (Ops.ChangeDir text) (Replies.Fixed Texts.Done) s
 
--- CDUP: the root is its own parent
+-- CDUP: the root is its own parent (RFC 959, section 4.1.1)
 abbrev pub cdup : Session → Turn
-cdup v = tells Texts.Done (record v { cwd = parent v.cwd })
+cdup s = performs Ops.Up (Replies.Fixed Texts.Done) s
 
 -- MKD
 abbrev pub mkd : List ℕ → Session → Turn
-mkd text v = unless (refusal (direct_of v) (Ops.MakeDir text)) v (record v { table = made v.table (path_of v text) }, Say.Made (path_of v text))
+mkd text s = performs (Ops.MakeDir text) (Replies.Made (path_of s text)) s
 
 -- RMD
 abbrev pub rmd : List ℕ → Session → Turn
-rmd text v = unless (refusal (direct_of v) (Ops.RemoveDir text)) v (tells Texts.Done (record v { table = removed v.table (path_of v text) }))
+rmd text s = performs (Ops.RemoveDir text) (Replies.Fixed Texts.Done) s
 
 -- DELE
 abbrev pub dele : List ℕ → Session → Turn
-dele text v = unless (refusal (direct_of v) (Ops.Delete text)) v (tells Texts.Done (record v { table = removed v.table (path_of v text) }))
+dele text s = performs (Ops.Delete text) (Replies.Fixed Texts.Done) s
 
--- RNFR: the first half of a rename. What it names stands, and the current directory is not at or below it
+-- RNFR, the first half of a rename: what it names stands, and the current directory is not at or below it
 abbrev pub refused_source : Session → Names → Option Refusal
-refused_source v from = refused_there (limited from (or_else (source_refusal v.table from) (busy_refusal (direct_of v) from)))
+refused_source s from = refused_there (limited from (or_else (source_refusal s.table from) (busy_refusal (direct_of s) from)))
 
--- RNFR: what it names stands for the next line only
+-- RNFR: what it names is pending for the next line only
 abbrev pub rnfr : List ℕ → Session → Turn
-rnfr text v = unless (refused_source v (path_of v text)) v (tells Texts.NewName (record v { once = Onces.Rename (path_of v text) }))
+rnfr text s = unless (refused_source s (path_of s text)) s (tells Texts.NewName (record s { pending = Pendings.Rename (path_of s text) }))
 
--- RNTO: the second half, right behind it
+-- RNTO, the second half, right behind it
 abbrev pub renames : Names → Names → Session → Turn
-renames from to v =
-    unless (refused_name (limited to (rename_refusal v.table from to))) v (tells Texts.Done (record v { table = moved v.table from to }))
+renames from to s =
+    unless (refused_name (limited to (rename_refusal s.table from to))) s (tells Texts.Done (record s { table = moved s.table from to }))
 
 -- RNTO: 503 where no RNFR stood right before it
-abbrev pub rnto : Once Names → List ℕ → Session → Turn
-rnto (Onces.Rename from) text v = renames from (path_of v text) v
-rnto Onces.Nothing text v = tells Texts.BadSequence v
-rnto (Onces.Restart place) text v = tells Texts.BadSequence v
+abbrev pub rnto : Pending Names → List ℕ → Session → Turn
+rnto (Pendings.Rename from) text s = renames from (path_of s text) s
+rnto Pendings.Nothing text s = tells Texts.BadSequence s
+rnto (Pendings.Restart place) text s = tells Texts.BadSequence s

@@ -1,6 +1,7 @@
 //! What holds of the server's machine: functions that do nothing, whose contracts are laws.
 ghost use Rattle.ftp_server_machine.specs.Bounds.{ServerLowers};
-ghost use Rattle.ftp_server_machine.specs.InFlight.{AnswerIsDropped, CommandIsHeard, HeardInPieces, LineIsHeard, LineLeavesEar, RowIsHeard, StatedIsLine};
+ghost use Rattle.ftp_server_machine.specs.Failing.{NeverFailsWithoutLogin};
+ghost use Rattle.ftp_server_machine.specs.InFlight.{ServerDropsAnswer, ServerHearsCommand, ServerHearsPieces, ServerHearsEachLine, LineLeavesEar, ServerHearsRow, StatedIsLine};
 ghost use Rattle.ftp_server_machine.specs.Machine.{OneReading, ReadingExists, ReadsStated};
 
 /// Lines are read, in one way, and the line of a command as that command.
@@ -13,13 +14,18 @@ pub fn reading()
 /// A command line and an answer to a Telnet octet are heard by the server as themselves and as nothing else, wherever they are
 /// cut; so is a row of lines, one after another.
 pub fn commands_in_flight()
-    ensures pieces { HeardInPieces }
-    ensures line { LineIsHeard }
+    ensures pieces { ServerHearsPieces }
+    ensures line { ServerHearsEachLine }
     ensures stated { StatedIsLine }
-    ensures command { CommandIsHeard }
-    ensures answer { AnswerIsDropped }
+    ensures command { ServerHearsCommand }
+    ensures answer { ServerDropsAnswer }
     ensures ear { LineLeavesEar }
-    ensures row { RowIsHeard }
+    ensures row { ServerHearsRow }
+{}
+
+/// A command that is answered 530 is never answered 451.
+pub fn without_login()
+    ensures { NeverFailsWithoutLogin }
 {}
 
 /// No call of the server that takes no octets makes more to do for it.

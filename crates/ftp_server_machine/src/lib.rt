@@ -5,11 +5,11 @@
 mod far;
 mod heard;
 pub mod laws;
+mod reply;
 pub mod rows;
-mod said;
 mod session;
 
 pub use far::Far;
 pub use heard::Heard;
-pub use said::{Said, Text};
-pub use session::{Access, Asked, Facts, Life, Link, Once, Transfer, Way};
+pub use reply::{ReplyKind, Text};
+pub use session::{Access, Asked, DataConnection, Facts, Life, Pending, Transfer, Way};

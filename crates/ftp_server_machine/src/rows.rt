@@ -1,9 +1,9 @@
-//! Worked rows of a server: functions that do nothing, whose contracts are rows of `specs/server/Rows`.
-ghost use Rattle.ftp_server_machine.specs.Rows.{Abort, ActiveDownload, BrokenUpload, ByFamily, EarlyAbort, ForeignEndpoint, ForeignOpener, LateRename, LateRestart, Listing, Login, Marker, OnlyExtended, OrderOfDecisions, PassiveUpload, Quit, RefusedListen, RefusedOpening, Reinitialized, Rename, Restart, TooMuch, WaitingLine, WrongPassword};
+//! Worked rows of a server: functions that do nothing, whose contracts are rows of `specs/Rows`.
+ghost use Rattle.ftp_server_machine.specs.Rows.{AbortAnswered, BeforeLogin, BrokenUploadKept, ByFamily, DownloadSent, EarlyAbort, FactsChosen, FeaturesTold, ForeignEndpoint, ForeignOpener, LateRename, LateRestart, ListingSent, LoginAnswered, MarkerAnswered, OnlyExtended, OrderOfDecisions, UploadInstalled, QuitHeard, RefusedListen, RefusedOpening, Reinitialized, RenameDone, RestartSent, TooMuchRefused, Utf8Chosen, WaitingLine, WrongPassword};
 
 /// A login with a password.
 pub fn login()
-    ensures { Login }
+    ensures { LoginAnswered }
 {}
 
 /// A wrong password ends the waiting of a USER.
@@ -16,6 +16,26 @@ pub fn order()
     ensures { OrderOfDecisions }
 {}
 
+/// Commands that need no login, and one that does.
+pub fn before_login()
+    ensures { BeforeLogin }
+{}
+
+/// What FEAT tells.
+pub fn features()
+    ensures { FeaturesTold }
+{}
+
+/// OPTS UTF8.
+pub fn utf8()
+    ensures { Utf8Chosen }
+{}
+
+/// OPTS MLST.
+pub fn facts()
+    ensures { FactsChosen }
+{}
+
 /// REIN ends the login.
 pub fn reinitialized()
     ensures { Reinitialized }
@@ -23,7 +43,7 @@ pub fn reinitialized()
 
 /// QUIT is the last that is heard.
 pub fn quit()
-    ensures { Quit }
+    ensures { QuitHeard }
 {}
 
 /// EPSV by the number of a family.
@@ -58,7 +78,7 @@ pub fn foreign_opener()
 
 /// RNFR and RNTO.
 pub fn rename()
-    ensures { Rename }
+    ensures { RenameDone }
 {}
 
 /// RNTO behind another line.
@@ -68,12 +88,12 @@ pub fn late_rename()
 
 /// A download that the server opens.
 pub fn active_download()
-    ensures { ActiveDownload }
+    ensures { DownloadSent }
 {}
 
 /// REST right before RETR.
 pub fn restart()
-    ensures { Restart }
+    ensures { RestartSent }
 {}
 
 /// REST, another line, and RETR.
@@ -83,27 +103,27 @@ pub fn late_restart()
 
 /// LIST of a directory.
 pub fn listing()
-    ensures { Listing }
+    ensures { ListingSent }
 {}
 
 /// An upload that the client opens.
 pub fn passive_upload()
-    ensures { PassiveUpload }
+    ensures { UploadInstalled }
 {}
 
 /// A break of an upload behind a CR.
 pub fn broken_upload()
-    ensures { BrokenUpload }
+    ensures { BrokenUploadKept }
 {}
 
 /// An upload past the room for it.
 pub fn too_much()
-    ensures { TooMuch }
+    ensures { TooMuchRefused }
 {}
 
 /// A restart marker in an upload.
 pub fn marker()
-    ensures { Marker }
+    ensures { MarkerAnswered }
 {}
 
 /// ABOR before the link is open.
@@ -118,5 +138,5 @@ pub fn waiting_line()
 
 /// ABOR of an upload.
 pub fn abort()
-    ensures { Abort }
+    ensures { AbortAnswered }
 {}

@@ -10,13 +10,13 @@ pub enum Access<T> {
     Known,
 }
 
-/// What stands for the next line only.
+/// What is pending for the next line only (RFC 959, sections 4.1.2 and 4.1.3).
 #[derive(Debug, Drop)]
-pub enum Once<P> {
+pub enum Pending<P> {
     Nothing,
     /// The path that an accepted RNFR named.
     Rename(P),
-    /// The place that an accepted REST named.
+    /// The number that an accepted REST named.
     Restart(u64),
 }
 
@@ -46,41 +46,41 @@ pub enum Asked {
     Epsv,
 }
 
-/// How a link that a transfer waits for is opened.
+/// How the data connection of a transfer is opened.
 #[derive(Clone, Copy, Debug, PartialEq, Eq)]
 pub enum Way {
     /// The server connects to this endpoint.
-    To(Endpoint),
+    Connect(Endpoint),
     /// The client connects to the port that is listened at.
-    Door,
+    Accept,
 }
 
-/// The endpoint, the link and the transfer of a session; `J` is the transfer (RFC 959, sections 3.2 and 4.1.2).
+/// The data connection of a session; `J` is its transfer (RFC 959, sections 3.2 and 4.1.2).
 #[derive(Debug, Drop)]
-pub enum Link<J> {
-    /// No endpoint stands.
+pub enum DataConnection<J> {
+    /// No endpoint is set.
     Free,
     /// A port to listen at was asked for.
     Asked(Asked),
-    /// An endpoint of the client stands.
-    Port(Endpoint),
+    /// The endpoint that the client named by PORT or EPRT.
+    Active(Endpoint),
     /// A port is listened at.
-    Door,
-    /// The client has opened the link, and no transfer was asked for yet.
+    Passive,
+    /// The client has opened it, and no transfer was asked for yet.
     Ready,
-    /// A transfer was begun, and its link is not open yet.
+    /// A transfer was begun, and it is not open yet.
     Opening(J, Way),
-    /// A transfer is under way.
-    Moving(J),
+    /// It is open, and a transfer is under way.
+    Transferring(J),
 }
 
 /// A transfer; `D` is what came of an upload, `W` what is still to be given of a download, `L` of a listing.
 #[derive(Debug, Drop)]
 pub enum Transfer<P, D, W, L> {
     /// An upload to a path, behind so many octets of the file there.
-    Up { path: P, keep: u64, decoder: D },
+    Upload { path: P, keep: u64, decoder: D },
     /// An upload that passed a limit of octets.
-    Past,
-    Down(W),
+    OverLimit,
+    Download(W),
     Listing(L),
 }

@@ -1,10 +1,10 @@
 -- How an operation fared, and what that lets stand: whole, as run directly on the map; cut, as its link broke; not opened; or lost,
 -- as the control connection ended. No command, reply or connection stands here but the wire that was cut.
-use Rattle.std.specs.Prelude.{◌≡◌, ◌⊎◌, ℕ, ◌+◌, List, [], ◌∷◌, ◌++◌, length, take, drop, flat_map, Option, Some, None, IsTrue}
+use Rattle.std.specs.Prelude.{◌≡◌, ◌⊎◌, ℕ, ◌+◌, List, [], ◌∷◌, ◌++◌, length, take, drop, Option, Some, None, IsTrue}
 use Rattle.std.specs.Option.{is_some}
 use Rattle.ftp_operation.specs.Answer.{Said, Broken as BrokenOff, Unopened as NotOpened, Lost as LostOff}
 use Rattle.ftp_direct.specs.declared.refusal.Refusal.TheVariants as Refusals
-use Rattle.ftp_direct.specs.Direct.{State, answer, first_refusal, named, named_or_here, entries_in, names_for}
+use Rattle.ftp_direct.specs.Direct.{State, answer, first_refusal, named, named_or_here}
 use Rattle.ftp_operation.specs.Operation.{can_be_sent}
 use Rattle.ftp_operation.specs.declared.op.How.{How}
 use Rattle.ftp_operation.specs.declared.op.Op.{Op}
@@ -18,7 +18,7 @@ use Rattle.ftp_ends.specs.Decoder.{Decoder, no_octets, octet_says, decoded_octet
 use Rattle.ftp_representation.specs.Representation.{form_of, has_markers}
 use Rattle.ftp_client_machine.specs.Octets.{written, upload_text, last_mark}
 use Rattle.ftp_client_machine.specs.Plan.{settings_of, listing_settings, how_of}
-use Rattle.ftp_server_machine.specs.Entries.{listed_line}
+use Rattle.ftp_server_machine.specs.Listing.{lines_file, entry_lines, name_lines}
 use Rattle.ftp_server_machine.specs.View.{all_facts}
 use Rattle.ftp_representation.specs.declared.representation.Representation.{Representation}
 
@@ -59,17 +59,13 @@ pub record Download : Type 0 where
   pub start : ℕ
   pub octets : List ℕ
 
--- lines, each ended by LF
-abbrev pub lines_text : List (List ℕ) → List ℕ
-lines_text lines = flat_map (λ line. line ++ 10 ∷ []) lines
-
--- the file that MLSD would send, with all facts
+-- the file that MLSD sends where all facts are in force (`ftp_server_machine`, `Listing`)
 abbrev pub listing_text : State → List ℕ → List ℕ
-listing_text state text = flat_map (λ entry. listed_line all_facts entry ++ 10 ∷ []) (entries_in state.table (named_or_here state text))
+listing_text state text = lines_file (entry_lines all_facts state.table (named_or_here state text))
 
--- the file that NLST would send
+-- the file that NLST sends
 abbrev pub names_text : State → List ℕ → List ℕ
-names_text state text = lines_text (names_for state.table (named_or_here state text) text)
+names_text state text = lines_file (name_lines state.table (named_or_here state text) text)
 
 -- the download or the listing that an operation asks for, if it is one
 abbrev pub download_of : State → Op (List ℕ) → Option Download

@@ -18,8 +18,8 @@ use Rattle.ftp_client_machine.specs.Rows.{entered, text}
 use Rattle.ftp_client_machine.specs.View.{View as Near, Transferring}
 use Rattle.ftp_client_machine.specs.declared.client.DataConnection.TheVariants as DataConnections
 use Rattle.ftp_client_machine.specs.declared.client.Replied.TheVariants as Replies
-use Rattle.ftp_server_machine.specs.declared.session.Link.TheVariants as At
-use Rattle.ftp_server_machine.specs.declared.session.Transfer.TheVariants as Moves
+use Rattle.ftp_server_machine.specs.declared.session.DataConnection.TheVariants as Data
+use Rattle.ftp_server_machine.specs.declared.session.Transfer.TheVariants as Transfers
 use Rattle.ftp_server_machine.specs.Machine.{Reading}
 use Rattle.ftp_server_machine.specs.Rows.{accounts, member}
 use Rattle.ftp_server_machine.specs.View.{View as Far}
@@ -101,7 +101,7 @@ near_down = record entered {
 -- the server's side of that download
 abbrev pub far_down : Table → Far
 far_down table = record (member table []) {
-  session = record (member table []).session { link = At.Moving (Moves.Down (97 ∷ 13 ∷ 10 ∷ [])) };
+  session = record (member table []).session { connection = Data.Transferring (Transfers.Download (97 ∷ 13 ∷ 10 ∷ [])) };
   owed = [];
 }
 

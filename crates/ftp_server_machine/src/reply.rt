@@ -1,7 +1,7 @@
-// The replies of a server as values.
+// The replies of a server as values: which of them is said. Their codes, lines and octets are definitions.
 use ftp_endpoint::Endpoint;
 
-/// A reply whose text is always the same; `specs/server/Texts` has the table (RFC 959, section 4.2).
+/// A reply whose text is always the same; `specs/Texts` has the table (RFC 959, section 4.2).
 #[derive(Clone, Copy, Debug, PartialEq, Eq)]
 pub enum Text {
     Ready,
@@ -34,6 +34,7 @@ pub enum Text {
     TypeSet,
     StructureSet,
     ModeSet,
+    Utf8Set,
     Fine,
     EndpointTaken,
     OnlyExtended,
@@ -43,9 +44,9 @@ pub enum Text {
     Goodbye,
 }
 
-/// What is said of a command; `P` is how a path is held.
+/// Which reply is said to a command; `P` is how a path is held. The values that are not here are those of the session.
 #[derive(Debug, Drop)]
-pub enum Said<P> {
+pub enum ReplyKind<P> {
     /// Nothing yet: the reply follows once a port is had.
     Nothing,
     Fixed(Text),
