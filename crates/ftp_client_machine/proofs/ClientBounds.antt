@@ -1,18 +1,21 @@
 -- No call of the client that begins nothing makes more to do for it.
-use Rattle.std.proofs.Common.{◌≡◌, ℕ, ◌+◌, ◌<◌, ◌≤◌, ◌⊎◌, inl, inr, List, Bool, true, false, Option, Some, None, refl, ap, arith}
-use Rattle.std.specs.Prelude.{if◌then◌else◌}
+use Rattle.std.proofs.Common.{◌≡◌, ℕ, zero, suc, ◌+◌, ◌<◌, ◌≤◌, ◌⊎◌, inl, inr, List, length, Bool, true, false, Option, Some, None, refl, sym, ap, subst, ◌∙◌, arith}
+use Rattle.std.specs.Prelude.{if◌then◌else◌, ◌==◌, nat_le}
+use Rattle.std.specs.Option.{option_map}
+use Rattle.ftp_nvt.proofs.CutLemmas.{decided}
 use Rattle.ftp_command.specs.declared.command.Command.{Command}
-use Rattle.ftp_operation.specs.Answer.{Said}
+use Rattle.ftp_operation.specs.Answer.{Said, Done, Path, Octets, Number, Stamp, Entry, Entries, Names, Refused, BadOperation, Broken, Unopened, Foreign, Lost, Strange, Memory}
 use Rattle.ftp_operation.specs.declared.op.How.{How}
 use Rattle.ftp_operation.specs.declared.op.Op.{Op}
 use Rattle.ftp_operation.specs.declared.op.Op.TheVariants as Ops
 use Rattle.ftp_representation.specs.Representation.{same_kind, same_structure, same_mode}
 use Rattle.ftp_ends.proofs.Counts.{one_close}
-use Rattle.ftp_client_machine.specs.Bounds.{login_left, steps_left, job_left, to_begin, upload_left, still_to_give, AddsAtMost}
-use Rattle.ftp_client_machine.specs.Dialogue.{sends_if, last_job, placed, begins, goes_on}
+use Rattle.ftp_client_machine.specs.Bounds.{login_left, steps_left, operation_left, operations_behind, run_left, job_left, to_begin, upload_left, still_to_give, AddsAtMost}
+use Rattle.ftp_client_machine.specs.Dialogue.{sends_if, last_job, placed, begins, goes_on, next_with, next_job, finishes_by, finishes, finishes_read}
 use Rattle.ftp_client_machine.specs.Octets.{flow_of}
 use Rattle.ftp_client_machine.specs.Plan.{asked_settings, how_of, offset_of, step_behind_opening as opened_step, alone_step, opening_of, from_mode, from_structure, from_kind, step_by, first_step, next_step, command_of}
-use Rattle.ftp_client_machine.specs.View.{View, Job, Idle, Waiting, Doing, Transferring, Told, Flow, stands, finishes, finishes_read, failed_job, failure_said, fails_by, strange}
+use Rattle.ftp_client_machine.specs.Tries.{OverBreaks, Run, rest_put, whole_put, is_size, after_size, after_try, next_of, next_in, run_at}
+use Rattle.ftp_client_machine.specs.View.{View, Job, Idle, Waiting, Doing, Transferring, Told, Flow, stands, dropped, tells, failed_job, failure_said, fails_by, strange}
 use Rattle.ftp_client_machine.specs.declared.client.Failure.{Failure}
 use Rattle.ftp_client_machine.specs.declared.client.Failure.TheVariants as Failures
 use Rattle.ftp_client_machine.specs.declared.client.Standing.{Standing}
@@ -20,6 +23,16 @@ use Rattle.ftp_client_machine.specs.declared.client.Standing.TheVariants as Stan
 use Rattle.ftp_client_machine.specs.declared.client.Step.{Step}
 use Rattle.ftp_client_machine.specs.declared.client.Step.TheVariants as Steps
 use Rattle.ftp_representation.specs.declared.representation.Representation.{Representation}
+
+none_is : {A : Type 0} {a : A} → None ≡ Some a → ⊥
+none_is is = absurd (cc)
+
+some_is : {A : Type 0} {a b : A} → Some a ≡ Some b → a ≡ b
+some_is is = cc
+
+positive : (n : ℕ) → (n == 0) ≡ false → 0 < n
+positive zero is = absurd (cc)
+positive (suc n) is = omega arith
 
 -- ---- changes one after another
 
@@ -49,10 +62,10 @@ if_low false u v w one other = other
 
 -- ---- the end of an operation
 
-pub tells_low : (answer : Said) (v : View) → Low v (finishes answer v)
+pub tells_low : (answer : Said) (v : View) → Low v (tells answer (dropped v))
 tells_low answer v = record { begins = omega arith; gives = inr (omega (arith, one_close v.closing (stands v.connection))) }
 
-failed_job_left : (answer : Said) (job : Job) → job_left (failed_job answer job) ≡ 0
+failed_job_left : (answer : Said) (job : Job) → job_left None (failed_job answer job) ≡ 0
 failed_job_left answer Idle = refl
 failed_job_left answer (Waiting op) = refl
 failed_job_left answer (Doing op step) = refl
@@ -82,24 +95,20 @@ fails_low (Stands.Failed before) failure v = same v
 pub strange_low : (v : View) → Low v (strange v)
 strange_low v = fails_low v.standing Failures.Strange v
 
-pub tells_read_low : (answer : Option Said) (v : View) → Low v (finishes_read answer v)
-tells_read_low None v = strange_low v
-tells_read_low (Some answer) v = tells_low answer v
-
 -- ---- the next step is nearer to the end
 
 sends_if_begins : (command : Option (Command (List ℕ))) (v : View) → to_begin (sends_if command v) ≡ to_begin v
 sends_if_begins None v = refl
 sends_if_begins (Some command) v = refl
 
-last_job_left : (op : Op (List ℕ)) (flow : Option Flow) → job_left (last_job op flow) ≤ 1
-last_job_left op None = omega arith
-last_job_left op (Some flow) = omega arith
+last_job_left : (run : Option Run) (op : Op (List ℕ)) (flow : Option Flow) → job_left run (last_job op flow) ≤ 1 + run_left run op
+last_job_left run op None = omega arith
+last_job_left run op (Some flow) = omega arith
 
-sent_begins : (op : Op (List ℕ)) (step : Step) (job : Job) (v : View) → to_begin (sends_if (command_of v op step) (record v { job = job })) ≡ login_left v.standing + job_left job
+sent_begins : (op : Op (List ℕ)) (step : Step) (job : Job) (v : View) → to_begin (sends_if (command_of v op step) (record v { job = job })) ≡ login_left v.standing + job_left v.run job
 sent_begins op step job v = sends_if_begins (command_of v op step) (record v { job = job })
 
-pub placed_begins : (op : Op (List ℕ)) (step : Step) (v : View) → to_begin (placed op step v) ≤ login_left v.standing + steps_left step
+pub placed_begins : (op : Op (List ℕ)) (step : Step) (v : View) → to_begin (placed op step v) ≤ login_left v.standing + steps_left step + run_left v.run op
 placed_begins op Steps.Kind v = omega (arith, sent_begins op Steps.Kind (Doing op Steps.Kind) v)
 placed_begins op Steps.Structure v = omega (arith, sent_begins op Steps.Structure (Doing op Steps.Structure) v)
 placed_begins op Steps.Mode v = omega (arith, sent_begins op Steps.Mode (Doing op Steps.Mode) v)
@@ -109,7 +118,7 @@ placed_begins op Steps.Passive v = omega (arith, sent_begins op Steps.Passive (D
 placed_begins op Steps.Connect v = omega (arith, sent_begins op Steps.Connect (Doing op Steps.Connect) v)
 placed_begins op Steps.Restart v = omega (arith, sent_begins op Steps.Restart (Doing op Steps.Restart) v)
 placed_begins op Steps.Source v = omega (arith, sent_begins op Steps.Source (Doing op Steps.Source) v)
-placed_begins op Steps.Last v = omega (arith, sent_begins op Steps.Last (last_job op (flow_of op)) v, last_job_left op (flow_of op))
+placed_begins op Steps.Last v = omega (arith, sent_begins op Steps.Last (last_job op (flow_of op)) v, last_job_left v.run op (flow_of op))
 
 alone_le : (op : Op (List ℕ)) → steps_left (alone_step op) ≤ 2
 alone_le (Ops.Rename from to) = omega arith
@@ -179,15 +188,126 @@ next_less now op Steps.Source goes = omega arith
 next_less now op Steps.Last goes = absurd (cc)
 
 -- a step that was answered well: another view of the same standing goes on
-pub goes_on_low : (op : Op (List ℕ)) (step : Step) (old v : View) → goes_step step ≡ true → old.job ≡ Doing op step → v.standing ≡ old.standing → Low old (goes_on op step v)
-goes_on_low op step old v goes is stands =
+pub goes_on_low : (op : Op (List ℕ)) (step : Step) (old v : View) → goes_step step ≡ true → old.job ≡ Doing op step → v.standing ≡ old.standing → v.run ≡ old.run
+    → Low old (goes_on op step v)
+goes_on_low op step old v goes is stands runs =
     let less = next_less v.settings op step goes in
-    let here : job_left old.job ≡ steps_left step = ap job_left is in
+    let here : job_left old.run old.job ≡ steps_left step + run_left old.run op = ap (job_left old.run) is in
     let login : login_left v.standing ≡ login_left old.standing = ap login_left stands in
-    falls 0 old (goes_on op step v) (omega (arith, placed_begins op (next_step v.settings op step) v, less, here, login))
+    let same_run : run_left v.run op ≡ run_left old.run op = ap (λ run. run_left run op) runs in
+    falls 0 old (goes_on op step v) (omega (arith, placed_begins op (next_step v.settings op step) v, less, here, login, same_run))
 
--- an operation that waited begins
-pub begins_low : (op : Op (List ℕ)) (old v : View) → old.job ≡ Waiting op → login_left v.standing ≤ login_left old.standing → Low old (begins op v)
-begins_low op old v is login =
-    let here : job_left old.job ≡ 8 = ap job_left is in
-    falls 0 old (begins op v) (omega (arith, placed_begins op (first_step v.settings op) v, first_le v.settings op, here, login))
+-- an operation begins of which more was left than all its steps
+pub begun_low : (op : Op (List ℕ)) (old v : View) → login_left v.standing ≤ login_left old.standing → operation_left + run_left v.run op ≤ job_left old.run old.job
+    → Low old (begins op v)
+begun_low op old v login more =
+    falls 0 old (begins op v) (omega (arith, placed_begins op (first_step v.settings op) v, first_le v.settings op, login, more))
+
+-- one that waited
+pub begins_low : (op : Op (List ℕ)) (old v : View) → old.job ≡ Waiting op → login_left v.standing ≤ login_left old.standing → v.run ≡ old.run → Low old (begins op v)
+begins_low op old v is login runs =
+    let here : job_left old.run old.job ≡ operation_left + run_left old.run op = ap (job_left old.run) is in
+    let same_run : run_left v.run op ≡ run_left old.run op = ap (λ run. run_left run op) runs in
+    begun_low op old v login (omega (arith, here, same_run))
+
+-- ---- the next operation of a run
+
+-- behind SIZE comes a try
+size_then_try : (u : OverBreaks) (answer : Said) (op : Op (List ℕ)) → after_size u answer ≡ Some op → is_size op ≡ false
+size_then_try u Done op is = absurd (none_is is)
+size_then_try u (Path text) op is = absurd (none_is is)
+size_then_try u (Octets octets) op is = absurd (none_is is)
+size_then_try u (Number count) op is = elim (decided (nat_le count (length u.octets))) [
+  | inl e ↦ subst (λ o. is_size o ≡ false) (some_is (subst (λ b. Some (if b then rest_put u count else whole_put u) ≡ Some op) e is)) refl
+  | inr e ↦ subst (λ o. is_size o ≡ false) (some_is (subst (λ b. Some (if b then rest_put u count else whole_put u) ≡ Some op) e is)) refl
+]
+size_then_try u (Stamp seconds) op is = absurd (none_is is)
+size_then_try u (Entry entry) op is = absurd (none_is is)
+size_then_try u (Entries entries) op is = absurd (none_is is)
+size_then_try u (Names names) op is = absurd (none_is is)
+size_then_try u (Refused code) op is = elim (decided (code == 550)) [
+  | inl e ↦ subst (λ o. is_size o ≡ false) (some_is (subst (λ b. (if b then Some (whole_put u) else None) ≡ Some op) e is)) refl
+  | inr e ↦ absurd (none_is (subst (λ b. (if b then Some (whole_put u) else None) ≡ Some op) e is))
+]
+size_then_try u BadOperation op is = absurd (none_is is)
+size_then_try u (Broken got mark) op is = absurd (none_is is)
+size_then_try u Unopened op is = absurd (none_is is)
+size_then_try u Foreign op is = absurd (none_is is)
+size_then_try u Lost op is = absurd (none_is is)
+size_then_try u Strange op is = absurd (none_is is)
+size_then_try u Memory op is = absurd (none_is is)
+
+-- behind a try comes SIZE, or the same try
+try_then : (u : OverBreaks) (old : Op (List ℕ)) (answer : Said) (op : Op (List ℕ)) → after_try u old answer ≡ Some op → (is_size op ≡ true) ⊎ (op ≡ old)
+try_then u old Done op is = absurd (none_is is)
+try_then u old (Path text) op is = absurd (none_is is)
+try_then u old (Octets octets) op is = absurd (none_is is)
+try_then u old (Number number) op is = absurd (none_is is)
+try_then u old (Stamp seconds) op is = absurd (none_is is)
+try_then u old (Entry entry) op is = absurd (none_is is)
+try_then u old (Entries entries) op is = absurd (none_is is)
+try_then u old (Names names) op is = absurd (none_is is)
+try_then u old (Refused code) op is = absurd (none_is is)
+try_then u old BadOperation op is = absurd (none_is is)
+try_then u old (Broken got mark) op is = inl (subst (λ o. is_size o ≡ true) (some_is is) refl)
+try_then u old Unopened op is = inr (sym (some_is is))
+try_then u old Foreign op is = absurd (none_is is)
+try_then u old Lost op is = absurd (none_is is)
+try_then u old Strange op is = absurd (none_is is)
+try_then u old Memory op is = absurd (none_is is)
+
+-- less is left behind the next operation, by one operation at least
+abbrev IsNearer : Run → (old new : Op (List ℕ)) → Type 0
+IsNearer run old new = operations_behind (run_at new run) new + 1 ≤ operations_behind run old
+
+size_nearer : (run : Run) (old op : Op (List ℕ)) → is_size old ≡ true → is_size op ≡ false → IsNearer run old op
+size_nearer run old op is not_size = rw (is, not_size) (omega arith)
+
+asks_nearer : (run : Run) (old op : Op (List ℕ)) → 0 < run.left → is_size old ≡ false → is_size op ≡ true → IsNearer run old op
+asks_nearer run old op some is size = rw (is, size) (omega (arith, some))
+
+again_nearer : (run : Run) (old op : Op (List ℕ)) → 0 < run.left → is_size old ≡ false → op ≡ old → IsNearer run old op
+again_nearer run old op some is same_op = let not_size : is_size op ≡ false = ap is_size same_op ∙ is in rw (is, not_size) (omega (arith, some))
+
+try_nearer : (run : Run) (old op : Op (List ℕ)) → 0 < run.left → is_size old ≡ false → (is_size op ≡ true) ⊎ (op ≡ old) → IsNearer run old op
+try_nearer run old op some is (inl size) = asks_nearer run old op some is size
+try_nearer run old op some is (inr same_op) = again_nearer run old op some is same_op
+
+of_nearer : (run : Run) (old : Op (List ℕ)) (answer : Said) (op : Op (List ℕ)) → 0 < run.left → next_of run.upload old answer ≡ Some op → IsNearer run old op
+of_nearer run old answer op some next = elim (decided (is_size old)) [
+  | inl e ↦ size_nearer run old op e
+      (size_then_try run.upload answer op (subst (λ b. (if b then after_size run.upload answer else after_try run.upload old answer) ≡ Some op) e next))
+  | inr e ↦ try_nearer run old op some e
+      (try_then run.upload old answer op (subst (λ b. (if b then after_size run.upload answer else after_try run.upload old answer) ≡ Some op) e next))
+]
+
+in_nearer : (run : Run) (old : Op (List ℕ)) (answer : Said) (op : Op (List ℕ)) → next_in run old answer ≡ Some op → IsNearer run old op
+in_nearer run old answer op next = elim (decided (run.left == 0)) [
+  | inl e ↦ absurd (none_is (subst (λ b. (if b then None else next_of run.upload old answer) ≡ Some op) e next))
+  | inr e ↦ of_nearer run old answer op (positive run.left e) (subst (λ b. (if b then None else next_of run.upload old answer) ≡ Some op) e next)
+]
+
+with_nearer : (run : Option Run) (old : Op (List ℕ)) (answer : Said) (op : Op (List ℕ)) → next_with run old answer ≡ Some op
+    → operation_left + run_left (option_map (run_at op) run) op ≤ run_left run old
+with_nearer None old answer op next = absurd (none_is next)
+with_nearer (Some run) old answer op next = omega (arith, in_nearer run old answer op next)
+
+next_nearer : (run : Option Run) (job : Job) (answer : Said) (op : Op (List ℕ)) → next_job run job answer ≡ Some op
+    → operation_left + run_left (option_map (run_at op) run) op ≤ job_left run job
+next_nearer run (Doing old step) answer op next = omega (arith, with_nearer run old answer op next)
+next_nearer run (Transferring old transfer) answer op next = omega (arith, with_nearer run old answer op next)
+next_nearer run Idle answer op next = absurd (none_is next)
+next_nearer run (Waiting old) answer op next = absurd (none_is next)
+next_nearer run (Told before) answer op next = absurd (none_is next)
+
+finishes_by_low : (next : Option (Op (List ℕ))) (answer : Said) (v : View) → next_job v.run v.job answer ≡ next → Low v (finishes_by next answer v)
+finishes_by_low None answer v is = tells_low answer v
+finishes_by_low (Some op) answer v is =
+    begun_low op v (record (dropped v) { run = option_map (run_at op) v.run }) (omega arith) (next_nearer v.run v.job answer op is)
+
+pub finishes_low : (answer : Said) (v : View) → Low v (finishes answer v)
+finishes_low answer v = finishes_by_low (next_job v.run v.job answer) answer v refl
+
+pub finishes_read_low : (answer : Option Said) (v : View) → Low v (finishes_read answer v)
+finishes_read_low None v = strange_low v
+finishes_read_low (Some answer) v = finishes_low answer v

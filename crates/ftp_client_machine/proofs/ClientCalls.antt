@@ -14,14 +14,14 @@ use Rattle.ftp_endpoint.specs.declared.host.Host.{Host}
 use Rattle.ftp_reply.specs.Lines.{Text, joined}
 use Rattle.ftp_ends.specs.Ear.{Ear, Unfinished, ended_text, within_out, line_out, unit_says, ear_out, ear_step}
 use Rattle.ftp_ends.specs.Link.{same_host}
-use Rattle.ftp_client_machine.specs.Bounds.{login_left, transfer_left, job_left, to_begin, octets_left, upload_left, closes_left, still_to_give, AddsAtMost, HearingAddsAnAnswer, ReceivingAddsNone, EventsAdd, EventsAddAClose}
+use Rattle.ftp_client_machine.specs.Bounds.{login_left, transfer_left, run_left, job_left, to_begin, octets_left, upload_left, closes_left, still_to_give, AddsAtMost, HearingAddsAnAnswer, ReceivingAddsNone, EventsAdd, EventsAddAClose}
 use Rattle.ftp_client_machine.specs.Calls.{reply_limit, line_taken, event_taken, events_taken, unless_closing, listening_by, listening, no_port_by, listen_refused, connected, accepted, opened_by, data_opened, unopened_by, data_refused, ending_of, over_by, data_end, data_fault, heard_by, went, goes_by, gives_data, control_end}
-use Rattle.ftp_client_machine.specs.Dialogue.{begins, greeted, enters_with, enters, user_answered, pass_answered, set_accepted, dials, named, port_named, passive_named, step_done, intermediate, awaits_reply, step_answered, answer_in, judged, answers_by, answers_job, closes_once_given_by, closes_once_given, carries_on, with_reply, awaited, transfer_opened, marked_flow, noted, unless_open, before_opening, behind_opening, transfer_answered, job_answered, stand_answered, judged_reply, answered, closes, has_begun, is_given}
+use Rattle.ftp_client_machine.specs.Dialogue.{begins, finishes, greeted, enters_with, enters, user_answered, pass_answered, set_accepted, dials, named, port_named, passive_named, step_done, intermediate, awaits_reply, step_answered, answer_in, judged, answers_by, answers_job, closes_once_given_by, closes_once_given, carries_on, with_reply, awaited, transfer_opened, marked_flow, noted, unless_open, before_opening, behind_opening, transfer_answered, job_answered, stand_answered, judged_reply, answered, closes, has_begun, is_given}
 use Rattle.ftp_client_machine.specs.Octets.{flow_octet}
 use Rattle.ftp_client_machine.specs.Plan.{asked_settings, settings_behind as set_by, is_extended}
 use Rattle.ftp_client_machine.specs.Replies.{Heard, GoesOn, Says, Faulty, line_heard, Between, Verdict, Preliminary, Completion, Intermediate, Negative, Closing, Displaced, verdict_of}
 use Rattle.ftp_client_machine.specs.Values.{passive_value, extended_value, mark_value}
-use Rattle.ftp_client_machine.specs.View.{View, Job, Idle, Waiting, Doing, Transferring, Told, Transfer, Flow, Sending, Receiving, stands, finishes, strange}
+use Rattle.ftp_client_machine.specs.View.{View, Job, Idle, Waiting, Doing, Transferring, Told, Transfer, Flow, Sending, Receiving, stands, strange}
 use Rattle.ftp_client_machine.specs.declared.client.Ending.{Ending}
 use Rattle.ftp_client_machine.specs.declared.client.Ending.TheVariants as Endings
 use Rattle.ftp_client_machine.specs.declared.client.Failure.TheVariants as Failures
@@ -35,7 +35,7 @@ use Rattle.ftp_client_machine.specs.declared.client.Step.{Step}
 use Rattle.ftp_client_machine.specs.declared.client.Step.TheVariants as Steps
 use Rattle.ftp_nvt.proofs.FoldLemmas.{ends}
 use Rattle.ftp_ends.proofs.Counts.{one_if, one_close}
-use Rattle.ftp_client_machine.proofs.ClientBounds.{Low, same, falls, both, if_low, tells_low, fails_low, strange_low, tells_read_low, goes_step, goes_on_low, begins_low}
+use Rattle.ftp_client_machine.proofs.ClientBounds.{Low, same, falls, both, if_low, finishes_low, fails_low, strange_low, finishes_read_low, goes_step, goes_on_low, begins_low}
 
 -- ---- the login
 
@@ -51,7 +51,7 @@ entered : View → View
 entered v = record v { standing = Stands.Entered }
 
 enters_with_low : (job : Job) (v : View) → v.job ≡ job → Low v (enters_with job (record v { standing = Stands.Entered }))
-enters_with_low (Waiting op) v is = begins_low op v (record v { standing = Stands.Entered }) is (omega arith)
+enters_with_low (Waiting op) v is = begins_low op v (record v { standing = Stands.Entered }) is (omega arith) refl
 enters_with_low Idle v is = record { begins = omega arith; gives = inr (omega arith) }
 enters_with_low (Doing op step) v is = record { begins = omega arith; gives = inr (omega arith) }
 enters_with_low (Transferring op transfer) v is = record { begins = omega arith; gives = inr (omega arith) }
@@ -79,12 +79,12 @@ pass_low Displaced v = strange_low v
 -- ---- a step
 
 dials_low : (op : Op (List ℕ)) (endpoint : Endpoint) (v : View) → v.job ≡ Doing op Steps.Passive → Low v (dials op endpoint v)
-dials_low op endpoint v is = goes_on_low op Steps.Passive v (record v { connection = Data.Connecting endpoint }) refl is refl
+dials_low op endpoint v is = goes_on_low op Steps.Passive v (record v { connection = Data.Connecting endpoint }) refl is refl refl
 
 named_low : (endpoint : Option Endpoint) (op : Op (List ℕ)) (v : View) → v.job ≡ Doing op Steps.Passive → Low v (named endpoint op v)
 named_low None op v is = strange_low v
 named_low (Some endpoint) op v is =
-    if_low (same_host endpoint.host v.peer) v (dials op endpoint v) (finishes Foreign v) (dials_low op endpoint v is) (tells_low Foreign v)
+    if_low (same_host endpoint.host v.peer) v (dials op endpoint v) (finishes Foreign v) (dials_low op endpoint v is) (finishes_low Foreign v)
 
 port_named_low : (port : Option ℕ) (op : Op (List ℕ)) (v : View) → v.job ≡ Doing op Steps.Passive → Low v (port_named port op v)
 port_named_low None op v is = strange_low v
@@ -95,12 +95,12 @@ passive_low true op text v is = port_named_low (extended_value text) op v is
 passive_low false op text v is = named_low (passive_value text) op v is
 
 set_low : (op : Op (List ℕ)) (step : Step) (v : View) → goes_step step ≡ true → v.job ≡ Doing op step → Low v (set_accepted op step v)
-set_low op step v goes is = goes_on_low op step v (record v { settings = set_by step v.settings (asked_settings op) }) goes is refl
+set_low op step v goes is = goes_on_low op step v (record v { settings = set_by step v.settings (asked_settings op) }) goes is refl refl
 
 completed_low : (op : Op (List ℕ)) (step : Step) (texts : List Text) (v : View) → v.job ≡ Doing op step → Low v (step_done op step texts v)
-completed_low op Steps.Port texts v is = goes_on_low op Steps.Port v v refl is refl
+completed_low op Steps.Port texts v is = goes_on_low op Steps.Port v v refl is refl refl
 completed_low op Steps.Passive texts v is = passive_low (is_extended v op) op (joined texts) v is
-completed_low op Steps.Last texts v is = tells_read_low (answer_in op texts) v
+completed_low op Steps.Last texts v is = finishes_read_low (answer_in op texts) v
 completed_low op Steps.Listen texts v is = strange_low v
 completed_low op Steps.Connect texts v is = strange_low v
 completed_low op Steps.Restart texts v is = strange_low v
@@ -110,8 +110,8 @@ completed_low op Steps.Structure texts v is = set_low op Steps.Structure v refl 
 completed_low op Steps.Mode texts v is = set_low op Steps.Mode v refl is
 
 intermediate_low : (op : Op (List ℕ)) (step : Step) (v : View) → v.job ≡ Doing op step → Low v (intermediate op step v)
-intermediate_low op Steps.Restart v is = goes_on_low op Steps.Restart v v refl is refl
-intermediate_low op Steps.Source v is = goes_on_low op Steps.Source v v refl is refl
+intermediate_low op Steps.Restart v is = goes_on_low op Steps.Restart v v refl is refl refl
+intermediate_low op Steps.Source v is = goes_on_low op Steps.Source v v refl is refl refl
 intermediate_low op Steps.Kind v is = strange_low v
 intermediate_low op Steps.Structure v is = strange_low v
 intermediate_low op Steps.Mode v is = strange_low v
@@ -125,7 +125,7 @@ step_low : (op : Op (List ℕ)) (step : Step) (verdict : Verdict) (code : ℕ) (
     → Low v (step_answered op step verdict code texts v)
 step_low op step Completion code texts v is = completed_low op step texts v is
 step_low op step Intermediate code texts v is = intermediate_low op step v is
-step_low op step Negative code texts v is = if_low (awaits_reply step) v (finishes (Refused code) v) (strange v) (tells_low (Refused code) v) (strange_low v)
+step_low op step Negative code texts v is = if_low (awaits_reply step) v (finishes (Refused code) v) (strange v) (finishes_low (Refused code) v) (strange_low v)
 step_low op step Preliminary code texts v is = strange_low v
 step_low op step Closing code texts v is = strange_low v
 step_low op step Displaced code texts v is = strange_low v
@@ -133,7 +133,7 @@ step_low op step Displaced code texts v is = strange_low v
 -- ---- a transfer
 
 answers_by_low : (replied : Replied) (connection : DataConnection) (op : Op (List ℕ)) (flow : Flow) (v : View) → Low v (answers_by replied connection op flow v)
-answers_by_low (Replies.Final code) (Data.Over ending) op flow v = tells_read_low (judged ending code op flow) v
+answers_by_low (Replies.Final code) (Data.Over ending) op flow v = finishes_read_low (judged ending code op flow) v
 answers_by_low (Replies.Final code) Data.Free op flow v = same v
 answers_by_low (Replies.Final code) Data.ListenWanted op flow v = same v
 answers_by_low (Replies.Final code) (Data.Listening port) op flow v = same v
@@ -178,14 +178,15 @@ then_carries_on old v one = both 0 old v (carries_on v) one (carries_on_low v)
 
 -- a transfer's replies change, in a view where no more is owed or stands
 reply_low : (replied : Replied) (op : Op (List ℕ)) (transfer : Transfer) (old w : View) → transfer_left replied ≡ 0 → old.job ≡ Transferring op transfer
-    → w.standing ≡ old.standing → w.owed ≡ old.owed → closes_left w ≤ closes_left old → Low old (with_reply replied op transfer w)
-reply_low replied op transfer old w none is standing owes closing =
-    let here : job_left old.job ≡ transfer_left transfer.replied = ap job_left is in
+    → w.standing ≡ old.standing → w.run ≡ old.run → w.owed ≡ old.owed → closes_left w ≤ closes_left old → Low old (with_reply replied op transfer w)
+reply_low replied op transfer old w none is standing runs owes closing =
+    let here : job_left old.run old.job ≡ transfer_left transfer.replied + run_left old.run op = ap (job_left old.run) is in
     let octets : upload_left old.job ≡ octets_left transfer.flow = ap upload_left is in
     let login : login_left w.standing ≡ login_left old.standing = ap login_left standing in
+    let same_run : run_left w.run op ≡ run_left old.run op = ap (λ run. run_left run op) runs in
     let length_is : length w.owed ≡ length old.owed = ap length owes in
     then_carries_on old (record w { job = Transferring op (record transfer { replied = replied }) })
-    (record { begins = omega (arith, none, login); gives = inr (omega (arith, octets, length_is, closing)) })
+    (record { begins = omega (arith, none, login, here, same_run); gives = inr (omega (arith, octets, length_is, closing)) })
 
 closes_less : (v : View) → closes_left (closes v) ≤ closes_left v
 closes_less v = omega (arith, one_close v.closing (stands v.connection))
@@ -204,7 +205,7 @@ opened_low code op transfer v is =
     let w : View = record v { connection = awaited v.connection } in
     let stand : one_if (stands (awaited v.connection)) ≡ one_if (stands v.connection) = ap one_if (stands_awaited v.connection) in
     if_low (code == 110) v v (with_reply Replies.Begun op transfer w) (same v)
-    (reply_low Replies.Begun op transfer v w refl is refl refl (omega (arith, stand)))
+    (reply_low Replies.Begun op transfer v w refl is refl refl refl (omega (arith, stand)))
 
 octets_marked : (mark : Option ℕ) (flow : Flow) → octets_left (marked_flow mark flow) ≡ octets_left flow
 octets_marked None (Sending left before) = refl
@@ -216,7 +217,7 @@ octets_marked (Some mark) (Receiving decoder before) = refl
 flow_low : (op : Op (List ℕ)) (transfer : Transfer) (flow : Flow) (v : View) → v.job ≡ Transferring op transfer → octets_left flow ≤ octets_left transfer.flow
     → Low v (record v { job = Transferring op (record transfer { flow = flow }) })
 flow_low op transfer flow v is fewer =
-    let here : job_left v.job ≡ transfer_left transfer.replied = ap job_left is in
+    let here : job_left v.run v.job ≡ transfer_left transfer.replied + run_left v.run op = ap (job_left v.run) is in
     let octets : upload_left v.job ≡ octets_left transfer.flow = ap upload_left is in
     record { begins = omega (arith, here); gives = inr (omega (arith, octets, fewer)) }
 
@@ -227,10 +228,10 @@ noted_low code text op transfer v is =
     if_low (code == 110) v (record v { job = Transferring op (record transfer { flow = flow }) }) v (flow_low op transfer flow v is (omega (arith, fewer))) (same v)
 
 final_low : (code : ℕ) (op : Op (List ℕ)) (transfer : Transfer) (v : View) → v.job ≡ Transferring op transfer → Low v (with_reply (Replies.Final code) op transfer v)
-final_low code op transfer v is = reply_low (Replies.Final code) op transfer v v refl is refl refl (omega arith)
+final_low code op transfer v is = reply_low (Replies.Final code) op transfer v v refl is refl refl refl (omega arith)
 
 closed_low : (code : ℕ) (op : Op (List ℕ)) (transfer : Transfer) (v : View) → v.job ≡ Transferring op transfer → Low v (with_reply (Replies.Final code) op transfer (closes v))
-closed_low code op transfer v is = reply_low (Replies.Final code) op transfer v (closes v) refl is refl refl (closes_less v)
+closed_low code op transfer v is = reply_low (Replies.Final code) op transfer v (closes v) refl is refl refl refl (closes_less v)
 
 unless_low : (connection : DataConnection) (code : ℕ) (op : Op (List ℕ)) (transfer : Transfer) (v : View) → v.job ≡ Transferring op transfer
     → Low v (with_reply (Replies.Final code) op transfer (unless_open connection v))
@@ -413,7 +414,7 @@ goes_low count (Told answer) v is = same v
 -- ---- events of the data connection
 
 listening_step_low : (step : Step) (op : Op (List ℕ)) (port : ℕ) (v : View) → v.job ≡ Doing op step → Low v (listening_by Data.ListenWanted (Doing op step) port v)
-listening_step_low Steps.Listen op port v is = goes_on_low op Steps.Listen v (record v { connection = Data.Listening port }) refl is refl
+listening_step_low Steps.Listen op port v is = goes_on_low op Steps.Listen v (record v { connection = Data.Listening port }) refl is refl refl
 listening_step_low Steps.Kind op port v is = same v
 listening_step_low Steps.Structure op port v is = same v
 listening_step_low Steps.Mode op port v is = same v
@@ -438,7 +439,7 @@ listening_low Data.Open job port v is = same v
 listening_low (Data.Over ending) job port v is = same v
 
 no_port_low : (connection : DataConnection) (v : View) → Low v (no_port_by connection v)
-no_port_low Data.ListenWanted v = tells_low Unopened v
+no_port_low Data.ListenWanted v = finishes_low Unopened v
 no_port_low Data.Free v = same v
 no_port_low (Data.Listening port) v = same v
 no_port_low (Data.Connecting endpoint) v = same v
@@ -447,7 +448,7 @@ no_port_low Data.Open v = same v
 no_port_low (Data.Over ending) v = same v
 
 connected_step_low : (step : Step) (op : Op (List ℕ)) (v : View) → v.job ≡ Doing op step → Low v (connected (Doing op step) v)
-connected_step_low Steps.Connect op v is = goes_on_low op Steps.Connect v (record v { connection = Data.Open }) refl is refl
+connected_step_low Steps.Connect op v is = goes_on_low op Steps.Connect v (record v { connection = Data.Open }) refl is refl refl
 connected_step_low Steps.Kind op v is = same v
 connected_step_low Steps.Structure op v is = same v
 connected_step_low Steps.Mode op v is = same v
@@ -483,7 +484,7 @@ opened_by_low Data.Open host v is = same v
 opened_by_low (Data.Over ending) host v is = same v
 
 unopened_low : (connection : DataConnection) (v : View) → v.connection ≡ connection → Low v (unopened_by connection v)
-unopened_low (Data.Connecting endpoint) v is = tells_low Unopened v
+unopened_low (Data.Connecting endpoint) v is = finishes_low Unopened v
 unopened_low (Data.Accepting port) v is =
     let stand : one_if (stands v.connection) ≡ 1 = ap (λ connection. one_if (stands connection)) is in
     then_carries_on v (record v { connection = Data.Over Endings.Broken; closing = true }) (record { begins = omega arith; gives = inr (omega (arith, stand)) })

@@ -2,7 +2,7 @@
 use Rattle.std.proofs.Common.{◌≡◌, ℕ, ◌+◌, ◌<◌, ◌≤◌, ◌⊎◌, inl, inr, [], Bool, true, false, None, refl, ap, arith, length}
 use Rattle.std.specs.Prelude.{if◌then◌else◌}
 use Rattle.std.proofs.lemmas.List.{length-drop}
-use Rattle.ftp_client_machine.specs.Bounds.{login_left, transfer_left, job_left, to_begin, octets_left, upload_left, closes_left, still_to_give, AddsAtMost, Pays, GivingPays, ShortAddsAClose}
+use Rattle.ftp_client_machine.specs.Bounds.{login_left, transfer_left, run_left, job_left, to_begin, octets_left, upload_left, closes_left, still_to_give, AddsAtMost, Pays, GivingPays, ShortAddsAClose}
 use Rattle.ftp_client_machine.specs.Calls.{transfer_over, left_in, given_of, to_give, went, goes_by, gives_data}
 use Rattle.ftp_client_machine.specs.Dialogue.{has_begun, carries_on}
 use Rattle.ftp_client_machine.specs.Failing.{short, port_short, opened_short, over_short}
@@ -59,7 +59,7 @@ went_pays count (Receiving decoder mark) few = omega (arith, few)
 goes_pays : (count : ℕ) (job : Job) (v : View) → v.job ≡ job → count ≤ upload_left job → Pays count v (goes_by count job v)
 goes_pays count (Transferring op transfer) v is few =
     let w : View = record v { job = Transferring op (record transfer { flow = went count transfer.flow }) } in
-    let here : job_left v.job ≡ transfer_left transfer.replied = ap job_left is in
+    let here : job_left v.run v.job ≡ transfer_left transfer.replied + run_left v.run op = ap (job_left v.run) is in
     let octets : upload_left v.job ≡ octets_left transfer.flow = ap upload_left is in
     pays_then count v w (carries_on w) (record { begins = omega (arith, here); gives = inr (omega (arith, octets, went_pays count transfer.flow few)) }) (carries_on_low w)
 goes_pays count Idle v is few = none_pays count v few
@@ -81,23 +81,23 @@ giving_pays v = record {
 -- ---- want of memory
 
 -- a view of which one close more stands, and which fails
-short_low : (v w : View) → w.standing ≡ v.standing → w.job ≡ v.job → w.owed ≡ v.owed → closes_left w ≤ closes_left v + 1 → AddsAtMost 1 v (short w)
-short_low v w standing job owes closing =
+short_low : (v w : View) → w.standing ≡ v.standing → w.job ≡ v.job → w.run ≡ v.run → w.owed ≡ v.owed → closes_left w ≤ closes_left v + 1 → AddsAtMost 1 v (short w)
+short_low v w standing job runs owes closing =
     let low = fails_low w.standing Failures.Memory w in
     let login : login_left w.standing ≡ login_left v.standing = ap login_left standing in
-    let left : job_left w.job ≡ job_left v.job = ap job_left job in
+    let left : job_left w.run w.job ≡ job_left v.run v.job = rw (job, runs) refl in
     let octets : upload_left w.job ≡ upload_left v.job = ap upload_left job in
     let length_is : length w.owed ≡ length v.owed = ap length owes in
     record { begins = omega (arith, low.begins, login, left); gives = by_case low.gives login left octets length_is }
   where
     by_case : (to_begin (short w) < to_begin w) ⊎ (still_to_give (short w) ≤ still_to_give w + 0) → login_left w.standing ≡ login_left v.standing
-        → job_left w.job ≡ job_left v.job → upload_left w.job ≡ upload_left v.job → length w.owed ≡ length v.owed
+        → job_left w.run w.job ≡ job_left v.run v.job → upload_left w.job ≡ upload_left v.job → length w.owed ≡ length v.owed
         → (to_begin (short w) < to_begin v) ⊎ (still_to_give (short w) ≤ still_to_give v + 1)
     by_case (inl less) login left octets length_is = inl (omega (arith, less, login, left))
     by_case (inr few) login left octets length_is = inr (omega (arith, few, octets, length_is, closing))
 
 port_short_low : (connection : DataConnection) (port : ℕ) (v : View) → AddsAtMost 1 v (port_short connection port v)
-port_short_low Data.ListenWanted port v = short_low v (record v { connection = Data.Listening port }) refl refl refl (omega arith)
+port_short_low Data.ListenWanted port v = short_low v (record v { connection = Data.Listening port }) refl refl refl refl (omega arith)
 port_short_low Data.Free port v = one_more v v (same v)
 port_short_low (Data.Listening before) port v = one_more v v (same v)
 port_short_low (Data.Connecting endpoint) port v = one_more v v (same v)
@@ -106,8 +106,8 @@ port_short_low Data.Open port v = one_more v v (same v)
 port_short_low (Data.Over ending) port v = one_more v v (same v)
 
 opened_short_low : (connection : DataConnection) (v : View) → AddsAtMost 1 v (opened_short connection v)
-opened_short_low (Data.Connecting endpoint) v = short_low v (record v { connection = Data.Open }) refl refl refl (omega arith)
-opened_short_low (Data.Accepting port) v = short_low v (record v { connection = Data.Open }) refl refl refl (omega arith)
+opened_short_low (Data.Connecting endpoint) v = short_low v (record v { connection = Data.Open }) refl refl refl refl (omega arith)
+opened_short_low (Data.Accepting port) v = short_low v (record v { connection = Data.Open }) refl refl refl refl (omega arith)
 opened_short_low Data.Free v = one_more v v (same v)
 opened_short_low Data.ListenWanted v = one_more v v (same v)
 opened_short_low (Data.Listening port) v = one_more v v (same v)

@@ -2,12 +2,12 @@
 use Rattle.std.proofs.Common.{refl}
 use Rattle.ftp_facts.specs.Calendar.{days_of_years, days_of_months}
 use Rattle.ftp_path.proofs.TextLemmas.{path_on_literals}
-use Rattle.ftp_client_machine.specs.Calls.{starts, listening, listen_refused, data_opened, data_refused, data_end, data_fault, gives_data, wants}
+use Rattle.ftp_client_machine.specs.Calls.{starts, uploads, listening, listen_refused, data_opened, data_refused, data_end, data_fault, gives_data, wants}
 use Rattle.ftp_client_machine.specs.Dialogue.{answered}
 use Rattle.ftp_client_machine.specs.Listing.{moment_value}
 use Rattle.ftp_client_machine.specs.Replies.{line_heard}
 use Rattle.ftp_client_machine.specs.Values.{passive_value, extended_value, quoted_value, path_value, mark_value}
-use Rattle.ftp_client_machine.specs.Rows.{ActiveDownload, ActiveReport, BrokenDownload, BrokenUpload, Endpoints, Judged, LogsIn, LongGreeting, MarkRead, Moment, NotOpened, OtherHosts, OtherOrders, OwnCode, PassiveDownload, PassiveUpload, PassivePort, Quoted, Renames, TwoCodes, Unasked, Unsendable}
+use Rattle.ftp_client_machine.specs.Rows.{ActiveDownload, ActiveReport, BrokenDownload, BrokenUpload, Endpoints, Judged, LogsIn, LongGreeting, MarkRead, Moment, NotOpened, OtherHosts, OtherOrders, OwnCode, PassiveDownload, PassiveUpload, PassivePort, Quoted, Renames, TwoCodes, Unasked, Unsendable, UploadBeginsAnew, UploadGivesUp, UploadInTypeA, UploadResumes}
 
 pub login : LogsIn
 unfolding answered
@@ -96,3 +96,19 @@ not_opened = (refl, refl, refl, refl)
 pub other_hosts : OtherHosts
 unfolding answered starts passive_value listening data_opened wants path_on_literals
 other_hosts = (refl, refl, refl, refl)
+
+pub upload_resumes : UploadResumes
+unfolding answered uploads passive_value data_opened data_fault gives_data path_on_literals
+upload_resumes = (refl, refl, refl, refl)
+
+pub upload_begins_anew : UploadBeginsAnew
+unfolding answered uploads passive_value data_opened data_fault data_refused path_on_literals
+upload_begins_anew = (refl, refl, refl, refl, refl)
+
+pub upload_gives_up : UploadGivesUp
+unfolding answered uploads passive_value data_opened data_fault path_on_literals
+upload_gives_up = (refl, refl)
+
+pub upload_in_type_a : UploadInTypeA
+unfolding uploads answered
+upload_in_type_a = (refl, refl)

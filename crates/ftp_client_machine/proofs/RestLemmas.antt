@@ -7,13 +7,15 @@ use Rattle.ftp_operation.specs.declared.op.Op.{Op}
 use Rattle.ftp_endpoint.specs.declared.endpoint.Endpoint.{Endpoint}
 use Rattle.ftp_reply.specs.Lines.{Text, joined}
 use Rattle.ftp_ends.specs.Link.{same_host}
-use Rattle.ftp_client_machine.specs.Dialogue.{sends_if, last_job, answer_in, awaited, marked_flow, placed, goes_on, greeted, enters_with, enters, user_answered, pass_answered, set_accepted, dials, named, port_named, passive_named, step_done, intermediate, awaits_reply, step_answered, judged, answers_by, answers_job, closes_once_given_by, closes_once_given, carries_on, with_reply, transfer_opened, noted, unless_open, before_opening, behind_opening, transfer_answered, job_answered, stand_answered, judged_reply, answered, closes, has_begun, is_given}
+use Rattle.ftp_client_machine.specs.Dialogue.{next_job, finishes_by, finishes, finishes_read, sends_if, last_job, answer_in, awaited, marked_flow, placed, goes_on, greeted, enters_with, enters, user_answered, pass_answered, set_accepted, dials, named, port_named, passive_named, step_done, intermediate, awaits_reply, step_answered, judged, answers_by, answers_job, closes_once_given_by, closes_once_given, carries_on, with_reply, transfer_opened, noted, unless_open, before_opening, behind_opening, transfer_answered, job_answered, stand_answered, judged_reply, answered, closes, has_begun, is_given}
 use Rattle.ftp_client_machine.specs.InFlight.{IsAtRest, AnsweredAtRest}
 use Rattle.ftp_client_machine.specs.Octets.{flow_of}
 use Rattle.ftp_client_machine.specs.Plan.{asked_settings, first_step, next_step, settings_behind, command_of, is_extended}
 use Rattle.ftp_client_machine.specs.Replies.{Verdict, Preliminary, Completion, Intermediate, Negative, Closing, Displaced, verdict_of}
+use Rattle.std.specs.Option.{option_map}
+use Rattle.ftp_client_machine.specs.Tries.{run_at}
 use Rattle.ftp_client_machine.specs.Values.{passive_value, extended_value, mark_value}
-use Rattle.ftp_client_machine.specs.View.{View, Job, Idle, Waiting, Doing, Transferring, Told, Transfer, Flow, finishes, finishes_read, fails_by, strange}
+use Rattle.ftp_client_machine.specs.View.{View, Job, Idle, Waiting, Doing, Transferring, Told, Transfer, Flow, dropped, fails_by, strange}
 use Rattle.ftp_client_machine.specs.declared.client.Failure.{Failure}
 use Rattle.ftp_client_machine.specs.declared.client.Failure.TheVariants as Failures
 use Rattle.ftp_client_machine.specs.declared.client.DataConnection.{DataConnection}
@@ -43,13 +45,6 @@ fails_rest (Stands.Failed before) failure v r = r
 strange_rest : (v : View) → Rests v strange
 strange_rest v r = fails_rest v.standing Failures.Strange v r
 
-tells_rest : (answer : Said) (v : View) → Rests v (finishes answer)
-tells_rest answer v r = record { ear = r.ear; gathered = r.gathered }
-
-tells_read_rest : (answer : Option Said) (v : View) → Rests v (finishes_read answer)
-tells_read_rest None v r = strange_rest v r
-tells_read_rest (Some answer) v r = tells_rest answer v r
-
 sends_if_rest : (command : Option (Command (List ℕ))) (v : View) → Rests v (sends_if command)
 sends_if_rest None v r = r
 sends_if_rest (Some command) v r = record { ear = r.ear; gathered = r.gathered }
@@ -72,6 +67,21 @@ placed_rest op Steps.Last v r = sent_rest op Steps.Last (last_job op (flow_of op
 
 goes_on_rest : (op : Op (List ℕ)) (step : Step) (v : View) → Rests v (goes_on op step)
 goes_on_rest op step v r = placed_rest op (next_step v.settings op step) v r
+
+-- ---- the end of an operation
+
+finishes_by_rest : (next : Option (Op (List ℕ))) (answer : Said) (v : View) → Rests v (finishes_by next answer)
+finishes_by_rest None answer v r = record { ear = r.ear; gathered = r.gathered }
+finishes_by_rest (Some op) answer v r =
+    let w : View = record (dropped v) { run = option_map (run_at op) v.run } in
+    placed_rest op (first_step w.settings op) w (record { ear = r.ear; gathered = r.gathered })
+
+finishes_rest : (answer : Said) (v : View) → Rests v (finishes answer)
+finishes_rest answer v r = finishes_by_rest (next_job v.run v.job answer) answer v r
+
+finishes_read_rest : (answer : Option Said) (v : View) → Rests v (finishes_read answer)
+finishes_read_rest None v r = strange_rest v r
+finishes_read_rest (Some answer) v r = finishes_rest answer v r
 
 -- ---- the login
 
@@ -120,7 +130,7 @@ dials_rest op endpoint v r = goes_on_rest op Steps.Passive (record v { connectio
 named_rest : (endpoint : Option Endpoint) (op : Op (List ℕ)) (v : View) → Rests v (named endpoint op)
 named_rest None op v r = strange_rest v r
 named_rest (Some endpoint) op v r =
-    if_rest (same_host endpoint.host v.peer) (dials op endpoint v) (finishes Foreign v) (dials_rest op endpoint v r) (tells_rest Foreign v r)
+    if_rest (same_host endpoint.host v.peer) (dials op endpoint v) (finishes Foreign v) (dials_rest op endpoint v r) (finishes_rest Foreign v r)
 
 port_named_rest : (port : Option ℕ) (op : Op (List ℕ)) (v : View) → Rests v (port_named port op)
 port_named_rest None op v r = strange_rest v r
@@ -133,7 +143,7 @@ passive_rest false op text v r = named_rest (passive_value text) op v r
 completed_rest : (op : Op (List ℕ)) (step : Step) (texts : List Text) (v : View) → Rests v (step_done op step texts)
 completed_rest op Steps.Port texts v r = goes_on_rest op Steps.Port v r
 completed_rest op Steps.Passive texts v r = passive_rest (is_extended v op) op (joined texts) v r
-completed_rest op Steps.Last texts v r = tells_read_rest (answer_in op texts) v r
+completed_rest op Steps.Last texts v r = finishes_read_rest (answer_in op texts) v r
 completed_rest op Steps.Listen texts v r = strange_rest v r
 completed_rest op Steps.Connect texts v r = strange_rest v r
 completed_rest op Steps.Restart texts v r = strange_rest v r
@@ -157,7 +167,7 @@ intermediate_rest op Steps.Last v r = strange_rest v r
 step_rest : (op : Op (List ℕ)) (step : Step) (verdict : Verdict) (code : ℕ) (texts : List Text) (v : View) → Rests v (step_answered op step verdict code texts)
 step_rest op step Completion code texts v r = completed_rest op step texts v r
 step_rest op step Intermediate code texts v r = intermediate_rest op step v r
-step_rest op step Negative code texts v r = if_rest (awaits_reply step) (finishes (Refused code) v) (strange v) (tells_rest (Refused code) v r) (strange_rest v r)
+step_rest op step Negative code texts v r = if_rest (awaits_reply step) (finishes (Refused code) v) (strange v) (finishes_rest (Refused code) v r) (strange_rest v r)
 step_rest op step Preliminary code texts v r = strange_rest v r
 step_rest op step Closing code texts v r = strange_rest v r
 step_rest op step Displaced code texts v r = strange_rest v r
@@ -165,7 +175,7 @@ step_rest op step Displaced code texts v r = strange_rest v r
 -- ---- a transfer
 
 answers_by_rest : (replied : Replied) (connection : DataConnection) (op : Op (List ℕ)) (flow : Flow) (v : View) → Rests v (answers_by replied connection op flow)
-answers_by_rest (Replies.Final code) (Data.Over ending) op flow v r = tells_read_rest (judged ending code op flow) v r
+answers_by_rest (Replies.Final code) (Data.Over ending) op flow v r = finishes_read_rest (judged ending code op flow) v r
 answers_by_rest (Replies.Final code) Data.Free op flow v r = r
 answers_by_rest (Replies.Final code) Data.ListenWanted op flow v r = r
 answers_by_rest (Replies.Final code) (Data.Listening port) op flow v r = r

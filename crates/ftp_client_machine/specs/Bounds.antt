@@ -1,9 +1,11 @@
 -- How much a client has still to do, whatever comes of it: what is begun, and what is given. A world of both ends comes to rest by
 -- these numbers, and needs no clause of its own for it.
-use Rattle.std.specs.Prelude.{◌≡◌, ℕ, suc, ◌+◌, ◌<◌, ◌≤◌, ◌⊎◌, true, List, [], ◌∷◌, length, if◌then◌else◌}
+use Rattle.std.specs.Prelude.{◌≡◌, ℕ, suc, ◌+◌, ◌-◌, ◌*◌, ◌<◌, ◌≤◌, ◌⊎◌, true, List, [], ◌∷◌, length, Option, Some, None, if◌then◌else◌}
 use Rattle.ftp_endpoint.specs.declared.host.Host.{Host}
 use Rattle.ftp_client_machine.specs.Calls.{hears_octet, listening, listen_refused, data_opened, data_refused, data_end, data_fault, receives_octet, gives_control, gives_data, to_give, data_closed, control_end}
 use Rattle.ftp_client_machine.specs.Failing.{short, listening_short, data_opened_short, data_end_short}
+use Rattle.ftp_operation.specs.declared.op.Op.{Op}
+use Rattle.ftp_client_machine.specs.Tries.{Run, is_size}
 use Rattle.ftp_client_machine.specs.View.{View, Job, Idle, Waiting, Doing, Transferring, Told, Flow, Sending, Receiving, stands}
 use Rattle.ftp_client_machine.specs.declared.client.Replied.{Replied}
 use Rattle.ftp_client_machine.specs.declared.client.Replied.TheVariants as Replies
@@ -37,23 +39,35 @@ steps_behind Steps.Last = []
 abbrev pub steps_left : Step → ℕ
 steps_left step = suc (length (steps_behind step))
 
--- a transfer whose 1yz is awaited has still to begin. (An operation that sends an ABOR has that still to begin, and an upload over
--- breaks all commands of the tries that are left.)
+-- a transfer whose 1yz is awaited has still to begin
 abbrev pub transfer_left : Replied → ℕ
 transfer_left Replies.Nothing = 1
 transfer_left other = 0
 
--- of the operation: one that waits for the login has all its steps before it
-abbrev pub job_left : Job → ℕ
-job_left Idle = 0
-job_left (Waiting op) = suc (steps_left Steps.Kind)
-job_left (Doing op step) = steps_left step
-job_left (Transferring op transfer) = transfer_left transfer.replied
-job_left (Told answer) = 0
+-- an operation that is still to begin, with all its steps
+abbrev pub operation_left : ℕ
+operation_left = suc (steps_left Steps.Kind)
+
+-- how many operations of a run can follow this one: for each try that is left SIZE and the try; behind SIZE the try comes at once
+abbrev pub operations_behind : Run → Op (List ℕ) → ℕ
+operations_behind run op = if is_size op then suc (2 * (run.left - 1)) else 2 * run.left
+
+-- what is still to begin behind an operation: the others of its run
+abbrev pub run_left : Option Run → Op (List ℕ) → ℕ
+run_left None op = 0
+run_left (Some run) op = operation_left * operations_behind run op
+
+-- of the operation, and behind it
+abbrev pub job_left : Option Run → Job → ℕ
+job_left run Idle = 0
+job_left run (Waiting op) = operation_left + run_left run op
+job_left run (Doing op step) = steps_left step + run_left run op
+job_left run (Transferring op transfer) = transfer_left transfer.replied + run_left run op
+job_left run (Told answer) = 0
 
 -- what is to begin of the login and of the operation
 abbrev pub to_begin : View → ℕ
-to_begin v = login_left v.standing + job_left v.job
+to_begin v = login_left v.standing + job_left v.run v.job
 
 -- ---- what is still to be given, if nothing more is taken: octets, and a close
 

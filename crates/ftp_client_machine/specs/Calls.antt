@@ -7,10 +7,11 @@ use Rattle.ftp_operation.specs.declared.op.Op.{Op}
 use Rattle.ftp_nvt.specs.Lines.{NvtEvent, line, too_long, owed}
 use Rattle.ftp_ends.specs.Ear.{ear}
 use Rattle.ftp_ends.specs.Link.{same_host}
-use Rattle.ftp_client_machine.specs.Dialogue.{begins, goes_on, answered, carries_on, has_begun}
+use Rattle.ftp_client_machine.specs.Dialogue.{begins, goes_on, finishes, answered, carries_on, has_begun}
 use Rattle.ftp_client_machine.specs.Octets.{flow_octet}
 use Rattle.ftp_client_machine.specs.Replies.{Between, Heard, GoesOn, Says, Faulty, line_heard}
-use Rattle.ftp_client_machine.specs.View.{View, Job, Idle, Waiting, Doing, Transferring, Told, Transfer, Flow, Sending, Receiving, finishes, fails, failure_said, strange}
+use Rattle.ftp_client_machine.specs.Tries.{OverBreaks, Run, run_of, first_try}
+use Rattle.ftp_client_machine.specs.View.{View, Job, Idle, Waiting, Doing, Transferring, Told, Transfer, Flow, Sending, Receiving, tells, fails, failure_said, strange}
 use Rattle.ftp_client_machine.specs.declared.client.Ending.{Ending}
 use Rattle.ftp_client_machine.specs.declared.client.Ending.TheVariants as Endings
 use Rattle.ftp_client_machine.specs.declared.client.Failure.TheVariants as Failures
@@ -36,17 +37,25 @@ is_busy v = is_busy_job v.job
 -- an operation that can be sent waits for the end of the login, or begins; after a failure each is answered with it
 abbrev pub started_by : Standing → Op (List ℕ) → View → View
 started_by Stands.Entered op v = begins op v
-started_by (Stands.Failed failure) op v = record v { job = Told (failure_said failure) }
+started_by (Stands.Failed failure) op v = tells (failure_said failure) v
 started_by other op v = record v { job = Waiting op }
 
 -- own choice: one that can't be sent is answered at once, and nothing is sent; a failure that stands comes before that
 abbrev pub unsendable_by : Standing → View → View
-unsendable_by (Stands.Failed failure) v = record v { job = Told (failure_said failure) }
-unsendable_by other v = record v { job = Told BadOperation }
+unsendable_by (Stands.Failed failure) v = tells (failure_said failure) v
+unsendable_by other v = tells BadOperation v
 
--- `start`, of a client that isn't busy. (An upload that goes on after breaks will begin here too, as its first try.)
+-- an operation is begun, alone or as the first of a run
+abbrev pub begun : Option Run → Op (List ℕ) → View → View
+begun run op v = if can_be_sent op then started_by v.standing op (record v { run = run }) else unsendable_by v.standing v
+
+-- `start`, of a client that isn't busy
 unfoldable pub starts : Op (List ℕ) → View → View
-starts op v = if can_be_sent op then started_by v.standing op v else unsendable_by v.standing v
+starts op v = begun None op v
+
+-- `upload`, of a client that isn't busy: an upload over breaks, as a run of operations with one report
+unfoldable pub uploads : OverBreaks → View → View
+uploads u v = begun (Some (run_of u)) (first_try u) v
 
 -- `report`: the answer that stands, which is taken by it
 abbrev pub report_of_job : Job → Option Said

@@ -17,8 +17,9 @@ use Rattle.ftp_client_machine.specs.Listing.{moment_value, facts_in}
 use Rattle.ftp_client_machine.specs.Octets.{flow_of, content_answer, broken_answer}
 use Rattle.ftp_client_machine.specs.Plan.{asked_settings, first_step, next_step, settings_behind, command_of, is_extended}
 use Rattle.ftp_client_machine.specs.Replies.{Verdict, Preliminary, Completion, Intermediate, Negative, Closing, Displaced, verdict_of}
+use Rattle.ftp_client_machine.specs.Tries.{Run, next_in, run_at}
 use Rattle.ftp_client_machine.specs.Values.{passive_value, extended_value, path_value, number_value, mark_value}
-use Rattle.ftp_client_machine.specs.View.{View, Job, Waiting, Doing, Transferring, Transfer, Flow, Sending, Receiving, stands, finishes, finishes_read, fails, strange}
+use Rattle.ftp_client_machine.specs.View.{View, Job, Waiting, Doing, Transferring, Transfer, Flow, Sending, Receiving, stands, dropped, tells, fails, strange}
 use Rattle.ftp_client_machine.specs.declared.client.Ending.{Ending}
 use Rattle.ftp_client_machine.specs.declared.client.Ending.TheVariants as Endings
 use Rattle.ftp_client_machine.specs.declared.client.Failure.TheVariants as Failures
@@ -60,6 +61,33 @@ begins op v = placed op (first_step v.settings op) v
 -- and goes on behind a step that was answered well
 abbrev pub goes_on : Op (List ℕ) → Step → View → View
 goes_on op step v = placed op (next_step v.settings op step) v
+
+-- ---- the end of an operation
+
+-- an operation of a run was answered: the next one, where there is one
+abbrev pub next_with : Option Run → Op (List ℕ) → Said → Option (Op (List ℕ))
+next_with None op answer = None
+next_with (Some run) op answer = next_in run op answer
+
+-- of the operation under way
+abbrev pub next_job : Option Run → Job → Said → Option (Op (List ℕ))
+next_job run (Doing op step) answer = next_with run op answer
+next_job run (Transferring op transfer) answer = next_with run op answer
+next_job run other answer = None
+
+-- no link of it is needed; the run goes on with its next operation, or the answer is told
+abbrev pub finishes_by : Option (Op (List ℕ)) → Said → View → View
+finishes_by None answer v = tells answer (dropped v)
+finishes_by (Some op) answer v = begins op (record (dropped v) { run = option_map (run_at op) v.run })
+
+-- an operation is answered
+abbrev pub finishes : Said → View → View
+finishes answer v = finishes_by (next_job v.run v.job answer) answer v
+
+-- the answer that was read, or what was said has no place
+abbrev pub finishes_read : Option Said → View → View
+finishes_read None v = strange v
+finishes_read (Some answer) v = finishes answer v
 
 -- ---- the login (RFC 959, section 5.4)
 

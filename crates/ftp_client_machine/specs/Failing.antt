@@ -1,10 +1,11 @@
 -- What stands after a call in which a growth was refused: the answer Memory for the operation under way and for every later one.
 -- Each relation holds in the place of the call's function where the count of refused growths changed in the call (the count moves
 -- on by wrapping). After that every later call is the call's function again.
-use Rattle.std.specs.Prelude.{◌≡◌, ◌≢◌, ◌&&◌, ℕ, ◌+◌, ◌≤◌, List, take, if◌then◌else◌}
+use Rattle.std.specs.Prelude.{◌≡◌, ◌≢◌, ◌&&◌, ℕ, ◌+◌, ◌≤◌, List, take, Option, Some, None, if◌then◌else◌}
 use Rattle.ftp_operation.specs.Operation.{can_be_sent}
 use Rattle.ftp_operation.specs.declared.op.Op.{Op}
-use Rattle.ftp_client_machine.specs.Calls.{hears, receives, starts, is_sound, unless_closing, MayHear, MayReceive}
+use Rattle.ftp_client_machine.specs.Calls.{hears, receives, begun, is_sound, unless_closing, MayHear, MayReceive}
+use Rattle.ftp_client_machine.specs.Tries.{OverBreaks, Run, run_of, first_try}
 use Rattle.ftp_client_machine.specs.View.{View, Waiting, fails}
 use Rattle.ftp_client_machine.specs.declared.client.Ending.TheVariants as Endings
 use Rattle.ftp_client_machine.specs.declared.client.Failure.TheVariants as Failures
@@ -32,9 +33,18 @@ pub record ReceivesShort (old : View) (piece : List ℕ) (count : ℕ) (new : Vi
   pub may : MayReceive old piece taken
   pub is : new ≡ short (receives old (take taken piece))
 
--- of a start: only of an operation that can be sent, by a client that has not failed; else it is as if no growth had been refused
+-- of `start` and `upload`: only of an operation that can be sent, by a client that has not failed; else it is as if no growth had
+-- been refused
+abbrev pub begun_short : Option Run → Op (List ℕ) → View → View
+begun_short run op v = if can_be_sent op && is_sound v.standing then short (record v { job = Waiting op; run = run }) else begun run op v
+
+-- of `start`
 abbrev pub starts_short : Op (List ℕ) → View → View
-starts_short op v = if can_be_sent op && is_sound v.standing then short (record v { job = Waiting op }) else starts op v
+starts_short op v = begun_short None op v
+
+-- of `upload`
+abbrev pub uploads_short : OverBreaks → View → View
+uploads_short u v = begun_short (Some (run_of u)) (first_try u) v
 
 -- of the calls that send a command where the client waits for them: its data connection is where it was told to be; a call that
 -- the client has no use for changes nothing

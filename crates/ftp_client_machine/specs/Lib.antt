@@ -2,6 +2,7 @@
 pub mod Values
 pub mod Listing
 pub mod Replies
+pub mod Tries
 pub mod View
 pub mod Plan
 pub mod Octets

@@ -1,6 +1,6 @@
 -- Worked rows: what a client sends, wants and reports, reply by reply and event by event. Each is a theorem that computes. The
 -- login is `guest` with password `secret`; both hosts are 127.0.0.1.
-use Rattle.std.specs.Prelude.{◌≡◌, ℕ, List, [], ◌∷◌, ◌++◌, codes, true, false, Option, Some, None}
+use Rattle.std.specs.Prelude.{◌≡◌, ℕ, zero, suc, List, [], ◌∷◌, ◌++◌, codes, true, false, Option, Some, None}
 use Rattle.ftp_command.specs.Line.{line_of}
 use Rattle.ftp_command.specs.declared.command.Command.TheVariants as Commands
 use Rattle.ftp_endpoint.specs.declared.endpoint.Endpoint.{Endpoint}
@@ -13,10 +13,11 @@ use Rattle.ftp_representation.specs.declared.representation.Mode.TheVariants as 
 use Rattle.ftp_representation.specs.declared.representation.Kind.TheVariants as Kinds
 use Rattle.ftp_representation.specs.declared.representation.Structure.TheVariants as Structures
 use Rattle.ftp_ends.specs.RowWords.{here, elsewhere, lines}
-use Rattle.ftp_client_machine.specs.Calls.{starts, report_of, hears, listening, listen_refused, data_opened, data_refused, data_end, data_fault, receives, gives_data, to_give, wants}
+use Rattle.ftp_client_machine.specs.Calls.{starts, uploads, report_of, hears, listening, listen_refused, data_opened, data_refused, data_end, data_fault, receives, gives_data, to_give, wants}
 use Rattle.ftp_client_machine.specs.Dialogue.{answered}
 use Rattle.ftp_client_machine.specs.Replies.{Gathered, Between, Heard, GoesOn, Says, Faulty, line_heard}
 use Rattle.ftp_client_machine.specs.Values.{passive_value, extended_value, quoted_value, mark_value}
+use Rattle.ftp_client_machine.specs.Tries.{OverBreaks}
 use Rattle.ftp_client_machine.specs.View.{View, client}
 use Rattle.ftp_client_machine.specs.declared.client.Failure.TheVariants as Failures
 use Rattle.ftp_client_machine.specs.declared.client.Standing.TheVariants as Stands
@@ -25,9 +26,10 @@ use Rattle.ftp_ends.specs.declared.link.Wants.TheVariants as Want
 
 -- ---- how a row is written
 
--- what happens to a client: an operation is begun, a reply of one line comes, a call
+-- what happens to a client: an operation or an upload over breaks is begun, a reply of one line comes, a call
 pub data Happening : Type 0 where
   asks : (op : Op (List ℕ)) → Happening
+  tries : (upload : OverBreaks) → Happening
   replied : (code : ℕ) → (text : List ℕ) → Happening
   port : (number : ℕ) → Happening
   no_port : Happening
@@ -40,6 +42,7 @@ pub data Happening : Type 0 where
 -- each event is one call of the client
 abbrev pub happens : Happening → View → View
 happens (asks op) v = starts op v
+happens (tries upload) v = uploads upload v
 happens (replied code text) v = answered code (text ∷ []) v
 happens (port number) v = listening number v
 happens no_port v = listen_refused v
@@ -303,3 +306,59 @@ OtherHosts =
     × (wanted (get active ∷ set ∷ port 49152 ∷ replied 200 [] ∷ opening ∷ opened elsewhere ∷ []) ≡ Want.CloseData)
     × (reported (get active ∷ set ∷ port 49152 ∷ replied 200 [] ∷ opening ∷ opened elsewhere ∷ []) ≡ None)
     × (reported (get active ∷ set ∷ port 49152 ∷ replied 200 [] ∷ opening ∷ opened elsewhere ∷ complete ∷ []) ≡ Some Foreign)
+
+-- ---- an upload over breaks (own choice; RFC 959, section 3.5, and RFC 3659, sections 4 and 5)
+
+-- ten octets to the file f
+abbrev pub ten : How → OverBreaks
+ten how = record { path = codes "f"; octets = codes "abcdefghij"; how = how }
+
+-- the first Put, up to the 150
+abbrev pub first_put : List Happening
+first_put = tries (ten plain) ∷ set ∷ entering ∷ opened here ∷ opening ∷ []
+
+-- a break, and the 426
+abbrev pub breaks : List Happening
+breaks = broken ∷ broken_off ∷ []
+
+-- the server has so many octets; PutFrom, up to its 150
+abbrev pub goes_on_at : List ℕ → List Happening
+goes_on_at count = replied 213 count ∷ entering ∷ opened here ∷ replied 350 [] ∷ opening ∷ []
+
+-- broken after four octets: Put, SIZE, PutFrom at 4 of the other six, and one report
+abbrev pub resumed : List Happening
+resumed = first_put ++ given 4 ∷ breaks ++ goes_on_at (codes "4")
+
+-- the commands, the octets and the report
+abbrev pub UploadResumes : Type 0
+UploadResumes =
+    (sent resumed ≡ lines (codes "TYPE I" ∷ codes "PASV" ∷ codes "STOR f" ∷ codes "SIZE f" ∷ codes "PASV" ∷ line_of (Commands.Rest 4) ∷ codes "STOR f" ∷ []))
+    × (gives resumed ≡ codes "efghij")
+    × (reported resumed ≡ None)
+    × (reported (resumed ++ given 6 ∷ complete ∷ []) ≡ Some Done)
+
+-- it was broken so many times before its first octet
+abbrev pub broken_times : ℕ → List Happening
+broken_times zero = []
+broken_times (suc zero) = first_put ++ breaks
+broken_times (suc (suc n)) = broken_times (suc n) ++ goes_on_at (codes "0") ++ breaks
+
+-- after fifteen breaks SIZE is asked once more, and the sixteenth is the report
+abbrev pub UploadGivesUp : Type 0
+UploadGivesUp =
+    (reported (broken_times 15) ≡ None)
+    × (reported (broken_times 16) ≡ Some (Broken [] None))
+
+-- anew where there is no file or it is longer, the same again where nothing was opened, and an end after any other answer
+abbrev pub UploadBeginsAnew : Type 0
+UploadBeginsAnew =
+    (sent (first_put ++ breaks ++ replied 550 [] ∷ entering ∷ opened here ∷ [])
+    ≡ lines (codes "TYPE I" ∷ codes "PASV" ∷ codes "STOR f" ∷ codes "SIZE f" ∷ codes "PASV" ∷ codes "STOR f" ∷ []))
+    × (gives (first_put ++ breaks ++ replied 213 (codes "11") ∷ entering ∷ opened here ∷ opening ∷ []) ≡ codes "abcdefghij")
+    × (sent (tries (ten plain) ∷ set ∷ entering ∷ refused ∷ []) ≡ lines (codes "TYPE I" ∷ codes "PASV" ∷ codes "PASV" ∷ []))
+    × (reported (first_put ++ replied 552 [] ∷ broken ∷ []) ≡ Some (Refused 552))
+    × (reported (first_put ++ breaks ++ replied 530 [] ∷ []) ≡ Some (Refused 530))
+
+-- own choice: in another type or structure it is bad, and nothing is sent
+abbrev pub UploadInTypeA : Type 0
+UploadInTypeA = (reported (tries (ten text) ∷ []) ≡ Some BadOperation) × (sent (tries (ten records) ∷ []) ≡ [])

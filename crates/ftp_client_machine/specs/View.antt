@@ -1,6 +1,6 @@
 -- What a client holds: who logs in where, how far it has come with the server, the operation under way, the settings that the
 -- server accepted, the data connection, the reply being heard, and the octets owed (RFC 959, sections 2.3 and 5.4).
-use Rattle.std.specs.Prelude.{ℕ, Bool, true, false, ◌||◌, List, [], Option, Some, None}
+use Rattle.std.specs.Prelude.{ℕ, Bool, true, false, ◌||◌, List, [], Option, None}
 use Rattle.ftp_endpoint.specs.declared.host.Host.{Host}
 use Rattle.ftp_operation.specs.Answer.{Said, Lost, Strange, Memory}
 use Rattle.ftp_operation.specs.declared.op.Op.{Op}
@@ -8,6 +8,7 @@ use Rattle.ftp_ends.specs.Decoder.{Decoder}
 use Rattle.ftp_ends.specs.Ear.{Ear, quiet}
 use Rattle.ftp_representation.specs.Representation.{defaults}
 use Rattle.ftp_client_machine.specs.Replies.{Gathered, Between}
+use Rattle.ftp_client_machine.specs.Tries.{Run}
 use Rattle.ftp_client_machine.specs.declared.client.Failure.{Failure}
 use Rattle.ftp_client_machine.specs.declared.client.Failure.TheVariants as Failures
 use Rattle.ftp_client_machine.specs.declared.client.DataConnection.{DataConnection}
@@ -31,8 +32,7 @@ pub record Transfer : Type 0 where
   pub flow : Flow
 
 -- the operation: none; one that was begun and waits for the end of the login; one of which this step is under way; one whose
--- transfer's command was sent; or the answer of one that is done, until it is taken. (An upload that goes on after breaks will be
--- a run of such operations, and carry here what of it is left.)
+-- transfer's command was sent; or the answer of one that is done, until it is taken.
 pub data Job : Type 0 where
   Idle : Job
   Waiting : (op : Op (List ℕ)) → Job
@@ -40,7 +40,8 @@ pub data Job : Type 0 where
   Transferring : (op : Op (List ℕ)) → (transfer : Transfer) → Job
   Told : (answer : Said) → Job
 
--- `closing`: a link, or a port that is listened at, is to be closed, and no other call on the data connection means anything
+-- `run`: the upload over breaks of which the operation is a part. `closing`: a link, or a port that is listened at, is to be closed,
+-- and no other call on the data connection means anything
 pub record View : Type 0 where
   pub user : List ℕ
   pub pass : List ℕ
@@ -48,6 +49,7 @@ pub record View : Type 0 where
   pub peer : Host
   pub standing : Standing
   pub job : Job
+  pub run : Option Run
   pub settings : Representation
   pub connection : DataConnection
   pub closing : Bool
@@ -64,6 +66,7 @@ client user pass here peer = record {
   peer = peer;
   standing = Stands.Greeting;
   job = Idle;
+  run = None;
   settings = defaults;
   connection = Data.Free;
   closing = false;
@@ -88,9 +91,9 @@ stands (Data.Over ending) = false
 abbrev pub dropped : View → View
 dropped v = record v { connection = Data.Free; closing = v.closing || stands v.connection }
 
--- an operation is done: its answer stands until it is taken, and no link of it is needed
-abbrev pub finishes : Said → View → View
-finishes answer v = record (dropped v) { job = Told answer }
+-- all is done that was begun, and the answer stands until it is taken
+abbrev pub tells : Said → View → View
+tells answer v = record v { job = Told answer; run = None }
 
 -- the answer of every operation after a failure
 abbrev pub failure_said : Failure → Said
@@ -114,7 +117,7 @@ silent v = record v { ear = quiet; gathered = Between; owed = [] }
 abbrev pub fails_by : Standing → Failure → View → View
 fails_by (Stands.Failed before) failure v = v
 fails_by standing failure v =
-    record (silent (dropped v)) { standing = Stands.Failed failure; job = failed_job (failure_said failure) v.job }
+    record (silent (dropped v)) { standing = Stands.Failed failure; job = failed_job (failure_said failure) v.job; run = None }
 
 -- by how far it has come
 abbrev pub fails : Failure → View → View
@@ -123,8 +126,3 @@ fails failure v = fails_by v.standing failure v
 -- the server said what has no place
 abbrev pub strange : View → View
 strange v = fails Failures.Strange v
-
--- the answer that was read, or what was said has no place
-abbrev pub finishes_read : Option Said → View → View
-finishes_read None v = strange v
-finishes_read (Some answer) v = finishes answer v

@@ -1,14 +1,15 @@
 // The client's end of a session, as a world of both sees it: each call is the function of the view that `specs` has for it.
 ghost use Rattle.std.specs.Prelude.{◌≡◌, ◌≢◌, ◌<◌, ◌≤◌, ◌↔◌, ℕ, IsTrue, IfErr, OnOk, OnErr, IsErr, length, take};
 ghost use Rattle.ftp_operation.specs.Answer.{said_of};
-ghost use Rattle.ftp_client_machine.specs.Calls.{starts, is_busy, report_of, reports, gives_control, may_hear, control_end, listening, listen_refused, data_opened, data_refused, data_end, data_fault, data_closed, gives_data, to_give, may_receive, wants};
-ghost use Rattle.ftp_client_machine.specs.Failing.{Counted, Holds, HoldsIfRoom, HearsIfRoom, ReceivesIfRoom, starts_short, listening_short, data_opened_short, data_end_short};
+ghost use Rattle.ftp_client_machine.specs.Calls.{starts, uploads, is_busy, report_of, reports, gives_control, may_hear, control_end, listening, listen_refused, data_opened, data_refused, data_end, data_fault, data_closed, gives_data, to_give, may_receive, wants};
+ghost use Rattle.ftp_client_machine.specs.Failing.{Counted, Holds, HoldsIfRoom, HearsIfRoom, ReceivesIfRoom, starts_short, uploads_short, listening_short, data_opened_short, data_end_short};
+ghost use Rattle.ftp_client_machine.specs.Tries.{over_breaks};
 ghost use Rattle.std.specs.Option.{option_map};
 
 use ftp_endpoint::Host;
 use ftp_ends::Wants;
 use ftp_facts::Text;
-use ftp_operation::{Answer, Op};
+use ftp_operation::{Answer, How, Op};
 use std::alloc::Allocator;
 
 /// The client's end. Where the count of refused growths changed in a call (it moves on by wrapping), the client is short of
@@ -23,6 +24,15 @@ pub trait Near<A: Allocator>: Drop {
         ensures busy { IsErr result ↔ IsTrue (is_busy (at self.old).view) }
         ensures same { OnErr result (Holds (at self.old) (at self.new) (at self.old).view) }
         ensures back { IfErr result (λ back. back ≡ op) };
+
+    /// Begins an upload that goes on after breaks, and has one report (own choice: at most 16 tries). Refused as `start` is, it hands
+    /// path and octets back.
+    fn upload(&mut self, path: Text<A>, octets: Text<A>, how: How) -> Result<(), (Text<A>, Text<A>)>
+        ensures begun { OnOk result (HoldsIfRoom (at self.old) (at self.new)
+            (uploads (over_breaks path octets how) (at self.old).view) (uploads_short (over_breaks path octets how) (at self.old).view)) }
+        ensures busy { IsErr result ↔ IsTrue (is_busy (at self.old).view) }
+        ensures same { OnErr result (Holds (at self.old) (at self.new) (at self.old).view) }
+        ensures back { IfErr result (λ back. back ≡ (path, octets)) };
 
     /// The report of the operation, if it is done; it is given once.
     fn report(&mut self) -> Option<Answer<A>>

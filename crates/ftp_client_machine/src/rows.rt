@@ -1,5 +1,5 @@
 //! Worked rows of a client: functions that do nothing, whose contracts are rows of `specs/client/Rows`.
-ghost use Rattle.ftp_client_machine.specs.Rows.{ActiveDownload, ActiveReport, BrokenDownload, BrokenUpload, Endpoints, Judged, LogsIn, LongGreeting, MarkRead, Moment, NotOpened, OtherHosts, OtherOrders, OwnCode, PassiveDownload, PassiveUpload, PassivePort, Quoted, Renames, TwoCodes, Unasked, Unsendable};
+ghost use Rattle.ftp_client_machine.specs.Rows.{ActiveDownload, ActiveReport, BrokenDownload, BrokenUpload, Endpoints, Judged, LogsIn, LongGreeting, MarkRead, Moment, NotOpened, OtherHosts, OtherOrders, OwnCode, PassiveDownload, PassiveUpload, PassivePort, Quoted, Renames, TwoCodes, Unasked, Unsendable, UploadBeginsAnew, UploadGivesUp, UploadInTypeA, UploadResumes};
 
 /// The greeting is answered with USER, and a 331 with PASS.
 pub fn login()
@@ -109,4 +109,24 @@ pub fn not_opened()
 /// No other host is contacted or heard.
 pub fn other_hosts()
     ensures { OtherHosts }
+{}
+
+/// An upload that broke after four octets asks SIZE and goes on there.
+pub fn upload_resumes()
+    ensures { UploadResumes }
+{}
+
+/// Where the server has no file, or more octets than there are, it begins anew; where nothing was opened, it tries the same again.
+pub fn upload_begins_anew()
+    ensures { UploadBeginsAnew }
+{}
+
+/// After sixteen tries the last answer is the report.
+pub fn upload_gives_up()
+    ensures { UploadGivesUp }
+{}
+
+/// An upload over breaks goes in type I and file structure.
+pub fn upload_in_type_a()
+    ensures { UploadInTypeA }
 {}
