@@ -78,26 +78,26 @@ data_end_short v = unless_closing (λ v. over_short v.connection v) v
 -- ---- a call's clause
 
 -- a client as a call finds and leaves it: what it holds, and how many growths were refused to it; the count moves on by wrapping
-pub record Counted : Type 0 where
+pub record Client : Type 0 where
   pub view : View
   pub refusals : ℕ
 
 -- a call that takes no memory: the client holds this, and the count stays
-abbrev pub Holds : (old new : Counted) → View → Type 0
+abbrev pub Holds : (old new : Client) → View → Type 0
 Holds old new view = (new.view ≡ view) × (new.refusals ≡ old.refusals)
 
 -- a call that may take some: the count stayed, and the client holds the first; or it changed, and the client holds the second
-abbrev pub HoldsIfRoom : (old new : Counted) → (view short : View) → Type 0
+abbrev pub HoldsIfRoom : (old new : Client) → (view short : View) → Type 0
 HoldsIfRoom old new view short = (new.refusals ≡ old.refusals → new.view ≡ view) × (new.refusals ≢ old.refusals → new.view ≡ short)
 
 -- `hear` took so many octets of a piece, each of which could be taken when its turn came
-abbrev pub HearsIfRoom : (old new : Counted) → (piece : List ℕ) → (count : ℕ) → Type 0
+abbrev pub HearsIfRoom : (old new : Client) → (piece : List ℕ) → (count : ℕ) → Type 0
 HearsIfRoom old new piece count =
     (new.refusals ≡ old.refusals → (new.view ≡ hears old.view (take count piece)) × MayHear old.view piece count)
     × (new.refusals ≢ old.refusals → HearsShort old.view piece count new.view)
 
 -- so did `data_hear`
-abbrev pub ReceivesIfRoom : (old new : Counted) → (piece : List ℕ) → (count : ℕ) → Type 0
+abbrev pub ReceivesIfRoom : (old new : Client) → (piece : List ℕ) → (count : ℕ) → Type 0
 ReceivesIfRoom old new piece count =
     (new.refusals ≡ old.refusals → (new.view ≡ receives old.view (take count piece)) × MayReceive old.view piece count)
     × (new.refusals ≢ old.refusals → ReceivesShort old.view piece count new.view)

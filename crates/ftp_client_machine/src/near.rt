@@ -2,7 +2,7 @@
 ghost use Rattle.std.specs.Prelude.{◌≡◌, ◌≢◌, ◌<◌, ◌≤◌, ◌↔◌, ℕ, IsTrue, IfErr, OnOk, OnErr, IsErr, length, take};
 ghost use Rattle.ftp_operation.specs.Answer.{said_of};
 ghost use Rattle.ftp_client_machine.specs.Calls.{starts, uploads, is_busy, report_of, reports, gives_control, may_hear, control_end, listening, listen_refused, data_opened, data_refused, data_end, data_fault, data_closed, gives_data, to_give, may_receive, wants};
-ghost use Rattle.ftp_client_machine.specs.Failing.{Counted, Holds, HoldsIfRoom, HearsIfRoom, ReceivesIfRoom, starts_short, uploads_short, listening_short, data_opened_short, data_end_short};
+ghost use Rattle.ftp_client_machine.specs.Failing.{Client, Holds, HoldsIfRoom, HearsIfRoom, ReceivesIfRoom, starts_short, uploads_short, listening_short, data_opened_short, data_end_short};
 ghost use Rattle.ftp_client_machine.specs.Tries.{over_breaks};
 ghost use Rattle.std.specs.Option.{option_map};
 
@@ -16,88 +16,88 @@ use std::alloc::Allocator;
 /// memory, and every operation answers so.
 pub trait Near<A: Allocator>: Drop {
     /// What it holds, and how many growths were refused to it.
-    ghost at: { Self → Counted };
+    ghost client: { Self → Client };
 
     /// Begins an operation. Refused, where one is begun and its report was not taken, it hands the operation back.
     fn start(&mut self, op: Op<Text<A>>) -> Result<(), Op<Text<A>>>
-        ensures begun { OnOk result (HoldsIfRoom (at self.old) (at self.new) (starts op (at self.old).view) (starts_short op (at self.old).view)) }
-        ensures busy { IsErr result ↔ IsTrue (is_busy (at self.old).view) }
-        ensures same { OnErr result (Holds (at self.old) (at self.new) (at self.old).view) }
+        ensures begun { OnOk result (HoldsIfRoom (client self.old) (client self.new) (starts op (client self.old).view) (starts_short op (client self.old).view)) }
+        ensures busy { IsErr result ↔ IsTrue (is_busy (client self.old).view) }
+        ensures same { OnErr result (Holds (client self.old) (client self.new) (client self.old).view) }
         ensures back { IfErr result (λ back. back ≡ op) };
 
     /// Begins an upload that goes on after breaks, and has one report (own choice: at most 16 tries). Refused as `start` is, it hands
     /// path and octets back.
     fn upload(&mut self, path: Text<A>, octets: Text<A>, how: How) -> Result<(), (Text<A>, Text<A>)>
-        ensures begun { OnOk result (HoldsIfRoom (at self.old) (at self.new)
-            (uploads (over_breaks path octets how) (at self.old).view) (uploads_short (over_breaks path octets how) (at self.old).view)) }
-        ensures busy { IsErr result ↔ IsTrue (is_busy (at self.old).view) }
-        ensures same { OnErr result (Holds (at self.old) (at self.new) (at self.old).view) }
+        ensures begun { OnOk result (HoldsIfRoom (client self.old) (client self.new)
+            (uploads (over_breaks path octets how) (client self.old).view) (uploads_short (over_breaks path octets how) (client self.old).view)) }
+        ensures busy { IsErr result ↔ IsTrue (is_busy (client self.old).view) }
+        ensures same { OnErr result (Holds (client self.old) (client self.new) (client self.old).view) }
         ensures back { IfErr result (λ back. back ≡ (path, octets)) };
 
     /// The report of the operation, if it is done; it is given once.
     fn report(&mut self) -> Option<Answer<A>>
-        ensures answer { option_map said_of result ≡ report_of (at self.old).view }
-        ensures taken { Holds (at self.old) (at self.new) (reports (at self.old).view) };
+        ensures answer { option_map said_of result ≡ report_of (client self.old).view }
+        ensures taken { Holds (client self.old) (client self.new) (reports (client self.old).view) };
 
     /// Takes octets of the control connection, and says how many.
     fn hear(&mut self, piece: &[u8]) -> usize
         ensures within { result ≤ length piece.now }
-        ensures took { HearsIfRoom (at self.old) (at self.new) piece.now result }
-        ensures some { IsTrue (may_hear (at self.old).view) → 0 < length piece.now → 0 < result };
+        ensures took { HearsIfRoom (client self.old) (client self.new) piece.now result }
+        ensures some { IsTrue (may_hear (client self.old).view) → 0 < length piece.now → 0 < result };
 
     /// Gives octets of the control connection, and says how many. Takes no memory.
     fn control_out(&mut self, room: &mut [u8]) -> usize
-        ensures within { (result ≤ length room.old) × (result ≤ length (at self.old).view.owed) }
-        ensures gave { take result room.new ≡ take result (at self.old).view.owed }
-        ensures now { Holds (at self.old) (at self.new) (gives_control result (at self.old).view) }
-        ensures some { 0 < length room.old → 0 < length (at self.old).view.owed → 0 < result };
+        ensures within { (result ≤ length room.old) × (result ≤ length (client self.old).view.owed) }
+        ensures gave { take result room.new ≡ take result (client self.old).view.owed }
+        ensures now { Holds (client self.old) (client self.new) (gives_control result (client self.old).view) }
+        ensures some { 0 < length room.old → 0 < length (client self.old).view.owed → 0 < result };
 
     /// The control connection ended.
     fn control_end(&mut self)
-        ensures { Holds (at self.old) (at self.new) (control_end (at self.old).view) };
+        ensures { Holds (client self.old) (client self.new) (control_end (client self.old).view) };
 
     /// A port is listened at.
     fn listening(&mut self, port: u16)
-        ensures { HoldsIfRoom (at self.old) (at self.new) (listening port (at self.old).view) (listening_short port (at self.old).view) };
+        ensures { HoldsIfRoom (client self.old) (client self.new) (listening port (client self.old).view) (listening_short port (client self.old).view) };
 
     /// No port was had.
     fn listen_refused(&mut self)
-        ensures { Holds (at self.old) (at self.new) (listen_refused (at self.old).view) };
+        ensures { Holds (client self.old) (client self.new) (listen_refused (client self.old).view) };
 
     /// The link is open; this host is at its other end.
     fn data_opened(&mut self, host: Host)
-        ensures { HoldsIfRoom (at self.old) (at self.new) (data_opened host (at self.old).view) (data_opened_short (at self.old).view) };
+        ensures { HoldsIfRoom (client self.old) (client self.new) (data_opened host (client self.old).view) (data_opened_short (client self.old).view) };
 
     /// The link was not had.
     fn data_refused(&mut self)
-        ensures { Holds (at self.old) (at self.new) (data_refused (at self.old).view) };
+        ensures { Holds (client self.old) (client self.new) (data_refused (client self.old).view) };
 
     /// Takes octets of the link, and says how many.
     fn data_hear(&mut self, piece: &[u8]) -> usize
         ensures within { result ≤ length piece.now }
-        ensures took { ReceivesIfRoom (at self.old) (at self.new) piece.now result }
-        ensures some { IsTrue (may_receive (at self.old).view) → 0 < length piece.now → 0 < result };
+        ensures took { ReceivesIfRoom (client self.old) (client self.new) piece.now result }
+        ensures some { IsTrue (may_receive (client self.old).view) → 0 < length piece.now → 0 < result };
 
     /// The other end closed the link.
     fn data_end(&mut self)
-        ensures { HoldsIfRoom (at self.old) (at self.new) (data_end (at self.old).view) (data_end_short (at self.old).view) };
+        ensures { HoldsIfRoom (client self.old) (client self.new) (data_end (client self.old).view) (data_end_short (client self.old).view) };
 
     /// The link broke.
     fn data_fault(&mut self)
-        ensures { Holds (at self.old) (at self.new) (data_fault (at self.old).view) };
+        ensures { Holds (client self.old) (client self.new) (data_fault (client self.old).view) };
 
     /// Gives octets of the link, and says how many. Takes no memory.
     fn data_out(&mut self, room: &mut [u8]) -> usize
-        ensures within { (result ≤ length room.old) × (result ≤ length (to_give (at self.old).view)) }
-        ensures gave { take result room.new ≡ take result (to_give (at self.old).view) }
-        ensures now { Holds (at self.old) (at self.new) (gives_data result (at self.old).view) }
-        ensures some { 0 < length room.old → 0 < length (to_give (at self.old).view) → 0 < result };
+        ensures within { (result ≤ length room.old) × (result ≤ length (to_give (client self.old).view)) }
+        ensures gave { take result room.new ≡ take result (to_give (client self.old).view) }
+        ensures now { Holds (client self.old) (client self.new) (gives_data result (client self.old).view) }
+        ensures some { 0 < length room.old → 0 < length (to_give (client self.old).view) → 0 < result };
 
     /// A close that it wanted is done.
     fn data_closed(&mut self)
-        ensures { Holds (at self.old) (at self.new) (data_closed (at self.old).view) };
+        ensures { Holds (client self.old) (client self.new) (data_closed (client self.old).view) };
 
     /// What it wants of the connections. Takes no memory.
     fn wants(&self) -> Wants
-        ensures { result ≡ wants (at self.now).view };
+        ensures { result ≡ wants (client self.now).view };
 }

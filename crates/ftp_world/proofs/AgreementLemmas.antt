@@ -1,10 +1,11 @@
 -- Without marks and without an end of the control connection agreement is the direct run.
-use Rattle.std.proofs.Common.{◌≡◌, ◌⊎◌, ℕ, suc, ◌+◌, ◌≤◌, List, [], ◌∷◌, length, take, None, refl, ap, subst, ◌∙◌, arith, inl, inr}
-use Rattle.std.proofs.lemmas.List.{take_all}
-use Rattle.std.specs.List.{Contains}
+use Rattle.std.proofs.Common.{◌≡◌, ◌⊎◌, ℕ, suc, ◌<◌, List, [], ◌∷◌, length, None, refl, sym, ap, subst, ◌∙◌, append-nil, arith, inl, inr}
+use Rattle.std.specs.List.{Contains, flat_map}
 use Rattle.ftp_direct.specs.Direct.{State, answer, answers}
+use Rattle.ftp_operation.specs.Answer.{Said}
+use Rattle.ftp_operation.specs.declared.op.Op.{Op}
 use Rattle.ftp_tree.specs.Tree.{Table}
-use Rattle.ftp_world.specs.Agreement.{Order, Item, IsItemOf, item_did, item_reports, state_after, Allows, ItemsHold}
+use Rattle.ftp_world.specs.Agreement.{Order, Single, Tries, Attempt, Item, item_did, state_after, state_before, operations, AreSingle, Allows, ItemHolds, ItemsHold}
 use Rattle.ftp_world.specs.Claims.{AreUnmarked, UnmarkedIsDirect}
 use Rattle.ftp_world.specs.Outcome.{Outcome, Whole, Cut, Unopened, Lost, Nothing, All, Front}
 use Rattle.ftp_world.specs.World.{Mark}
@@ -25,61 +26,57 @@ whole_outcome (Lost Nothing) marks index empty (inr behind) = absurd behind
 whole_outcome (Lost All) marks index empty allows = absurd allows
 whole_outcome (Lost (Front wire)) marks index empty allows = absurd allows.0
 
--- the item of a whole operation did what the direct run does
-whole_item : (state : State) (order : Order) (item : Item) → IsItemOf order item → item.first.outcome ≡ Whole
-    → item_did state item ≡ answer state order.0 order.1
-whole_item state order item is whole = rw (is.1, whole, is.0) refl
+-- the marks of the one attempt are those of its item
+one_mark : (attempt : Attempt) (more : List Attempt) (marks : List Mark) → more ≡ [] → flat_map (λ attempt. attempt.marks) (attempt ∷ more) ≡ marks → marks ≡ []
+    → attempt.marks ≡ []
+one_mark attempt [] marks none is empty = sym (append-nil attempt.marks) ∙ (is ∙ empty)
+one_mark attempt (next ∷ more) marks none is empty = absurd (cc)
+
+-- the item of an operation without marks did what the direct run does
+whole_item : (state : State) (op : Op (List ℕ)) (moment : ℕ) (marks : List Mark) (index : ℕ) (item : Item) → marks ≡ []
+    → ItemHolds state (Single op moment) marks None index item → item_did state item ≡ answer state op moment
+whole_item state op moment marks index item empty hold =
+    let none = one_mark item.first item.more marks hold.is_of.2 hold.marked empty in
+    let whole : item.first.outcome ≡ Whole = whole_outcome item.first.outcome item.first.marks index none hold.holds.0.allowed in
+    rw (hold.is_of.2, whole, hold.is_of.0, hold.is_of.1) refl
 
 -- items without marks report and leave what the direct run does
-pub record Runs (from : State) (begun : List Order) (items : List Item) : Type 0 where
-  pub reports : item_reports from items ≡ (answers from begun).0
-  pub state : state_after from items ≡ (answers from begun).1
-  pub count : length items ≡ length begun
+pub record Runs (from : State) (begun : List Order) (reports : List Said) (items : List Item) : Type 0 where
+  pub reports_are : reports ≡ (answers from (operations begun)).0
+  pub state : state_after from items ≡ (answers from (operations begun)).1
 
-unmarked_runs : (from : State) (index : ℕ) (begun : List Order) (marks : List (List Mark)) (items : List Item)
-    → AreUnmarked marks → ItemsHold from index begun marks None items → Runs from begun items
+unmarked_runs : (from : State) (index : ℕ) (begun : List Order) (marks : List (List Mark)) (reports : List Said) (items : List Item)
+    → AreSingle begun → AreUnmarked marks → length reports ≡ length begun → ItemsHold from index begun marks None reports items → Runs from begun reports items
 unfolding answers
-unmarked_runs from index [] [] [] unmarked hold = record { reports = refl; state = refl; count = refl }
-unmarked_runs from index [] [] (item ∷ items) unmarked hold = absurd hold
-unmarked_runs from index [] (marks ∷ more) items unmarked hold = absurd hold
-unmarked_runs from index (order ∷ orders) [] items unmarked hold = absurd hold
-unmarked_runs from index (order ∷ orders) (marks ∷ more) [] unmarked hold = absurd hold
-unmarked_runs from index (order ∷ orders) (marks ∷ more) (item ∷ items) unmarked hold =
-    let whole : item.first.outcome ≡ Whole = whole_outcome item.first.outcome marks index unmarked.0 hold.1.0.1 in
-    let did : item_did from item ≡ answer from order.0 order.1 = whole_item from order item hold.0 whole in
-    let rest : ItemsHold (answer from order.0 order.1).1 (suc index) orders more None items =
-    subst (λ done. ItemsHold done.1 (suc index) orders more None items) did hold.2 in
-    let runs = unmarked_runs (answer from order.0 order.1).1 (suc index) orders more items unmarked.1 rest in
+unmarked_runs from index [] [] [] [] single unmarked all hold = record { reports_are = refl; state = refl }
+unmarked_runs from index (Single op moment ∷ orders) (marks ∷ more) (report ∷ reports) (item ∷ items) single unmarked all hold =
+    let did : item_did from item ≡ answer from op moment = whole_item from op moment marks index item unmarked.0 hold.0 in
+    let rest : ItemsHold (answer from op moment).1 (suc index) orders more None reports items =
+    subst (λ done. ItemsHold done.1 (suc index) orders more None reports items) did hold.2 in
+    let runs = unmarked_runs (answer from op moment).1 (suc index) orders more reports items single unmarked.1 (omega (arith, all)) rest in
+    let told : report ≡ (answer from op moment).0 = sym hold.1.1 ∙ ap (λ done. done.0) did in
     record {
-      reports = rw (did, runs.reports) refl;
+      reports_are = rw (told, runs.reports_are) refl;
       state = rw (did, runs.state) refl;
-      count = ap suc runs.count;
     }
+unmarked_runs from index [] [] [] (item ∷ items) single unmarked all hold = absurd hold
+unmarked_runs from index [] (marks ∷ more) [] items single unmarked all hold = absurd hold
+unmarked_runs from index [] marks (report ∷ reports) items single unmarked all hold = absurd hold
+unmarked_runs from index (Single op moment ∷ orders) [] (report ∷ reports) items single unmarked all hold = absurd hold
+unmarked_runs from index (Single op moment ∷ orders) marks [] items single unmarked all hold = absurd (omega (arith, all))
+unmarked_runs from index (Single op moment ∷ orders) (marks ∷ more) (report ∷ reports) [] single unmarked all hold = absurd hold
+unmarked_runs from index (Tries upload moment ∷ orders) marks reports items single unmarked all hold = absurd single
 
--- as many reports as items
-reports_length : (from : State) (items : List Item) → length (item_reports from items) ≡ length items
-reports_length from [] = refl
-reports_length from (item ∷ items) = ap suc (reports_length (item_did from item).1 items)
-
--- all items are among the first so many
-all_items : (items : List Item) (from : State) (n : ℕ) → length items ≤ n → state_after from (take n items) ≡ state_after from items
-all_items items from n few = ap (state_after from) (take_all n items few)
-
-table_of : (from : State) (items : List Item) (n : ℕ) (table : Table) → length items ≤ n
-    → table ≡ (state_after from (take n items)).table → table ≡ (state_after from items).table
-table_of from items n table few is = is ∙ ap (λ state. state.table) (all_items items from n few)
-
-last_table : (from : State) (items : List Item) (n : ℕ) (table : Table) → length items ≤ n
-    → (table ≡ (state_after from (take n items)).table) ⊎ (table ≡ (state_after from (take (n + 1) items)).table)
+-- where all have their report, the map is that after them all
+last_table : (from : State) (items : List Item) (begun : List Order) (reports : List Said) (table : Table) → length reports ≡ length begun
+    → (table ≡ (state_after from items).table) ⊎ ((length reports < length begun) × (table ≡ (state_before from items).table))
     → table ≡ (state_after from items).table
-last_table from items n table few (inl is) = table_of from items n table few is
-last_table from items n table few (inr is) = table_of from items (n + 1) table (omega (arith, few)) is
+last_table from items begun reports table all (inl is) = is
+last_table from items begun reports table all (inr (fewer, is)) = absurd (omega (arith, all, fewer))
 
 pub unmarked_is_direct : UnmarkedIsDirect
-unmarked_is_direct from begun marks reports table unmarked told agrees =
-    let runs = unmarked_runs from 0 begun marks agrees.items unmarked agrees.hold in
-    let all : length agrees.items ≤ length reports = omega (arith, runs.count, told) in
-    let few : length (item_reports from agrees.items) ≤ length reports = omega (arith, reports_length from agrees.items, all) in (
-      agrees.told ∙ (take_all (length reports) (item_reports from agrees.items) few ∙ runs.reports),
-      last_table from agrees.items (length reports) table all agrees.map_is ∙ ap (λ state. state.table) runs.state,
+unmarked_is_direct from begun marks reports table single unmarked told agrees =
+    let runs = unmarked_runs from 0 begun marks reports agrees.items single unmarked told agrees.hold in (
+      runs.reports_are,
+      last_table from agrees.items begun reports table told agrees.map_is ∙ ap (λ state. state.table) runs.state,
     )

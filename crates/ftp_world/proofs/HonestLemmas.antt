@@ -8,7 +8,7 @@ use Rattle.ftp_ends.specs.declared.link.Wants.{Wants}
 use Rattle.ftp_ends.specs.declared.link.Wants.TheVariants as Want
 use Rattle.ftp_world.specs.Agreement.{Order, Agrees, WorldAgrees, Leads, IsHonest, AreHonest}
 use Rattle.ftp_world.specs.Claims.{AreUnmarked, HeadlineFollows, world_of, state_of}
-use Rattle.ftp_world.specs.Events.{Queue, ControlToServer, ControlToClient, DataToServer, DataToClient, Event, Deliver, Open, Refuse, End, Break, EndControl, Next, pulled, pushed, filled, told, DeliversBy, Does, Happens}
+use Rattle.ftp_world.specs.Events.{Queue, ControlToServer, ControlToClient, DataToServer, DataToClient, Event, Deliver, Open, Refuse, End, Break, EndControl, Next, Upload, pulled, pushed, filled, told, DeliversBy, Does, Happens}
 use Rattle.ftp_world.specs.Serving.{link_closed_by_near, link_closed_by_far, left_by_near, left_by_far, near_served_by, far_served_by, near_served, far_served, served, collected_by, after_event}
 use Rattle.ftp_world.specs.World.{World, Mark, Control, Stands, LeftByNear, LeftByFar, Parted, Link, Gone, Opened, ClosedByNear, ClosedByFar}
 use Rattle.ftp_world.proofs.AgreementLemmas.{unmarked_is_direct}
@@ -120,6 +120,8 @@ does_clean read Break old new honest does c = absurd honest
 does_clean read EndControl old new honest does c = absurd honest
 does_clean read (Next op moment) old new honest does c =
     subst Clean (sym does) (settled_clean _ (record { marks = more_unmarked old.marks c.marks; cutoff = c.cutoff }))
+does_clean read (Upload upload moment) old new honest does c =
+    subst Clean (sym does) (settled_clean _ (record { marks = more_unmarked old.marks c.marks; cutoff = c.cutoff }))
 
 happens_clean : (read : Reading) (event : Event) (old new : World) (possible : Bool) → IsHonest event
     → Happens read event old possible new → Clean old → Clean new
@@ -133,10 +135,10 @@ leads_clean read w (event ∷ events) begun new honest leads c =
     leads_clean read leads.1 events leads.2 new honest.1 leads.5 (happens_clean read event w leads.1 leads.0 honest.0 leads.3 c)
 
 pub headline_follows : HeadlineFollows
-headline_follows agrees answered read is b fair events begun w timed leads honest quiet =
+headline_follows agrees answered read is b fair events begun w timed leads honest single quiet =
     let clean = leads_clean read (world_of b) events begun w honest leads (record { marks = tt; cutoff = refl }) in
     let agree : WorldAgrees (state_of b) begun w = agrees read is b fair events begun w timed leads in
     let done = answered read is b fair events begun w timed leads quiet in
-    let direct = unmarked_is_direct (state_of b) begun w.marks w.reports w.far.session.table clean.marks done.reported
+    let direct = unmarked_is_direct (state_of b) begun w.marks w.reports w.far.session.table single clean.marks done.reported
     (subst (λ cutoff. Agrees (state_of b) begun w.marks cutoff w.reports w.far.session.table) clean.cutoff agree) in
     record { reports = direct.0; table = direct.1 }

@@ -1,58 +1,91 @@
--- What a world's reports and its server's map are, after every event: those of the operations that were begun, each with an
+-- What a world's reports and its server's map are, after every event: those of what was begun, each operation with an
 -- outcome that the marks and the cutoff allow. Without marks and without a cutoff that is the direct run.
-use Rattle.std.specs.Prelude.{◌≡◌, ◌⊎◌, ℕ, suc, ◌+◌, ◌<◌, ◌≤◌, Bool, true, List, [], ◌∷◌, ◌++◌, length, take, Option, Some, None}
+use Rattle.std.specs.Prelude.{◌≡◌, ◌⊎◌, ℕ, suc, ◌<◌, ◌≤◌, Bool, true, List, [], ◌∷◌, ◌++◌, length, flat_map, Option, Some, None, if◌then◌else◌}
 use Rattle.std.specs.List.{Contains}
 use Rattle.ftp_operation.specs.Answer.{Said}
 use Rattle.ftp_direct.specs.Direct.{State, answers}
 use Rattle.ftp_operation.specs.declared.op.Op.{Op}
 use Rattle.ftp_tree.specs.Tree.{Table}
 use Rattle.ftp_server_machine.specs.Machine.{Reading}
-use Rattle.ftp_world.specs.Events.{Event, Refuse, Break, EndControl, Next, Happens}
+use Rattle.std.specs.Option.{is_some}
+use Rattle.ftp_client_machine.specs.Plan.{how_of}
+use Rattle.ftp_client_machine.specs.Tries.{OverBreaks, Run, run_of, first_try, next_in, run_at}
+use Rattle.ftp_world.specs.Events.{Event, Refuse, Break, EndControl, Next, Upload, Happens}
 use Rattle.ftp_world.specs.Outcome.{Outcome, Whole, Cut, Unopened, Lost, Part, Nothing, All, Front, did, CanBe}
 use Rattle.ftp_world.specs.World.{World, Mark, Refused, Broken}
 
--- an operation that was begun, and its moment
-abbrev pub Order : Type 0
-Order = Op (List ℕ) × ℕ
+-- what was begun, and its moment: an operation, or an upload over breaks
+pub data Order : Type 0 where
+  Single : (op : Op (List ℕ)) → (moment : ℕ) → Order
+  Tries : (upload : OverBreaks) → (moment : ℕ) → Order
 
 -- ---- items
 
--- an operation that was tried: its moment, and its outcome
+-- an operation that was tried: its outcome, and the marks of its link
 pub record Attempt : Type 0 where
-  pub order : Order
+  pub op : Op (List ℕ)
   pub outcome : Outcome
+  pub marks : List Mark
 
--- an item: a run of operations that has one report, that of the last
+-- an item: what came of an order at its moment, as a run of attempts with one report, that of the last
 pub record Item : Type 0 where
+  pub moment : ℕ
   pub first : Attempt
   pub more : List Attempt
 
 -- what an attempt answers, and the state after it
-abbrev pub attempt_did : State → Attempt → Said × State
-attempt_did state attempt = did attempt.outcome state attempt.order.0 attempt.order.1
+abbrev pub attempt_did : ℕ → State → Attempt → Said × State
+attempt_did moment state attempt = did attempt.outcome state attempt.op moment
 
 -- the answer and the state behind a run of attempts; the answer is that of the last
-abbrev pub run_from : Said × State → List Attempt → Said × State
-run_from now [] = now
-run_from now (attempt ∷ attempts) = run_from (attempt_did now.1 attempt) attempts
+abbrev pub run_from : ℕ → Said × State → List Attempt → Said × State
+run_from moment now [] = now
+run_from moment now (attempt ∷ attempts) = run_from moment (attempt_did moment now.1 attempt) attempts
 
--- the report of an item, and the state after it
+-- the answer of an item, and the state after it
 abbrev pub item_did : State → Item → Said × State
-item_did state item = run_from (attempt_did state item.first) item.more
+item_did state item = run_from item.moment (attempt_did item.moment state item.first) item.more
 
--- the item of an operation that was begun is that operation alone. (An upload that goes on after breaks will be a run of tries.)
-abbrev pub IsItemOf : Order → Item → Type 0
-IsItemOf order item = (item.first.order ≡ order) × (item.more ≡ [])
-
--- the reports of items in order, and the state after them
-abbrev pub item_reports : State → List Item → List Said
-item_reports state [] = []
-item_reports state (item ∷ items) = (item_did state item).0 ∷ item_reports (item_did state item).1 items
+-- the state before the last attempt of a run
+abbrev pub before_last : ℕ → State → Attempt → List Attempt → State
+before_last moment state attempt [] = state
+before_last moment state attempt (next ∷ attempts) = before_last moment (attempt_did moment state attempt).1 next attempts
 
 -- the state that items leave, one after another
 abbrev pub state_after : State → List Item → State
 state_after state [] = state
 state_after state (item ∷ items) = state_after (item_did state item).1 items
+
+-- the state before the last attempt of the last item
+abbrev pub state_before : State → List Item → State
+state_before state [] = state
+state_before state (item ∷ []) = before_last item.moment state item.first item.more
+state_before state (item ∷ next ∷ items) = state_before (item_did state item).1 (next ∷ items)
+
+-- ---- which attempts an order makes
+
+-- a run that has come to an operation, with its answer and the state after it: each next attempt is of the operation that follows
+abbrev pub GoesOn : ℕ → Run → Op (List ℕ) → Said × State → List Attempt → Type 0
+GoesOn moment run op now [] = Unit {0}
+GoesOn moment run op now (attempt ∷ attempts) =
+    (next_in run op now.0 ≡ Some attempt.op) × GoesOn moment (run_at attempt.op run) attempt.op (attempt_did moment now.1 attempt) attempts
+
+-- nothing follows the last of them
+abbrev pub IsOver : ℕ → Run → Op (List ℕ) → Said × State → List Attempt → Type 0
+IsOver moment run op now [] = next_in run op now.0 ≡ None
+IsOver moment run op now (attempt ∷ attempts) = IsOver moment (run_at attempt.op run) attempt.op (attempt_did moment now.1 attempt) attempts
+
+-- an operation is tried once; of an upload over breaks the attempts are a beginning of its run
+abbrev pub IsItemOf : State → Order → Item → Type 0
+IsItemOf state (Single op moment) item = (item.moment ≡ moment) × (item.first.op ≡ op) × (item.more ≡ [])
+IsItemOf state (Tries upload moment) item =
+    (item.moment ≡ moment) × (item.first.op ≡ first_try upload)
+    × GoesOn moment (run_of upload) item.first.op (attempt_did moment state item.first) item.more
+
+-- where it has its report, they are the whole run
+abbrev pub IsWholeItemOf : State → Order → Item → Type 0
+IsWholeItemOf state (Single op moment) item = Unit {0}
+IsWholeItemOf state (Tries upload moment) item = IsOver moment (run_of upload) item.first.op (attempt_did moment state item.first) item.more
 
 -- ---- which outcomes marks and a cutoff allow
 
@@ -95,51 +128,81 @@ Allows (Lost part) marks cutoff index = AllowsPart part marks cutoff index
 
 -- ---- agreement
 
--- an attempt can have fared so, in this state and with these marks
-abbrev pub AttemptHolds : State → List Mark → Option ℕ → ℕ → Attempt → Type 0
-AttemptHolds state marks cutoff index attempt = CanBe attempt.outcome state attempt.order.0 × Allows attempt.outcome marks cutoff index
+-- how many links an operation asks for: one, where it has a transfer
+abbrev pub links_of : Op (List ℕ) → ℕ
+links_of op = if is_some (how_of op) then 1 else 0
+
+-- an attempt can have fared so, in this state; at most one mark is made of a link
+pub record AttemptHolds (state : State) (cutoff : Option ℕ) (index : ℕ) (attempt : Attempt) : Type 0 where
+  pub can_be : CanBe attempt.outcome state attempt.op
+  pub allowed : Allows attempt.outcome attempt.marks cutoff index
+  pub few : length attempt.marks ≤ links_of attempt.op
 
 -- each attempt of a run can have fared so, in the state that those before it leave
-abbrev pub RunHolds : State → List Mark → Option ℕ → ℕ → List Attempt → Type 0
-RunHolds state marks cutoff index [] = Unit {0}
-RunHolds state marks cutoff index (attempt ∷ attempts) =
-    AttemptHolds state marks cutoff index attempt × RunHolds (attempt_did state attempt).1 marks cutoff index attempts
+abbrev pub RunHolds : ℕ → State → Option ℕ → ℕ → List Attempt → Type 0
+RunHolds moment state cutoff index [] = Unit {0}
+RunHolds moment state cutoff index (attempt ∷ attempts) =
+    AttemptHolds state cutoff index attempt × RunHolds moment (attempt_did moment state attempt).1 cutoff index attempts
 
--- each attempt of an item can have fared so
-abbrev pub ItemHolds : State → List Mark → Option ℕ → ℕ → Item → Type 0
-ItemHolds state marks cutoff index item = RunHolds state marks cutoff index (item.first ∷ item.more)
+-- an item can be what came of an order, of which these marks were made, in order
+pub record ItemHolds (state : State) (order : Order) (marks : List Mark) (cutoff : Option ℕ) (index : ℕ) (item : Item) : Type 0 where
+  pub is_of : IsItemOf state order item
+  pub holds : RunHolds item.moment state cutoff index (item.first ∷ item.more)
+  pub marked : flat_map (λ attempt. attempt.marks) (item.first ∷ item.more) ≡ marks
 
--- an item for each operation begun, with its marks, in order
-abbrev pub ItemsHold : State → ℕ → List Order → List (List Mark) → Option ℕ → List Item → Type 0
-ItemsHold state index [] [] cutoff [] = Unit {0}
-ItemsHold state index (order ∷ orders) (marks ∷ more) cutoff (item ∷ items) =
-    IsItemOf order item × ItemHolds state marks cutoff index item × ItemsHold (item_did state item).1 (suc index) orders more cutoff items
-ItemsHold state index orders marks cutoff items = ⊥
+-- an item is the whole of what came of an order, and this is its report
+abbrev pub IsReported : State → Order → Item → Said → Type 0
+IsReported state order item report = IsWholeItemOf state order item × ((item_did state item).0 ≡ report)
 
--- There are items for all operations begun, whose reports are these, but perhaps for the last; and the map is that after the
--- reported ones, or after one more, by the same items.
+-- behind the reports: nothing more was begun, or one order, which has no report yet
+abbrev pub RestHolds : State → ℕ → List Order → List (List Mark) → Option ℕ → List Item → Type 0
+RestHolds state index [] [] cutoff [] = Unit {0}
+RestHolds state index (order ∷ []) (marks ∷ []) cutoff (item ∷ []) = ItemHolds state order marks cutoff index item
+RestHolds state index orders marks cutoff items = ⊥
+
+-- an item for each order, with its marks and its report, in order
+abbrev pub ItemsHold : State → ℕ → List Order → List (List Mark) → Option ℕ → List Said → List Item → Type 0
+ItemsHold state index orders marks cutoff [] items = RestHolds state index orders marks cutoff items
+ItemsHold state index (order ∷ orders) (marks ∷ more) cutoff (report ∷ reports) (item ∷ items) =
+    ItemHolds state order marks cutoff index item × IsReported state order item report
+    × ItemsHold (item_did state item).1 (suc index) orders more cutoff reports items
+ItemsHold state index orders marks cutoff reports items = ⊥
+
+-- There are items for all that was begun, with these reports; and the map is that after them all, or, where the last has no report
+-- yet, that before its last attempt.
 pub record Agrees (from : State) (begun : List Order) (marks : List (List Mark)) (cutoff : Option ℕ) (reports : List Said) (table : Table) : Type 0 where
   pub items : List Item
-  pub hold : ItemsHold from 0 begun marks cutoff items
-  pub told : reports ≡ take (length reports) (item_reports from items)
-  pub all_but_one : length begun ≤ length reports + 1
-  pub map_is : (table ≡ (state_after from (take (length reports) items)).table)
-      ⊎ (table ≡ (state_after from (take (length reports + 1) items)).table)
+  pub hold : ItemsHold from 0 begun marks cutoff reports items
+  pub map_is : (table ≡ (state_after from items).table)
+      ⊎ ((length reports < length begun) × (table ≡ (state_before from items).table))
 
 -- a world agrees with the operations that were begun in it, from a state
 abbrev pub WorldAgrees : State → List Order → World → Type 0
 WorldAgrees from begun w = Agrees from begun w.marks w.cutoff w.reports w.far.session.table
 
+-- no upload over breaks was begun
+abbrev pub AreSingle : List Order → Type 0
+AreSingle [] = Unit {0}
+AreSingle (Single op moment ∷ orders) = AreSingle orders
+AreSingle (Tries upload moment ∷ orders) = ⊥
+
+-- the operations that were begun, each with its moment
+abbrev pub operations : List Order → List (Op (List ℕ) × ℕ)
+operations [] = []
+operations (Single op moment ∷ orders) = (op, moment) ∷ operations orders
+operations (Tries upload moment ∷ orders) = operations orders
+
 -- the reports and the map are those of the operations begun, run directly
 pub record IsDirect (from : State) (begun : List Order) (w : World) : Type 0 where
-  pub reports : w.reports ≡ (answers from begun).0
-  pub table : w.far.session.table ≡ (answers from begun).1.table
+  pub reports : w.reports ≡ (answers from (operations begun)).0
+  pub table : w.far.session.table ≡ (answers from (operations begun)).1.table
 
 -- ---- runs of a world
 
--- the operation that an event began, where it was possible
+-- what an event began, where it was possible
 abbrev pub begun_by : Event → Bool → List Order
-begun_by (Next op moment) true = (op, moment) ∷ []
+begun_by (Next op moment) true = Single op moment ∷ []
+begun_by (Upload upload moment) true = Tries upload moment ∷ []
 begun_by event possible = []
 
 -- a list of events leads from a world to another, and began these operations

@@ -2,23 +2,24 @@
 -- operations that were begun; where nothing is in flight each of them has its report, and another can be begun; and without
 -- breaks, refusals and an end of the control connection that is the direct run. Want of memory and failures of a device are no
 -- events here: the ends' clauses hold where neither count changed.
-use Rattle.std.specs.Prelude.{◌≡◌, ℕ, ◌≤◌, ◌&&◌, Bool, true, nat_le, List, [], ◌∷◌, length, None, IsTrue}
+use Rattle.std.specs.Prelude.{◌≡◌, ℕ, ◌≤◌, ◌&&◌, Bool, true, nat_le, List, [], ◌∷◌, length, Option, None, IsTrue}
 use Rattle.ftp_endpoint.specs.declared.host.Host.{Host}
 use Rattle.ftp_endpoint.specs.declared.host.Host.TheVariants.{V4, V6}
 use Rattle.ftp_endpoint.specs.Written.{IsTypedHost}
 use Rattle.ftp_operation.specs.Account.{is_known, is_user, is_password}
-use Rattle.ftp_operation.specs.Answer.{Said}
-use Rattle.ftp_direct.specs.Direct.{State, start as direct_start, answers}
+use Rattle.ftp_operation.specs.Answer.{Said, Done}
+use Rattle.ftp_direct.specs.Direct.{State, start as direct_start, answers, named}
 use Rattle.std.specs.List.{list_all}
 use Rattle.std.specs.FinMap as fin
 use Rattle.ftp_path.specs.Path.{is_name, Names}
-use Rattle.ftp_tree.specs.Tree.{Node, Dir, File, Table, IsTree, octets_in, total_limit}
+use Rattle.ftp_tree.specs.Tree.{Node, Dir, File, Table, IsTree, octets_in, total_limit, installed}
+use Rattle.ftp_client_machine.specs.Tries.{OverBreaks}
 use Rattle.ftp_client_machine.specs.View.{client}
 use Rattle.ftp_server_machine.specs.Calls.{start}
 use Rattle.ftp_server_machine.specs.Machine.{Reading, IsReading}
 use Rattle.ftp_server_machine.specs.View.{Accounts}
-use Rattle.ftp_world.specs.Agreement.{Order, Agrees, WorldAgrees, IsDirect, Leads, AreHonest}
-use Rattle.ftp_world.specs.Events.{Event, Deliver, Open, End, Next, IsQuiet, can_begin}
+use Rattle.ftp_world.specs.Agreement.{Order, Tries, Item, item_did, ItemHolds, IsReported, AreSingle, operations, Agrees, WorldAgrees, IsDirect, Leads, AreHonest}
+use Rattle.ftp_world.specs.Events.{Event, Deliver, Open, End, Next, Upload, IsQuiet, can_begin}
 use Rattle.ftp_world.specs.World.{World, world, Mark}
 
 -- ---- how a session begins
@@ -75,6 +76,7 @@ state_of b = direct_start b.table (is_known b.accounts b.user b.pass)
 -- each operation is begun at a moment
 abbrev pub IsTimed : Event → Type 0
 IsTimed (Next op moment) = moment ≤ last_second
+IsTimed (Upload upload moment) = moment ≤ last_second
 IsTimed event = Unit {0}
 
 -- so is each of the events
@@ -122,9 +124,23 @@ Settles read w = (events : List Event) × (new : World) × AreSettling events ×
 abbrev pub SettlesAlways : Type 0
 SettlesAlways = Always (λ read b events begun w. Settles read w)
 
--- the headline: on honest connections, once nothing is in flight, the reports and the map are those of the direct run
+-- the headline: on honest connections, once nothing is in flight, the reports and the map are those of the operations begun, run directly
 abbrev pub Headline : Type 0
-Headline = Always (λ read b events begun w. AreHonest events → IsQuiet w → IsDirect (state_of b) begun w)
+Headline = Always (λ read b events begun w. AreHonest events → AreSingle begun → IsQuiet w → IsDirect (state_of b) begun w)
+
+-- ---- an upload over breaks that is done
+
+-- an item of an upload over breaks whose report is Done has put exactly its octets, and changed no other path, whatever broke
+pub record HasPutAll (state : State) (upload : OverBreaks) (moment : ℕ) (item : Item) : Type 0 where
+  pub table : (item_did state item).1.table ≡ installed state.table (named state upload.path) upload.octets moment
+  pub cwd : (item_did state item).1.cwd ≡ state.cwd
+
+-- so it is of every item that agreement can have, and with agreement of every world
+abbrev pub DoneIsWhole : Type 0
+DoneIsWhole =
+    (state : State) (upload : OverBreaks) (moment index : ℕ) (marks : List Mark) (cutoff : Option ℕ) (item : Item)
+    → ItemHolds state (Tries upload moment) marks cutoff index item → IsReported state (Tries upload moment) item Done
+    → HasPutAll state upload moment item
 
 -- ---- the headline is agreement without marks
 
@@ -135,13 +151,13 @@ AreUnmarked (marks ∷ more) = (marks ≡ []) × AreUnmarked more
 
 -- the answers and the map of the direct run
 abbrev pub AreAnswers : State → List Order → List Said → Table → Type 0
-AreAnswers from begun reports table = (reports ≡ (answers from begun).0) × (table ≡ (answers from begun).1.table)
+AreAnswers from begun reports table = (reports ≡ (answers from (operations begun)).0) × (table ≡ (answers from (operations begun)).1.table)
 
 -- then agreement is the direct run, where each operation has its report and the control connection has not ended
 abbrev pub UnmarkedIsDirect : Type 0
 UnmarkedIsDirect =
     (from : State) (begun : List Order) (marks : List (List Mark)) (reports : List Said) (table : Table)
-    → AreUnmarked marks → length reports ≡ length begun → Agrees from begun marks None reports table → AreAnswers from begun reports table
+    → AreSingle begun → AreUnmarked marks → length reports ≡ length begun → Agrees from begun marks None reports table → AreAnswers from begun reports table
 
 -- so the headline follows from agreement at any moment, and from what holds where nothing is in flight
 abbrev pub HeadlineFollows : Type 0

@@ -3,6 +3,8 @@ use Rattle.std.specs.Prelude.{◌≡◌, ℕ, ◌+◌, ◌-◌, ◌<◌, ◌≤�
 use Rattle.ftp_operation.specs.declared.op.Op.{Op}
 use Rattle.ftp_ends.specs.Link.{is_wanted, is_connecting}
 use Rattle.ftp_client_machine.specs.Calls as near
+use Rattle.ftp_client_machine.specs.Tries.{OverBreaks}
+use Rattle.ftp_client_machine.specs.View.{View as Near}
 use Rattle.ftp_server_machine.specs.Calls as far
 use Rattle.ftp_server_machine.specs.Machine as machine
 use Rattle.ftp_server_machine.specs.Machine.{Reading}
@@ -15,7 +17,7 @@ pub data Queue : Type 0 where
   DataToServer DataToClient : Queue
 
 -- octets are moved or taken; a wanted link opens, or is refused; an end is told that the other has closed; the link breaks; the
--- control connection ends; an operation is begun at a moment. (An upload that goes on after breaks will be an event of its own.)
+-- control connection ends; an operation, or an upload over breaks, is begun at a moment
 pub data Event : Type 0 where
   Deliver : (queue : Queue) → (count : ℕ) → Event
   Open : Event
@@ -24,6 +26,7 @@ pub data Event : Type 0 where
   Break : Event
   EndControl : Event
   Next : (op : Op (List ℕ)) → (moment : ℕ) → Event
+  Upload : (upload : OverBreaks) → (moment : ℕ) → Event
 
 -- ---- the queues
 
@@ -80,18 +83,18 @@ filled queue w [] = w
 filled queue w (count ∷ counts) = filled queue (pulled queue w count) counts
 
 -- some octets are there
-abbrev pub is_some : List ℕ → Bool
-is_some [] = false
-is_some (octet ∷ octets) = true
+abbrev pub has_octets : List ℕ → Bool
+has_octets [] = false
+has_octets (octet ∷ octets) = true
 
 -- a call with so much room gives no more than is due, and something where there is room and something is due
 pub record Gives (room : ℕ) (due : List ℕ) (count : ℕ) : Type 0 where
   pub within : count ≤ min room (length due)
-  pub some : 0 < room → IsTrue (is_some due) → 0 < count
+  pub some : 0 < room → IsTrue (has_octets due) → 0 < count
 
 -- one call after the other gives, with the room that is left of so many octets, until there is none or nothing is due
 abbrev pub Fills : Queue → ℕ → World → List ℕ → Type 0
-Fills queue count w [] = (is_some (due queue w) && nat_lt (length (in_queue queue w)) count) ≡ false
+Fills queue count w [] = (has_octets (due queue w) && nat_lt (length (in_queue queue w)) count) ≡ false
 Fills queue count w (gave ∷ counts) =
     Gives (count - length (in_queue queue w)) (due queue w) gave × (0 < gave) × Fills queue count (pulled queue w gave) counts
 
@@ -99,7 +102,7 @@ Fills queue count w (gave ∷ counts) =
 pub record Takes (read : Reading) (queue : Queue) (count : ℕ) (w : World) (taken : ℕ) : Type 0 where
   pub within : taken ≤ min count (length (in_queue queue w))
   pub may : MayTakeFrom read queue w taken
-  pub some : 0 < count → IsTrue (is_some (in_queue queue w)) → IsTrue (may_take queue w) → 0 < taken
+  pub some : 0 < count → IsTrue (has_octets (in_queue queue w)) → IsTrue (may_take queue w) → 0 < taken
 
 -- the octets that a delivery took, out of a queue
 abbrev pub taking : Queue → ℕ → World → World
@@ -121,11 +124,11 @@ pub record Moves (queue : Queue) (old new : World) : Type 0 where
 
 -- an octet is moved or taken
 abbrev pub can_move : Queue → ℕ → World → Bool
-can_move queue count w = is_some (due queue w) && ((count == 0) || nat_lt (length (in_queue queue w)) count)
+can_move queue count w = has_octets (due queue w) && ((count == 0) || nat_lt (length (in_queue queue w)) count)
 
 -- an octet that is on its way may be taken
 abbrev pub can_take : Queue → ℕ → World → Bool
-can_take queue count w = not (count == 0) && is_some (in_queue queue w) && may_take queue w
+can_take queue count w = not (count == 0) && has_octets (in_queue queue w) && may_take queue w
 
 -- ---- openings
 
@@ -220,9 +223,17 @@ is_parted other = false
 abbrev pub can_begin : World → Bool
 can_begin w = not (near.is_busy w.near) && is_gone w.link && not (is_asked_for w)
 
--- the server's clock is set, the client begins, and the operation has no mark yet
+-- the server's clock is set, the client has begun, and what it began has no mark yet
+abbrev pub begun_at : ℕ → Near → World → World
+begun_at moment begun w = record w { far = far.clocked moment w.far; near = begun; marks = w.marks ++ [] ∷ [] }
+
+-- the client begins an operation
 abbrev pub operation_begins : Op (List ℕ) → ℕ → World → World
-operation_begins op moment w = record w { far = far.clocked moment w.far; near = near.starts op w.near; marks = w.marks ++ [] ∷ [] }
+operation_begins op moment w = begun_at moment (near.starts op w.near) w
+
+-- it begins an upload over breaks: all its tries have the one moment (own choice)
+abbrev pub upload_begins : OverBreaks → ℕ → World → World
+upload_begins upload moment w = begun_at moment (near.uploads upload w.near) w
 
 -- ---- all events
 
@@ -231,10 +242,11 @@ abbrev pub can_happen : Event → World → Bool
 can_happen (Deliver queue count) w = can_move queue count w || can_take queue count w
 can_happen Open w = is_asked_for w
 can_happen Refuse w = is_asked_for w
-can_happen (End queue) w = is_closed queue w && not (is_some (in_queue queue w)) && not (is_some (due queue w))
+can_happen (End queue) w = is_closed queue w && not (has_octets (in_queue queue w)) && not (has_octets (due queue w))
 can_happen Break w = not (is_gone w.link)
 can_happen EndControl w = not (is_parted w.control)
 can_happen (Next op moment) w = can_begin w
+can_happen (Upload upload moment) w = can_begin w
 
 -- a delivery of none moves octets, another one moves and offers them
 abbrev pub DeliversBy : Bool → Reading → Queue → ℕ → World → World → Type 0
@@ -250,6 +262,7 @@ Does read (End queue) old new = new ≡ after_event (told queue old)
 Does read Break old new = new ≡ after_event (link_breaks old)
 Does read EndControl old new = new ≡ after_event (ends_control old)
 Does read (Next op moment) old new = new ≡ after_event (operation_begins op moment old)
+Does read (Upload upload moment) old new = new ≡ after_event (upload_begins upload moment old)
 
 -- what the event before took is no longer lent
 abbrev pub lends_none : World → World

@@ -37,7 +37,7 @@ pub data Outcome : Type 0 where
 -- ---- the wire of a transfer
 
 -- an upload: octets that go behind those that are kept of the file at a path, with the place from which own markers count
-pub record Upload : Type 0 where
+pub record Stored : Type 0 where
   pub path : Names
   pub kept : List ℕ
   pub start : ℕ
@@ -45,7 +45,7 @@ pub record Upload : Type 0 where
   pub how : How
 
 -- the upload that an operation asks for, if it is one
-abbrev pub upload_of : State → Op (List ℕ) → Option Upload
+abbrev pub upload_of : State → Op (List ℕ) → Option Stored
 upload_of state (Ops.Put text octets how) = Some (record { path = named state text; kept = []; start = 0; octets = octets; how = how })
 upload_of state (Ops.Append text octets how) =
     Some (record { path = named state text; kept = octets_or_none state.table (named state text); start = 0; octets = octets; how = how })
@@ -54,7 +54,7 @@ upload_of state (Ops.PutFrom text offset octets how) =
 upload_of state other = None
 
 -- a download: octets in some settings, with the place from which markers count
-pub record Download : Type 0 where
+pub record Fetched : Type 0 where
   pub settings : Representation
   pub start : ℕ
   pub octets : List ℕ
@@ -68,7 +68,7 @@ abbrev pub names_text : State → List ℕ → List ℕ
 names_text state text = lines_file (name_lines state.table (named_or_here state text) text)
 
 -- the download or the listing that an operation asks for, if it is one
-abbrev pub download_of : State → Op (List ℕ) → Option Download
+abbrev pub download_of : State → Op (List ℕ) → Option Fetched
 download_of state (Ops.Get text how) = Some (record { settings = settings_of how; start = 0; octets = octets_or_none state.table (named state text) })
 download_of state (Ops.GetFrom text offset how) =
     Some (record { settings = settings_of how; start = offset; octets = drop offset (octets_or_none state.table (named state text)) })
@@ -77,7 +77,7 @@ download_of state (Ops.Names text how) = Some (record { settings = listing_setti
 download_of state other = None
 
 -- its one written text; the server sends own markers wherever the settings allow them
-abbrev pub download_text : Download → List ℕ
+abbrev pub download_text : Fetched → List ℕ
 download_text d = written (has_markers d.settings) d.settings d.start d.octets
 
 -- ---- what a cut wire lets stand
@@ -104,18 +104,18 @@ mmmm_in kept d mark (octet ∷ wire) =
     mmmm_in kept (decoded_octet d octet) (reached (kept + length d.content) mark (octet_says d octet)) wire
 
 -- a cut upload leaves what was kept and settled, and a cut download gives what was settled
-abbrev pub cut_upload : Upload → State → ℕ → List ℕ → Said × State
+abbrev pub cut_upload : Stored → State → ℕ → List ℕ → Said × State
 cut_upload u state moment wire = (
   BrokenOff [] (mmmm_in (length u.kept) (no_octets (settings_of u.how)) None wire),
   record state { table = installed state.table u.path (u.kept ++ front (settings_of u.how) wire) moment },
 )
 
 -- the client has what was settled, and the last marker that came whole; the map stays
-abbrev pub cut_download : Download → State → List ℕ → Said × State
+abbrev pub cut_download : Fetched → State → List ℕ → Said × State
 cut_download d state wire = (BrokenOff (front d.settings wire) (mark_in (no_octets d.settings) None wire), state)
 
 -- by what the operation transfers; one without a transfer cannot be cut
-abbrev pub cut_by : Option Upload → Option Download → State → ℕ → List ℕ → Said × State
+abbrev pub cut_by : Option Stored → Option Fetched → State → ℕ → List ℕ → Said × State
 cut_by (Some u) down state moment wire = cut_upload u state moment wire
 cut_by None (Some d) state moment wire = cut_download d state wire
 cut_by None None state moment wire = (NotOpened, state)
@@ -146,7 +146,7 @@ abbrev pub IsTaken : State → Op (List ℕ) → Type 0
 IsTaken state op = IsTrue (can_be_sent op) × ((first_refusal state op ≡ None) ⊎ (first_refusal state op ≡ Some Refusals.TooMuch))
 
 -- the wire is a front of the one text, and what it leaves passes no limit
-abbrev pub IsCutOf : Option Upload → Option Download → State → List ℕ → Type 0
+abbrev pub IsCutOf : Option Stored → Option Fetched → State → List ℕ → Type 0
 IsCutOf (Some u) down state wire =
     IsFront wire (upload_text u.how u.start u.octets)
     × (octets_refusal state.table u.path (length (u.kept ++ front (settings_of u.how) wire)) ≡ None)
