@@ -9,6 +9,7 @@ use Rattle.ftp_representation.specs.declared.representation.Mode.TheVariants.{St
 use Rattle.ftp_framer.specs.Stream.{escaped_octet}
 use Rattle.ftp_framer.specs.Block.{block_text, marker_text}
 use Rattle.ftp_framer.specs.Count.{count_on, next}
+use Rattle.ftp_framer.specs.declared.descriptor.TheConstants.{GOES_ON, END_OF_RECORD, END_OF_FILE, END_OF_BOTH}
 
 -- own markers: never with records, none asked for, or the octets of the file are counted, and the last marker or
 -- the start stands at `since`
@@ -67,7 +68,7 @@ filled_step xs n c =
     else (if length xs == 8192 then filling (c ∷ []) (counted_on n) else filling (xs ++ c ∷ []) (counted_on n))
 
 abbrev pub filled_out : List ℕ → Counting → List ℕ
-filled_out xs n = if is_due n then block_text 0 xs ++ due_text n else (if length xs == 8192 then block_text 0 xs else [])
+filled_out xs n = if is_due n then block_text GOES_ON xs ++ due_text n else (if length xs == 8192 then block_text GOES_ON xs else [])
 
 abbrev pub write_step : Writing → Sign → Writing
 write_step copying (octet c) = copying
@@ -99,10 +100,10 @@ write_out held end_record = 255 ∷ 1 ∷ []
 write_out held end_file = 255 ∷ 3 ∷ []
 write_out (filling xs n) (octet c) = filled_out xs n
 write_out (filling xs n) end_record = []
-write_out (filling xs n) end_file = block_text 64 xs
-write_out (at_record xs n) (octet c) = block_text 128 xs ++ filled_out [] n
-write_out (at_record xs n) end_record = block_text 128 xs
-write_out (at_record xs n) end_file = block_text 192 xs
+write_out (filling xs n) end_file = block_text END_OF_FILE xs
+write_out (at_record xs n) (octet c) = block_text END_OF_RECORD xs ++ filled_out [] n
+write_out (at_record xs n) end_record = block_text END_OF_RECORD xs
+write_out (at_record xs n) end_file = block_text END_OF_BOTH xs
 write_out closed x = []
 
 abbrev pub writer : Machine Writing Sign ℕ

@@ -9,6 +9,9 @@ pub const END_OF_RECORD: u8 = 128;
 /// The file ends with the block.
 pub const END_OF_FILE: u8 = 64;
 
+/// The record and the file end with the block: both bits.
+pub const END_OF_BOTH: u8 = 192;
+
 /// The data may be wrong.
 pub const SUSPECTED_ERRORS: u8 = 32;
 

@@ -5,7 +5,7 @@ ghost use Rattle.ftp_framer.specs.Block.{block_text, marker_text};
 ghost use Rattle.ftp_framer.specs.Writing.{blank, with_marks, is_due, due_text, marked, counted_on, counted_far, IsCount, IsFar, writer, write_step, closed};
 ghost use Rattle.ftp_framer.specs.Framing.{writing, counting, owed_block, owed_octets, still_to_write, is_open, IsClear, Takes, Waits, AreRun, Fills, TakesRun};
 
-use crate::descriptor::{END_OF_FILE, END_OF_RECORD, GOES_ON, RESTART_MARKER};
+use crate::descriptor::{END_OF_BOTH, END_OF_FILE, END_OF_RECORD, GOES_ON, RESTART_MARKER};
 use arrayvec::ArrayVec;
 use ftp_repr::{Item, first_ff};
 use ftp_representation::{Mode, Structure};
@@ -323,6 +323,21 @@ impl Framer {
         ensures all { IsClear self.new ⊎ (result ≡ length room.old) }
         ensures some { at < length room.old → 0 < length (owed_octets self.old) → at < result }
     {
+        if self.is_clear() {
+            return at;
+        }
+        self.pour_some(room, at)
+    }
+
+    /// The same, where something is decided or nothing.
+    fn pour_some(&mut self, room: &mut [u8], at: usize) -> usize
+        requires { at ≤ length room.old }
+        ensures within { (at ≤ result) × (result ≤ length room.old) }
+        ensures text { take result room.new ++ owed_octets self.new ≡ take at room.old ++ owed_octets self.old }
+        ensures state { writing self.new ≡ writing self.old }
+        ensures all { IsClear self.new ⊎ (result ≡ length room.old) }
+        ensures some { at < length room.old → 0 < length (owed_octets self.old) → at < result }
+    {
         let made = self.pour_block(room, at);
         if !self.is_open() {
             return made;
@@ -519,7 +534,7 @@ impl Framer {
             Stage::Free => self.close(2),
             Stage::Held => self.close(3),
             Stage::Filling => self.stage = Stage::Last(END_OF_FILE, 0),
-            Stage::AtRecord => self.stage = Stage::Last(END_OF_RECORD | END_OF_FILE, 0),
+            Stage::AtRecord => self.stage = Stage::Last(END_OF_BOTH, 0),
             Stage::Leaving(_, _) | Stage::Last(_, _) | Stage::Closed => {}
         }
     }

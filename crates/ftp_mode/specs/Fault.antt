@@ -12,6 +12,7 @@ use Rattle.ftp_framer.specs.Block.{has, count_of}
 use Rattle.ftp_representation.specs.Marker.{is_marker_octet}
 use Rattle.ftp_representation.specs.declared.marker.TheConstants.{MARKER_LIMIT}
 use Rattle.ftp_mode.specs.Units.{WireUnit, GoesOn, units_octets}
+use Rattle.ftp_framer.specs.declared.descriptor.TheConstants.{SUSPECTED_ERRORS, RESTART_MARKER}
 
 -- own choice: an escape octet before an octet that is no code, at the place of that octet
 pub record IsBadEscape (place : ℕ) (w : List ℕ) (fault : FrameFault) : Type 0 where
@@ -26,7 +27,7 @@ pub record IsSuspect (place : ℕ) (w : List ℕ) (fault : FrameFault) : Type 0 
   pub descriptor : ℕ
   pub rest : List ℕ
   pub is : w ≡ descriptor ∷ rest
-  pub wrong : has descriptor 32 ≡ true
+  pub wrong : has descriptor SUSPECTED_ERRORS ≡ true
   pub named : fault ≡ Suspect place
 
 -- the counts that no marker has
@@ -40,8 +41,8 @@ pub record IsBadLength (place : ℕ) (w : List ℕ) (fault : FrameFault) : Type 
   pub low : ℕ
   pub rest : List ℕ
   pub is : w ≡ descriptor ∷ high ∷ low ∷ rest
-  pub sound : has descriptor 32 ≡ false
-  pub marker : has descriptor 16 ≡ true
+  pub sound : has descriptor SUSPECTED_ERRORS ≡ false
+  pub marker : has descriptor RESTART_MARKER ≡ true
   pub wrong : is_no_length (count_of high low) ≡ true
   pub named : fault ≡ BadMarker place
 
@@ -54,8 +55,8 @@ pub record IsBadOctet (place : ℕ) (w : List ℕ) (fault : FrameFault) : Type 0
   pub bad : ℕ
   pub rest : List ℕ
   pub is : w ≡ descriptor ∷ high ∷ low ∷ (good ++ bad ∷ rest)
-  pub sound : has descriptor 32 ≡ false
-  pub marker : has descriptor 16 ≡ true
+  pub sound : has descriptor SUSPECTED_ERRORS ≡ false
+  pub marker : has descriptor RESTART_MARKER ≡ true
   pub fits : is_no_length (count_of high low) ≡ false
   pub within : length good < count_of high low
   pub each : AllByRecursion (λ c. is_marker_octet c ≡ true) good

@@ -11,10 +11,11 @@ use Rattle.ftp_framer.specs.Block.{has, count_of}
 use Rattle.ftp_representation.specs.Marker.{is_marker_octet}
 use Rattle.ftp_mode.specs.Units.{WireUnit, GoesOn, units_octets, units_said, IsText}
 use Rattle.ftp_mode.specs.Fault.{is_no_length, IsFault}
+use Rattle.ftp_framer.specs.declared.descriptor.TheConstants.{SUSPECTED_ERRORS, RESTART_MARKER}
 
 -- a cut header: a descriptor without suspected errors, and perhaps half of the count
 abbrev pub IsCutHeader : List ℕ → Type 0
-IsCutHeader w = ((d : ℕ) × (has d 32 ≡ false) × (w ≡ d ∷ [])) ⊎ ((d high : ℕ) × (has d 32 ≡ false) × (w ≡ d ∷ high ∷ []))
+IsCutHeader w = ((d : ℕ) × (has d SUSPECTED_ERRORS ≡ false) × (w ≡ d ∷ [])) ⊎ ((d high : ℕ) × (has d SUSPECTED_ERRORS ≡ false) × (w ≡ d ∷ high ∷ []))
 
 -- a cut block of data: its octets count
 pub record IsCutData (w : List ℕ) (said : List Said) : Type 0 where
@@ -23,8 +24,8 @@ pub record IsCutData (w : List ℕ) (said : List Said) : Type 0 where
   pub low : ℕ
   pub octets : List ℕ
   pub is : w ≡ descriptor ∷ high ∷ low ∷ octets
-  pub sound : has descriptor 32 ≡ false
-  pub plain : has descriptor 16 ≡ false
+  pub sound : has descriptor SUSPECTED_ERRORS ≡ false
+  pub plain : has descriptor RESTART_MARKER ≡ false
   pub short : length octets < count_of high low
   pub says : said ≡ octets_said octets
 
@@ -35,8 +36,8 @@ pub record IsCutMarker (w : List ℕ) : Type 0 where
   pub low : ℕ
   pub octets : List ℕ
   pub is : w ≡ descriptor ∷ high ∷ low ∷ octets
-  pub sound : has descriptor 32 ≡ false
-  pub marker : has descriptor 16 ≡ true
+  pub sound : has descriptor SUSPECTED_ERRORS ≡ false
+  pub marker : has descriptor RESTART_MARKER ≡ true
   pub fits : is_no_length (count_of high low) ≡ false
   pub short : length octets < count_of high low
   pub each : AllByRecursion (λ c. is_marker_octet c ≡ true) octets

@@ -15,6 +15,7 @@ use Rattle.ftp_representation.specs.declared.marker.TheConstants.{MARKER_LIMIT}
 use Rattle.ftp_framer.specs.Block.{has, count_of, ends_of}
 use Rattle.ftp_framer.specs.Count.{next}
 use Rattle.ftp_mode.specs.Fault.{is_no_length}
+use Rattle.ftp_framer.specs.declared.descriptor.TheConstants.{END_OF_FILE, SUSPECTED_ERRORS, RESTART_MARKER}
 
 -- where in a text the next octet stands
 pub data Place : Type 0 where
@@ -33,7 +34,7 @@ pub data Reading : Type 0 where
   failed : (fault : FrameFault) → Reading
 
 abbrev pub after_block : ℕ → Place
-after_block d = if has d 64 then ended else at_head
+after_block d = if has d END_OF_FILE then ended else at_head
 
 -- the descriptor of a block stands two octets before the last of its header
 abbrev pub marker_begins : ℕ → ℕ → ℕ → Reading
@@ -47,9 +48,9 @@ place_step n plain c = going (next n) plain
 place_step n outside c = going (next n) (if c == 255 then escaped else outside)
 place_step n escaped c =
     if is_code c then going (next n) (if code_ends c then ended else outside) else failed (BadEscape n)
-place_step n at_head c = if has c 32 then failed (Suspect n) else going (next n) (at_high c)
+place_step n at_head c = if has c SUSPECTED_ERRORS then failed (Suspect n) else going (next n) (at_high c)
 place_step n (at_high d) c = going (next n) (at_low d c)
-place_step n (at_low d high) c = if has d 16 then marker_begins n d (count_of high c) else data_begins n d (count_of high c)
+place_step n (at_low d high) c = if has d RESTART_MARKER then marker_begins n d (count_of high c) else data_begins n d (count_of high c)
 place_step n (inside d left) c = going (next n) (if left == 1 then after_block d else inside d (left - 1))
 place_step n (marking d left text) c =
     if is_marker_octet c && nat_lt (length text) MARKER_LIMIT then going (next n) (if left == 1 then after_block d else marking d (left - 1) (text ++ c ∷ []))
@@ -62,7 +63,7 @@ place_out outside c = if c == 255 then [] else says (octet c) ∷ []
 place_out escaped c = code_said c
 place_out at_head c = []
 place_out (at_high d) c = []
-place_out (at_low d high) c = if has d 16 then [] else (if count_of high c == 0 then ends_of d else [])
+place_out (at_low d high) c = if has d RESTART_MARKER then [] else (if count_of high c == 0 then ends_of d else [])
 place_out (inside d left) c = says (octet c) ∷ (if left == 1 then ends_of d else [])
 place_out (marking d left text) c =
     if is_marker_octet c && nat_lt (length text) MARKER_LIMIT then (if left == 1 then marker (text ++ c ∷ []) ∷ ends_of d else []) else []

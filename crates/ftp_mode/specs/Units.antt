@@ -9,6 +9,7 @@ use Rattle.ftp_representation.specs.declared.representation.Mode.TheVariants.{St
 use Rattle.ftp_framer.specs.Said.{Said, says, octets_said}
 use Rattle.ftp_framer.specs.Stream.{is_code, code_said, code_ends}
 use Rattle.ftp_framer.specs.Block.{Block, block_octets, block_said, IsBlock, has}
+use Rattle.ftp_framer.specs.declared.descriptor.TheConstants.{END_OF_FILE}
 
 -- an octet, an escape octet and its code, or a block
 pub data WireUnit : Type 0 where
@@ -30,7 +31,7 @@ unit_said (whole b) = block_said b
 abbrev pub unit_ends : WireUnit → Bool
 unit_ends (one c) = false
 unit_ends (escape code) = code_ends code
-unit_ends (whole b) = has b.descriptor 64
+unit_ends (whole b) = has b.descriptor END_OF_FILE
 
 -- which units a mode and a structure have
 abbrev pub IsUnit : Mode → Structure → WireUnit → Type 0

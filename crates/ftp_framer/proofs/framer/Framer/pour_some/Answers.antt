@@ -1,7 +1,7 @@
 use Rattle.std.proofs.Common.{◌≡◌, ◌≤◌, length, [], ap, sym, ◌∙◌, arith, length-append, inl, inr}
 use Rattle.ftp_framer.specs.Framing.{owed_block}
 use Rattle.ftp_framer.proofs.FramingLemmas.{open_block, moved_len}
-use Rattle.ftp_framer.proofs.framer.Framer.pour.Goals as goal
+use Rattle.ftp_framer.proofs.framer.Framer.pour_some.Goals as goal
 
 pub returns-clause-some : goal.returns-clause-some
 returns-clause-some c = λ room some.
