@@ -10,13 +10,10 @@ use crate::session::Session;
 use crate::text::Text;
 use ftp_command::LINE_LIMIT;
 use ftp_nvt::{Ear, Event};
-use ftp_pieces::{Failed, TURNS};
+use ftp_pieces::{Failed, PIECE_LIMIT, TURNS};
 use ftp_tree::Path;
 use std::alloc::Allocator;
 use std::io::{Read, Write};
-
-/// The most octets that are read at a time.
-const PIECE_LIMIT: usize = 4096;
 
 /// Whether more is to be read.
 #[derive(Clone, Copy, Debug, PartialEq, Eq)]

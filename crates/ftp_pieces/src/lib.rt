@@ -3,4 +3,4 @@
 
 mod pieces;
 
-pub use pieces::{Failed, TURNS, get, put};
+pub use pieces::{Failed, PIECE_LIMIT, TURNS, get, put};

@@ -8,6 +8,9 @@ use std::io::{ErrorKind, Read, Write};
 /// A loop over reads or writes ends, as after a failed one, once it has made so many turns.
 pub const TURNS: u64 = 1_099_511_627_776;
 
+/// The most octets that a program asks one read for.
+pub const PIECE_LIMIT: usize = 4096;
+
 /// A read or a write that failed, or memory that was refused: the program ends with status 3.
 #[derive(Clone, Copy, Debug, PartialEq, Eq)]
 pub struct Failed;

@@ -1,12 +1,11 @@
 -- The answers of all lines from the first read to the last.
-use Rattle.std.proofs.Common.{◌≡◌, ℕ, ◌∙◌, Option, List, [], ◌++◌, Bool, true, false, refl, sym, ap, subst, Result, Ok, Err, append-nil}
-use Rattle.std.specs.Prelude.{IsErr, ◌==◌}
-use Rattle.std.proofs.lemmas.List.Elements.{All-nil}
+use Rattle.std.proofs.Common.{◌≡◌, ℕ, ◌∙◌, Option, List, [], ◌++◌, Bool, true, false, refl, ap, subst, Result, Ok, Err, append-nil}
+use Rattle.std.specs.Prelude.{IsErr}
 use Rattle.std.specs.Str.Lines.{lines}
 use Rattle.std.specs.Io.KnownBytes.{Consumes, IsAtEnd, Keeps}
-use Rattle.std.proofs.KnownBytes.{Consumes-nil, Consumes-trans, Consumes-kept, Appends-nil}
+use Rattle.std.proofs.KnownBytes.{Consumes-trans, Consumes-kept}
 use Rattle.ftp_programs.specs.FactLines.{AnswersFront, TellsFront, TellsTo}
-use Rattle.ftp_programs.specs.FactHearing.{LacksFeed, Told, StandsAfter}
+use Rattle.ftp_programs.specs.FactHearing.{Told, StandsAfter}
 use Rattle.ftp_programs.specs.declared.fact_lines.FactLines.{FactLines}
 use Rattle.ftp_pieces.specs.declared.pieces.Failed.{Failed}
 use Rattle.ftp_programs.proofs.FactAnswering.{stands_front}

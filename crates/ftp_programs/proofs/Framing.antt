@@ -1,6 +1,8 @@
 -- A file that is written, from its start to its end.
-use Rattle.std.proofs.Common.{◌≡◌, ℕ, ◌+◌, ◌*◌, ◌^◌, ◌≤◌, ◌<◌, ◌∙◌, Option, List, [], ◌∷◌, ◌++◌, length, drop, true, false, refl, sym, ap, subst, arith, append_assoc, append-nil, length-append, drop-drop, Result, Ok, Err}
+use Rattle.std.proofs.Common.{◌≡◌, ℕ, ◌+◌, ◌*◌, ◌^◌, ◌≤◌, ◌<◌, ◌∙◌, Option, List, [], ◌∷◌, ◌++◌, length, take, drop, true, false, refl, sym, ap, subst, arith, append_assoc, append-nil, length-append, drop-drop, Result, Ok, Err}
 use Rattle.std.proofs.lemmas.Bool.{false≢true}
+use Rattle.std.proofs.lemmas.List.{length-take-le}
+use Rattle.std.proofs.Math.Seq.{take-append-add}
 use Rattle.std.specs.Prelude.{Bool, ◌&&◌, flat_map, if◌then◌else◌, IsTrue, OnErr}
 use Rattle.std.proofs.KnownBytes.{Appends-trans, Appends-nil, Consumes-nil, Consumes-trans, Consumes-kept}
 use Rattle.std.specs.Io.KnownBytes.{Appends, Consumes, IsAtEnd, Keeps}
@@ -25,7 +27,7 @@ use Rattle.ftp_framer.proofs.LawLemmas.{writes_wire, writes_marked}
 use Rattle.ftp_pieces.proofs.Fronts.{Appends-front, AppendsFront-more, Appends-then-front}
 use Rattle.ftp_pieces.specs.Beginning.{AppendsFront}
 use Rattle.ftp_programs.specs.Frame.{Frames, FramesFront, frame_text}
-use Rattle.ftp_programs.specs.Sending.{still_to_give, Puts, Gives}
+use Rattle.ftp_programs.specs.Sending.{made_octets, still_to_give, Puts, Gives}
 use Rattle.ftp_representation.specs.declared.representation.Representation.{Representation}
 use Rattle.ftp_programs.specs.declared.frames.Sending.{Sending}
 
@@ -65,8 +67,14 @@ text_plain r marks f state none b =
 
 -- ITEMS
 
+-- octets made behind others
+pub behind_front : (room front back : List ℕ) (at n : ℕ) → at ≤ length room → front ≡ take at room → take (at + n) (front ++ back) ≡ take at room ++ take n back
+behind_front room front back at n within is =
+    let long : length front ≡ at = ap length is ∙ length-take-le at room within in
+    ap (λ k. take (k + n) (front ++ back)) (sym long) ∙ take-append-add front back n ∙ ap (λ l. l ++ take n back) is
+
 pub puts_none : {A : Type 0} (s : Sending A) (ss : List Sign) → Puts s ss s ss
-puts_none s ss = record { octets = []; made = sym (append-nil s.made.items); text = λ more. refl }
+puts_none s ss = record { octets = []; made = sym (append-nil (made_octets s)); text = λ more. refl }
 
 -- PIECES
 
@@ -105,13 +113,13 @@ still_open old new rest left ss sent goes_on =
 
 pub gives_more : {A : Type 0} (old mid new : Sending A) (piece rest left : List ℕ) (ss : List Sign) (sent : Sending A)
     → Gives old piece mid rest
-    → sent.framer ≡ mid.framer → sent.made.items ≡ mid.made.items → new.sender ≡ sent.sender
+    → sent.framer ≡ mid.framer → made_octets sent ≡ made_octets mid → new.sender ≡ sent.sender
     → ((more : List ℕ) → still_to_send mid.sender (rest ++ more) ≡ ss ++ still_to_send sent.sender (left ++ more))
     → Puts sent ss new []
     → Gives old piece new left
 gives_more old mid new piece rest left ss sent gives same_framer same_made same_sender step puts = record {
   octets = gives.octets ++ puts.octets;
-  made = made_more old.made.items mid.made.items new.made.items gives.octets puts.octets gives.made (puts.made ∙ ap (λ l. l ++ puts.octets) same_made);
+  made = made_more (made_octets old) (made_octets mid) (made_octets new) gives.octets puts.octets gives.made (puts.made ∙ ap (λ l. l ++ puts.octets) same_made);
   text = λ more.
       gives.text more
       ∙ ap (λ l. gives.octets ++ l)
@@ -135,12 +143,12 @@ sent_front piece rest at taken old new given ss back sent is more =
 
 -- the end of the file is out
 pub end_text : {A : Type 0} (old new : Sending A) → has_sent_end old.sender ≡ false
-    → Puts old (end_file ∷ []) new [] → owed_octets new.framer ≡ [] → new.made.items ≡ old.made.items ++ still_to_give old []
+    → Puts old (end_file ∷ []) new [] → owed_octets new.framer ≡ [] → made_octets new ≡ made_octets old ++ still_to_give old []
 end_text old new goes_on puts out =
     let sent : still_to_send old.sender [] ≡ end_file ∷ [] = ap (λ e. if e then [] else signs_of (sender_form old.sender) []) goes_on in
     let whole : still_to_give old [] ≡ puts.octets =
     ap (still_to_write old.framer) sent ∙ puts.text [] ∙ ap (λ l. puts.octets ++ (l ++ [])) out ∙ append-nil puts.octets in
-    puts.made ∙ ap (λ l. old.made.items ++ l) (sym whole)
+    puts.made ∙ ap (λ l. made_octets old ++ l) (sym whole)
 
 pub on_err : {A E P : Type 0} (outcome : Result A E) → P → OnErr outcome P
 on_err (Ok x) p = tt
@@ -157,11 +165,11 @@ pub record Follows {A : Type 0} (r : Representation) (marks : Bool) (before afte
   pub wrote : Appends old new octets
   pub text : (more : List ℕ) → length (file ++ more) < 2 ^ 64 → frame_text r marks (file ++ more) ≡ octets ++ still_to_give sending more
   pub goes_on : has_sent_end sending.sender ≡ false
-  pub empty : sending.made.items ≡ []
+  pub empty : made_octets sending ≡ []
 
 pub begins : {A : Type 0} (r : Representation) (marks : Bool) (input old : Option (List ℕ)) (sending : Sending A)
     → ((file : List ℕ) → length file < 2 ^ 64 → still_to_give sending file ≡ frame_text r marks file) → has_sent_end sending.sender ≡ false
-    → sending.made.items ≡ [] → Follows r marks input input old old 0 sending
+    → made_octets sending ≡ [] → Follows r marks input input old old 0 sending
 begins r marks input old sending text goes_on empty = record {
   file = [];
   read = Consumes-nil input;
@@ -187,8 +195,8 @@ made_all : (old made octets : List ℕ) → made ≡ old ++ octets → old ≡ [
 made_all old made octets is none = is ∙ ap (λ l. l ++ octets) none
 
 pub follows_on : {A : Type 0} (r : Representation) (marks : Bool) (before mid after old now later : Option (List ℕ)) (turn : ℕ) (xs : List ℕ) (sending next new : Sending A)
-    → Follows r marks before mid old now turn sending → length xs ≤ 4096 → Consumes mid after xs → Gives sending xs next [] → Appends now later next.made.items
-    → new.sender ≡ next.sender → new.framer ≡ next.framer → new.made.items ≡ []
+    → Follows r marks before mid old now turn sending → length xs ≤ 4096 → Consumes mid after xs → Gives sending xs next [] → Appends now later (made_octets next)
+    → new.sender ≡ next.sender → new.framer ≡ next.framer → made_octets new ≡ []
     → Follows r marks before after old later (turn + 1) new
 follows_on r marks before mid after old now later turn xs sending next new follows short read gives wrote same_sender same_framer empty = record {
   file = follows.file ++ xs;
@@ -196,7 +204,7 @@ follows_on r marks before mid after old now later turn xs sending next new follo
   short = let e = length-append follows.file xs in let f = follows.short in omega (arith, e, f, short);
   octets = follows.octets ++ gives.octets;
   wrote = Appends-trans old now later follows.octets gives.octets follows.wrote
-      (subst (λ l. Appends now later l) (made_all sending.made.items next.made.items gives.octets gives.made follows.empty) wrote);
+      (subst (λ l. Appends now later l) (made_all (made_octets sending) (made_octets next) gives.octets gives.made follows.empty) wrote);
   text = λ more fits.
       let same = append_assoc follows.file xs more in
       ap (frame_text r marks) same
@@ -235,17 +243,17 @@ breaks_piece r marks before mid after old now turn xs sending follows turns shor
 -- what was made of a piece was not written whole
 pub breaks_off : {A : Type 0} (r : Representation) (marks : Bool) (before mid after old now later : Option (List ℕ)) (turn : ℕ) (xs : List ℕ) (sending next : Sending A)
     → Follows r marks before mid old now turn sending → turn < 1099511627776 → length xs ≤ 4096 → Consumes mid after xs → Gives sending xs next []
-    → AppendsFront now later next.made.items → FramesFront r marks before after old later
+    → AppendsFront now later (made_octets next) → FramesFront r marks before after old later
 breaks_off r marks before mid after old now later turn xs sending next follows turns short read gives front =
-    let made = made_all sending.made.items next.made.items gives.octets gives.made follows.empty in
-    let text : still_to_give sending xs ≡ next.made.items ++ still_to_give next [] =
+    let made = made_all (made_octets sending) (made_octets next) gives.octets gives.made follows.empty in
+    let text : still_to_give sending xs ≡ made_octets next ++ still_to_give next [] =
     ap (still_to_give sending) (sym (append-nil xs)) ∙ gives.text [] ∙ ap (λ l. l ++ still_to_give next []) (sym made) in
     record {
       file = follows.file ++ xs;
       read = Consumes-trans before mid after follows.file xs follows.read read;
       wrote = subst (λ l. AppendsFront old later l) (sym (follows.text xs (fits_more follows.file xs turn follows.short turns short) ∙ ap (λ l. follows.octets ++ l) text))
-          (Appends-then-front old now later follows.octets (next.made.items ++ still_to_give next []) follows.wrote
-          (AppendsFront-more now later next.made.items (still_to_give next []) front));
+          (Appends-then-front old now later follows.octets (made_octets next ++ still_to_give next []) follows.wrote
+          (AppendsFront-more now later (made_octets next) (still_to_give next []) front));
     }
 
 pub read_all : {A : Type 0} (r : Representation) (marks : Bool) (before mid after old now : Option (List ℕ)) (turn : ℕ) (xs : List ℕ) (sending : Sending A)
@@ -257,24 +265,24 @@ read_all r marks before mid after old now turn xs sending follows read none =
 -- the input ended
 pub ends : {A : Type 0} (r : Representation) (marks : Bool) (before mid after old now later : Option (List ℕ)) (turn : ℕ) (xs : List ℕ) (sending next : Sending A)
     → Follows r marks before mid old now turn sending → turn ≤ 1099511627776 → Consumes mid after xs → xs ≡ [] → IsAtEnd after
-    → next.made.items ≡ sending.made.items ++ still_to_give sending [] → Appends now later next.made.items → Frames r marks before after old later 0
+    → made_octets next ≡ made_octets sending ++ still_to_give sending [] → Appends now later (made_octets next) → Frames r marks before after old later 0
 ends r marks before mid after old now later turn xs sending next follows turns read none ended made wrote = record {
   file = follows.file;
   read = read_all r marks before mid after old now turn xs sending follows read none;
   whole = ended;
   wrote = subst (λ l. Appends old later l) (sym (whole_text r marks before mid old now turn sending follows turns))
       (Appends-trans old now later follows.octets (still_to_give sending []) follows.wrote
-      (subst (λ l. Appends now later l) (made_all sending.made.items next.made.items (still_to_give sending []) made follows.empty) wrote));
+      (subst (λ l. Appends now later l) (made_all (made_octets sending) (made_octets next) (still_to_give sending []) made follows.empty) wrote));
   says = refl;
 }
 
 pub breaks_at_end : {A : Type 0} (r : Representation) (marks : Bool) (before mid after old now later : Option (List ℕ)) (turn : ℕ) (xs : List ℕ) (sending next : Sending A)
     → Follows r marks before mid old now turn sending → turn ≤ 1099511627776 → Consumes mid after xs → xs ≡ []
-    → next.made.items ≡ sending.made.items ++ still_to_give sending [] → AppendsFront now later next.made.items → FramesFront r marks before after old later
+    → made_octets next ≡ made_octets sending ++ still_to_give sending [] → AppendsFront now later (made_octets next) → FramesFront r marks before after old later
 breaks_at_end r marks before mid after old now later turn xs sending next follows turns read none made front = record {
   file = follows.file;
   read = read_all r marks before mid after old now turn xs sending follows read none;
   wrote = subst (λ l. AppendsFront old later l) (sym (whole_text r marks before mid old now turn sending follows turns))
       (Appends-then-front old now later follows.octets (still_to_give sending []) follows.wrote
-      (subst (λ l. AppendsFront now later l) (made_all sending.made.items next.made.items (still_to_give sending []) made follows.empty) front));
+      (subst (λ l. AppendsFront now later l) (made_all (made_octets sending) (made_octets next) (still_to_give sending []) made follows.empty) front));
 }

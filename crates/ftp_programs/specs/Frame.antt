@@ -1,5 +1,5 @@
 -- What is written of a file on a data connection (RFC 959, sections 3.1, 3.4 and 3.5).
-use Rattle.std.specs.Prelude.{◌≡◌, ℕ, List, Bool, true, false, ◌&&◌, if◌then◌else◌, Option}
+use Rattle.std.specs.Prelude.{◌≡◌, ℕ, List, Bool, ◌&&◌, if◌then◌else◌, Option}
 use Rattle.std.specs.Io.KnownBytes.{Appends, Consumes, IsAtEnd}
 use Rattle.ftp_representation.specs.Representation.{form_of, has_markers}
 use Rattle.ftp_representation.specs.declared.representation.Representation.{Representation}

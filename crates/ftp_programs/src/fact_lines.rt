@@ -5,13 +5,10 @@ ghost use Rattle.ftp_programs.specs.FactLines.{Answers, AnswersAll, TellsAll, Te
 ghost use Rattle.ftp_programs.specs.FactHearing.{LacksFeed, Told};
 
 use ftp_facts::{FactFault, read_entry, write_entry};
-use ftp_pieces::{Failed, TURNS};
+use ftp_pieces::{Failed, PIECE_LIMIT, TURNS};
 use memchr::memchr;
 use std::alloc::Allocator;
 use std::io::{Read, Write};
-
-/// The most octets that are read at a time.
-const PIECE_LIMIT: usize = 4096;
 
 /// What is written for a line, and whether it is a fault.
 #[derive(Drop)]

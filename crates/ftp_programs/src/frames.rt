@@ -1,5 +1,5 @@
 // A file to the octets of a data connection and back, between a reader and two writers.
-ghost use Rattle.std.specs.Prelude.{◌≡◌, ◌≢◌, ◌≤◌, ◌<◌, ◌^◌, ◌⊎◌, ◌++◌, ℕ, List, [], Some, None, false, length, drop, OnOk, OnErr};
+ghost use Rattle.std.specs.Prelude.{◌≡◌, ◌≢◌, ◌≤◌, ◌<◌, ◌^◌, ◌⊎◌, ◌+◌, ◌++◌, ℕ, List, [], Some, None, false, length, take, drop, vec_len, OnOk, OnErr};
 ghost use Rattle.std.specs.Io.KnownBytes.{Appends};
 ghost use Rattle.ftp_repr.specs.Items.{signs, given_signs};
 ghost use Rattle.ftp_repr.specs.Sending.{has_sent_end};
@@ -10,19 +10,17 @@ ghost use Rattle.ftp_framer.specs.Framing.{owed_octets, writing};
 ghost use Rattle.ftp_framer.specs.Writing.{writer};
 ghost use Rattle.ftp_pieces.specs.Beginning.{AppendsFront};
 ghost use Rattle.ftp_programs.specs.Direction.{Goes, GoesFront};
+ghost use Rattle.ftp_programs.specs.Writes.{Writes};
 ghost use Rattle.ftp_programs.specs.Frame.{Frames, FramesFront, frame_text};
 ghost use Rattle.ftp_representation.specs.Representation.{form_of};
 
 use crate::receiving::to_file;
-use ftp_mode::Framer;
-use ftp_pieces::{Failed, TURNS};
+use ftp_mode::{Framer, Written};
+use ftp_pieces::{Failed, PIECE_LIMIT, TURNS};
 use ftp_repr::{Item, Sender};
 use ftp_representation::Representation;
 use std::alloc::Allocator;
 use std::io::{Read, Write};
-
-/// The most octets that are read or written at a time.
-pub const PIECE_LIMIT: usize = 4096;
 
 /// Which way a file goes.
 #[derive(Clone, Copy, Debug, PartialEq, Eq)]
@@ -39,24 +37,26 @@ pub enum Direction {
 pub struct Sending<A: Allocator> {
     sender: Sender,
     framer: Framer,
-    room: [u8; PIECE_LIMIT],
-    made: Vec<u8, A>,
+    /// So many octets in front are made, and the others are to be written over.
+    made: usize,
+    room: Vec<u8, A>,
+    ghost within: { made ≤ vec_len room },
 }
 
 impl<A: Allocator> Sending<A> {
-    ghost use Rattle.ftp_programs.specs.Sending.{still_to_give, Puts, Gives};
+    ghost use Rattle.ftp_programs.specs.Sending.{made_octets, still_to_give, Puts, Gives};
 
     /// Nothing of the file was given, and own markers count its octets where they are asked for.
     fn new(alloc: A, form: Representation, marks: bool) -> Sending<A>
         ensures text { (file : List ℕ) → length file < 2 ^ 64 → still_to_give result file ≡ frame_text form marks file }
         ensures goes_on { has_sent_end result.sender ≡ false }
-        ensures empty { result.made.items ≡ [] }
+        ensures empty { made_octets result ≡ [] }
     {
         Sending {
             sender: Sender::new(form.kind, form.structure),
             framer: framer_of(form, marks),
-            room: [0u8; PIECE_LIMIT],
-            made: Vec::new(alloc),
+            made: 0,
+            room: Vec::new(alloc),
         }
     }
 
@@ -85,11 +85,9 @@ impl<A: Allocator> Sending<A> {
     {
         let mut rest = item;
         for _ in 0..TURNS {
-            let written = self.framer.put(rest, &mut self.room);
-            let (made, _) = self.room.split_at(written.made);
-            if self.made.extend_from_slice(made).is_err() {
-                return Err(Failed);
-            }
+            self.widen()?;
+            let written = put_at(&mut self.framer, rest, self.room.as_mut_slice(), self.made);
+            self.made += written.made;
             match written.rest(rest) {
                 Some(left) => rest = left,
                 None => return Ok(()),
@@ -98,10 +96,25 @@ impl<A: Allocator> Sending<A> {
         Err(Failed)
     }
 
+    /// Finds room for more octets where all is made.
+    fn widen(&mut self) -> Result<(), Failed>
+        ensures made { made_octets self.new ≡ made_octets self.old }
+        ensures sender { self.new.sender ≡ self.old.sender }
+        ensures framer { self.new.framer ≡ self.old.framer }
+    {
+        if self.made < self.room.len() {
+            return Ok(());
+        }
+        match self.room.extend_from_slice(&[0; PIECE_LIMIT]) {
+            Ok(()) => Ok(()),
+            Err(_) => Err(Failed),
+        }
+    }
+
     /// Makes the end of the file.
     fn end(&mut self) -> Result<(), Failed>
         requires { has_sent_end self.old.sender ≡ false }
-        ensures { OnOk result (self.new.made.items ≡ self.old.made.items ++ still_to_give self.old []) }
+        ensures { OnOk result (made_octets self.new ≡ made_octets self.old ++ still_to_give self.old []) }
     {
         self.put(Item::EndFile)?;
         Ok(())
@@ -109,16 +122,28 @@ impl<A: Allocator> Sending<A> {
 
     /// Writes what is made.
     fn write<W: Write>(&mut self, writer: &mut W) -> Result<(), Failed>
-        ensures ok { OnOk result (Appends (W.contents writer.old) (W.contents writer.new) self.old.made.items) }
-        ensures front { AppendsFront (W.contents writer.old) (W.contents writer.new) self.old.made.items }
-        ensures empty { OnOk result (self.new.made.items ≡ []) }
+        ensures ok { OnOk result (Appends (W.contents writer.old) (W.contents writer.new) (made_octets self.old)) }
+        ensures front { AppendsFront (W.contents writer.old) (W.contents writer.new) (made_octets self.old) }
+        ensures empty { OnOk result (made_octets self.new ≡ []) }
         ensures sender { self.new.sender ≡ self.old.sender }
         ensures framer { self.new.framer ≡ self.old.framer }
     {
-        ftp_pieces::put(writer, self.made.as_slice())?;
-        self.made.clear();
+        let (made, _) = self.room.as_slice().split_at(self.made);
+        ftp_pieces::put(writer, made)?;
+        self.made = 0;
         Ok(())
     }
+}
+
+/// Writes the front of an item into the room from `at` on.
+fn put_at(framer: &mut Framer, item: Item<'_>, room: &mut [u8], at: usize) -> Written
+    requires { at ≤ length room.old }
+    ensures within { (result.taken ≤ length (signs item.entry)) × (at + result.made ≤ length room.old) }
+    ensures writes { Writes framer.old (signs item.entry) framer.new (drop result.taken (signs item.entry)) (take at room.old) (take (at + result.made) room.new) }
+    ensures out { item.entry ≡ EndFile → result.taken ≡ 1 → owed_octets framer.new ≡ [] }
+{
+    let (_, back) = room.split_at_mut(at);
+    framer.put(item, back)
 }
 
 /// A writer of wires, with own markers where they are asked for and have an effect.

@@ -9,9 +9,8 @@ ghost use Rattle.ftp_mode.specs.Deframing.{part_said};
 ghost use Rattle.ftp_pieces.specs.Beginning.{AppendsFront};
 ghost use Rattle.ftp_programs.specs.WireReading.{fault_line, ReadsTo, Tells, TellsFront};
 
-use crate::frames::PIECE_LIMIT;
 use ftp_mode::{Deframer, FrameFault, Part};
-use ftp_pieces::{Failed, TURNS};
+use ftp_pieces::{Failed, PIECE_LIMIT, TURNS};
 use ftp_repr::{Item, Receiver};
 use ftp_representation::Representation;
 use std::alloc::{AllocError, Allocator};

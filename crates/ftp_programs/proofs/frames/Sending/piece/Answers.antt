@@ -26,8 +26,9 @@ loop-at-preserved g c =
     let mid = c.loop-at.self in
     let sent = record mid { sender = c.next-taken.new.self } in
     let step = sent_front piece c.split_at.result.1.now at taken mid.sender sent.sender (given_signs c.next-taken.result.1) [] c.split_at.ensures.back c.next-taken.ensures.gives (ap given_signs c.in_default.is) in
+    let given = gives_more c.args.self.now mid sent piece (drop at piece) (drop (at + taken) piece) [] sent
+    c.loop-at.invariant.gives refl refl refl step (puts_none sent []) in
     record {
       within = omega (arith, c.next-taken.ensures.within, c.loop-at-test.true, c.split_at.ensures.back_len);
-      gives = gives_more c.args.self.now mid sent piece (drop at piece) (drop (at + taken) piece) [] sent
-          c.loop-at.invariant.gives refl refl refl step (puts_none sent []);
+      gives = record { octets = given.octets; made = given.made; text = given.text; goes_on = given.goes_on };
     }
