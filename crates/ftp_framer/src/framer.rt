@@ -549,9 +549,30 @@ impl Framer {
         self.owed.push(code);
     }
 
+    /// Takes octets; behind an octet or an end that goes by itself a run too.
+    fn put_octets(&mut self, piece: &[u8], room: &mut [u8], at: usize) -> Written
+        requires clear { IsClear self.old }
+        requires within { at ≤ length room.old }
+        ensures within { (result.taken ≤ length piece.now) × (at ≤ result.made) × (result.made ≤ length room.old) }
+        ensures text { (more : List Sign) → take at room.old ++ still_to_write self.old (map sign piece.now ++ more)
+            ≡ take result.made room.new ++ still_to_write self.new (drop result.taken (map sign piece.now) ++ more) }
+        ensures some { at < length room.old → 0 < length piece.now → at < result.taken + result.made }
+    {
+        let first = self.put_some(piece, room, at);
+        if first.taken > 1 || !self.is_clear() {
+            return first;
+        }
+        let (_, rest) = piece.split_at(first.taken);
+        let more = self.put_some(rest, room, first.made);
+        Written {
+            taken: first.taken + more.taken,
+            made: more.made,
+        }
+    }
+
     /// Takes octets that go into the block or, as they are, into the room; where none stands in front, the first octet or
     /// what goes before it.
-    fn put_octets(&mut self, piece: &[u8], room: &mut [u8], at: usize) -> Written
+    fn put_some(&mut self, piece: &[u8], room: &mut [u8], at: usize) -> Written
         requires clear { IsClear self.old }
         requires within { at ≤ length room.old }
         ensures within { (result.taken ≤ length piece.now) × (at ≤ result.made) × (result.made ≤ length room.old) }

@@ -1,7 +1,7 @@
 use Rattle.std.proofs.Common.{ℕ, List, ◌++◌, take, ap, subst}
 use Rattle.ftp_framer.specs.Framing.{TakesRun}
 use Rattle.ftp_framer.proofs.RunLemmas.{front_text}
-use Rattle.ftp_framer.proofs.framer.Framer.put_octets.Goals as goal
+use Rattle.ftp_framer.proofs.framer.Framer.put_some.Goals as goal
 
 pub returns-then-fills-gt0-clause-text : goal.returns-then-fills-gt0-clause-text
 returns-then-fills-gt0-clause-text c = λ more.
