@@ -1,5 +1,5 @@
 use super::parts::FORMS;
-use ftp_repr::{Kind, ReprFault, first_ff, plain_run, wire_size};
+use ftp_repr::{Kind, ReprFault, Structure, first_ff, plain_run, wire_size};
 use std::test::Fail;
 
 /// Octets and their sizes in type A and in type I.
@@ -28,7 +28,7 @@ const COUNTS: &[usize] = &[0, 31, 32, 33, 64, 65];
 
 const LETTERS: [u8; 65] = [0x61; 65];
 
-/// Whether so many octets have their sizes, with this one at a place of them.
+/// Whether so many octets have their sizes and their run, with this one at a place of them.
 fn has_size_with(count: usize, octet: u8, place: usize) -> bool {
     let mut octets = LETTERS;
     if place < octets.len() {
@@ -36,10 +36,11 @@ fn has_size_with(count: usize, octet: u8, place: usize) -> bool {
     }
     let (front, _) = octets.split_at(count.min(octets.len()));
     let size = front.len() as u64;
-    wire_size(Kind::Ascii, front) == size + 1 && wire_size(Kind::Image, front) == size
+    let sized = wire_size(Kind::Ascii, front) == size + 1 && wire_size(Kind::Image, front) == size;
+    sized && plain_run(Kind::Ascii, Structure::File, front) == place
 }
 
-/// Whether so many octets have their sizes, with a CR or an LF at each place.
+/// Whether so many octets have their sizes and runs, with a CR or an LF at each place.
 fn has_sizes_with(count: usize) -> bool {
     let (letters, _) = LETTERS.split_at(count.min(LETTERS.len()));
     wire_size(Kind::Ascii, letters) == letters.len() as u64
@@ -48,7 +49,7 @@ fn has_sizes_with(count: usize) -> bool {
 }
 
 #[test]
-fn sizes_with_a_line_end_at_each_place(rt: HostRuntime) {
+fn sizes_and_runs_with_a_line_end_at_each_place(rt: HostRuntime) {
     assert_eq!(&rt;
         COUNTS.iter().position(|count| !has_sizes_with(*count)),
         None

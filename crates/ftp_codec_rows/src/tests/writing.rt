@@ -11,73 +11,41 @@ use std::test::Fail;
 type Row<'a> = (How, &'a [u8], &'a [u8]);
 
 const WIRES: &[Row<'static>] = &[
-    (FILE_STREAM, &[], &[]),
-    (RECORD_STREAM, &[], &[0xFF, 0x02]),
-    (FILE_BLOCK, &[], &[0x40, 0x00, 0x00]),
-    (RECORD_BLOCK, &[], &[0x40, 0x00, 0x00]),
+    (FILE_STREAM, b"", b""),
+    (RECORD_STREAM, b"", b"\xFF\x02"),
+    (FILE_BLOCK, b"", b"\x40\x00\x00"),
+    (RECORD_BLOCK, b"", b"\x40\x00\x00"),
     // A record and a tail, a record alone, an octet 255.
-    (
-        RECORD_STREAM,
-        &[0x61, 0x0A, 0x62],
-        &[0x61, 0xFF, 0x01, 0x62, 0xFF, 0x02],
-    ),
-    (RECORD_STREAM, &[0x61, 0x0A], &[0x61, 0xFF, 0x03]),
-    (RECORD_STREAM, &[0xFF], &[0xFF, 0xFF, 0xFF, 0x02]),
-    (
-        RECORD_BLOCK,
-        &[0x61, 0x0A, 0x62],
-        &[0x80, 0x00, 0x01, 0x61, 0x40, 0x00, 0x01, 0x62],
-    ),
-    (RECORD_BLOCK, &[0x61, 0x0A], &[0xC0, 0x00, 0x01, 0x61]),
+    (RECORD_STREAM, b"a\nb", b"a\xFF\x01b\xFF\x02"),
+    (RECORD_STREAM, b"a\n", b"a\xFF\x03"),
+    (RECORD_STREAM, b"\xFF", b"\xFF\xFF\xFF\x02"),
+    (RECORD_BLOCK, b"a\nb", b"\x80\x00\x01a\x40\x00\x01b"),
+    (RECORD_BLOCK, b"a\n", b"\xC0\x00\x01a"),
     // Empty records.
-    (RECORD_BLOCK, &[0x0A], &[0xC0, 0x00, 0x00]),
-    (
-        RECORD_BLOCK,
-        &[0x0A, 0x61],
-        &[0x80, 0x00, 0x00, 0x40, 0x00, 0x01, 0x61],
-    ),
-    (
-        RECORD_BLOCK,
-        &[0x0A, 0x0A],
-        &[0x80, 0x00, 0x00, 0xC0, 0x00, 0x00],
-    ),
-    (
-        RECORD_STREAM,
-        &[0x0A, 0x0A, 0x61],
-        &[0xFF, 0x01, 0xFF, 0x01, 0x61, 0xFF, 0x02],
-    ),
+    (RECORD_BLOCK, b"\n", b"\xC0\x00\x00"),
+    (RECORD_BLOCK, b"\na", b"\x80\x00\x00\x40\x00\x01a"),
+    (RECORD_BLOCK, b"\n\n", b"\x80\x00\x00\xC0\x00\x00"),
+    (RECORD_STREAM, b"\n\na", b"\xFF\x01\xFF\x01a\xFF\x02"),
     // File structure keeps LF and 255.
-    (FILE_STREAM, &[0xFF, 0x0A], &[0xFF, 0x0A]),
-    (FILE_BLOCK, &[0xFF, 0x0A], &[0x40, 0x00, 0x02, 0xFF, 0x0A]),
-    (
-        ASCII_STREAM,
-        &[0x61, 0x0D, 0x0A],
-        &[0x61, 0x0D, 0x00, 0x0D, 0x0A],
-    ),
+    (FILE_STREAM, b"\xFF\n", b"\xFF\n"),
+    (FILE_BLOCK, b"\xFF\n", b"\x40\x00\x02\xFF\n"),
+    (ASCII_STREAM, b"a\r\n", b"a\r\x00\r\n"),
     // Files rich in CR, LF, NUL and 255.
     (
         RECORD_STREAM,
-        &[0x0D, 0x00, 0xFF, 0x02, 0x0A, 0xFF, 0x03, 0x00, 0x0D],
-        &[
-            0x0D, 0x00, 0xFF, 0xFF, 0x02, 0xFF, 0x01, 0xFF, 0xFF, 0x03, 0x00, 0x0D, 0xFF, 0x02,
-        ],
+        b"\r\x00\xFF\x02\n\xFF\x03\x00\r",
+        b"\r\x00\xFF\xFF\x02\xFF\x01\xFF\xFF\x03\x00\r\xFF\x02",
     ),
     (
         ASCII_RECORD_STREAM,
-        &[0x0D, 0x0A, 0xFF, 0x00],
-        &[0x0D, 0x00, 0xFF, 0x01, 0xFF, 0xFF, 0x00, 0xFF, 0x02],
+        b"\r\n\xFF\x00",
+        b"\r\x00\xFF\x01\xFF\xFF\x00\xFF\x02",
     ),
-    (
-        ASCII_BLOCK,
-        &[0x0A, 0x0A, 0x61],
-        &[0x40, 0x00, 0x05, 0x0D, 0x0A, 0x0D, 0x0A, 0x61],
-    ),
+    (ASCII_BLOCK, b"\n\na", b"\x40\x00\x05\r\n\r\na"),
     (
         ASCII_RECORD_BLOCK,
-        &[0x00, 0x0A, 0x0D, 0x0A, 0xFF, 0x0A],
-        &[
-            0x80, 0x00, 0x01, 0x00, 0x80, 0x00, 0x02, 0x0D, 0x00, 0xC0, 0x00, 0x01, 0xFF,
-        ],
+        b"\x00\n\r\n\xFF\n",
+        b"\x80\x00\x01\x00\x80\x00\x02\r\x00\xC0\x00\x01\xFF",
     ),
 ];
 
