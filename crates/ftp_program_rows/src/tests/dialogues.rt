@@ -51,6 +51,11 @@ const WORKED: &[Row<'static>] = &[
         0,
         b"220 Ready\r\n230 Logged in\r\n257 \"/a\"\"b\" created\r\n257 \"/\" is the current directory\r\n",
     ),
+    (
+        b"USER anonymous\r\nMKD \xC3\xA9\r\n",
+        0,
+        b"220 Ready\r\n230 Logged in\r\n257 \"/\xC3\xA9\" created\r\n",
+    ),
 ];
 
 #[test]
@@ -68,6 +73,12 @@ const REFUSED: &[Row<'static>] = &[
         b"USER\r\nNOOP x\r\nMKD a\x01\r\n",
         1,
         b"220 Ready\r\n501 Bad argument\r\n501 Bad argument\r\n501 Bad argument\r\n",
+    ),
+    // An octet that begins no character, a character in too many octets, a half of a pair.
+    (
+        b"USER anonymous\r\nMKD \xC3\r\nMKD \xC0\xAF\r\nMKD \xED\xA0\x80\r\n",
+        1,
+        b"220 Ready\r\n230 Logged in\r\n501 Bad argument\r\n501 Bad argument\r\n501 Bad argument\r\n",
     ),
     (
         b"PWD\r\nMKD d\r\nPASS\r\n",
