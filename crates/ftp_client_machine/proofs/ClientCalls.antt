@@ -19,8 +19,9 @@ use Rattle.ftp_client_machine.specs.Calls.{reply_limit, line_taken, event_taken,
 use Rattle.ftp_client_machine.specs.Dialogue.{begins, finishes, greeted, enters_with, enters, user_answered, pass_answered, set_accepted, dials, named, port_named, passive_named, step_done, intermediate, awaits_reply, step_answered, answer_in, judged, answers_by, answers_job, closes_once_given_by, closes_once_given, carries_on, with_reply, awaited, transfer_opened, marked_flow, noted, unless_open, before_opening, behind_opening, transfer_answered, job_answered, stand_answered, judged_reply, answered, closes, has_begun, is_given}
 use Rattle.ftp_client_machine.specs.Octets.{flow_octet}
 use Rattle.ftp_client_machine.specs.Plan.{asked_settings, settings_behind as set_by, is_extended}
-use Rattle.ftp_client_machine.specs.Replies.{Heard, GoesOn, Says, Faulty, line_heard, Between, Verdict, Preliminary, Completion, Intermediate, Negative, Closing, Displaced, verdict_of}
-use Rattle.ftp_client_machine.specs.Values.{passive_value, extended_value, mark_value}
+use Rattle.ftp_client_machine.specs.Replies.{Verdict, Preliminary, Completion, Intermediate, Negative, Closing, Displaced, verdict_of}
+use Rattle.ftp_reply.specs.Reader.{Heard, GoesOn, Says, Faulty, line_heard, Between}
+use Rattle.ftp_reply.specs.Values.{passive_value, extended_value, mark_value}
 use Rattle.ftp_client_machine.specs.View.{View, Job, Idle, Waiting, Doing, Transferring, Told, Transfer, Flow, Sending, Receiving, stands, strange}
 use Rattle.ftp_client_machine.specs.declared.client.Ending.{Ending}
 use Rattle.ftp_client_machine.specs.declared.client.Ending.TheVariants as Endings
@@ -302,7 +303,7 @@ line_low (GoesOn gathered) v = record { begins = omega arith; gives = inr (omega
 line_low (Says code texts) v =
     let w : View = record v { gathered = Between } in
     both 0 v w (answered code texts w) (record { begins = omega arith; gives = inr (omega arith) }) (answered_low code texts w)
-line_low Faulty v = strange_low v
+line_low (Faulty fault) v = strange_low v
 
 -- an answer has three octets at most
 abbrev IsSmall : NvtEvent → Type 0

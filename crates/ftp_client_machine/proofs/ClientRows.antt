@@ -4,10 +4,10 @@ use Rattle.ftp_facts.specs.Calendar.{days_of_years, days_of_months}
 use Rattle.ftp_path.proofs.TextLemmas.{path_on_literals}
 use Rattle.ftp_client_machine.specs.Calls.{starts, uploads, listening, listen_refused, data_opened, data_refused, data_end, data_fault, gives_data, wants}
 use Rattle.ftp_client_machine.specs.Dialogue.{answered}
-use Rattle.ftp_client_machine.specs.Listing.{moment_value}
-use Rattle.ftp_client_machine.specs.Replies.{line_heard}
-use Rattle.ftp_client_machine.specs.Values.{passive_value, extended_value, quoted_value, path_value, mark_value}
-use Rattle.ftp_client_machine.specs.Rows.{ActiveDownload, ActiveReport, BrokenDownload, BrokenUpload, Endpoints, Judged, LogsIn, LongGreeting, MarkRead, Moment, NotOpened, OtherHosts, OtherOrders, OwnCode, PassiveDownload, PassiveUpload, PassivePort, Quoted, Renames, TwoCodes, Unasked, Unsendable, UploadBeginsAnew, UploadGivesUp, UploadInTypeA, UploadResumes}
+use Rattle.ftp_facts.specs.Moment.{moment_value}
+use Rattle.ftp_reply.specs.Reader.{line_heard}
+use Rattle.ftp_reply.specs.Values.{passive_value, extended_value, quoted_value, path_value, mark_value}
+use Rattle.ftp_client_machine.specs.Rows.{ActiveDownload, ActiveReport, BrokenDownload, BrokenUpload, Endpoints, Judged, LogsIn, LongGreeting, MarkRead, Moment, NamesRead, NotOpened, OtherHosts, OtherOrders, OwnCode, PassiveDownload, PassiveUpload, PassivePort, Quoted, Renames, TwoCodes, Unasked, Unsendable, UploadBeginsAnew, UploadGivesUp, UploadInTypeA, UploadResumes}
 
 pub login : LogsIn
 unfolding answered
@@ -32,6 +32,10 @@ quoted = refl
 pub mark : MarkRead
 unfolding mark_value
 mark = (refl, refl)
+
+pub names : NamesRead
+unfolding path_on_literals
+names = (refl, refl, refl)
 
 pub own_code : OwnCode
 unfolding line_heard

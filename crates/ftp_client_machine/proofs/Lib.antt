@@ -1,14 +1,6 @@
 pub mod ClientBounds
 pub mod ClientCalls
-pub mod ClientEndpoints
-pub mod ClientEntries
 pub mod ClientGiving
-pub mod ClientMoments
-pub mod ClientNumbers
-pub mod ClientPassive
 pub mod ClientRows
-pub mod ClientTexts
 pub mod RepliesInFlight
-pub mod ReplyLines
 pub mod RestLemmas
-pub mod ValueLemmas

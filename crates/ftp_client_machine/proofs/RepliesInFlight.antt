@@ -17,10 +17,9 @@ use Rattle.ftp_ends.specs.Ear.{Ear, quiet, ear, ear_out, ear_step}
 use Rattle.ftp_client_machine.specs.Calls.{reply_limit, line_taken, events_taken, hears_octet, hears, may_hear}
 use Rattle.ftp_client_machine.specs.Dialogue.{answered}
 use Rattle.ftp_client_machine.specs.InFlight.{ClientHearsInPieces, OnlyHeard, IsCarried, octets_of, ReplyIsHeard, ClientDropsAnswer, CodeAndTexts, ClientHearsRow}
-use Rattle.ftp_client_machine.specs.Replies.{Gathered, Between, Begun, GoesOn, Says, are_within, is_last, line_heard}
-use Rattle.ftp_client_machine.specs.Values.{number_within}
+use Rattle.ftp_reply.specs.Reader.{Gathered, Between, Begun, GoesOn, Says, line_heard}
+use Rattle.ftp_reply.proofs.HeardLemmas.{begins_last, code_is_read, front_within, plain_is_inner}
 use Rattle.ftp_client_machine.specs.View.{View}
-use Rattle.ftp_client_machine.proofs.ClientNumbers.{Within, is_given, and_both, is_at_most, says_within}
 use Rattle.ftp_client_machine.proofs.RestLemmas.{answered_at_rest}
 use Rattle.ftp_ends.proofs.LineInFlight.{no_more, Closes, unended, line_closes, written_is, front_of_front, front_says, answer_is_dropped}
 
@@ -125,73 +124,22 @@ gathered_cut v (text ∷ texts) last new front back octet all is rest more cut =
 
 -- ---- the lines of a reply
 
-digit : (d : ℕ) → d < 10 → digit_value (48 + d) ≡ d
-digit d low = grind (arith, nat_tests)
-
-is_digit : (d : ℕ) → d < 10 → is_ascii_digit (48 + d) ≡ true
-is_digit d low = grind (arith, nat_tests)
-
-code_value : (code : ℕ) → IsCode code → digits_value 10 (code_text code) ≡ code
-code_value code is =
-    let a = digit (code / 100) (omega (arith, is.high)) in
-    let b = digit (code / 10 % 10) (omega arith) in
-    let c = digit (code % 10) (omega arith) in
-    rw (a, b, c) (omega arith)
-
-pub code_is_read : (code : ℕ) → IsCode code → number_within 3 100 599 (code_text code) ≡ Some code
-code_is_read code is =
-    let value = code_value code is in
-    let a = digit (code / 100) (omega (arith, is.high)) in
-    let b = digit (code / 10 % 10) (omega arith) in
-    let c = digit (code % 10) (omega arith) in
-    let w : Within 3 100 599 (code_text code) = record {
-      some = omega arith;
-      short = omega arith;
-      all = (omega (arith, a, is.high), (omega (arith, b), (omega (arith, c), tt)));
-      least = omega (arith, value, is.low);
-      greatest = omega (arith, value, is.high);
-    } in
-    is_given _ (digits_value 10 (code_text code)) (says_within 3 100 599 (code_text code) w) ∙ ap Some value
-
-pub test_within : (texts : List Text) → AreWithin texts → are_within texts ≡ true
-test_within texts is = and_both _ _ (is_at_most (length texts) 64 is.count) (is_at_most _ 8192 is.octets)
-
-front_within : (xs ys : List Text) → AreWithin (xs ++ ys) → AreWithin xs
-front_within xs ys is = record { count = omega (arith, length-append xs ys, is.count); octets = omega (arith, sum_by-append length xs ys, is.octets) }
-
 last_alone : (code : ℕ) (text : Text) → IsCode code → AreWithin (text ∷ []) → line_heard Between (last_line code text) ≡ Says code (text ∷ [])
 unfolding line_heard
-last_alone code text is within = rw (code_is_read code is, test_within (text ∷ []) within) refl
+last_alone code text is within = rw (code_is_read code is, within) refl
 
 opening : (code : ℕ) (text : Text) → IsCode code → AreWithin (text ∷ []) → line_heard Between (opening_line code text) ≡ GoesOn (Begun code (text ∷ []))
 unfolding line_heard
-opening code text is within = rw (code_is_read code is, test_within (text ∷ []) within) refl
-
-pub begins_last : (code : ℕ) (text : Text) → is_last code (last_line code text) ≡ true
-begins_last code text =
-    (starts_is Decides-eqb (last_line code text) (code_text code ++ 32 ∷ []) (is_last code (last_line code text)) refl).1 text refl
-
-plain_is_inner : (code : ℕ) (text : Text) → IsCode code → begins_with_digits text ≡ false → is_last code text ≡ false
-plain_is_inner code text is plain =
-    elim (decided (is_last code text)) [
-      | inl e ↦
-          let s = (starts_is Decides-eqb text (code_text code ++ 32 ∷ []) (is_last code text) refl).0 e in
-          let a = is_digit (code / 100) (omega (arith, is.high)) in
-          let b = is_digit (code / 10 % 10) (omega arith) in
-          let c = is_digit (code % 10) (omega arith) in
-          let digits : begins_with_digits text ≡ true = ap begins_with_digits s ∙ rw (a, b, c) refl in
-          absurd (let never : true ≡ false = sym digits ∙ plain in cc)
-      | inr e ↦ e
-    ]
+opening code text is within = rw (code_is_read code is, within) refl
 
 ends : (code : ℕ) (texts : List Text) (text : Text) → AreWithin (texts ++ text ∷ []) → line_heard (Begun code texts) (last_line code text) ≡ Says code (texts ++ text ∷ [])
 unfolding line_heard
-ends code texts text within = rw (begins_last code text, test_within (texts ++ text ∷ []) within) refl
+ends code texts text within = rw (begins_last code text, within) refl
 
 inner : (code : ℕ) (texts : List Text) (text : Text) → IsCode code → begins_with_digits text ≡ false → AreWithin (texts ++ text ∷ [])
     → line_heard (Begun code texts) text ≡ GoesOn (Begun code (texts ++ text ∷ []))
 unfolding line_heard
-inner code texts text is plain within = rw (plain_is_inner code text is plain, test_within (texts ++ text ∷ []) within) refl
+inner code texts text is plain within = rw (plain_is_inner code text is plain, within) refl
 
 inner_all : (code : ℕ) (before texts behind : List Text) → IsCode code → All (λ line. begins_with_digits line ≡ false) texts → AreWithin ((before ++ texts) ++ behind)
     → Gathers (Begun code before) texts (Begun code (before ++ texts))

@@ -14,7 +14,7 @@ use Rattle.ftp_client_machine.specs.Plan.{asked_settings, first_step, next_step,
 use Rattle.ftp_client_machine.specs.Replies.{Verdict, Preliminary, Completion, Intermediate, Negative, Closing, Displaced, verdict_of}
 use Rattle.std.specs.Option.{option_map}
 use Rattle.ftp_client_machine.specs.Tries.{run_at}
-use Rattle.ftp_client_machine.specs.Values.{passive_value, extended_value, mark_value}
+use Rattle.ftp_reply.specs.Values.{passive_value, extended_value, mark_value}
 use Rattle.ftp_client_machine.specs.View.{View, Job, Idle, Waiting, Doing, Transferring, Told, Transfer, Flow, dropped, fails_by, strange}
 use Rattle.ftp_client_machine.specs.declared.client.Failure.{Failure}
 use Rattle.ftp_client_machine.specs.declared.client.Failure.TheVariants as Failures

@@ -9,7 +9,7 @@ use Rattle.ftp_ends.specs.Ear.{ear}
 use Rattle.ftp_ends.specs.Link.{same_host}
 use Rattle.ftp_client_machine.specs.Dialogue.{begins, goes_on, finishes, answered, carries_on, has_begun}
 use Rattle.ftp_client_machine.specs.Octets.{flow_octet}
-use Rattle.ftp_client_machine.specs.Replies.{Between, Heard, GoesOn, Says, Faulty, line_heard}
+use Rattle.ftp_reply.specs.Reader.{Between, Heard, GoesOn, Says, Faulty, line_heard}
 use Rattle.ftp_client_machine.specs.Tries.{OverBreaks, Run, run_of, first_try}
 use Rattle.ftp_client_machine.specs.View.{View, Job, Idle, Waiting, Doing, Transferring, Told, Transfer, Flow, Sending, Receiving, tells, fails, failure_said, strange}
 use Rattle.ftp_client_machine.specs.declared.client.Ending.{Ending}
@@ -85,7 +85,7 @@ reply_limit = 4096
 abbrev pub line_taken : Heard → View → View
 line_taken (GoesOn gathered) v = record v { gathered = gathered }
 line_taken (Says code texts) v = answered code texts (record v { gathered = Between })
-line_taken Faulty v = strange v
+line_taken (Faulty fault) v = strange v
 
 -- the answer that Telnet octets are owed goes out as it is
 abbrev pub event_taken : NvtEvent → View → View

@@ -13,12 +13,13 @@ use Rattle.ftp_nvt.specs.Lines.{written_line}
 use Rattle.ftp_reply.specs.Lines.{Text, joined}
 use Rattle.ftp_ends.specs.Decoder.{is_whole, ended}
 use Rattle.ftp_ends.specs.Link.{same_host}
-use Rattle.ftp_client_machine.specs.Listing.{moment_value, facts_in}
+use Rattle.ftp_facts.specs.Moment.{moment_value}
 use Rattle.ftp_client_machine.specs.Octets.{flow_of, content_answer, broken_answer}
 use Rattle.ftp_client_machine.specs.Plan.{asked_settings, first_step, next_step, settings_behind, command_of, is_extended}
 use Rattle.ftp_client_machine.specs.Replies.{Verdict, Preliminary, Completion, Intermediate, Negative, Closing, Displaced, verdict_of}
 use Rattle.ftp_client_machine.specs.Tries.{Run, next_in, run_at}
-use Rattle.ftp_client_machine.specs.Values.{passive_value, extended_value, path_value, number_value, mark_value}
+use Rattle.ftp_facts.specs.Value.{number_value}
+use Rattle.ftp_reply.specs.Values.{extended_value, facts_in, mark_value, passive_value, path_value}
 use Rattle.ftp_client_machine.specs.View.{View, Job, Waiting, Doing, Transferring, Transfer, Flow, Sending, Receiving, stands, dropped, tells, fails, strange}
 use Rattle.ftp_client_machine.specs.declared.client.Ending.{Ending}
 use Rattle.ftp_client_machine.specs.declared.client.Ending.TheVariants as Endings

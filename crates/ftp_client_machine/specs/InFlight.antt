@@ -10,7 +10,7 @@ use Rattle.ftp_reply.specs.Reply.{IsCode, HasPlainLines, written}
 use Rattle.ftp_ends.specs.Ear.{Ear, quiet, line_len, answer_of}
 use Rattle.ftp_client_machine.specs.Calls.{reply_limit, hears, may_hear}
 use Rattle.ftp_client_machine.specs.Dialogue.{answered}
-use Rattle.ftp_client_machine.specs.Replies.{Gathered, Between}
+use Rattle.ftp_reply.specs.Reader.{Gathered, Between}
 use Rattle.ftp_client_machine.specs.View.{View}
 use Rattle.ftp_ends.specs.Reply.{reply_octets}
 

@@ -1,6 +1,4 @@
 -- The client's machine. The files are in the order in which they are to be read.
-pub mod Values
-pub mod Listing
 pub mod Replies
 pub mod Tries
 pub mod View
@@ -11,5 +9,4 @@ pub mod Calls
 pub mod InFlight
 pub mod Failing
 pub mod Bounds
-pub mod Laws
 pub mod Rows

@@ -10,9 +10,9 @@ use Rattle.ftp_framer.specs.Wire.{wire}
 use Rattle.ftp_framer.specs.Said.{Said as WireSaid, says, marker}
 use Rattle.ftp_ends.specs.Decoder.{no_octets, octet_says, decoded_octet, broken}
 use Rattle.ftp_representation.specs.Representation.{form_of, has_markers}
-use Rattle.ftp_client_machine.specs.Listing.{entries_value, names_value}
+use Rattle.ftp_facts.specs.Listing.{entries_value, names_value}
 use Rattle.ftp_client_machine.specs.Plan.{settings_of, listing_settings}
-use Rattle.ftp_client_machine.specs.Values.{number_value}
+use Rattle.ftp_facts.specs.Value.{number_value}
 use Rattle.ftp_client_machine.specs.View.{Flow, Sending, Receiving}
 use Rattle.ftp_representation.specs.declared.representation.Representation.{Representation}
 

@@ -15,8 +15,10 @@ use Rattle.ftp_representation.specs.declared.representation.Structure.TheVariant
 use Rattle.ftp_ends.specs.RowWords.{here, elsewhere, lines}
 use Rattle.ftp_client_machine.specs.Calls.{starts, uploads, report_of, hears, listening, listen_refused, data_opened, data_refused, data_end, data_fault, receives, gives_data, to_give, wants}
 use Rattle.ftp_client_machine.specs.Dialogue.{answered}
-use Rattle.ftp_client_machine.specs.Replies.{Gathered, Between, Heard, GoesOn, Says, Faulty, line_heard}
-use Rattle.ftp_client_machine.specs.Values.{passive_value, extended_value, quoted_value, mark_value}
+use Rattle.ftp_facts.specs.Listing.{names_value}
+use Rattle.ftp_reply.specs.declared.fault.ReplyFault.TheVariants.{Failed}
+use Rattle.ftp_reply.specs.Reader.{Gathered, Between, Heard, GoesOn, Says, Faulty, line_heard}
+use Rattle.ftp_reply.specs.Values.{passive_value, extended_value, quoted_value, mark_value}
 use Rattle.ftp_client_machine.specs.Tries.{OverBreaks}
 use Rattle.ftp_client_machine.specs.View.{View, client}
 use Rattle.ftp_client_machine.specs.declared.client.Failure.TheVariants as Failures
@@ -121,15 +123,22 @@ Quoted = quoted_value (34 ∷ 47 ∷ 97 ∷ 34 ∷ 34 ∷ 98 ∷ 34 ∷ codes " 
 abbrev pub MarkRead : Type 0
 MarkRead = (mark_value (codes "MARK 65536 = 65537") ≡ Some 65537) × (mark_value (codes "Restart marker") ≡ None)
 
+-- each line of a listing of names is a path text, or the listing names nothing (RFC 959, section 4.1.3; own choice)
+abbrev pub NamesRead : Type 0
+NamesRead =
+    (names_value (codes "a b" ++ 10 ∷ codes "c") ≡ Some (codes "a b" ∷ codes "c" ∷ []))
+    × (names_value (codes "a" ++ 10 ∷ 10 ∷ codes "c") ≡ None)
+    × (names_value (codes "a" ++ 10 ∷ 127 ∷ 10 ∷ []) ≡ None)
+
 -- the lines that a reader has behind one more
 abbrev pub gathered_in : Heard → Gathered
 gathered_in (GoesOn gathered) = gathered
 gathered_in (Says code texts) = Between
-gathered_in Faulty = Between
+gathered_in (Faulty fault) = Between
 
 -- what the last of some lines gives
 abbrev pub last_heard : Gathered → List (List ℕ) → Heard
-last_heard gathered [] = Faulty
+last_heard gathered [] = Faulty Failed
 last_heard gathered (line ∷ []) = line_heard gathered line
 last_heard gathered (line ∷ next ∷ lines) = last_heard (gathered_in (line_heard gathered line)) (next ∷ lines)
 

@@ -7,7 +7,7 @@ use Rattle.ftp_operation.specs.declared.op.Op.{Op}
 use Rattle.ftp_ends.specs.Decoder.{Decoder}
 use Rattle.ftp_ends.specs.Ear.{Ear, quiet}
 use Rattle.ftp_representation.specs.Representation.{defaults}
-use Rattle.ftp_client_machine.specs.Replies.{Gathered, Between}
+use Rattle.ftp_reply.specs.Reader.{Gathered, Between}
 use Rattle.ftp_client_machine.specs.Tries.{Run}
 use Rattle.ftp_client_machine.specs.declared.client.Failure.{Failure}
 use Rattle.ftp_client_machine.specs.declared.client.Failure.TheVariants as Failures

@@ -6,6 +6,5 @@ pub mod client;
 pub mod laws;
 mod near;
 pub mod rows;
-pub mod values;
 
 pub use near::Near;

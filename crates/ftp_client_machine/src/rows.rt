@@ -1,5 +1,5 @@
 //! Worked rows of a client: functions that do nothing, whose contracts are rows of `specs/client/Rows`.
-ghost use Rattle.ftp_client_machine.specs.Rows.{ActiveDownload, ActiveReport, BrokenDownload, BrokenUpload, Endpoints, Judged, LogsIn, LongGreeting, MarkRead, Moment, NotOpened, OtherHosts, OtherOrders, OwnCode, PassiveDownload, PassiveUpload, PassivePort, Quoted, Renames, TwoCodes, Unasked, Unsendable, UploadBeginsAnew, UploadGivesUp, UploadInTypeA, UploadResumes};
+ghost use Rattle.ftp_client_machine.specs.Rows.{ActiveDownload, ActiveReport, BrokenDownload, BrokenUpload, Endpoints, Judged, LogsIn, LongGreeting, MarkRead, Moment, NamesRead, NotOpened, OtherHosts, OtherOrders, OwnCode, PassiveDownload, PassiveUpload, PassivePort, Quoted, Renames, TwoCodes, Unasked, Unsendable, UploadBeginsAnew, UploadGivesUp, UploadInTypeA, UploadResumes};
 
 /// The greeting is answered with USER, and a 331 with PASS.
 pub fn login()
@@ -29,6 +29,11 @@ pub fn quoted()
 /// The server's marker stands behind the client's.
 pub fn mark()
     ensures { MarkRead }
+{}
+
+/// Each line of a listing of names is a path text, or the listing names nothing.
+pub fn names()
+    ensures { NamesRead }
 {}
 
 /// A reply of several lines ends at its own code alone.

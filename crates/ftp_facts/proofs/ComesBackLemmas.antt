@@ -1,20 +1,31 @@
 -- What is written of an entry says that entry.
-use Rattle.std.proofs.Common.{◌≡◌, ◌≢◌, ℕ, ◌+◌, ◌/◌, ◌%◌, ◌<◌, ◌^◌, List, [], ◌∷◌, ◌++◌, Option, Some, None, option_map, All, Bool, true, false, not, ◌&&◌, ◌⊎◌, inl, inr, eqb, refl, ◌∙◌, arith, codes, decimal}
+use Rattle.std.proofs.Common.{◌≡◌, ◌≢◌, ℕ, ◌+◌, ◌/◌, ◌%◌, ◌<◌, ◌^◌, List, [], ◌∷◌, ◌++◌, Option, Some, None, option_map, All, Bool, true, false, not, ◌&&◌, ◌⊎◌, inl, inr, eqb, refl, sym, ap, ◌∙◌, arith, codes, decimal}
 use Rattle.std.specs.Option.{ForSome}
 use Rattle.std.specs.Int.{IsInRange}
 use Rattle.std.proofs.lemmas.List.Elements.{All-cons, All-nil, All-append, All-from_get_or}
-use Rattle.std.proofs.lemmas.Str.Parse.{not_in_digits}
+use Rattle.std.specs.Str.Parse.{AllDigits, digits_value}
+use Rattle.std.proofs.lemmas.Str.Parse.{IsNumeralModel, not_in_digits}
 use Rattle.std.proofs.lemmas.Fmt.{digits_decimal, digits_value-decimal, length-decimal-le, decimal_nonempty}
 use Rattle.ftp_facts.specs.declared.entry.Kind.{Kind}
 use Rattle.ftp_facts.specs.declared.entry.Kind.TheVariants.{File, Dir, CurrentDir, ParentDir, Other}
 use Rattle.ftp_facts.specs.declared.entry.Entry.{Entry}
 use Rattle.ftp_facts.specs.declared.moment.Moment.{Moment}
-use Rattle.ftp_facts.specs.Moment.{two_digits, four_digits, date_digits, time_digits, moment_digits, WritesMoment}
-use Rattle.ftp_facts.specs.Fact.{Fact, IsFact, IsValue, SaysSize, IsOtherWord, Lacks, facts_text, first_value, given, is_word, space, equals, semicolon, file_word, dir_word, current_word, parent_word}
-use Rattle.ftp_facts.specs.Entry.{HasParts, NamesKind, NamesMoment, SaysFact, SaysEntry, digits_of, entry_line, word_of, facts_of}
-use Rattle.ftp_facts.proofs.FactLemmas.{facts_text-append, own}
+use Rattle.ftp_facts.specs.Moment.{two_digits, four_digits, date_digits, time_digits, moment_digits, moment_value, WritesMoment}
+use Rattle.ftp_endpoint.specs.Number.{IsShort, SaysNumber}
+use Rattle.ftp_facts.specs.Fact.{Fact, IsFact, IsValue, IsOtherWord, Lacks, facts_text, first_value, given, is_word, space, equals, semicolon, file_word, dir_word, current_word, parent_word}
+use Rattle.ftp_facts.specs.Entry.{HasParts, SaysEntry, digits_of, entry_line, word_of, facts_of, listed_of}
+use Rattle.ftp_facts.specs.Listed.{fact_value, kind_word}
+use Rattle.ftp_facts.specs.Value.{number_value}
+use Rattle.ftp_facts.proofs.FactLemmas.{facts_text-append}
+use Rattle.ftp_facts.proofs.ListedLemmas.{says_entry}
 use Rattle.ftp_facts.proofs.MomentLemmas.{WritesMoment-says, days_fit}
+use Rattle.ftp_facts.proofs.MomentValueLemmas.{says_moment}
+use Rattle.ftp_facts.proofs.NumberLemmas.{says_number}
 use Rattle.ftp_facts.proofs.DigitsLemmas.{moment_digits-write}
+
+-- texts of digits and their number, as std's lemmas take them
+own : IsNumeralModel (AllDigits 10) (digits_value 10)
+own = record { to = λ ds all. all; from = λ ds all. all; same = λ ds all. refl }
 
 -- a literal lacks an octet where each of its octets differs
 abbrev differs : ℕ → List ℕ → Bool
@@ -63,11 +74,11 @@ kind_value (Some CurrentDir) fits = λ text e. let same : text ≡ current_word 
 kind_value (Some ParentDir) fits = λ text e. let same : text ≡ parent_word = cc in rw same (lacks_by space parent_word refl, lacks_by semicolon parent_word refl)
 kind_value (Some (Other word)) fits = λ text e. let same : text ≡ word = cc in rw same (fits word refl).0
 
-size_value : (size : Option ℕ) → ForSome size (λ n. n < 1_000_000_000_000_000_000) → ForSome (option_map decimal size) IsValue
+size_value : (size : Option ℕ) → ForSome size IsShort → ForSome (option_map decimal size) IsValue
 size_value None fits = λ text e. cc
 size_value (Some n) fits = λ text e.
     let same : text ≡ decimal n = cc in
-    let small : n < 1_000_000_000_000_000_000 = fits n refl in
+    let small : n < 10 ^ 18 = fits n refl in
     rw same (lacks_decimal space n (omega arith) (λ r. omega (arith, r)), lacks_decimal semicolon n (omega arith) (λ r. omega (arith, r)))
 
 modify_value : (modify : Option Moment) → ForSome (option_map digits_of modify) IsValue
@@ -137,36 +148,37 @@ values line name kind size modify perm k s m p is =
     }
 
 -- the word of a type names it, a decimal number is a size, and the digits of a moment say it
-kind_said : {A : Type 0} (kind : Option (Kind A)) → ((word : List ℕ) → kind ≡ Some (Other word) → IsOtherWord word) → SaysFact NamesKind (option_map word_of kind) kind
-kind_said None fits = tt
+kind_said : {A : Type 0} (kind : Option (Kind A)) → ((word : List ℕ) → kind ≡ Some (Other word) → IsOtherWord word) → option_map word_of kind ≡ option_map kind_word (option_map word_of kind)
+kind_said None fits = refl
 kind_said (Some File) fits = refl
 kind_said (Some Dir) fits = refl
 kind_said (Some CurrentDir) fits = refl
 kind_said (Some ParentDir) fits = refl
-kind_said (Some (Other word)) fits = (refl, fits word refl)
+kind_said (Some (Other word)) fits = let other = fits word refl in rw (other.1, other.2, other.3, other.4) refl
 
-size_said : (size : Option ℕ) → ForSome size (λ n. n < 1_000_000_000_000_000_000) → SaysFact SaysSize (option_map decimal size) size
-size_said None fits = tt
+size_said : (size : Option ℕ) → ForSome size IsShort → fact_value number_value (option_map decimal size) ≡ Some size
+size_said None fits = refl
 size_said (Some n) fits =
-    let small : n < 1_000_000_000_000_000_000 = fits n refl in
-    let fit : n < 2 ^ 64 = omega arith in
-    ((digits_decimal own n fit, decimal_nonempty n fit, length-decimal-le 18 n (omega arith) (omega arith) fit), digits_value-decimal own n fit)
+    let small : n < 10 ^ 18 = fits n refl in
+    let fit : n < 2 ^ 64 = omega (arith, small) in
+    let says : SaysNumber (decimal n) n =
+    (((decimal_nonempty n fit, digits_decimal own n fit), length-decimal-le 18 n (omega arith) (omega (arith, small)) fit), sym (digits_value-decimal own n fit)) in
+    ap (option_map Some) (says_number (decimal n) n says)
 
-modify_said : (modify : Option Moment) → SaysFact NamesMoment (option_map digits_of modify) modify
-modify_said None = tt
-modify_said (Some moment) = WritesMoment-says (moment_digits moment.seconds) moment.seconds (moment_digits-write moment.seconds moment.in_range)
+modify_said : (modify : Option Moment) → fact_value moment_value (option_map digits_of modify) ≡ Some (option_map (λ moment. moment.seconds) modify)
+modify_said None = refl
+modify_said (Some moment) =
+    ap (option_map Some) (says_moment (moment_digits moment.seconds) moment.seconds (WritesMoment-says (moment_digits moment.seconds) moment.seconds (moment_digits-write moment.seconds moment.in_range)))
 
 -- the line of an entry says it
 pub entry_line-says : {A : Type 0} (entry : Entry A) → SaysEntry (entry_line entry) entry
-entry_line-says entry = record {
-  kind = option_map word_of entry.kind;
-  said = record {
-    size_text = option_map decimal entry.size;
-    modify_text = option_map digits_of entry.modify;
-    parts = values (entry_line entry) entry.name (option_map word_of entry.kind) (option_map decimal entry.size) (option_map digits_of entry.modify) entry.perm (kind_value entry.kind entry.kind_fits) (size_value entry.size entry.size_fits) (modify_value entry.modify) entry.perm_fits refl;
-    named = entry.named;
-    size_said = size_said entry.size entry.size_fits;
-    modify_said = modify_said entry.modify;
-  };
-  kind_said = kind_said entry.kind entry.kind_fits;
-}
+entry_line-says entry = says_entry (entry_line entry) (listed_of entry) (record {
+  kind_text = option_map word_of entry.kind;
+  size_text = option_map decimal entry.size;
+  modify_text = option_map digits_of entry.modify;
+  parts = values (entry_line entry) entry.name (option_map word_of entry.kind) (option_map decimal entry.size) (option_map digits_of entry.modify) entry.perm (kind_value entry.kind entry.kind_fits) (size_value entry.size entry.size_fits) (modify_value entry.modify) entry.perm_fits refl;
+  named = entry.named;
+  kind = kind_said entry.kind entry.kind_fits;
+  size = size_said entry.size entry.size_fits;
+  modify = modify_said entry.modify;
+})

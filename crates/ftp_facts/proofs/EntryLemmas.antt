@@ -1,18 +1,21 @@
 -- A line says one entry, or meets one fault.
-use Rattle.std.proofs.Common.{◌≡◌, ◌≢◌, ℕ, ◌<◌, ◌^◌, List, [], ◌∷◌, ◌++◌, Option, Some, None, option_map, All, cond, Bool, true, false, refl, sym, ap, ◌∙◌, arith, append-nil, codes, Result, Ok, Err, IfErr}
-use Rattle.std.specs.Option.{ForSome}
+use Rattle.std.proofs.Common.{◌≡◌, ◌≢◌, ℕ, List, [], ◌∷◌, ◌++◌, Option, Some, None, option_map, All, cond, Bool, true, false, refl, sym, ap, subst, ◌∙◌, append-nil, codes, Result, Ok, Err, IfErr}
+use Rattle.std.specs.List.{find}
+use Rattle.std.specs.Option.{ForSome, is_some}
 use Rattle.std.specs.Result.{IsErrAnd}
+use Rattle.std.proofs.lemmas.List.Elements.{All-head, All-tail, All-cons, All-nil}
+use Rattle.ftp_endpoint.specs.Number.{IsShort, SaysNumber}
+use Rattle.ftp_endpoint.proofs.NumberLemmas.{value_lt}
+use Rattle.ftp_path.specs.Path.{IsPathText}
 use Rattle.ftp_facts.specs.declared.fault.FactFault.{FactFault}
 use Rattle.ftp_facts.specs.declared.fault.FactFault.TheVariants.{NoSpace, BadFact, BadMoment, Memory, BadName}
-use Rattle.std.specs.List.{find}
-use Rattle.std.proofs.lemmas.List.Elements.{All-head, All-tail, All-cons, All-nil}
-use Rattle.std.specs.Str.Parse.{digits_value}
-use Rattle.std.proofs.lemmas.Str.Parse.{digits_value_short}
-use Rattle.ftp_facts.specs.Fact.{Fact, IsFact, Lacks, IsValue, IsNumber, SaysSize, AreFacts, HasValue, facts_text, first_value, is_named, space, equals, semicolon}
-use Rattle.ftp_path.specs.Path.{IsPathText}
-use Rattle.ftp_facts.specs.declared.moment.Moment.{Moment}
-use Rattle.ftp_facts.specs.Entry.{HasParts, NamesMoment, NoParts, SaysFact, IsMoment, IsSound, Refuses}
-use Rattle.ftp_facts.proofs.FactLemmas.{Lacks-middle, Lacks-front, Lacks-back, cut-same, facts_after, nonempty, own}
+use Rattle.ftp_facts.specs.Entry.{HasParts, NoParts, IsSound, Refuses}
+use Rattle.ftp_facts.specs.Fact.{Fact, IsFact, Lacks, IsValue, AreFacts, HasValue, facts_text, first_value, is_named, space, equals, semicolon}
+use Rattle.ftp_facts.specs.Listed.{fact_value}
+use Rattle.ftp_facts.specs.Value.{number_value}
+use Rattle.ftp_facts.proofs.CutLemmas.{map_is}
+use Rattle.ftp_facts.proofs.FactLemmas.{Lacks-middle, Lacks-front, Lacks-back, cut-same, facts_after, nonempty}
+use Rattle.ftp_facts.proofs.NumberLemmas.{number_says}
 
 -- octets are the facts of one list
 pub AreFacts-same : (octets : List ℕ) (xs ys : List Fact) → AreFacts octets xs → AreFacts octets ys → xs ≡ ys
@@ -105,22 +108,20 @@ pub no_name : (line name : List ℕ) (kind size modify perm : Option (List ℕ))
 no_name line name kind size modify perm h empty =
     (has_space line (facts_text h.facts) name h.written, λ n k s m p sound. sound.named (sym (HasParts-same line name n kind size modify perm k s m p h sound.parts).0 ∙ empty))
 
-pub no_number : (line name : List ℕ) (kind size modify perm : Option (List ℕ)) → HasParts line name kind size modify perm → ¬ (ForSome size IsNumber) → Refuses line BadFact
-no_number line name kind size modify perm h denies =
-    (has_space line (facts_text h.facts) name h.written, λ n k s m p sound. denies (rw (HasParts-same line name n kind size modify perm k s m p h sound.parts).2 sound.sized))
+-- a value that a fact says, or none
+pub is_sound : {V : Type 0} (f : List ℕ → Option V) (text : Option (List ℕ)) (value : Option V) → fact_value f text ≡ Some value → IsSound f text
+is_sound f text value e = ap is_some e
 
--- a Modify that is no moment is refused
-pub no_moment : (line name : List ℕ) (kind size modify perm : Option (List ℕ)) → IsSound line name kind size modify perm → ¬ (ForSome modify IsMoment) → Refuses line BadMoment
-no_moment line name kind size None perm sound denies = absurd (denies (λ text e. cc))
-no_moment line name kind size (Some modify) perm sound denies =
-    (name, kind, size, modify, perm, sound, λ is. denies (λ text e. let same : text ≡ modify = cc in rw same is))
+pub not_sound : {V : Type 0} (f : List ℕ → Option V) (text : Option (List ℕ)) → fact_value f text ≡ None → ¬ (IsSound f text)
+not_sound f text e is = let b : false ≡ true = sym (ap is_some e) ∙ is in cc
 
--- and so is a pathname that is no path text
-pub no_path_text : (line name : List ℕ) (kind size modify perm : Option (List ℕ)) → HasParts line name kind size modify perm → name ≢ [] → ForSome size IsNumber → ForSome modify IsMoment → ¬ (IsPathText name) → Refuses line BadName
-no_path_text line name kind size modify perm parts named sized moment other =
-    (name, kind, size, modify, perm, record { parts = parts; named = named; sized = sized }, moment, other)
+pub no_number : (line name : List ℕ) (kind size modify perm : Option (List ℕ)) → HasParts line name kind size modify perm → ¬ (IsSound number_value size) → Refuses line BadFact
+no_number line name kind size modify perm h denies = (
+  has_space line (facts_text h.facts) name h.written,
+  λ n k s m p sound. denies (subst (IsSound number_value) (sym (HasParts-same line name n kind size modify perm k s m p h sound.parts).2) sound.sized),
+)
 
--- a path text is not empty
+-- a pathname that is no path text, and a path text is not empty
 pub path_text-some : (text : List ℕ) → IsPathText text → text ≢ []
 path_text-some [] is = λ e. absurd (none is)
   where
@@ -128,23 +129,14 @@ path_text-some [] is = λ e. absurd (none is)
     none is = let never : false ≡ true = is in cc
 path_text-some (c ∷ text) is = λ e. cc
 
--- a Modify that says a moment, or none that is there
-pub SaysFact-moment : (text : Option (List ℕ)) (modify : Option Moment) → SaysFact NamesMoment text modify → ForSome text IsMoment
-SaysFact-moment None modify says = λ t e. cc
-SaysFact-moment (Some text) None says = absurd says
-SaysFact-moment (Some text) (Some moment) says = λ t e. let same : t ≡ text = cc in rw same (moment.seconds, says)
-
--- what says a size is a number below 10 ^ 18
-pub SaysFact-number : (text : Option (List ℕ)) (size : Option ℕ) → SaysFact SaysSize text size → ForSome text IsNumber
-SaysFact-number None size says = λ text e. cc
-SaysFact-number (Some value) None says = absurd says
-SaysFact-number (Some value) (Some n) says = λ text e. let same : text ≡ value = cc in rw same says.0
-
-pub SaysFact-fits : (text : Option (List ℕ)) (size : Option ℕ) → SaysFact SaysSize text size → ForSome size (λ n. n < 1_000_000_000_000_000_000)
-SaysFact-fits None None says = λ n e. cc
-SaysFact-fits None (Some n) says = absurd says
-SaysFact-fits (Some value) None says = absurd says
-SaysFact-fits (Some value) (Some size) says = λ n e.
-    let same : n ≡ size = cc in
-    let short : digits_value 10 value < 10 ^ 18 = digits_value_short own value 18 says.0.0 says.0.2 in
-    omega (arith, same, says.1)
+-- the size that a fact says is a number of at most eighteen digits
+pub size_fits : (text : Option (List ℕ)) (size : Option ℕ) → fact_value number_value text ≡ Some size → ForSome size IsShort
+size_fits None None e = λ n f. cc
+size_fits None (Some n) e = absurd (let f : None ≡ Some n = cc in cc)
+size_fits (Some text) size e =
+    let m = map_is Some (number_value text) size e in
+    let says : SaysNumber text m.0 = number_says text m.0 m.1 in
+    let small = value_lt text says.0.0.1 says.0.1 in
+    λ n f.
+    let same : n ≡ m.0 = (let g : Some m.0 ≡ Some n = m.2 ∙ f in cc) in
+    subst IsShort (sym same) (subst IsShort (sym says.1) small)

@@ -4,9 +4,6 @@ use Rattle.std.specs.Option.{option_or, option_copied, is_some}
 use Rattle.std.proofs.lemmas.List.Elements.{All-cons, All-head, All-tail, All-append, All-nil}
 use Rattle.std.proofs.lemmas.List.Folds.{find-append}
 use Rattle.std.specs.List.{find}
-use Rattle.std.specs.Str.{all_ascii_digits}
-use Rattle.std.specs.Str.Parse.{digits_value}
-use Rattle.std.proofs.lemmas.Str.Parse.{IsNumeralModel, numerals_by_value, tells_all_ascii_digits}
 use Rattle.ftp_facts.specs.Fact.{Fact, IsFact, Lacks, BeginsWithFact, AreFacts, facts_text, first_value, is_named, is_word, equals, semicolon}
 
 -- no octet stands where it lacks
@@ -156,7 +153,3 @@ not_empty octets some e = omega (arith, ap length e)
 pub emptied : (octets : List ℕ) (b : Bool) → b ≡ true → b ≡ eqb (length octets) 0 → octets ≡ []
 emptied [] b is test = refl
 emptied (x ∷ xs) b is test = absurd (grind arith)
-
--- texts of digits and their number, as std's lemmas take them
-pub own : IsNumeralModel (λ digits. all_ascii_digits digits ≡ true) (digits_value 10)
-own = numerals_by_value (λ digits. all_ascii_digits digits ≡ true) tells_all_ascii_digits

@@ -1,8 +1,12 @@
 mod CalendarLemmas
 pub mod ComesBackLemmas
+pub mod CutLemmas
 pub mod DigitsLemmas
 pub mod EntryLemmas
 mod FactLemmas
+pub mod ListedLemmas
+pub mod MomentLemmas
+pub mod MomentValueLemmas
+pub mod NumberLemmas
 pub mod Theorems
 mod WritingLemmas
-pub mod MomentLemmas

@@ -93,7 +93,7 @@ WritesMoment-says text moment w = record {
   fraction = [];
   date_first = record { year = w.year; month = w.month; day = w.day; real = w.real_date; written = w.written; counted = refl };
   time_next = record { hour = w.hour; minute = w.minute; second = w.second; real = w.real_time; written = refl; counted = refl };
-  fraction_last = tt;
+  fraction_last = refl;
   counted = w.counted;
 }
 

@@ -1,7 +1,6 @@
 -- The facts of an entry: `name=value;`, one after another (RFC 3659, section 7.2).
-use Rattle.std.specs.Prelude.{◌≡◌, ◌≢◌, ℕ, ◌≤◌, List, [], ◌∷◌, ◌++◌, length, All, IsTrue, find, Bool, false, Option, Some, None, option_map, codes}
-use Rattle.std.specs.Str.{str_eq_ignore_ascii_case, all_ascii_digits}
-use Rattle.std.specs.Str.Parse.{digits_value}
+use Rattle.std.specs.Prelude.{◌≡◌, ◌≢◌, ℕ, List, [], ◌∷◌, ◌++◌, All, find, Bool, false, Option, Some, None, option_map, codes}
+use Rattle.std.specs.Str.{str_eq_ignore_ascii_case}
 
 abbrev pub space : ℕ
 space = 32
@@ -55,15 +54,6 @@ first_value name facts = option_map (λ fact. fact.value) (find (is_named name) 
 -- a text that a fact can have as its value
 abbrev pub IsValue : List ℕ → Type 0
 IsValue text = Lacks text space × Lacks text semicolon
-
--- one to eighteen decimal digits
-abbrev pub IsNumber : List ℕ → Type 0
-IsNumber digits =
-    IsTrue (all_ascii_digits digits) × (1 ≤ length digits) × (length digits ≤ 18)
-
--- the value of a Size is this number
-abbrev pub SaysSize : List ℕ → ℕ → Type 0
-SaysSize value size = IsNumber value × (digits_value 10 value ≡ size)
 
 -- the four types (RFC 3659, section 7.5.1)
 abbrev pub file_word : List ℕ

@@ -1,5 +1,8 @@
 pub mod Calendar
-pub mod Moment
 pub mod Fact
+pub mod Value
+pub mod Moment
+pub mod Listed
 pub mod Entry
+pub mod Listing
 pub mod Fault

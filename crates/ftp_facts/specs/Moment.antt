@@ -1,7 +1,10 @@
 -- The text of a moment: fourteen digits, YYYYMMDDHHMMSS, in UTC (RFC 3659, section 2.3).
-use Rattle.std.specs.Prelude.{◌≡◌, ◌≢◌, ℕ, ◌+◌, ◌*◌, ◌/◌, ◌%◌, ◌<◌, List, [], ◌∷◌, ◌++◌, All, ⊤}
-use Rattle.std.specs.Int.{IsInRange}
-use Rattle.ftp_facts.specs.Calendar.{IsDate, IsTime, day_number, second_of_day, year_and_place, month_and_place}
+use Rattle.std.specs.Prelude.{◌≡◌, ℕ, ◌+◌, ◌*◌, ◌/◌, ◌%◌, ◌<◌, ◌==◌, ◌&&◌, Bool, true, not, nat_le, nat_lt, IsTrue, List, [], ◌∷◌, ◌++◌, length, take, drop, Option}
+use Rattle.std.specs.Bool.{then_some}
+use Rattle.std.specs.Char.{is_ascii_digit}
+use Rattle.std.specs.List.{list_all}
+use Rattle.std.specs.Str.Parse.{digits_value}
+use Rattle.ftp_facts.specs.Calendar.{IsDate, IsTime, days_in_month, day_number, second_of_day, year_and_place, month_and_place}
 
 -- a number below 100, in two digits
 abbrev pub two_digits : ℕ → List ℕ
@@ -19,14 +22,42 @@ date_digits year month day = four_digits year ++ (two_digits month ++ two_digits
 abbrev pub time_digits : ℕ → ℕ → ℕ → List ℕ
 time_digits hour minute second = two_digits hour ++ (two_digits minute ++ two_digits second)
 
--- an octet from `0` to `9`
-abbrev pub IsDigit : ℕ → Type 0
-IsDigit octet = IsInRange 48 57 octet
-
 -- nothing, or `.` and one or more digits
-abbrev pub IsFraction : List ℕ → Type 0
-IsFraction [] = ⊤
-IsFraction (octet ∷ digits) = (octet ≡ 46) × (digits ≢ []) × All IsDigit digits
+abbrev pub is_fraction : List ℕ → Bool
+is_fraction [] = true
+is_fraction (dot ∷ digits) = (dot == 46) && not (length digits == 0) && list_all is_ascii_digit digits
+
+-- ---- the moment that a text says
+
+-- the number that so many digits write from a place on
+abbrev pub digits_at : (place count : ℕ) → List ℕ → ℕ
+digits_at place count text = digits_value 10 (take count (drop place text))
+
+-- the calendar has the day that the first eight digits name
+abbrev pub has_date : List ℕ → Bool
+has_date text =
+    nat_le 1970 (digits_at 0 4 text) && nat_le 1 (digits_at 4 2 text) && nat_le (digits_at 4 2 text) 12
+    && nat_le 1 (digits_at 6 2 text) && nat_le (digits_at 6 2 text) (days_in_month (digits_at 0 4 text) (digits_at 4 2 text))
+
+-- the next six name a time of day; a second of 60 stands for a leap second
+abbrev pub has_time : List ℕ → Bool
+has_time text = nat_lt (digits_at 8 2 text) 24 && nat_lt (digits_at 10 2 text) 60 && nat_le (digits_at 12 2 text) 60
+
+abbrev pub is_moment_text : List ℕ → Bool
+is_moment_text text =
+    nat_le 14 (length text) && list_all is_ascii_digit (take 14 text) && has_date text && has_time text && is_fraction (drop 14 text)
+
+-- the seconds since 1970 began; own choice: a fraction is dropped
+abbrev pub seconds_of : List ℕ → ℕ
+seconds_of text =
+    day_number (digits_at 0 4 text) (digits_at 4 2 text) (digits_at 6 2 text) * 86_400
+    + second_of_day (digits_at 8 2 text) (digits_at 10 2 text) (digits_at 12 2 text)
+
+-- the moment that a text says
+unfoldable pub moment_value : List ℕ → Option ℕ
+moment_value text = then_some (is_moment_text text) (seconds_of text)
+
+-- ---- the same as a relation, number by number
 
 -- the text begins with a real date, whose day number this is, and goes on with the rest
 pub record BeginsWithDate (text : List ℕ) (number : ℕ) (rest : List ℕ) : Type 0 where
@@ -55,8 +86,10 @@ pub record SaysMoment (text : List ℕ) (moment : ℕ) : Type 0 where
   pub fraction : List ℕ
   pub date_first : BeginsWithDate text number time
   pub time_next : BeginsWithTime time seconds fraction
-  pub fraction_last : IsFraction fraction
+  pub fraction_last : IsTrue (is_fraction fraction)
   pub counted : moment ≡ number * 86_400 + seconds
+
+-- ---- the text of a moment
 
 -- the text is fourteen digits of a real date and time, with a second below 60, and names the moment
 pub record WritesMoment (text : List ℕ) (moment : ℕ) : Type 0 where

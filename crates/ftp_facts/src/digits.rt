@@ -1,6 +1,9 @@
 //! Numbers of two and four digits at the front of a text.
-ghost use Rattle.std.specs.Prelude.{◌≡◌, ◌≢◌, ℕ, List, [], ◌∷◌, ◌++◌, ◌<◌, ◌↔◌, IsTrue, IfSome, IfNone};
-ghost use Rattle.ftp_facts.specs.Moment.{two_digits, four_digits, IsFraction};
+ghost use Rattle.std.specs.Prelude.{◌≡◌, ◌≢◌, ℕ, List, [], ◌∷◌, ◌++◌, ◌<◌, IfSome, IfNone};
+ghost use Rattle.std.specs.Char.{is_ascii_digit};
+ghost use Rattle.std.specs.List.{list_all};
+ghost use Rattle.ftp_facts.specs.Moment.{two_digits, four_digits};
+ghost use Rattle.ftp_facts.specs.Moment as spec;
 
 /// The number of the two digits at the front of the text, and the rest.
 pub fn read_two(text: &[u8]) -> Option<(u8, &[u8])>
@@ -37,12 +40,17 @@ pub fn two(n: u8) -> [u8; 2]
 
 /// Whether the text is nothing, or `.` and one or more digits.
 pub fn is_fraction(text: &[u8]) -> bool
-    ensures { IsTrue result ↔ IsFraction text.now }
+    ensures { result ≡ spec.is_fraction text.now }
 {
     match text {
         [] => true,
-        [b'.', digits @ ..] => !digits.is_empty()
-            && digits.iter().all(|digit| digit.is_ascii_digit()),
+        [b'.', digits @ ..] => !digits.is_empty() && are_digits(digits),
         _ => false,
     }
+}
+
+fn are_digits(text: &[u8]) -> bool
+    ensures { result ≡ list_all is_ascii_digit text.now }
+{
+    text.iter().all(|octet| octet.is_ascii_digit())
 }

@@ -1,6 +1,7 @@
 //! An entry of a listing.
-ghost use Rattle.std.specs.Prelude.{◌≡◌, ℕ, List, ◌<◌, Some};
+ghost use Rattle.std.specs.Prelude.{◌≡◌, ℕ, List, Some};
 ghost use Rattle.std.specs.Option.{ForSome};
+ghost use Rattle.ftp_endpoint.specs.Number.{IsShort};
 ghost use Rattle.ftp_path.specs.Path.{IsPathText};
 ghost use Rattle.ftp_facts.specs.Fact.{IsValue, IsOtherWord};
 ghost use Rattle.ftp_facts.specs.declared.entry.Kind.TheVariants.{Other};
@@ -35,6 +36,6 @@ pub struct Entry<A: Allocator> {
     pub perm: Option<Text<A>>,
     pub ghost named: { IsPathText name },
     pub ghost kind_fits: { (word : List ℕ) → kind ≡ Some (Other word) → IsOtherWord word },
-    pub ghost size_fits: { ForSome size (λ n. n < 1_000_000_000_000_000_000) },
+    pub ghost size_fits: { ForSome size IsShort },
     pub ghost perm_fits: { ForSome perm IsValue },
 }

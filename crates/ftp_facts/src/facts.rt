@@ -1,13 +1,10 @@
 //! The facts of a line, one after another.
 ghost use Rattle.std.specs.Prelude.{◌≡◌, ℕ, List, ◌∷◌, ◌++◌, IfSome, IfNone, IfOk, IfErr};
 ghost use Rattle.std.specs.Option.{option_copied};
-ghost use Rattle.ftp_facts.specs.Fact.{Fact, Lacks, AreFacts, BeginsWithFact, HasValue, SaysSize};
+ghost use Rattle.ftp_facts.specs.Fact.{Fact, Lacks, AreFacts, BeginsWithFact, HasValue};
 ghost use Rattle.ftp_facts.specs.Fact as spec;
 
 use crate::FactFault;
-
-/// The most digits that a Size has.
-const MOST_DIGITS: usize = 18;
 
 /// The value of the first fact of that name, whose letters have no case. Octets that are no facts are `BadFact`.
 pub fn value_of<'a>(facts: &'a [u8], name: &[u8]) -> Result<Option<&'a [u8]>, FactFault>
@@ -55,22 +52,4 @@ pub fn is_word(text: &[u8], word: &[u8]) -> bool
     ensures { result ≡ spec.is_word text.now word.now }
 {
     text.eq_ignore_ascii_case(word)
-}
-
-/// The number that one to eighteen decimal digits write.
-pub fn size_of(digits: &[u8]) -> Option<u64>
-    ensures some { IfSome result (λ size. SaysSize digits.now size) }
-    ensures none { IfNone result ((size : ℕ) → ¬ (SaysSize digits.now size)) }
-{
-    if digits.is_empty() || digits.len() > MOST_DIGITS {
-        return None;
-    }
-    let mut size = 0u64;
-    for digit in digits {
-        if !digit.is_ascii_digit() {
-            return None;
-        }
-        size = size * 10 + u64::from(*digit - b'0');
-    }
-    Some(size)
 }

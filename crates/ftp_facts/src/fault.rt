@@ -1,28 +1,27 @@
-use thiserror::Error;
+//! Why a line is no entry, or a text no moment.
+ghost use Rattle.std.specs.Prelude.{Some};
+ghost use Rattle.ftp_facts.specs.Fault.{fault_text};
+
+use std::error::Error;
+use std::fmt;
 
 /// Why a line is no entry, or a text no moment.
-#[derive(Clone, Copy, Debug, PartialEq, Eq, Error)]
+#[derive(Clone, Copy, Debug, PartialEq, Eq)]
 pub enum FactFault {
     /// The line has no space, which ends the facts.
-    #[error("F1 NoSpace")]
     NoSpace,
     /// A fact has no `=` or no `;`, a Size is no number of 1 to 18 digits, or the pathname is empty.
-    #[error("F2 BadFact")]
     BadFact,
     /// A Modify, or the text of a moment, is no real date and time from 1970 on.
-    #[error("F3 BadMoment")]
     BadMoment,
     /// Memory was refused.
-    #[error("F4 Memory")]
     Memory,
     /// The pathname is no path text.
-    #[error("F5 BadName")]
     BadName,
 }
 
 impl FactFault {
     ghost use Rattle.std.specs.Prelude.{◌≡◌};
-    ghost use Rattle.ftp_facts.specs.Fault.{fault_text};
 
     /// The number and the name, as `Display` prints them.
     pub fn text(self) -> &'static str
@@ -37,3 +36,13 @@ impl FactFault {
         }
     }
 }
+
+impl fmt::Display for FactFault {
+    ghost output = { λ fault. Some (fault_text fault) };
+
+    fn fmt<W: fmt::Write>(&self, f: &mut fmt::Formatter<W>) -> fmt::Result {
+        f.write_str(self.text())
+    }
+}
+
+impl Error for FactFault {}

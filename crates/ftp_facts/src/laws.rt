@@ -1,7 +1,8 @@
 //! What reading and writing are to each other. The calls do nothing that a caller needs: their contracts are the laws.
-ghost use Rattle.std.specs.Prelude.{◌≡◌, ◌≤◌, ◌↔◌, IsTrue, IfOk, IfErr};
-ghost use Rattle.ftp_facts.specs.Moment.{SaysMoment, WritesMoment, moment_digits};
-ghost use Rattle.ftp_facts.specs.Entry.{SaysEntry, Refuses, entry_line};
+ghost use Rattle.std.specs.Prelude.{◌≡◌, ◌≤◌, ◌↔◌, ℕ, List, Some, IsTrue, IfOk, IfErr};
+ghost use Rattle.ftp_facts.specs.Moment.{SaysMoment, WritesMoment, moment_digits, moment_value};
+ghost use Rattle.ftp_facts.specs.Listed.{Listed, entry_value};
+ghost use Rattle.ftp_facts.specs.Entry.{SaysEntry, SaysListed, Refuses, entry_line};
 
 use crate::{Entry, FactFault, Moment, moment_of_text, moment_text, read_entry, write_entry};
 use std::alloc::Allocator;
@@ -13,22 +14,20 @@ pub fn moments_end(seconds: u64) -> bool
     Moment::new(seconds).is_some()
 }
 
-/// No text says two moments.
-pub fn one_moment(text: &[u8], first: Moment, second: Moment)
-    requires first { SaysMoment text.now first.seconds }
-    requires second { SaysMoment text.now second.seconds }
-    ensures { first ≡ second }
+/// A text says a moment just where it is six numbers of a real date and time, and perhaps a fraction.
+pub fn moment_is_said()
+    ensures { (text : List ℕ) (seconds : ℕ) → (moment_value text ≡ Some seconds) ↔ SaysMoment text seconds }
 {}
 
 /// What is written of a moment says that moment.
 pub fn written_is_said(text: &[u8], moment: Moment)
     requires { WritesMoment text.now moment.seconds }
-    ensures { SaysMoment text.now moment.seconds }
+    ensures { moment_value text.now ≡ Some moment.seconds }
 {}
 
 /// The digits of a moment say that moment.
 pub fn moment_digits_say(moment: Moment)
-    ensures { SaysMoment (moment_digits moment.seconds) moment.seconds }
+    ensures { moment_value (moment_digits moment.seconds) ≡ Some moment.seconds }
 {}
 
 /// A moment's text is read as that moment.
@@ -37,6 +36,11 @@ pub fn moment_comes_back(moment: Moment) -> Result<Moment, FactFault>
 {
     moment_of_text(&moment_text(moment))
 }
+
+/// A line says an entry just where it is facts, a space and a pathname, whose values these are.
+pub fn entry_is_said()
+    ensures { (line : List ℕ) (entry : Listed) → (entry_value line ≡ Some entry) ↔ SaysListed line entry }
+{}
 
 /// No line says two entries.
 pub fn one_entry<A: Allocator>(line: &[u8], first: &Entry<A>, second: &Entry<A>)

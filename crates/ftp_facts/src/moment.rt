@@ -1,6 +1,6 @@
 //! A moment and its text.
-ghost use Rattle.std.specs.Prelude.{◌≡◌, ℕ, List, ◌+◌, ◌*◌, ◌<◌, ◌≤◌, IfSome, IfNone, IfOk, IfErr};
-ghost use Rattle.ftp_facts.specs.Moment.{BeginsWithDate, BeginsWithTime, SaysMoment, WritesMoment, moment_digits};
+ghost use Rattle.std.specs.Prelude.{◌≡◌, ℕ, List, ◌+◌, ◌*◌, ◌<◌, ◌≤◌, Some, None, IfSome, IfNone, IfOk, IfErr, OnErr};
+ghost use Rattle.ftp_facts.specs.Moment.{BeginsWithDate, BeginsWithTime, SaysMoment, WritesMoment, moment_digits, moment_value};
 
 use crate::FactFault;
 use crate::civil::{date_of, day_number, year_of};
@@ -30,11 +30,14 @@ impl Moment {
 /// Reads a moment: YYYYMMDDHHMMSS, perhaps followed by `.` and digits, which are dropped. A second of 60 is 59.
 /// What is no real date and time from 1970 on is `BadMoment` (RFC 3659, section 2.3).
 pub fn moment_of_text(text: &[u8]) -> Result<Moment, FactFault>
-    ensures says { IfOk result (λ moment. SaysMoment text.now moment.seconds) }
-    ensures silent { IfErr result (λ _. (seconds : ℕ) → ¬ (SaysMoment text.now seconds)) }
+    ensures says { IfOk result (λ moment. moment_value text.now ≡ Some moment.seconds) }
+    ensures silent { OnErr result (moment_value text.now ≡ None) }
     ensures fault { IfErr result (λ fault. fault ≡ FactFault.BadMoment) }
 {
-    read_moment(text).ok_or(FactFault::BadMoment)
+    match read_moment(text) {
+        Some(moment) => Ok(moment),
+        None => Err(FactFault::BadMoment),
+    }
 }
 
 fn read_moment(text: &[u8]) -> Option<Moment>

@@ -1,12 +1,16 @@
 //! From a line to an entry.
-ghost use Rattle.std.specs.Prelude.{◌≡◌, ◌<◌, IfOk, IfErr};
+ghost use Rattle.std.specs.Prelude.{◌≡◌, Some, None, List, ℕ, option_map, IfOk, IfErr, OnErr};
 ghost use Rattle.std.specs.Option.{ForSome, option_copied};
-ghost use Rattle.ftp_path.specs.Path.{IsPathText};
-ghost use Rattle.ftp_facts.specs.Fact.{IsNumber, IsValue, SaysSize};
-ghost use Rattle.ftp_facts.specs.Entry.{HasParts, NoParts, NamesKind, NamesMoment, SaysFact, IsMoment, Says, SaysEntry, Refuses};
+ghost use Rattle.ftp_facts.specs.Fact.{IsOtherWord, IsValue};
+ghost use Rattle.ftp_facts.specs.Value.{number_value};
+ghost use Rattle.ftp_facts.specs.Moment.{moment_value};
+ghost use Rattle.ftp_facts.specs.Listed.{fact_value, kind_word};
+ghost use Rattle.ftp_facts.specs.Entry.{CanBeKept, HasParts, NoParts, Refuses, SaysEntry, SaysListed, listed_in, listed_of, word_of};
+ghost use Rattle.ftp_facts.specs.declared.entry.Kind.TheVariants.{Other};
 
-use crate::facts::{is_word, size_of, split_at_octet, value_of};
+use crate::facts::{is_word, split_at_octet, value_of};
 use crate::{Entry, FactFault, Kind, Moment, Text, moment_of_text};
+use ftp_endpoint::number;
 use ftp_path::is_path_text;
 use std::alloc::{AllocError, Allocator};
 
@@ -36,8 +40,8 @@ struct Seen<'a> {
 }
 
 fn see(line: &[u8]) -> Result<Seen<'_>, FactFault>
-    ensures says { IfOk result (λ seen. Says line.now seen.name.now (option_copied seen.kind) seen.size
-        seen.modify (option_copied seen.perm)) }
+    ensures says { IfOk result (λ seen. SaysListed line.now (listed_in seen)) }
+    ensures fits { IfOk result CanBeKept }
     ensures refuses { IfErr result (Refuses line.now) }
 {
     let parts = parts_of(line)?;
@@ -84,23 +88,26 @@ fn parts_of(line: &[u8]) -> Result<Parts<'_>, FactFault>
     })
 }
 
+/// The number that a Size is, where there is one.
 fn read_size(text: Option<&[u8]>) -> Result<Option<u64>, FactFault>
-    ensures says { IfOk result (SaysFact SaysSize (option_copied text.entry)) }
-    ensures silent { IfErr result (λ _. ¬ (ForSome (option_copied text.entry) IsNumber)) }
+    ensures says { IfOk result (λ size. fact_value number_value (option_copied text.entry) ≡ Some size) }
+    ensures silent { OnErr result (fact_value number_value (option_copied text.entry) ≡ None) }
     ensures fault { IfErr result (λ fault. fault ≡ FactFault.BadFact) }
 {
     match text {
         None => Ok(None),
-        Some(digits) => match size_of(digits) {
+        Some(digits) => match number(digits) {
             Some(size) => Ok(Some(size)),
             None => Err(FactFault::BadFact),
         },
     }
 }
 
+/// The moment that a Modify says, where there is one.
 fn read_modify(text: Option<&[u8]>) -> Result<Option<Moment>, FactFault>
-    ensures says { IfOk result (SaysFact NamesMoment (option_copied text.entry)) }
-    ensures silent { IfErr result (λ _. ¬ (ForSome (option_copied text.entry) IsMoment)) }
+    ensures says { IfOk result (λ modify. fact_value moment_value (option_copied text.entry)
+        ≡ Some (option_map (λ moment. moment.seconds) modify)) }
+    ensures silent { OnErr result (fact_value moment_value (option_copied text.entry) ≡ None) }
     ensures fault { IfErr result (λ fault. fault ≡ FactFault.BadMoment) }
 {
     match text {
@@ -114,15 +121,8 @@ fn read_modify(text: Option<&[u8]>) -> Result<Option<Moment>, FactFault>
 
 /// The entry that owns what was seen.
 fn keep<A: Allocator + Clone>(alloc: A, seen: Seen<'_>) -> Result<Entry<A>, AllocError>
-    requires named { IsPathText seen.name.now }
-    requires kind { ForSome (option_copied seen.kind) IsValue }
-    requires size { ForSome seen.size (λ n. n < 1_000_000_000_000_000_000) }
-    requires perm { ForSome (option_copied seen.perm) IsValue }
-    ensures name { IfOk result (λ entry. entry.name ≡ seen.entry.name.now) }
-    ensures kind { IfOk result (λ entry. SaysFact NamesKind (option_copied seen.entry.kind) entry.kind) }
-    ensures size { IfOk result (λ entry. entry.size ≡ seen.entry.size) }
-    ensures modify { IfOk result (λ entry. entry.modify ≡ seen.entry.modify) }
-    ensures perm { IfOk result (λ entry. entry.perm ≡ option_copied seen.entry.perm) }
+    requires { CanBeKept seen }
+    ensures { IfOk result (λ entry. listed_of entry ≡ listed_in seen.entry) }
 {
     let kind = keep_kind(&alloc, seen.kind)?;
     let perm = keep_text(&alloc, seen.perm)?;
@@ -141,7 +141,8 @@ fn keep_kind<A: Allocator + Clone>(
     word: Option<&[u8]>,
 ) -> Result<Option<Kind<A>>, AllocError>
     requires { ForSome (option_copied word) IsValue }
-    ensures { IfOk result (SaysFact NamesKind (option_copied word.entry)) }
+    ensures word { IfOk result (λ kind. option_map word_of kind ≡ option_map kind_word (option_copied word.entry)) }
+    ensures fits { IfOk result (λ kind. (other : List ℕ) → kind ≡ Some (Other other) → IsOtherWord other) }
 {
     match word {
         None => Ok(None),
@@ -151,7 +152,8 @@ fn keep_kind<A: Allocator + Clone>(
 
 fn kind_of<A: Allocator + Clone>(alloc: &A, word: &[u8]) -> Result<Kind<A>, AllocError>
     requires { IsValue word.now }
-    ensures { IfOk result (NamesKind word.now) }
+    ensures word { IfOk result (λ kind. word_of kind ≡ kind_word word.now) }
+    ensures fits { IfOk result (λ kind. (other : List ℕ) → kind ≡ Other other → IsOtherWord other) }
 {
     if is_word(word, b"file") {
         Ok(Kind::File)

@@ -1,17 +1,9 @@
 -- What an operation answers, as values over lists of octets.
-use Rattle.std.specs.Prelude.{ℕ, List, Option, map, option_map}
-use Rattle.ftp_facts.specs.Entry.{word_of}
-use Rattle.ftp_facts.specs.declared.entry.Entry.{Entry as FactEntry}
+use Rattle.std.specs.Prelude.{ℕ, List, Option, map}
+pub use Rattle.ftp_facts.specs.Entry.{listed_of}
+pub use Rattle.ftp_facts.specs.Listed.{Listed}
 use Rattle.ftp_operation.specs.declared.answer.Answer.{Answer}
 use Rattle.ftp_operation.specs.declared.answer.Answer.TheVariants as Answers
-
--- an entry of a listing: its name, and the facts that are given (RFC 3659, section 7)
-pub record Listed : Type 0 where
-  pub name : List ℕ
-  pub kind : Option (List ℕ)
-  pub size : Option ℕ
-  pub modify : Option ℕ
-  pub perm : Option (List ℕ)
 
 -- an answer: what was asked for, the code of a refusal, or how it failed
 pub data Said : Type 0 where
@@ -31,11 +23,6 @@ pub data Said : Type 0 where
   Lost : Said
   Strange : Said
   Memory : Said
-
--- the values of an entry
-abbrev pub listed_of : {A : Type 0} → FactEntry A → Listed
-listed_of entry =
-    record { name = entry.name; kind = option_map word_of entry.kind; size = entry.size; modify = option_map (λ moment. moment.seconds) entry.modify; perm = entry.perm }
 
 -- the values of an answer
 abbrev pub said_of : {A : Type 0} → Answer A → Said

@@ -1,6 +1,7 @@
 -- What a user asks of a server, as values: which operations can be sent at all. No command, reply or connection stands here.
-use Rattle.std.specs.Prelude.{ℕ, ◌&&◌, ◌||◌, ◌==◌, Bool, true, not, nat_le, nat_eq, List, [], ◌∷◌, length}
+use Rattle.std.specs.Prelude.{ℕ, ◌&&◌, ◌||◌, ◌==◌, ◌^◌, Bool, true, not, nat_lt, nat_eq, List, [], ◌∷◌, length}
 use Rattle.std.specs.List.{starts_with}
+use Rattle.ftp_endpoint.specs.Number.{digit_limit}
 pub use Rattle.ftp_path.specs.Path.{is_path_text}
 use Rattle.ftp_operation.specs.declared.op.Op.{Op}
 use Rattle.ftp_operation.specs.declared.op.Op.TheVariants as Ops
@@ -11,7 +12,7 @@ is_optional_text text = (length text == 0) || is_path_text text
 
 -- a number that can be sent: at most 18 digits
 abbrev pub is_number : ℕ → Bool
-is_number number = nat_le number 999999999999999999
+is_number number = nat_lt number (10 ^ digit_limit)
 
 -- a text that begins with `-` would be read as an option of the command for names (own choice)
 abbrev pub is_option : List ℕ → Bool

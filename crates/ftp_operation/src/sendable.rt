@@ -4,6 +4,7 @@ ghost use Rattle.ftp_path.specs.Path.{is_path_text};
 ghost use Rattle.ftp_operation.specs.Operation.{can_be_sent, is_number, is_option, is_optional_text};
 
 use crate::op::Op;
+use ftp_endpoint::NUMBER_LIMIT;
 use ftp_facts::Text;
 use std::alloc::Allocator;
 
@@ -52,5 +53,5 @@ fn is_option(text: &[u8]) -> bool
 pub fn is_number(number: u64) -> bool
     ensures { result ≡ is_number number }
 {
-    number <= 999_999_999_999_999_999
+    number < NUMBER_LIMIT
 }

@@ -1,6 +1,7 @@
 -- Texts of lines, and how they lie in one buffer.
-use Rattle.std.specs.Prelude.{◌≡◌, ℕ, ◌+◌, ◌≤◌, ◌==◌, Bool, false, List, [], ◌∷◌, length, take, drop, map, All}
+use Rattle.std.specs.Prelude.{◌≡◌, ℕ, ◌+◌, ◌==◌, ◌&&◌, nat_le, IsTrue, Bool, false, List, [], ◌∷◌, length, take, drop, map, All}
 use Rattle.std.specs.List.{join_with_byte, slice_split, sum_by}
+use Rattle.ftp_reply.specs.declared.lines.TheConstants.{LF, MAX_LINES, MAX_OCTETS}
 
 -- a line of the control connection without its end, or a part of one
 abbrev pub Text : Type 0
@@ -12,11 +13,11 @@ octets_of lines = sum_by length lines
 
 -- own choice: the text of several lines is the lines joined by LF
 abbrev pub joined : List Text → Text
-joined lines = join_with_byte 10 lines
+joined lines = join_with_byte LF lines
 
 -- the octet between two lines
 abbrev pub is_lf : ℕ → Bool
-is_lf octet = octet == 10
+is_lf octet = octet == LF
 
 -- a text of one line: it has no LF
 abbrev pub IsLine : Text → Type 0
@@ -37,6 +38,8 @@ pub record AreCut (buffer : Text) (lens : List ℕ) : Type 0 where
   pub lens_are : lens ≡ map length (lines_at buffer lens)
 
 -- own limits: at most 64 lines of at most 8,192 octets together
-pub record AreWithin (lines : List Text) : Type 0 where
-  pub count : length lines ≤ 64
-  pub octets : octets_of lines ≤ 8192
+abbrev pub are_within : List Text → Bool
+are_within lines = nat_le (length lines) MAX_LINES && nat_le (octets_of lines) MAX_OCTETS
+
+abbrev pub AreWithin : List Text → Type 0
+AreWithin lines = IsTrue (are_within lines)

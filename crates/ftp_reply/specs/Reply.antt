@@ -3,10 +3,23 @@ use Rattle.std.specs.Prelude.{◌≡◌, ℕ, ◌+◌, ◌≤◌, ◌/◌, ◌%�
 use Rattle.std.specs.Char.{is_ascii_digit}
 use Rattle.ftp_reply.specs.Lines.{Text, AreWithin}
 
+-- the octets behind a code: of the last line of a reply, and of the first of several
+abbrev pub space : ℕ
+space = 32
+
+abbrev pub hyphen : ℕ
+hyphen = 45
+
 -- a code of three digits, the first of them 1 to 5
+abbrev pub least_code : ℕ
+least_code = 100
+
+abbrev pub greatest_code : ℕ
+greatest_code = 599
+
 pub record IsCode (code : ℕ) : Type 0 where
-  pub low : 100 ≤ code
-  pub high : code ≤ 599
+  pub low : least_code ≤ code
+  pub high : code ≤ greatest_code
 
 -- the three digits of a code
 abbrev pub code_text : ℕ → Text
@@ -14,11 +27,11 @@ code_text code = (48 + code / 100) ∷ (48 + code / 10 % 10) ∷ (48 + code % 10
 
 -- the code, SP and the text: the one line of a reply, or the last of several
 abbrev pub last_line : ℕ → Text → Text
-last_line code text = code_text code ++ 32 ∷ text
+last_line code text = code_text code ++ space ∷ text
 
 -- the code, '-' and the text: the first of several lines
 abbrev pub opening_line : ℕ → Text → Text
-opening_line code text = code_text code ++ 45 ∷ text
+opening_line code text = code_text code ++ hyphen ∷ text
 
 -- it begins with the same code and SP
 abbrev pub IsLast : ℕ → Text → Type 0
@@ -71,7 +84,7 @@ begins_with_digits [] = false
 
 -- a line between as it is written: with one SP before it where it begins with three digits
 abbrev pub padded : Text → Text
-padded line = if begins_with_digits line then 32 ∷ line else line
+padded line = if begins_with_digits line then space ∷ line else line
 
 -- the lines after the first as they are written
 abbrev pub written_after : ℕ → List Text → List Text

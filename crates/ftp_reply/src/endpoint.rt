@@ -1,8 +1,9 @@
 //! The endpoints that replies name.
-ghost use Rattle.std.specs.Prelude.{◌≡◌, ◌≤◌, ℕ, IfOk, IfErr, IfSome, IfNone, length};
+ghost use Rattle.std.specs.Prelude.{◌≡◌, ◌≤◌, ℕ, IfErr, IfSome, IfNone, length};
+ghost use Rattle.std.specs.Result.{result_ok};
 ghost use Rattle.ftp_endpoint.specs.declared.endpoint.Endpoint.{Endpoint};
 ghost use Rattle.ftp_reply.specs.Lines.{joined};
-ghost use Rattle.ftp_reply.specs.Values.{HasPortAt, HasSixAt, NamesEndpoint, NamesPort};
+ghost use Rattle.ftp_reply.specs.Values.{HasPortAt, HasSixAt, extended_value, passive_value};
 
 use crate::fault::ReplyFault;
 use crate::reply::Reply;
@@ -14,35 +15,50 @@ use std::alloc::Allocator;
 ///
 /// `NoEndpoint` where there are none. Takes no memory.
 pub fn passive_of<A: Allocator>(reply: &Reply<A>) -> Result<Endpoint, ReplyFault>
-    ensures ok { IfOk result (λ endpoint. NamesEndpoint (joined reply.now.lines) endpoint) }
+    ensures value { result_ok result ≡ passive_value (joined reply.now.lines) }
     ensures fault { IfErr result (λ fault. fault ≡ ReplyFault.NoEndpoint) }
-    ensures none { IfErr result (λ _. (place : ℕ) (endpoint : Endpoint)
-        → ¬ HasSixAt (joined reply.now.lines) place endpoint) }
 {
-    let text = reply.text();
-    for place in 0..text.len() + 1 {
-        if let Some(endpoint) = six_at(text, place) {
-            return Ok(endpoint);
-        }
+    match six_in(reply.text()) {
+        Some(endpoint) => Ok(endpoint),
+        None => Err(ReplyFault::NoEndpoint),
     }
-    Err(ReplyFault::NoEndpoint)
 }
 
 /// The port that a 229 reply names: that of the first `(<d><d><d>port<d>)` (RFC 2428, section 3).
 ///
 /// `NoEndpoint` where there is none. Takes no memory.
 pub fn extended_of<A: Allocator>(reply: &Reply<A>) -> Result<u16, ReplyFault>
-    ensures ok { IfOk result (λ port. NamesPort (joined reply.now.lines) port) }
+    ensures value { result_ok result ≡ extended_value (joined reply.now.lines) }
     ensures fault { IfErr result (λ fault. fault ≡ ReplyFault.NoEndpoint) }
-    ensures none { IfErr result (λ _. (place port : ℕ) → ¬ HasPortAt (joined reply.now.lines) place port) }
 {
-    let text = reply.text();
+    match port_in(reply.text()) {
+        Some(port) => Ok(port),
+        None => Err(ReplyFault::NoEndpoint),
+    }
+}
+
+/// The endpoint of the first six numbers in a text.
+fn six_in(text: &[u8]) -> Option<Endpoint>
+    ensures { result ≡ passive_value text.now }
+{
     for place in 0..text.len() + 1 {
-        if let Some(port) = port_at(text, place) {
-            return Ok(port);
+        if let Some(endpoint) = six_at(text, place) {
+            return Some(endpoint);
         }
     }
-    Err(ReplyFault::NoEndpoint)
+    None
+}
+
+/// The port of the first `(<d><d><d>port<d>)` in a text.
+fn port_in(text: &[u8]) -> Option<u16>
+    ensures { result ≡ extended_value text.now }
+{
+    for place in 0..text.len() + 1 {
+        if let Some(port) = port_at(text, place) {
+            return Some(port);
+        }
+    }
+    None
 }
 
 /// The endpoint whose six numbers stand at the place.

@@ -1,12 +1,15 @@
 //! Laws of the definitions. Each is the contract of a function that does nothing.
-ghost use Rattle.std.specs.Prelude.{◌≡◌, ◌<◌, ◌++◌, ◌∷◌, [], ℕ, List, All, length};
-ghost use Rattle.ftp_reply.specs.Lines.{AreWithin, IsLine, cut_at_lf, joined};
-ghost use Rattle.ftp_reply.specs.Reply.{IsCode, HasPlainLines, Begins, Says, written};
-ghost use Rattle.ftp_reply.specs.Values.{NamesEndpoint, NamesPort, Quotes, SaysMark};
+ghost use Rattle.std.specs.Prelude.{◌≡◌, ◌<◌, ◌++◌, ◌∷◌, ◌↔◌, [], ℕ, List, Some, All, length};
 ghost use Rattle.ftp_endpoint.specs.Number.{SaysNumber};
 ghost use Rattle.ftp_endpoint.specs.declared.endpoint.Endpoint.{Endpoint};
-ghost use Rattle.ftp_facts.specs.Moment.{SaysMoment};
-ghost use Rattle.ftp_reply.specs.Reader.{Standing, Reading, GoesOn, Ends, StandsAfter};
+ghost use Rattle.ftp_facts.specs.Value.{number_value};
+ghost use Rattle.ftp_reply.specs.Lines.{AreWithin, IsLine, cut_at_lf, joined};
+ghost use Rattle.ftp_reply.specs.Reader as reader;
+ghost use Rattle.ftp_reply.specs.Reader.{Between, Faulty, Gathered, GivesRightly, GoesOn, Stands, StandsAfter, line_heard};
+ghost use Rattle.ftp_reply.specs.Reply.{IsCode, HasPlainLines, Begins, Fits, Says, written};
+ghost use Rattle.ftp_reply.specs.Values.{NamesEndpoint, NamesPath, NamesPort, Quotes, SaysMark, extended_value, mark_value, passive_value, path_value, quoted_value};
+
+use crate::fault::ReplyFault;
 
 /// What is written is read again as the same reply, where no inner line begins with three digits.
 pub fn written_is_said()
@@ -30,24 +33,37 @@ pub fn one_reply()
         → Says heard code lines → Begins heard code' lines' → ⊥ }
 {}
 
-/// A reader stands after all lines that it has taken and the replies that it gave for them.
-pub fn so_far()
-    ensures first { StandsAfter (Reading []) [] [] }
-    ensures goes_on { (old new : Standing) (line : List ℕ) (all : List (List ℕ)) (replies : List (ℕ × List (List ℕ)))
-        → GoesOn old line new → StandsAfter old all replies → StandsAfter new (all ++ line ∷ []) replies }
-    ensures ends { (old new : Standing) (line : List ℕ) (code : ℕ) (lines : List (List ℕ))
-        (all : List (List ℕ)) (replies : List (ℕ × List (List ℕ)))
-        → Ends old line code lines new → StandsAfter old all replies
-        → StandsAfter new (all ++ line ∷ []) (replies ++ (code, lines) ∷ []) }
+/// What a line gives is right for all lines before it that the reader has not yet made a reply of, and it gives that wherever
+/// it is right.
+pub fn line_is_heard()
+    ensures right { (gathered : Gathered) (heard : List (List ℕ)) (line : List ℕ) → Stands gathered heard
+        → GivesRightly heard line (line_heard gathered line) }
+    ensures says { (gathered : Gathered) (heard : List (List ℕ)) (line : List ℕ) (code : ℕ) (texts : List (List ℕ))
+        → Stands gathered heard → Says (heard ++ line ∷ []) code texts → line_heard gathered line ≡ reader.Says code texts }
+    ensures bad_code { (line : List ℕ) → ((code : ℕ) (texts : List (List ℕ)) → ¬ Fits (line ∷ []) code texts)
+        → line_heard Between line ≡ Faulty ReplyFault.BadCode }
+    ensures too_many { (gathered : Gathered) (heard : List (List ℕ)) (line : List ℕ) (code : ℕ) (texts : List (List ℕ))
+        → Stands gathered heard → Fits (heard ++ line ∷ []) code texts → ¬ AreWithin texts
+        → line_heard gathered line ≡ Faulty ReplyFault.TooMany }
 {}
 
-/// A text says one value of a kind at most.
-pub fn one_value()
-    ensures endpoint { (text : List ℕ) (one other : Endpoint)
-        → NamesEndpoint text one → NamesEndpoint text other → one ≡ other }
-    ensures port { (text : List ℕ) (one other : ℕ) → NamesPort text one → NamesPort text other → one ≡ other }
-    ensures path { (text one other : List ℕ) → Quotes text one → Quotes text other → one ≡ other }
-    ensures size { (text : List ℕ) (one other : ℕ) → SaysNumber text one → SaysNumber text other → one ≡ other }
-    ensures mark { (text : List ℕ) (one other : ℕ) → SaysMark text one → SaysMark text other → one ≡ other }
-    ensures moment { (text : List ℕ) (one other : ℕ) → SaysMoment text one → SaysMoment text other → one ≡ other }
+/// A reader stands after all lines that it has taken and the replies that it gave for them.
+pub fn so_far()
+    ensures first { StandsAfter Between [] [] }
+    ensures goes_on { (old new : Gathered) (line : List ℕ) (all : List (List ℕ)) (replies : List (ℕ × List (List ℕ)))
+        → line_heard old line ≡ GoesOn new → StandsAfter old all replies → StandsAfter new (all ++ line ∷ []) replies }
+    ensures ends { (old : Gathered) (line : List ℕ) (code : ℕ) (lines : List (List ℕ))
+        (all : List (List ℕ)) (replies : List (ℕ × List (List ℕ)))
+        → line_heard old line ≡ reader.Says code lines → StandsAfter old all replies
+        → StandsAfter Between (all ++ line ∷ []) (replies ++ (code, lines) ∷ []) }
+{}
+
+/// A text says a value just where it names one in the standard's words.
+pub fn values()
+    ensures number { (text : List ℕ) (value : ℕ) → (number_value text ≡ Some value) ↔ SaysNumber text value }
+    ensures endpoint { (text : List ℕ) (value : Endpoint) → (passive_value text ≡ Some value) ↔ NamesEndpoint text value }
+    ensures port { (text : List ℕ) (value : ℕ) → (extended_value text ≡ Some value) ↔ NamesPort text value }
+    ensures quoted { (text value : List ℕ) → (quoted_value text ≡ Some value) ↔ Quotes text value }
+    ensures path { (text value : List ℕ) → (path_value text ≡ Some value) ↔ NamesPath text value }
+    ensures mark { (text : List ℕ) (value : ℕ) → (mark_value text ≡ Some value) ↔ SaysMark text value }
 {}

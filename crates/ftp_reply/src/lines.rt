@@ -1,6 +1,6 @@
 //! The texts of a reply's lines, in one buffer.
-ghost use Rattle.std.specs.Prelude.{◌≡◌, ◌+◌, ◌<◌, ◌≤◌, ◌++◌, ◌∷◌, [], List, length, OnOk, OnErr, IfOk, IsTrue, IsSome, ◌↔◌, ◌<◌, option_copied, slice_get, take, drop};
-ghost use Rattle.ftp_reply.specs.Lines.{octets_of, joined, AreWithin};
+ghost use Rattle.std.specs.Prelude.{◌≡◌, ◌+◌, ◌<◌, ◌≤◌, ◌++◌, ◌∷◌, [], List, length, OnOk, OnErr, IfOk, IsSome, ◌↔◌, option_copied, slice_get, take, drop};
+ghost use Rattle.ftp_reply.specs.Lines.{octets_of, joined, AreWithin, are_within};
 
 use arrayvec::ArrayVec;
 use std::alloc::{AllocError, Allocator};
@@ -22,7 +22,7 @@ pub struct Lines<A: Allocator> {
     /// The lines, an LF between two.
     buffer: Vec<u8, A>,
     /// The length of each.
-    lens: ArrayVec<u16, 64>,
+    lens: ArrayVec<u16, MAX_LINES>,
 }
 
 impl<A: Allocator> Model for Lines<A> {
@@ -51,7 +51,7 @@ impl<A: Allocator> Lines<A> {
     /// The number of lines.
     pub fn len(&self) -> usize
         ensures count { result ≡ length self.now }
-        ensures within { AreWithin self.now }
+        ensures within { result ≤ MAX_LINES }
     {
         self.lens.len()
     }
@@ -59,7 +59,7 @@ impl<A: Allocator> Lines<A> {
     /// The lines' octets together, without the LF between two.
     pub fn octets(&self) -> usize
         ensures count { result ≡ octets_of self.now }
-        ensures within { AreWithin self.now }
+        ensures within { result ≤ MAX_OCTETS }
     {
         if self.lens.is_empty() {
             return 0;
@@ -91,7 +91,7 @@ impl<A: Allocator> Lines<A> {
 
     /// Whether the limits allow one more line with this text.
     pub fn has_room(&self, line: &[u8]) -> bool
-        ensures { IsTrue result ↔ AreWithin (self.now ++ line.now ∷ []) }
+        ensures { result ≡ are_within (self.now ++ line.now ∷ []) }
     {
         self.len() < MAX_LINES && line.len() <= MAX_OCTETS - self.octets()
     }

@@ -1,24 +1,28 @@
 //! The numbers and moments that replies carry.
-ghost use Rattle.std.specs.Prelude.{◌≡◌, ◌++◌, ◌∷◌, List, ℕ, IfOk, IfErr, IfSome, IfNone, IsTrue, ◌↔◌, ◌≢◌, codes};
-ghost use Rattle.ftp_endpoint.specs.Number.{SaysNumber};
-ghost use Rattle.ftp_facts.specs.Moment.{SaysMoment};
+ghost use Rattle.std.specs.Prelude.{◌≡◌, ◌++◌, ◌∷◌, List, ℕ, option_map, IfErr, IfSome, IfNone, ◌≢◌, codes};
+ghost use Rattle.std.specs.List.{list_all};
+ghost use Rattle.std.specs.Result.{result_ok};
+ghost use Rattle.ftp_representation.specs.Marker as marker;
+ghost use Rattle.ftp_facts.specs.Moment.{moment_value};
+ghost use Rattle.ftp_facts.specs.Value.{number_value};
 ghost use Rattle.ftp_reply.specs.Lines.{joined};
-ghost use Rattle.ftp_reply.specs.Values.{IsMarker, SaysMark};
+ghost use Rattle.ftp_reply.specs.Values.{SaysMark, mark_value};
+ghost use Rattle.ftp_reply.specs.Values as values;
 
 use crate::fault::ReplyFault;
 use crate::first::cut_at;
 use crate::reply::Reply;
 use ftp_endpoint::number;
 use ftp_facts::{Moment, moment_of_text};
+use ftp_representation::{MARKER_LIMIT, is_marker_octet};
 use std::alloc::Allocator;
 
 /// The number that the text of a 213 reply is, 1 to 18 digits: octets of the transfer (RFC 3659, section 4).
 ///
 /// `NoNumber` where the text is none. Takes no memory.
 pub fn size_of<A: Allocator>(reply: &Reply<A>) -> Result<u64, ReplyFault>
-    ensures ok { IfOk result (λ size. SaysNumber (joined reply.now.lines) size) }
+    ensures value { result_ok result ≡ number_value (joined reply.now.lines) }
     ensures fault { IfErr result (λ fault. fault ≡ ReplyFault.NoNumber) }
-    ensures none { IfErr result (λ _. (size : ℕ) → ¬ SaysNumber (joined reply.now.lines) size) }
 {
     match number(reply.text()) {
         Some(size) => Ok(size),
@@ -30,9 +34,8 @@ pub fn size_of<A: Allocator>(reply: &Reply<A>) -> Result<u64, ReplyFault>
 ///
 /// `NoNumber` where the text has none. Takes no memory.
 pub fn mark_of<A: Allocator>(reply: &Reply<A>) -> Result<u64, ReplyFault>
-    ensures ok { IfOk result (λ mark. SaysMark (joined reply.now.lines) mark) }
+    ensures value { result_ok result ≡ mark_value (joined reply.now.lines) }
     ensures fault { IfErr result (λ fault. fault ≡ ReplyFault.NoNumber) }
-    ensures none { IfErr result (λ _. (mark : ℕ) → ¬ SaysMark (joined reply.now.lines) mark) }
 {
     match mark_in(reply.text()) {
         Some(mark) => Ok(mark),
@@ -44,9 +47,8 @@ pub fn mark_of<A: Allocator>(reply: &Reply<A>) -> Result<u64, ReplyFault>
 ///
 /// `NoNumber` where the text is none. Takes no memory.
 pub fn moment_of<A: Allocator>(reply: &Reply<A>) -> Result<Moment, ReplyFault>
-    ensures ok { IfOk result (λ moment. SaysMoment (joined reply.now.lines) moment.seconds) }
+    ensures value { option_map (λ moment. moment.seconds) (result_ok result) ≡ moment_value (joined reply.now.lines) }
     ensures fault { IfErr result (λ fault. fault ≡ ReplyFault.NoNumber) }
-    ensures none { IfErr result (λ _. (seconds : ℕ) → ¬ SaysMoment (joined reply.now.lines) seconds) }
 {
     match moment_of_text(reply.text()) {
         Ok(moment) => Ok(moment),
@@ -101,7 +103,13 @@ fn behind_sign(text: &[u8]) -> Option<&[u8]>
 
 /// Whether a text is a restart marker: 1 to 255 octets 33 to 126.
 fn is_marker(text: &[u8]) -> bool
-    ensures { IsTrue result ↔ IsMarker text.now }
+    ensures { result ≡ values.is_marker text.now }
 {
-    !text.is_empty() && text.len() <= 255 && text.iter().all(|octet| octet.is_ascii_graphic())
+    1 <= text.len() && text.len() <= MARKER_LIMIT && are_visible(text)
+}
+
+fn are_visible(text: &[u8]) -> bool
+    ensures { result ≡ list_all marker.is_marker_octet text.now }
+{
+    text.iter().all(|octet| is_marker_octet(*octet))
 }

@@ -1,7 +1,7 @@
 //! Where a line stands in a reply: before anything is kept or changed.
-ghost use Rattle.std.specs.Prelude.{◌≡◌, ◌≢◌, ◌++◌, ◌∷◌, [], List, ℕ, IfOk, IfErr, IfSome, IfNone, OnOk, true, false};
-ghost use Rattle.ftp_reply.specs.Reply.{IsCode, code_text, last_line, IsLast, Fits};
-ghost use Rattle.ftp_reply.specs.Reader.{heard_at, AreKept, IsPlaced, HasNoPlace};
+ghost use Rattle.std.specs.Prelude.{◌≡◌, ◌≢◌, ◌++◌, ◌∷◌, [], List, ℕ, IfOk, IfErr, IfSome, IfNone};
+ghost use Rattle.ftp_reply.specs.Reply.{IsCode, code_text, last_line, IsLast};
+ghost use Rattle.ftp_reply.specs.Reader.{AreKept, Begun, Between, Faulty, first_heard, heard_at, line_heard, placed, standing_at};
 
 use crate::fault::ReplyFault;
 
@@ -26,10 +26,9 @@ pub struct Place<'a> {
 
 /// Where a line stands in the reply that a reader is at.
 pub fn place_of(stage: Stage, line: &[u8]) -> Result<Place<'_>, ReplyFault>
-    ensures ok { IfOk result (λ place. (lines : List (List ℕ)) → AreKept stage lines
-        → IsPlaced place.ends (heard_at stage lines ++ line.now ∷ []) place.code (lines ++ place.text.now ∷ [])) }
-    ensures reading { OnOk result (stage ≢ Stage.Failed) }
-    ensures err { IfErr result (λ fault. HasNoPlace stage line.now fault) }
+    ensures ok { IfOk result (λ place. (lines : List (List ℕ)) → AreKept stage lines → IsCode place.code
+        × (heard_at (standing_at stage lines) line.now ≡ placed place.ends place.code (lines ++ place.text.now ∷ []))) }
+    ensures err { IfErr result (λ fault. (lines : List (List ℕ)) → heard_at (standing_at stage lines) line.now ≡ Faulty fault) }
 {
     match stage {
         Stage::Between => match first_place(line) {
@@ -43,25 +42,33 @@ pub fn place_of(stage: Stage, line: &[u8]) -> Result<Place<'_>, ReplyFault>
 
 /// The place of a reply's first line. The code alone is a reply too.
 fn first_place(line: &[u8]) -> Option<Place<'_>>
-    ensures found { IfSome result (λ place. IsPlaced place.ends (line.now ∷ []) place.code (place.text.now ∷ [])) }
-    ensures none { IfNone result ((code : ℕ) (lines : List (List ℕ)) → Fits (line.now ∷ []) code lines → ⊥) }
+    ensures code { IfSome result (λ place. IsCode place.code) }
+    ensures found { IfSome result (λ place. line_heard Between line.now ≡ placed place.ends place.code (place.text.now ∷ [])) }
+    ensures none { IfNone result (line_heard Between line.now ≡ Faulty ReplyFault.BadCode) }
 {
     let (code, rest) = code_of(line)?;
-    let (text, ends) = match rest {
-        [] => (rest, true),
-        [b' ', text @ ..] => (text, true),
-        [b'-', text @ ..] => (text, false),
-        _ => return None,
-    };
+    let (text, ends) = first_text(rest)?;
     Some(Place { code, text, ends })
+}
+
+/// What the reply keeps of its first line, of which this stands behind the code, and whether that is the only line.
+fn first_text(rest: &[u8]) -> Option<(&[u8], bool)>
+    ensures some { IfSome result (λ kept. (code : ℕ) → first_heard code rest.now ≡ placed kept.1 code (kept.0.now ∷ [])) }
+    ensures none { IfNone result ((code : ℕ) → first_heard code rest.now ≡ Faulty ReplyFault.BadCode) }
+{
+    match rest {
+        [] => Some((rest, true)),
+        [b' ', text @ ..] => Some((text, true)),
+        [b'-', text @ ..] => Some((text, false)),
+        _ => None,
+    }
 }
 
 /// The place of a line in a reply that this code opened.
 fn later_place(code: u16, line: &[u8]) -> Place<'_>
     ensures code { result.code ≡ code }
-    ensures last { result.ends ≡ true → line.now ≡ last_line code result.text.now }
-    ensures between { result.ends ≡ false → result.text.now ≡ line.now }
-    ensures goes_on { result.ends ≡ false → IsCode code → IsLast code line.now → ⊥ }
+    ensures heard { (lines : List (List ℕ)) → IsCode code → line_heard (Begun code lines) line.now
+        ≡ placed result.ends code (lines ++ result.text.now ∷ []) }
 {
     match last_text(code, line) {
         Some(text) => Place {

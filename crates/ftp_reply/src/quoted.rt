@@ -1,7 +1,7 @@
 //! The path between double quotes.
-ghost use Rattle.std.specs.Prelude.{◌≡◌, ◌<◌, ◌⊎◌, ◌↔◌, List, ℕ, length, IfOk, IfErr, IfSome, IfNone, IsErrOf};
+ghost use Rattle.std.specs.Prelude.{◌≡◌, ◌<◌, ◌⊎◌, ◌↔◌, List, ℕ, Some, None, option_map, length, IfOk, IfErr, IfSome, IfNone, IsErrOf};
 ghost use Rattle.ftp_reply.specs.Lines.{joined};
-ghost use Rattle.ftp_reply.specs.Values.{Closes, NamesPath, IsFront};
+ghost use Rattle.ftp_reply.specs.Values.{Closes, IsFront, path_value};
 
 use crate::fault::ReplyFault;
 use crate::first::cut_at;
@@ -29,8 +29,8 @@ pub fn quoted_of<A: Allocator, B: Allocator>(
     alloc: B,
     reply: &Reply<A>,
 ) -> Result<Vec<u8, B>, ReplyFault>
-    ensures ok { IfOk result (λ path. NamesPath (joined reply.now.lines) path.items) }
-    ensures no_path { IsErrOf result ReplyFault.NoPath ↔ ((path : List ℕ) → NamesPath (joined reply.now.lines) path → ⊥) }
+    ensures ok { IfOk result (λ path. path_value (joined reply.now.lines) ≡ Some path.items) }
+    ensures no_path { IsErrOf result ReplyFault.NoPath ↔ (path_value (joined reply.now.lines) ≡ None) }
     ensures faults { IfErr result (λ fault. (fault ≡ ReplyFault.NoPath) ⊎ (fault ≡ ReplyFault.Memory)) }
 {
     let Some(path) = path_text_in(reply.text()) else {
@@ -44,8 +44,7 @@ pub fn quoted_of<A: Allocator, B: Allocator>(
 
 /// The path that a text names.
 fn path_text_in(text: &[u8]) -> Option<ArrayVec<u8, 900>>
-    ensures some { IfSome result (λ path. NamesPath text.now path.items) }
-    ensures none { IfNone result ((path : List ℕ) → NamesPath text.now path → ⊥) }
+    ensures { option_map (λ path. path.items) result ≡ path_value text.now }
 {
     let Some((_, inside)) = cut_at(b'"', text) else {
         return None;

@@ -1,5 +1,5 @@
 //! Lines to replies.
-ghost use Rattle.std.specs.Prelude.{◌≡◌, [], IfOk, IfErr, IsErrOf, MatchOption};
+ghost use Rattle.std.specs.Prelude.{◌≡◌};
 
 use crate::fault::ReplyFault;
 use crate::lines::Lines;
@@ -8,8 +8,8 @@ use crate::reply::Reply;
 use std::alloc::Allocator;
 use std::marker::Model;
 
-/// Reads replies line by line. Contracts see it as the lines of the reply that has begun and not ended, as they
-/// came, or as stopped.
+/// Reads replies line by line. Contracts see it as between replies, as the code and the texts of the reply that has begun
+/// and not ended, or as stopped.
 #[derive(Debug, Drop)]
 pub struct Reader<A: Allocator> {
     stage: Stage,
@@ -27,11 +27,11 @@ impl<A: Allocator> Model for Reader<A> {
 }
 
 impl<A: Allocator> Reader<A> {
-    ghost use Rattle.ftp_reply.specs.Reader.{Reading};
+    ghost use Rattle.ftp_reply.specs.Reader.{Between, Reading};
 
     /// No line heard yet. Takes no memory.
     pub fn new(alloc: A) -> Reader<A>
-        ensures { result ≡ Reading [] }
+        ensures { result ≡ Reading Between }
     {
         Reader {
             stage: Stage::Between,
@@ -41,7 +41,7 @@ impl<A: Allocator> Reader<A> {
 }
 
 impl<A: Allocator + Clone> Reader<A> {
-    ghost use Rattle.ftp_reply.specs.Reader.{GoesOn, Ends, BeginsNone, PassesLimits, Refuses, Stopped};
+    ghost use Rattle.ftp_reply.specs.Reader.{Answers, heard_at};
 
     /// Takes a line without its end. Answers a reply with its last line, until then nothing.
     ///
@@ -49,14 +49,7 @@ impl<A: Allocator + Clone> Reader<A> {
     /// Faults: `BadCode` where no reply begins with the line, `TooMany` where it passes the limits; then, and from
     /// then on, nothing is read any more and each call answers `Failed`. `Memory` leaves all as before.
     pub fn line(&mut self, line: &[u8]) -> Result<Option<Reply<A>>, ReplyFault>
-        ensures ok { IfOk result (λ answer. MatchOption answer (GoesOn self.old line.now self.new)
-            (λ reply. Ends self.old line.now reply.code reply.lines self.new)) }
-        ensures err { IfErr result (λ fault. Refuses self.old line.now fault self.new) }
-
-        // Each fault also comes wherever it belongs.
-        ensures bad_code { BeginsNone self.old line.now → IsErrOf result ReplyFault.BadCode }
-        ensures too_many { PassesLimits self.old line.now → IsErrOf result ReplyFault.TooMany }
-        ensures failed { self.old ≡ Stopped → IsErrOf result ReplyFault.Failed }
+        ensures { Answers (heard_at self.old line.now) result self.old self.new }
     {
         let place = match place_of(self.stage, line) {
             Ok(place) => place,

@@ -3,7 +3,7 @@ ghost use Rattle.std.specs.Prelude.{◌≡◌, ◌<◌, ◌≤◌, ◌++◌, ◌
 ghost use Rattle.ftp_reply.specs.Lines.{joined, AreWithin};
 ghost use Rattle.ftp_reply.specs.Reply.{IsCode};
 
-use crate::lines::Lines;
+use crate::lines::{Lines, MAX_OCTETS};
 use std::alloc::{AllocError, Allocator};
 
 /// A reply of one line or of several (RFC 959, section 4.2).
@@ -22,7 +22,7 @@ impl<A: Allocator> Reply<A> {
     /// A reply of one line.
     pub fn new(alloc: A, code: u16, text: &[u8]) -> Result<Reply<A>, AllocError>
         requires code { IsCode code }
-        requires within { length text.now ≤ 8192 }
+        requires within { length text.now ≤ MAX_OCTETS }
         ensures code { IfOk result (λ reply. reply.code ≡ code) }
         ensures lines { IfOk result (λ reply. reply.lines ≡ text.now ∷ []) }
     {

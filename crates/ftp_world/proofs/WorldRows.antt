@@ -3,7 +3,7 @@ use Rattle.std.proofs.Common.{refl}
 use Rattle.ftp_operation.specs.Account.{is_known}
 use Rattle.ftp_repr.specs.Ascii.{settled}
 use Rattle.ftp_client_machine.specs.Dialogue.{answered}
-use Rattle.ftp_client_machine.specs.Replies.{line_heard}
+use Rattle.ftp_reply.specs.Reader.{line_heard}
 use Rattle.ftp_client_machine.specs.Calls.{wants, data_end, data_fault}
 use Rattle.ftp_server_machine.specs.Machine.{obeyed, hears_octet}
 use Rattle.ftp_server_machine.specs.Calls.{gives_control, gives_data, data_closed, data_fault as far_fault}

@@ -1,6 +1,6 @@
-use Rattle.std.proofs.Common.{◌≡◌, ◌++◌, ℕ, List, IsTrue, codes, sym, ◌∙◌, subst}
+use Rattle.std.proofs.Common.{◌≡◌, ◌++◌, ℕ, List, true, false, codes, sym, ◌∙◌, subst}
 use Rattle.ftp_endpoint.specs.Number.{IsNumber}
-use Rattle.ftp_reply.specs.Values.{IsMarker}
+use Rattle.ftp_reply.specs.Values.{is_marker}
 use Rattle.ftp_reply.proofs.MarkLemmas.{mark_rest, theirs_once, behind_once}
 use Rattle.ftp_reply.proofs.number.mark_in.Goals as goal
 
@@ -9,8 +9,8 @@ returns-then-not-is_marker-clause-none c = λ mark says.
     let rest = mark_rest c.args.text.now c.in-Some.rest.now mark c.in-Some.ensures.some says in
     let cut = c.in-Some-cut_at.ensures in
     let theirs = theirs_once c.in-Some.rest.now c.in-Some-cut_at.theirs.now c.in-Some-cut_at.behind.now says.theirs (codes "= " ++ says.digits) cut.first says.marker cut.cut rest in
-    let is_marker : IsTrue c.is_marker.result = c.is_marker.ensures.1 (subst (λ (t : List ℕ). IsMarker t) theirs says.marker) in
-    let not_marker = c.if-not-is_marker.true in
+    let yes : c.is_marker.result ≡ true = c.is_marker.ensures ∙ subst (λ (t : List ℕ). is_marker t ≡ true) theirs says.marker in
+    let never : true ≡ false = sym yes ∙ c.if-not-is_marker.true in
     cc
 
 pub returns-in_default-behind_sign-clause-none : goal.returns-in_default-behind_sign-clause-none

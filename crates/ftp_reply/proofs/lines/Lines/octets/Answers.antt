@@ -1,4 +1,6 @@
 use Rattle.std.proofs.Common.{arith, rules, ◌<◌, length}
+use Rattle.ftp_reply.specs.Lines.{lines_at}
+use Rattle.ftp_reply.proofs.HeardLemmas.{few_octets}
 use Rattle.ftp_reply.proofs.LinesLemmas.{octets_at}
 use Rattle.ftp_reply.proofs.lines.Lines.octets.Goals as goal
 
@@ -13,3 +15,11 @@ returns-clause-count g c =
     let some : 0 < length c.self.inside.lens.items = search rules in
     let e = octets_at c.self.inside.buffer.items c.self.inside.lens.items c.self.invariant.0 some in
     rw (← c.self.view_is) (omega arith)
+
+pub returns-clause-within : goal.returns-clause-within
+returns-clause-within g c =
+    let lines = lines_at c.self.inside.buffer.items c.self.inside.lens.items in
+    let some : 0 < length c.self.inside.lens.items = search rules in
+    let e = octets_at c.self.inside.buffer.items c.self.inside.lens.items c.self.invariant.0 some in
+    let few = few_octets lines c.self.invariant.1 in
+    omega (arith, e, few)
