@@ -1,9 +1,11 @@
 -- What the buffer of an unfinished line has read.
-use Rattle.std.specs.Prelude.{◌≡◌, ℕ, ◌<◌, List, [], ◌∷◌, ◌++◌, length, ◌==◌, true, false, if◌then◌else◌}
-use Rattle.ftp_nvt.specs.Lines.{NvtEvent, cut, last_octet, text_of, settled, lines}
+use Rattle.std.specs.Prelude.{◌≡◌, ℕ, ◌<◌, ◌≤◌, List, [], ◌∷◌, ◌++◌, length, take, ◌==◌, true, false, if◌then◌else◌}
+use Rattle.ftp_nvt.specs.Lines.{NvtEvent, Lacks, cut, last_octet, text_of, settled, lines}
 use Rattle.ftp_nvt.specs.declared.event.Event.{Event}
+use Rattle.ftp_nvt.specs.declared.event.Heard.{Heard}
 use Rattle.ftp_nvt.specs.Event.{event_list}
 use Rattle.ftp_nvt.specs.declared.line.TheConstants.{LF, CR}
+use Rattle.ftp_nvt.specs.declared.telnet.TheConstants.{IAC}
 use Rattle.ftp_nvt.specs.declared.line.Stage.{Stage}
 use Rattle.ftp_nvt.specs.declared.line.Stage.TheVariants.{Start, Inside, AfterReturn, Past}
 use Rattle.ftp_nvt.specs.declared.line.LineBuffer.{LineBuffer}
@@ -33,6 +35,13 @@ pub record Reads {A : Type 0} (old : LineBuffer A) (taken : List ℕ) (added : L
   pub limit : new.limit ≡ old.limit
   pub has_read : (octets : List ℕ) → HasRead old octets → HasRead new (octets ++ taken)
   pub said : (octets : List ℕ) → HasRead old octets → lines old.limit (octets ++ taken) ≡ lines old.limit octets ++ added
+
+-- so many octets in front of a piece were read, one at least and none of them an IAC, and settled this
+pub record Bites {A : Type 0} (old : LineBuffer A) (piece : List ℕ) (heard : Heard) (new : LineBuffer A) : Type 0 where
+  pub within : heard.taken ≤ length piece
+  pub some : 0 < heard.taken
+  pub bare : Lacks IAC (take heard.taken piece)
+  pub reads : Reads old (take heard.taken piece) (event_list heard.event new.text.items) new
 
 -- a buffer takes one octet, told by its unfinished line
 pub record Steps {A : Type 0} (old : LineBuffer A) (octet : ℕ) (event : Event) (new : LineBuffer A) : Type 0 where

@@ -39,7 +39,7 @@ pub struct LineBuffer<A: Allocator> {
 
 impl<A: Allocator> LineBuffer<A> {
     ghost use Rattle.ftp_nvt.specs.Event.{event_list};
-    ghost use Rattle.ftp_nvt.specs.LineBuffer.{HasRead, Reads, Steps};
+    ghost use Rattle.ftp_nvt.specs.LineBuffer.{Bites, HasRead, Reads, Steps};
     ghost use Rattle.ftp_nvt.specs.Lines.{Lacks};
 
     /// A buffer that has read nothing, with room for `limit` octets.
@@ -67,11 +67,7 @@ impl<A: Allocator> LineBuffer<A> {
     pub(crate) fn bite(&mut self, piece: &[u8]) -> Heard
         requires some { 0 < length piece.now }
         requires bare { slice_index piece.now 0 ≢ IAC }
-        ensures within { result.taken ≤ length piece.now }
-        ensures bare { Lacks IAC (take result.taken piece.now) }
-        ensures reads { Reads self.old (take result.taken piece.now)
-            (event_list result.event self.new.text.items) self.new }
-        ensures some { 0 < result.taken }
+        ensures { Bites self.old piece.now result self.new }
     {
         match self.stage {
             Stage::Start => {
@@ -114,11 +110,7 @@ impl<A: Allocator> LineBuffer<A> {
         requires some { 0 < length piece.now }
         requires bare { slice_index piece.now 0 ≢ IAC }
         requires stage { self.old.stage ≡ Stage.Past }
-        ensures within { result.taken ≤ length piece.now }
-        ensures bare { Lacks IAC (take result.taken piece.now) }
-        ensures reads { Reads self.old (take result.taken piece.now)
-            (event_list result.event self.new.text.items) self.new }
-        ensures some { 0 < result.taken }
+        ensures { Bites self.old piece.now result self.new }
     {
         let taken = skipped_run(piece);
         if taken < piece.len() && piece[taken] == LF {
@@ -139,11 +131,7 @@ impl<A: Allocator> LineBuffer<A> {
         requires some { 0 < length piece.now }
         requires bare { slice_index piece.now 0 ≢ IAC }
         requires stage { self.old.stage ≡ Stage.Inside }
-        ensures within { result.taken ≤ length piece.now }
-        ensures bare { Lacks IAC (take result.taken piece.now) }
-        ensures reads { Reads self.old (take result.taken piece.now)
-            (event_list result.event self.new.text.items) self.new }
-        ensures some { 0 < result.taken }
+        ensures { Bites self.old piece.now result self.new }
     {
         let taken = plain_run(piece).min(self.limit - self.count);
         if taken == 0 {
@@ -176,10 +164,7 @@ impl<A: Allocator> LineBuffer<A> {
         requires some { 0 < length piece.now }
         requires bare { slice_index piece.now 0 ≢ IAC }
         requires stage { (self.old.stage ≡ Stage.Inside) ⊎ (self.old.stage ≡ Stage.AfterReturn) }
-        ensures taken { result.taken ≡ 1 }
-        ensures bare { Lacks IAC (take 1 piece.now) }
-        ensures reads { Reads self.old (take 1 piece.now)
-            (event_list result.event self.new.text.items) self.new }
+        ensures { Bites self.old piece.now result self.new }
     {
         let event = self.octet(piece[0]);
         Heard { taken: 1, event }
