@@ -6,6 +6,7 @@ use Rattle.ftp_framer.specs.Said.{Said, says, marker, octets_said}
 use Rattle.ftp_representation.specs.Marker.{IsMarker}
 use Rattle.ftp_framer.specs.Marker.{to_place, places}
 use Rattle.ftp_framer.specs.declared.descriptor.TheConstants.{GOES_ON, END_OF_RECORD, END_OF_FILE, END_OF_BOTH, SUSPECTED_ERRORS, RESTART_MARKER}
+use Rattle.ftp_framer.specs.declared.framer.TheConstants.{BLOCK_LIMIT}
 
 -- a bit of a descriptor: an end of record, the end of file, suspected errors, a restart marker; own choice: the others
 -- say nothing
@@ -53,12 +54,12 @@ marker_text count = block_text RESTART_MARKER (decimal count)
 -- octets in blocks: so many of 8,192 octets first, and then one of the rest, with this descriptor
 abbrev pub blocks_text : ℕ → ℕ → List ℕ → List ℕ
 blocks_text zero d xs = block_text d xs
-blocks_text (suc k) d xs = block_text GOES_ON (take 8192 xs) ++ blocks_text k d (drop 8192 xs)
+blocks_text (suc k) d xs = block_text GOES_ON (take BLOCK_LIMIT xs) ++ blocks_text k d (drop BLOCK_LIMIT xs)
 
 -- own choice: octets up to an end go in blocks of 8,192 octets, the last one of 1 to 8,192 and of none only where
 -- there are none; its descriptor says what ends there
 abbrev pub data_text : ℕ → List ℕ → List ℕ
-data_text d xs = blocks_text ((length xs - 1) / 8192) d xs
+data_text d xs = blocks_text ((length xs - 1) / BLOCK_LIMIT) d xs
 
 -- the text of a file: each record, and the tail, goes by itself; an end of record right before the end of file
 -- stands in the same header. `before` are the octets since the last end of record

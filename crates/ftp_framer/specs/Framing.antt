@@ -9,6 +9,7 @@ use Rattle.ftp_framer.specs.declared.framer.Marks.TheVariants.{Never, Unmarked, 
 use Rattle.ftp_framer.specs.declared.framer.Framer.{Framer}
 use Rattle.ftp_framer.specs.Block.{block_text}
 use Rattle.ftp_framer.specs.Writing.{Writing, copying, free, held, filling, at_record, closed, Counting, never, unmarked, counted, IsFar, writer, write_step, write_out}
+use Rattle.ftp_framer.specs.declared.framer.TheConstants.{BLOCK_LIMIT}
 
 -- the octets of the held block that are decided and not yet out
 abbrev pub owed_block : Stage → List ℕ → List ℕ
@@ -78,7 +79,7 @@ pub record Waits (old : Framer) (x : Sign) (new : Framer) : Type 0 where
 -- so many octets go into the block, and nothing is written before them
 pub record Fills (f : Framer) (len : ℕ) : Type 0 where
   pub stage : f.stage ≡ Filling
-  pub room : length f.block.items + len ≤ 8192
+  pub room : length f.block.items + len ≤ BLOCK_LIMIT
   pub far : IsFar (counting f.marks) len
 
 -- octets were taken, and nothing is decided by them

@@ -10,6 +10,8 @@ use Rattle.ftp_framer.specs.Stream.{escaped_octet}
 use Rattle.ftp_framer.specs.Block.{block_text, marker_text}
 use Rattle.ftp_framer.specs.Count.{count_on, next}
 use Rattle.ftp_framer.specs.declared.descriptor.TheConstants.{GOES_ON, END_OF_RECORD, END_OF_FILE, END_OF_BOTH}
+use Rattle.ftp_framer.specs.declared.escape.TheConstants.{ESCAPE, RECORD_CODE, FILE_CODE, BOTH_CODE}
+use Rattle.ftp_framer.specs.declared.framer.TheConstants.{BLOCK_LIMIT, MARKED}
 
 -- own markers: never with records, none asked for, or the octets of the file are counted, and the last marker or
 -- the start stands at `since`
@@ -21,7 +23,7 @@ pub data Counting : Type 0 where
 abbrev pub is_due : Counting → Bool
 is_due never = false
 is_due unmarked = false
-is_due (counted since count) = nat_lt since count && (count % 65536 == 0)
+is_due (counted since count) = nat_lt since count && (count % MARKED == 0)
 
 abbrev pub due_text : Counting → List ℕ
 due_text never = []
@@ -65,10 +67,10 @@ pub data Writing : Type 0 where
 abbrev pub filled_step : List ℕ → Counting → ℕ → Writing
 filled_step xs n c =
     if is_due n then filling (c ∷ []) (counted_on (marked n))
-    else (if length xs == 8192 then filling (c ∷ []) (counted_on n) else filling (xs ++ c ∷ []) (counted_on n))
+    else (if length xs == BLOCK_LIMIT then filling (c ∷ []) (counted_on n) else filling (xs ++ c ∷ []) (counted_on n))
 
 abbrev pub filled_out : List ℕ → Counting → List ℕ
-filled_out xs n = if is_due n then block_text GOES_ON xs ++ due_text n else (if length xs == 8192 then block_text GOES_ON xs else [])
+filled_out xs n = if is_due n then block_text GOES_ON xs ++ due_text n else (if length xs == BLOCK_LIMIT then block_text GOES_ON xs else [])
 
 abbrev pub write_step : Writing → Sign → Writing
 write_step copying (octet c) = copying
@@ -94,10 +96,10 @@ write_out copying end_record = []
 write_out copying end_file = []
 write_out free (octet c) = escaped_octet c
 write_out free end_record = []
-write_out free end_file = 255 ∷ 2 ∷ []
-write_out held (octet c) = 255 ∷ 1 ∷ escaped_octet c
-write_out held end_record = 255 ∷ 1 ∷ []
-write_out held end_file = 255 ∷ 3 ∷ []
+write_out free end_file = ESCAPE ∷ FILE_CODE ∷ []
+write_out held (octet c) = ESCAPE ∷ RECORD_CODE ∷ escaped_octet c
+write_out held end_record = ESCAPE ∷ RECORD_CODE ∷ []
+write_out held end_file = ESCAPE ∷ BOTH_CODE ∷ []
 write_out (filling xs n) (octet c) = filled_out xs n
 write_out (filling xs n) end_record = []
 write_out (filling xs n) end_file = block_text END_OF_FILE xs

@@ -6,6 +6,7 @@ ghost use Rattle.ftp_framer.specs.Writing.{blank, with_marks, is_due, due_text, 
 ghost use Rattle.ftp_framer.specs.Framing.{writing, counting, owed_block, owed_octets, still_to_write, is_open, IsClear, Takes, Waits, AreRun, Fills, TakesRun};
 
 use crate::descriptor::{END_OF_BOTH, END_OF_FILE, END_OF_RECORD, GOES_ON, RESTART_MARKER};
+use crate::escape::{BOTH_CODE, ESCAPE, FILE_CODE, RECORD_CODE};
 use arrayvec::ArrayVec;
 use ftp_repr::{Item, first_ff};
 use ftp_representation::{Mode, Structure};
@@ -94,7 +95,7 @@ pub struct Framer {
     stage: Stage,
     marks: Marks,
     owed: ArrayVec<u8, 23>,
-    block: ArrayVec<u8, 8192>,
+    block: ArrayVec<u8, BLOCK_LIMIT>,
 }
 
 impl Framer {
@@ -247,7 +248,7 @@ impl Framer {
         ensures copied { take (at + result) room.new ++ drop (first + result) self.now.block.items
             ≡ take at room.old ++ drop first self.now.block.items }
         ensures all { (length self.now.block.items ≤ first + result) ⊎ (at + result ≡ length room.old) }
-        ensures few { 0 < result → first + result ≤ 8192 }
+        ensures few { 0 < result → first + result ≤ BLOCK_LIMIT }
     {
         let (_, rest) = self.block.as_slice().split_at(first.min(self.block.len()));
         let count = rest.len().min(room.len() - at);
@@ -376,12 +377,12 @@ impl Framer {
         ensures { Takes self.old (sign octet) self.new }
     {
         if self.stage == Stage::Held {
-            self.owed.push(255);
-            self.owed.push(1);
+            self.owed.push(ESCAPE);
+            self.owed.push(RECORD_CODE);
         }
         self.stage = Stage::Free;
-        if octet == 255 {
-            self.owed.push(255);
+        if octet == ESCAPE {
+            self.owed.push(ESCAPE);
         }
         self.owed.push(octet);
     }
@@ -510,8 +511,8 @@ impl Framer {
         match self.stage {
             Stage::Free => self.stage = Stage::Held,
             Stage::Held => {
-                self.owed.push(255);
-                self.owed.push(1);
+                self.owed.push(ESCAPE);
+                self.owed.push(RECORD_CODE);
             }
             Stage::Filling => self.stage = Stage::AtRecord,
             Stage::AtRecord => {
@@ -531,8 +532,8 @@ impl Framer {
     {
         match self.stage {
             Stage::Copying => self.stage = Stage::Closed,
-            Stage::Free => self.close(2),
-            Stage::Held => self.close(3),
+            Stage::Free => self.close(FILE_CODE),
+            Stage::Held => self.close(BOTH_CODE),
             Stage::Filling => self.stage = Stage::Last(END_OF_FILE, 0),
             Stage::AtRecord => self.stage = Stage::Last(END_OF_BOTH, 0),
             Stage::Leaving(_, _) | Stage::Last(_, _) | Stage::Closed => {}
@@ -542,10 +543,10 @@ impl Framer {
     fn close(&mut self, code: u8)
         requires { self.old.owed.items ≡ [] }
         ensures stage { self.new.stage ≡ Stage.Closed }
-        ensures owes { self.new.owed.items ≡ 255 ∷ code ∷ [] }
+        ensures owes { self.new.owed.items ≡ ESCAPE ∷ code ∷ [] }
     {
         self.stage = Stage::Closed;
-        self.owed.push(255);
+        self.owed.push(ESCAPE);
         self.owed.push(code);
     }
 

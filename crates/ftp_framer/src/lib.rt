@@ -3,6 +3,7 @@
 #![tactic(auto)]
 
 pub mod descriptor;
+pub mod escape;
 mod framer;
 pub mod laws;
 

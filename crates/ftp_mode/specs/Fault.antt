@@ -13,12 +13,13 @@ use Rattle.ftp_representation.specs.Marker.{is_marker_octet}
 use Rattle.ftp_representation.specs.declared.marker.TheConstants.{MARKER_LIMIT}
 use Rattle.ftp_mode.specs.Units.{WireUnit, GoesOn, units_octets}
 use Rattle.ftp_framer.specs.declared.descriptor.TheConstants.{SUSPECTED_ERRORS, RESTART_MARKER}
+use Rattle.ftp_framer.specs.declared.escape.TheConstants.{ESCAPE}
 
 -- own choice: an escape octet before an octet that is no code, at the place of that octet
 pub record IsBadEscape (place : ℕ) (w : List ℕ) (fault : FrameFault) : Type 0 where
   pub code : ℕ
   pub rest : List ℕ
-  pub is : w ≡ 255 ∷ code ∷ rest
+  pub is : w ≡ ESCAPE ∷ code ∷ rest
   pub wrong : is_code code ≡ false
   pub named : fault ≡ BadEscape (place + 1)
 

@@ -12,6 +12,7 @@ use Rattle.ftp_representation.specs.Marker.{is_marker_octet}
 use Rattle.ftp_mode.specs.Units.{WireUnit, GoesOn, units_octets, units_said, IsText}
 use Rattle.ftp_mode.specs.Fault.{is_no_length, IsFault}
 use Rattle.ftp_framer.specs.declared.descriptor.TheConstants.{SUSPECTED_ERRORS, RESTART_MARKER}
+use Rattle.ftp_framer.specs.declared.escape.TheConstants.{ESCAPE}
 
 -- a cut header: a descriptor without suspected errors, and perhaps half of the count
 abbrev pub IsCutHeader : List ℕ → Type 0
@@ -45,7 +46,7 @@ pub record IsCutMarker (w : List ℕ) : Type 0 where
 -- a unit that was cut, and what it says
 abbrev pub IsCut : Mode → Structure → List ℕ → List Said → Type 0
 IsCut Stream File w said = ⊥
-IsCut Stream Record w said = (w ≡ 255 ∷ []) × (said ≡ [])
+IsCut Stream Record w said = (w ≡ ESCAPE ∷ []) × (said ≡ [])
 IsCut Blocks s w said = (IsCutHeader w × (said ≡ [])) ⊎ IsCutData w said ⊎ (IsCutMarker w × (said ≡ []))
 
 -- a wire that something may still follow: whole units, and perhaps one that was cut

@@ -16,6 +16,7 @@ use Rattle.ftp_framer.specs.Block.{has, count_of, ends_of}
 use Rattle.ftp_framer.specs.Count.{next}
 use Rattle.ftp_mode.specs.Fault.{is_no_length}
 use Rattle.ftp_framer.specs.declared.descriptor.TheConstants.{END_OF_FILE, SUSPECTED_ERRORS, RESTART_MARKER}
+use Rattle.ftp_framer.specs.declared.escape.TheConstants.{ESCAPE}
 
 -- where in a text the next octet stands
 pub data Place : Type 0 where
@@ -45,7 +46,7 @@ data_begins n d count = going (next n) (if count == 0 then after_block d else in
 
 abbrev pub place_step : ℕ → Place → ℕ → Reading
 place_step n plain c = going (next n) plain
-place_step n outside c = going (next n) (if c == 255 then escaped else outside)
+place_step n outside c = going (next n) (if c == ESCAPE then escaped else outside)
 place_step n escaped c =
     if is_code c then going (next n) (if code_ends c then ended else outside) else failed (BadEscape n)
 place_step n at_head c = if has c SUSPECTED_ERRORS then failed (Suspect n) else going (next n) (at_high c)
@@ -59,7 +60,7 @@ place_step n ended c = going (next n) ended
 
 abbrev pub place_out : Place → ℕ → List Said
 place_out plain c = says (octet c) ∷ []
-place_out outside c = if c == 255 then [] else says (octet c) ∷ []
+place_out outside c = if c == ESCAPE then [] else says (octet c) ∷ []
 place_out escaped c = code_said c
 place_out at_head c = []
 place_out (at_high d) c = []

@@ -10,6 +10,7 @@ use Rattle.ftp_framer.specs.Said.{Said, says, octets_said}
 use Rattle.ftp_framer.specs.Stream.{is_code, code_said, code_ends}
 use Rattle.ftp_framer.specs.Block.{Block, block_octets, block_said, IsBlock, has}
 use Rattle.ftp_framer.specs.declared.descriptor.TheConstants.{END_OF_FILE}
+use Rattle.ftp_framer.specs.declared.escape.TheConstants.{ESCAPE}
 
 -- an octet, an escape octet and its code, or a block
 pub data WireUnit : Type 0 where
@@ -19,7 +20,7 @@ pub data WireUnit : Type 0 where
 
 abbrev pub unit_octets : WireUnit → List ℕ
 unit_octets (one c) = c ∷ []
-unit_octets (escape code) = 255 ∷ code ∷ []
+unit_octets (escape code) = ESCAPE ∷ code ∷ []
 unit_octets (whole b) = block_octets b
 
 abbrev pub unit_said : WireUnit → List Said
@@ -36,7 +37,7 @@ unit_ends (whole b) = has b.descriptor END_OF_FILE
 -- which units a mode and a structure have
 abbrev pub IsUnit : Mode → Structure → WireUnit → Type 0
 IsUnit Stream File (one c) = Unit {0}
-IsUnit Stream Record (one c) = (c == 255) ≡ false
+IsUnit Stream Record (one c) = (c == ESCAPE) ≡ false
 IsUnit Blocks s (one c) = ⊥
 IsUnit Stream File (escape code) = ⊥
 IsUnit Stream Record (escape code) = is_code code ≡ true

@@ -9,6 +9,7 @@ use crate::step::{Part, Step};
 use arrayvec::ArrayVec;
 use ftp_framer::Mode;
 use ftp_framer::descriptor::{END_OF_FILE, END_OF_RECORD, RESTART_MARKER, SUSPECTED_ERRORS};
+use ftp_framer::escape::{BOTH_CODE, ESCAPE, FILE_CODE, RECORD_CODE};
 use ftp_repr::{Structure, first_ff};
 use ftp_representation::{MARKER_LIMIT, is_marker_octet};
 
@@ -358,13 +359,13 @@ impl Deframer {
         self.moved(1);
         self.state = State::Outside;
         match octet {
-            255 => return Ok(Gave::Octets),
-            1 => self.owed = Owed::Record,
-            2 => {
+            ESCAPE => return Ok(Gave::Octets),
+            RECORD_CODE => self.owed = Owed::Record,
+            FILE_CODE => {
                 self.state = State::Ended;
                 self.owed = Owed::File;
             }
-            3 => {
+            BOTH_CODE => {
                 self.state = State::Ended;
                 self.owed = Owed::Both;
             }
