@@ -98,7 +98,7 @@ fault_passes (Err e) f g P is same p = rw (is ∙ same) p
 -- a line without parts is refused as such
 pub NoParts-refuses : (line : List ℕ) (fault : FactFault) → NoParts line fault → Refuses line fault
 NoParts-refuses line NoSpace denies = denies
-NoParts-refuses line BadFact denies = (denies.0, λ name kind size modify perm sound. denies.1 name kind size modify perm sound.parts)
+NoParts-refuses line BadFact denies = (denies.0, λ name modify sound. denies.1 name sound.kind sound.size modify sound.perm sound.parts)
 NoParts-refuses line BadMoment denies = absurd denies
 NoParts-refuses line Memory denies = absurd denies
 NoParts-refuses line BadName denies = absurd denies
@@ -106,7 +106,7 @@ NoParts-refuses line BadName denies = absurd denies
 -- and so are one without a pathname and one whose Size is no number
 pub no_name : (line name : List ℕ) (kind size modify perm : Option (List ℕ)) → HasParts line name kind size modify perm → name ≡ [] → Refuses line BadFact
 no_name line name kind size modify perm h empty =
-    (has_space line (facts_text h.facts) name h.written, λ n k s m p sound. sound.named (sym (HasParts-same line name n kind size modify perm k s m p h sound.parts).0 ∙ empty))
+    (has_space line (facts_text h.facts) name h.written, λ n m sound. sound.named (sym (HasParts-same line name n kind size modify perm sound.kind sound.size m sound.perm h sound.parts).0 ∙ empty))
 
 -- a value that a fact says, or none
 pub is_sound : {V : Type 0} (f : List ℕ → Option V) (text : Option (List ℕ)) (value : Option V) → fact_value f text ≡ Some value → IsSound f text
@@ -118,7 +118,7 @@ not_sound f text e is = let b : false ≡ true = sym (ap is_some e) ∙ is in cc
 pub no_number : (line name : List ℕ) (kind size modify perm : Option (List ℕ)) → HasParts line name kind size modify perm → ¬ (IsSound number_value size) → Refuses line BadFact
 no_number line name kind size modify perm h denies = (
   has_space line (facts_text h.facts) name h.written,
-  λ n k s m p sound. denies (subst (IsSound number_value) (sym (HasParts-same line name n kind size modify perm k s m p h sound.parts).2) sound.sized),
+  λ n m sound. denies (subst (IsSound number_value) (sym (HasParts-same line name n kind size modify perm sound.kind sound.size m sound.perm h sound.parts).2) sound.sized),
 )
 
 -- a pathname that is no path text, and a path text is not empty

@@ -78,54 +78,66 @@ pub SaysEntry-same : {A : Type 0} (line : List ℕ) (x y : Entry A) → SaysEntr
 SaysEntry-same line x y a b = listed-same x y (ap (λ o. unwrap_or o (listed_of x)) (sym a ∙ b))
 
 -- a line that says something has a pathname and a sound size
-sized : (line : List ℕ) (entry : Listed) → (s : SaysListed line entry) → IsSized line entry.name s.kind_text s.size_text s.modify_text entry.perm
-sized line entry s = record { parts = s.parts; named = path_text-some entry.name s.named; sized = is_sound number_value s.size_text entry.size s.size }
+sized : (line : List ℕ) (entry : Listed) → (s : SaysListed line entry) → IsSized line entry.name s.modify_text
+sized line entry s = record {
+  kind = s.kind_text;
+  size = s.size_text;
+  perm = entry.perm;
+  parts = s.parts;
+  named = path_text-some entry.name s.named;
+  sized = is_sound number_value s.size_text entry.size s.size;
+}
 
-spaced : (line name : List ℕ) (kind size modify perm : Option (List ℕ)) → IsSized line name kind size modify perm → ¬ (Lacks line space)
-spaced line name kind size modify perm s = has_space line (facts_text s.parts.facts) name s.parts.written
+spaced : (line name : List ℕ) (modify : Option (List ℕ)) → IsSized line name modify → ¬ (Lacks line space)
+spaced line name modify s = has_space line (facts_text s.parts.facts) name s.parts.written
+
+-- one line has one pathname and one Modify
+record IsOne (n name : List ℕ) (m modify : Option (List ℕ)) : Type 0 where
+  names : n ≡ name
+  modifies : m ≡ modify
+
+one : (line n name : List ℕ) (m modify : Option (List ℕ)) → IsSized line n m → IsSized line name modify → IsOne n name m modify
+one line n name m modify a b =
+    let same = HasParts-same line n name a.kind a.size m a.perm b.kind b.size modify b.perm a.parts b.parts in record { names = same.0; modifies = same.3 }
 
 -- a line meets one fault
 says : (line : List ℕ) (m : Refuses line Memory) → SaysListed line m.0
 says line m = entry_says line m.0 m.1
 
 space_apart : (line : List ℕ) → Lacks line space → Refuses line Memory → ⊥
-space_apart line none m =
-    let s = says line m in spaced line m.0.name s.kind_text s.size_text s.modify_text m.0.perm (sized line m.0 s) none
+space_apart line none m = let s = says line m in spaced line m.0.name s.modify_text (sized line m.0 s) none
 
 fact_apart : (line : List ℕ) → Refuses line BadFact → Refuses line Memory → ⊥
-fact_apart line a m =
-    let s = says line m in a.1 m.0.name s.kind_text s.size_text s.modify_text m.0.perm (sized line m.0 s)
+fact_apart line a m = let s = says line m in a.1 m.0.name s.modify_text (sized line m.0 s)
 
 moment_apart : (line : List ℕ) → Refuses line BadMoment → Refuses line Memory → ⊥
 moment_apart line a m =
     let s = says line m in
-    let same = HasParts-same line a.0 m.0.name a.1 a.2 a.3 a.4 s.kind_text s.size_text s.modify_text m.0.perm a.5.parts s.parts in
-    a.6 (subst (IsSound moment_value) (sym same.3) (is_sound moment_value s.modify_text m.0.modify s.modify))
+    let same = one line a.0 m.0.name a.1 s.modify_text a.2 (sized line m.0 s) in
+    a.3 (subst (IsSound moment_value) (sym same.modifies) (is_sound moment_value s.modify_text m.0.modify s.modify))
 
 name_apart : (line : List ℕ) → Refuses line BadName → Refuses line Memory → ⊥
 name_apart line a m =
     let s = says line m in
-    let same = HasParts-same line m.0.name a.0 s.kind_text s.size_text s.modify_text m.0.perm a.1 a.2 a.3 a.4 s.parts a.5.parts in
-    a.7 (subst IsPathText same.0 s.named)
+    let same = one line m.0.name a.0 s.modify_text a.1 (sized line m.0 s) a.2 in
+    a.4 (subst IsPathText same.names s.named)
 
 moment_first : (line : List ℕ) → Refuses line BadMoment → Refuses line BadName → ⊥
-moment_first line a b =
-    let same = HasParts-same line a.0 b.0 a.1 a.2 a.3 a.4 b.1 b.2 b.3 b.4 a.5.parts b.5.parts in
-    a.6 (subst (IsSound moment_value) (sym same.3) b.6)
+moment_first line a b = let same = one line a.0 b.0 a.1 b.1 a.2 b.2 in a.3 (subst (IsSound moment_value) (sym same.modifies) b.3)
 
 pub Refuses-same : (line : List ℕ) (a b : FactFault) → Refuses line a → Refuses line b → a ≡ b
 Refuses-same line NoSpace NoSpace p q = refl
 Refuses-same line NoSpace BadFact p q = absurd (q.0 p)
-Refuses-same line NoSpace BadMoment p q = absurd (spaced line q.0 q.1 q.2 q.3 q.4 q.5 p)
+Refuses-same line NoSpace BadMoment p q = absurd (spaced line q.0 q.1 q.2 p)
 Refuses-same line NoSpace Memory p q = absurd (space_apart line p q)
-Refuses-same line NoSpace BadName p q = absurd (spaced line q.0 q.1 q.2 q.3 q.4 q.5 p)
+Refuses-same line NoSpace BadName p q = absurd (spaced line q.0 q.1 q.2 p)
 Refuses-same line BadFact NoSpace p q = absurd (p.0 q)
 Refuses-same line BadFact BadFact p q = refl
-Refuses-same line BadFact BadMoment p q = absurd (p.1 q.0 q.1 q.2 q.3 q.4 q.5)
+Refuses-same line BadFact BadMoment p q = absurd (p.1 q.0 q.1 q.2)
 Refuses-same line BadFact Memory p q = absurd (fact_apart line p q)
-Refuses-same line BadFact BadName p q = absurd (p.1 q.0 q.1 q.2 q.3 q.4 q.5)
-Refuses-same line BadMoment NoSpace p q = absurd (spaced line p.0 p.1 p.2 p.3 p.4 p.5 q)
-Refuses-same line BadMoment BadFact p q = absurd (q.1 p.0 p.1 p.2 p.3 p.4 p.5)
+Refuses-same line BadFact BadName p q = absurd (p.1 q.0 q.1 q.2)
+Refuses-same line BadMoment NoSpace p q = absurd (spaced line p.0 p.1 p.2 q)
+Refuses-same line BadMoment BadFact p q = absurd (q.1 p.0 p.1 p.2)
 Refuses-same line BadMoment BadMoment p q = refl
 Refuses-same line BadMoment Memory p q = absurd (moment_apart line p q)
 Refuses-same line BadMoment BadName p q = absurd (moment_first line p q)
@@ -134,8 +146,8 @@ Refuses-same line Memory BadFact p q = absurd (fact_apart line q p)
 Refuses-same line Memory BadMoment p q = absurd (moment_apart line q p)
 Refuses-same line Memory Memory p q = refl
 Refuses-same line Memory BadName p q = absurd (name_apart line q p)
-Refuses-same line BadName NoSpace p q = absurd (spaced line p.0 p.1 p.2 p.3 p.4 p.5 q)
-Refuses-same line BadName BadFact p q = absurd (q.1 p.0 p.1 p.2 p.3 p.4 p.5)
+Refuses-same line BadName NoSpace p q = absurd (spaced line p.0 p.1 p.2 q)
+Refuses-same line BadName BadFact p q = absurd (q.1 p.0 p.1 p.2)
 Refuses-same line BadName BadMoment p q = absurd (moment_first line q p)
 Refuses-same line BadName Memory p q = absurd (name_apart line p q)
 Refuses-same line BadName BadName p q = refl

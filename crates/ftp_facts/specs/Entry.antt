@@ -33,9 +33,7 @@ NoParts line NoSpace = Lacks line space
 NoParts line BadFact =
     (¬ (Lacks line space))
     × ((name : List ℕ) (kind size modify perm : Option (List ℕ)) → ¬ (HasParts line name kind size modify perm))
-NoParts line BadMoment = ⊥
-NoParts line Memory = ⊥
-NoParts line BadName = ⊥
+NoParts line other = ⊥
 
 -- the word of a type
 abbrev pub word_of : {A : Type 0} → Kind A → List ℕ
@@ -91,8 +89,11 @@ pub record CanBeKept (seen : Seen) : Type 0 where
 abbrev pub IsSound : {V : Type 0} → (List ℕ → Option V) → Option (List ℕ) → Type 0
 IsSound f text = IsSome (fact_value f text)
 
--- the line has parts, and they are sound but perhaps for its Modify: a pathname, and a Size that is a number
-pub record IsSized (line name : List ℕ) (kind size modify perm : Option (List ℕ)) : Type 0 where
+-- the line has this pathname, not an empty one, and this Modify, and its Size is a number
+pub record IsSized (line name : List ℕ) (modify : Option (List ℕ)) : Type 0 where
+  pub kind : Option (List ℕ)
+  pub size : Option (List ℕ)
+  pub perm : Option (List ℕ)
   pub parts : HasParts line name kind size modify perm
   pub named : name ≢ []
   pub sized : IsSound number_value size
@@ -100,16 +101,12 @@ pub record IsSized (line name : List ℕ) (kind size modify perm : Option (List 
 -- The line meets this fault and none of a lower number, want of memory aside: that comes only where the line says an entry.
 abbrev pub Refuses : List ℕ → FactFault → Type 0
 Refuses line NoSpace = Lacks line space
-Refuses line BadFact =
-    (¬ (Lacks line space))
-    × ((name : List ℕ) (kind size modify perm : Option (List ℕ)) → ¬ (IsSized line name kind size modify perm))
+Refuses line BadFact = (¬ (Lacks line space)) × ((name : List ℕ) (modify : Option (List ℕ)) → ¬ (IsSized line name modify))
 Refuses line BadMoment =
-    (name : List ℕ) × (kind : Option (List ℕ)) × (size : Option (List ℕ)) × (modify : Option (List ℕ))
-    × (perm : Option (List ℕ)) × IsSized line name kind size modify perm × (¬ (IsSound moment_value modify))
+    (name : List ℕ) × (modify : Option (List ℕ)) × IsSized line name modify × (¬ (IsSound moment_value modify))
 Refuses line Memory = (entry : Listed) × (entry_value line ≡ Some entry)
 Refuses line BadName =
-    (name : List ℕ) × (kind : Option (List ℕ)) × (size : Option (List ℕ)) × (modify : Option (List ℕ))
-    × (perm : Option (List ℕ)) × IsSized line name kind size modify perm × IsSound moment_value modify × (¬ (IsPathText name))
+    (name : List ℕ) × (modify : Option (List ℕ)) × IsSized line name modify × IsSound moment_value modify × (¬ (IsPathText name))
 
 -- the facts of an entry, in the order in which they are written
 abbrev pub facts_of : Option (List ℕ) → Option (List ℕ) → Option (List ℕ) → Option (List ℕ) → List Fact

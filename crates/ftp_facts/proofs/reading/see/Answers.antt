@@ -35,25 +35,25 @@ returns-in_err-read_modify-clause-refuses c =
     let parts = c.in_ok-parts.parts in
     let err = c.in_err-read_modify.ensures in
     let named = not_empty parts.name.now (filled parts.name.now c.is_empty.result c.if-is_empty.false c.is_empty.ensures) in
-    let sized : IsSized line parts.name.now (option_copied parts.kind) (option_copied parts.size) (option_copied parts.modify) (option_copied parts.perm) =
-    record { parts = c.in_ok-parts.ensures.parts; named = named; sized = is_sound number_value (option_copied parts.size) c.in_ok-read_size.field-0 c.in_ok-read_size.ensures.says } in
+    let sized : IsSized line parts.name.now (option_copied parts.modify) =
+    record { kind = option_copied parts.kind; size = option_copied parts.size; perm = option_copied parts.perm; parts = c.in_ok-parts.ensures.parts; named = named; sized = is_sound number_value (option_copied parts.size) c.in_ok-read_size.field-0 c.in_ok-read_size.ensures.says } in
     fault_passes c.from_residual-in_err-read_modify.result c.in_err-read_modify.field-0.0 BadMoment (Refuses line) c.from_residual-in_err-read_modify.ensures.1 err.fault
-    (parts.name.now, option_copied parts.kind, option_copied parts.size, option_copied parts.modify, option_copied parts.perm, sized, not_sound moment_value (option_copied parts.modify) err.silent)
+    (parts.name.now, option_copied parts.modify, sized, not_sound moment_value (option_copied parts.modify) err.silent)
 
 pub returns-then-not-is_path_text-clause-refuses : goal.returns-then-not-is_path_text-clause-refuses
 returns-then-not-is_path_text-clause-refuses c =
     let line = c.args.line.now in
     let parts = c.in_ok-parts.parts in
     let named = not_empty parts.name.now (filled parts.name.now c.is_empty.result c.if-is_empty.false c.is_empty.ensures) in
-    let sized : IsSized line parts.name.now (option_copied parts.kind) (option_copied parts.size) (option_copied parts.modify) (option_copied parts.perm) =
-    record { parts = c.in_ok-parts.ensures.parts; named = named; sized = is_sound number_value (option_copied parts.size) c.in_ok-read_size.field-0 c.in_ok-read_size.ensures.says } in
+    let sized : IsSized line parts.name.now (option_copied parts.modify) =
+    record { kind = option_copied parts.kind; size = option_copied parts.size; perm = option_copied parts.perm; parts = c.in_ok-parts.ensures.parts; named = named; sized = is_sound number_value (option_copied parts.size) c.in_ok-read_size.field-0 c.in_ok-read_size.ensures.says } in
     let other : ¬ (IsPathText parts.name.now) =
     λ is.
     let yes : c.is_path_text.result ≡ true = c.is_path_text.ensures.1 is in
     let never : true ≡ false = sym yes ∙ c.if-not-is_path_text.true in
     cc
     in
-    (parts.name.now, option_copied parts.kind, option_copied parts.size, option_copied parts.modify, option_copied parts.perm, sized, is_sound moment_value (option_copied parts.modify) (option_map (λ moment. moment.seconds) c.in_ok-read_modify.field-0) c.in_ok-read_modify.ensures.says, other)
+    (parts.name.now, option_copied parts.modify, sized, is_sound moment_value (option_copied parts.modify) (option_map (λ moment. moment.seconds) c.in_ok-read_modify.field-0) c.in_ok-read_modify.ensures.says, other)
 
 pub returns-clause-fits : goal.returns-clause-fits
 returns-clause-fits c =
