@@ -2,12 +2,15 @@
 use Rattle.std.specs.Prelude.{◌≡◌, ◌≢◌, ℕ, List, [], ◌∷◌, ◌++◌, All, find, Bool, false, Option, Some, None, option_map, codes}
 use Rattle.std.specs.Str.{str_eq_ignore_ascii_case}
 
+-- the octet that ends the facts of a line
 abbrev pub space : ℕ
 space = 32
 
+-- the octet between a fact's name and its value
 abbrev pub equals : ℕ
 equals = 61
 
+-- the octet that ends a fact
 abbrev pub semicolon : ℕ
 semicolon = 59
 
@@ -55,16 +58,19 @@ first_value name facts = option_map (λ fact. fact.value) (find (is_named name) 
 abbrev pub IsValue : List ℕ → Type 0
 IsValue text = Lacks text space × Lacks text semicolon
 
--- the four types (RFC 3659, section 7.5.1)
+-- the words of the four types (RFC 3659, section 7.5.1): a file
 abbrev pub file_word : List ℕ
 file_word = codes "file"
 
+-- a directory
 abbrev pub dir_word : List ℕ
 dir_word = codes "dir"
 
+-- the directory that is listed
 abbrev pub current_word : List ℕ
 current_word = codes "cdir"
 
+-- its parent
 abbrev pub parent_word : List ℕ
 parent_word = codes "pdir"
 

@@ -17,9 +17,11 @@ pub record Listed : Type 0 where
 
 -- ---- facts
 
+-- it stands between a fact's name and its value
 abbrev pub is_equals : ℕ → Bool
 is_equals octet = octet == equals
 
+-- it ends a fact
 abbrev pub is_semicolon : ℕ → Bool
 is_semicolon octet = octet == semicolon
 
@@ -58,6 +60,7 @@ listed_as name facts size modify = record {
   perm = first_value (codes "Perm") facts;
 }
 
+-- the same, where its Size and its Modify say values or are left out
 abbrev pub listed_by : List ℕ → List Fact → Option Listed
 listed_by name facts =
     and_then (fact_value number_value (first_value (codes "Size") facts)) (λ size.

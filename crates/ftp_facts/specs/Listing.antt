@@ -7,25 +7,31 @@ use Rattle.ftp_facts.specs.Fact.{is_word, file_word, dir_word}
 use Rattle.ftp_facts.specs.Listed.{Listed, entry_value}
 use Rattle.ftp_facts.specs.Value.{and_then}
 
--- lines, without an empty one behind the last end; own choice: a last line without an end counts
+-- the octet that ends a line of a listing: the receiver makes it of CR LF
+abbrev pub line_feed : ℕ
+line_feed = 10
+
+-- without an empty line at the end
 abbrev pub but_empty_last : List (List ℕ) → List (List ℕ)
 but_empty_last [] = []
 but_empty_last (last ∷ []) = if length last == 0 then [] else last ∷ []
 but_empty_last (line ∷ next ∷ lines) = line ∷ but_empty_last (next ∷ lines)
 
+-- the lines of a listing, each ended by LF; own choice: a last line without an end counts
 abbrev pub lines_of : List ℕ → List (List ℕ)
-lines_of octets = but_empty_last (slice_split (λ octet. octet == 10) octets)
+lines_of octets = but_empty_last (slice_split (λ octet. octet == line_feed) octets)
 
 -- the values of all texts, where each has one
 abbrev pub all_values : {V : Type 0} → (List ℕ → Option V) → List (List ℕ) → Option (List V)
 all_values f [] = Some []
 all_values f (text ∷ texts) = and_then (f text) (λ value. option_map (λ values. value ∷ values) (all_values f texts))
 
--- own choice: entries of the directory itself, of its parent and of types of another word are left out
+-- a file, a directory, or of no type that is given
 abbrev pub is_shown_kind : Option (List ℕ) → Bool
 is_shown_kind None = true
 is_shown_kind (Some word) = is_word word file_word || is_word word dir_word
 
+-- own choice: entries of the directory itself, of its parent and of types of another word are left out
 abbrev pub is_shown : Listed → Bool
 is_shown entry = is_shown_kind entry.kind
 

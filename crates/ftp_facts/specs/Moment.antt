@@ -43,6 +43,7 @@ has_date text =
 abbrev pub has_time : List ℕ → Bool
 has_time text = nat_lt (digits_at 8 2 text) 24 && nat_lt (digits_at 10 2 text) 60 && nat_le (digits_at 12 2 text) 60
 
+-- fourteen digits of a real date and time, and perhaps a fraction
 abbrev pub is_moment_text : List ℕ → Bool
 is_moment_text text =
     nat_le 14 (length text) && list_all is_ascii_digit (take 14 text) && has_date text && has_time text && is_fraction (drop 14 text)

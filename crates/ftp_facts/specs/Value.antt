@@ -12,6 +12,7 @@ abbrev pub and_then : {X Y : Type 0} → Option X → (X → Option Y) → Optio
 and_then None f = None
 and_then (Some x) f = f x
 
+-- it is a space
 abbrev pub is_space : ℕ → Bool
 is_space octet = octet == space
 
@@ -23,6 +24,7 @@ are_digits most text = nat_le 1 (length text) && nat_le (length text) most && li
 abbrev pub is_number_within : (most low high : ℕ) → List ℕ → Bool
 is_number_within most low high text = are_digits most text && nat_le low (digits_value 10 text) && nat_le (digits_value 10 text) high
 
+-- the number that they write
 abbrev pub number_within : (most low high : ℕ) → List ℕ → Option ℕ
 number_within most low high text = then_some (is_number_within most low high text) (digits_value 10 text)
 

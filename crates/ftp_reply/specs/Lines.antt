@@ -41,5 +41,6 @@ pub record AreCut (buffer : Text) (lens : List ℕ) : Type 0 where
 abbrev pub are_within : List Text → Bool
 are_within lines = nat_le (length lines) MAX_LINES && nat_le (octets_of lines) MAX_OCTETS
 
+-- they are
 abbrev pub AreWithin : List Text → Type 0
 AreWithin lines = IsTrue (are_within lines)

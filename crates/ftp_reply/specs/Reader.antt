@@ -40,6 +40,7 @@ first_heard code [] = placed true code ([] ∷ [])
 first_heard code (c ∷ text) =
     if c == space then placed true code (text ∷ []) else (if c == hyphen then placed false code (text ∷ []) else Faulty Faults.BadCode)
 
+-- a reply begins with a code, or not
 abbrev pub opened : Option ℕ → Text → Heard
 opened None line = Faulty Faults.BadCode
 opened (Some code) line = first_heard code (drop 3 line)
@@ -48,6 +49,7 @@ opened (Some code) line = first_heard code (drop 3 line)
 abbrev pub is_last : ℕ → Text → Bool
 is_last code line = starts_with nat_eq line (last_line code [])
 
+-- of the last line the text behind code and SP is kept, of any other the whole line
 abbrev pub next_heard : Bool → ℕ → List Text → Text → Heard
 next_heard true code texts line = placed true code (texts ++ drop 4 line ∷ [])
 next_heard false code texts line = placed false code (texts ++ line ∷ [])

@@ -3,20 +3,23 @@ use Rattle.std.specs.Prelude.{◌≡◌, ℕ, ◌+◌, ◌≤◌, ◌/◌, ◌%�
 use Rattle.std.specs.Char.{is_ascii_digit}
 use Rattle.ftp_reply.specs.Lines.{Text, AreWithin}
 
--- the octets behind a code: of the last line of a reply, and of the first of several
+-- the octet behind the code of a reply's last line, or its only one
 abbrev pub space : ℕ
 space = 32
 
+-- the octet behind the code of the first of several lines
 abbrev pub hyphen : ℕ
 hyphen = 45
 
--- a code of three digits, the first of them 1 to 5
+-- the first digit of a code is 1 to 5 (RFC 959, section 4.2.1)
 abbrev pub least_code : ℕ
 least_code = 100
 
+-- the greatest one with 5
 abbrev pub greatest_code : ℕ
 greatest_code = 599
 
+-- a code of three digits, the first of them 1 to 5
 pub record IsCode (code : ℕ) : Type 0 where
   pub low : least_code ≤ code
   pub high : code ≤ greatest_code

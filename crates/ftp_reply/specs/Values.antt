@@ -40,6 +40,7 @@ numbers_in_front (suc more) text =
 abbrev pub endpoint_of : List ℕ → Endpoint
 endpoint_of numbers = record { host = V4 (take 4 numbers); port = 256 * slice_index numbers 4 + slice_index numbers 5 }
 
+-- the endpoint of six numbers in front of a text
 abbrev pub six_in_front : Text → Option Endpoint
 six_in_front text = option_map endpoint_of (numbers_in_front 5 text)
 
@@ -59,7 +60,7 @@ pub record HasSixAt (text : Text) (place : ℕ) (endpoint : Endpoint) : Type 0 w
   pub behind : Text
   pub numbers : BeginsWithSix (drop place text) endpoint behind
 
--- they stand at a first place
+-- they stand at this first place
 pub record NamesEndpoint (text : Text) (endpoint : Endpoint) : Type 0 where
   pub place : ℕ
   pub here : HasSixAt text place endpoint
@@ -92,7 +93,7 @@ pub record HasPortAt (text : Text) (place port : ℕ) : Type 0 where
   pub within : place ≤ length text
   pub port_is : BeginsWithPort (drop place text) port
 
--- it stands at a first place
+-- it stands at this first place
 pub record NamesPort (text : Text) (port : ℕ) : Type 0 where
   pub place : ℕ
   pub here : HasPortAt text place port
@@ -100,9 +101,11 @@ pub record NamesPort (text : Text) (port : ℕ) : Type 0 where
 
 -- ---- the path of a 257 (RFC 959, section 4.1.3 and appendix II)
 
+-- the octet around a path
 abbrev pub double_quote : ℕ
 double_quote = 34
 
+-- it is a double quote
 abbrev pub is_quote : ℕ → Bool
 is_quote octet = octet == double_quote
 
@@ -110,6 +113,7 @@ is_quote octet = octet == double_quote
 pub data Quoting : Type 0 where
   Within AtQuote Ended : Quoting
 
+-- where an octet leads from there, a double quote or another
 abbrev pub quoting : Quoting → Bool → Quoting
 quoting Within true = AtQuote
 quoting Within false = Within
@@ -188,6 +192,7 @@ mark_behind text =
 unfoldable pub mark_value : Text → Option ℕ
 mark_value text = and_then (behind_text (codes "MARK ") text) mark_behind
 
+-- the text is such a mark, with this mmmm
 pub record SaysMark (text : Text) (mark : ℕ) : Type 0 where
   pub theirs : Text
   pub digits : Text
