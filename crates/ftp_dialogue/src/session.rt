@@ -106,16 +106,18 @@ impl<A: Allocator + Copy> Session<A> {
         }
     }
 
+    #[tactic(auto, using(ftp_tree::proofs::PartLemmas::under_all, ftp_tree::proofs::PartLemmas::part_whole))]
     fn make_dir(&mut self, text: &[u8]) -> Result<Reply<Path<A>>, AllocError>
         requires { IsPathText text.now }
         ensures turn { IfOk result (λ reply. (state_of self.new, reply) ≡ make_dir (resolved [] text.now) (state_of self.old)) }
         ensures refused { OnErr result (state_of self.new ≡ state_of self.old) }
     {
-        let path = match Path::root(self.alloc).resolve(self.alloc, text) {
+        let root = Path::root(self.alloc);
+        let path = match root.resolve(self.alloc, text) {
             Ok(path) => path,
             Err(fault) => return refused(TreeFault::from(fault)),
         };
-        match self.tree.make_dir(&path) {
+        match self.tree.make_dir(&root, &path) {
             Ok(()) => Ok(Reply::Created(path)),
             Err(fault) => refused(fault),
         }

@@ -193,12 +193,12 @@ unfolding is_within
 within-append [] rest = refl
 within-append (x ∷ above) rest = and_from (pointwise nat_eq x x) _ ((bytes_decides x x).1 refl) (within-append above rest)
 
-components-drop : (n : ℕ) (names : List (List ℕ)) → list_all is_component names ≡ true → list_all is_component (drop n names) ≡ true
+pub components-drop : (n : ℕ) (names : List (List ℕ)) → list_all is_component names ≡ true → list_all is_component (drop n names) ≡ true
 components-drop zero names named = named
 components-drop (suc n) [] named = refl
 components-drop (suc n) (name ∷ names) named = components-drop n names (and_parts (is_component name) (list_all is_component names) named).1
 
-components-append : (names others : List (List ℕ)) → list_all is_component names ≡ true → list_all is_component others ≡ true → list_all is_component (names ++ others) ≡ true
+pub components-append : (names others : List (List ℕ)) → list_all is_component names ≡ true → list_all is_component others ≡ true → list_all is_component (names ++ others) ≡ true
 components-append names others one two = list_all-append is_component names others ∙ and_from _ _ one two
 
 -- what stands behind the text of a path in that of a path within it
@@ -264,18 +264,17 @@ pub record IsBelow (above path : List (List ℕ)) (text : List ℕ) : Type 0 whe
   pub alone : list_any (λ octet. nat_eq octet 47) text ≡ false → name_in above path ≡ Some text
   pub named : list_any (λ octet. nat_eq octet 47) text ≡ false → is_name text ≡ true
 
-pub below-text : (a b text : List ℕ) → IsJoined a → IsKept b → is_within (names_of a) (names_of b) ≡ true → length a < length b → text ≡ drop (length a + 1) b
-    → IsBelow (names_of a) (names_of b) text
-unfolding name_in fits
-below-text a b text one two within longer is =
+pub below-text : (a b text : List ℕ) → IsJoined a → IsJoined b → list_all (λ name. nat_le (length name) 255) (names_of b) ≡ true → is_within (names_of a) (names_of b) ≡ true → length a < length b
+    → text ≡ drop (length a + 1) b → IsBelow (names_of a) (names_of b) text
+unfolding name_in
+below-text a b text one two short within longer is =
     let rest = drop (length (names_of a)) (names_of b) in
-    let behind = rest-joined a b one two.joins within in
-    let named = components-drop (length (names_of a)) (names_of b) two.joins.components in
+    let behind = rest-joined a b one two within in
+    let named = components-drop (length (names_of a)) (names_of b) two.components in
     let cut : length (drop (length a) b) ≡ length b - length a = length-drop (length a) b in
     let some : 0 < length (joined rest) = omega (arith, ap length behind) in
     let text_is : text ≡ drop 1 (joined rest) = is ∙ sym (drop-drop 1 (length a) b) ∙ ap (drop 1) behind in
     let here = cond-true (is_within (names_of a) (names_of b)) (only_name rest) None within in
-    let short = (and_parts (list_all (λ name. nat_le (length name) 255) (names_of b)) (nat_le (length (text_of (names_of b))) 900) two.within).0 in
     elim (one_name rest text named text_is some) [
       | inl w ↦ record {
         several = λ _. here ∙ w.1;

@@ -1,9 +1,10 @@
 //! Paths by their names joined, as `Path::key` and `Path::parent_key` lend them: which comes first, and which is below which.
-ghost use Rattle.std.specs.Prelude.{◌≡◌, map};
+ghost use Rattle.std.specs.Prelude.{◌≡◌, IsTrue, length, map, nat_le};
+ghost use Rattle.std.specs.List.{list_all};
 ghost use Rattle.std.specs.Option.{option_map};
 ghost use Rattle.std.specs.Cmp.Lexicographic.{slice_cmp};
 ghost use Rattle.std.specs.Ordering.{nat_cmp};
-ghost use Rattle.ftp_path.specs.Kept.{IsJoined, IsKept, goes_on, names_of, rank};
+ghost use Rattle.ftp_path.specs.Kept.{IsJoined, goes_on, names_of, rank};
 ghost use Rattle.ftp_path.specs.Path.{is_within, name_in, path_cmp};
 
 use crate::name::Name;
@@ -56,7 +57,8 @@ fn goes_on(front: &[u8], text: &[u8]) -> bool
 /// What the directory at the first path calls what stands at the second, where that stands directly in it.
 pub fn name_in<'a>(above: &[u8], key: &'a [u8]) -> Option<Name<'a>>
     requires above { IsJoined above.now }
-    requires key { IsKept key.now }
+    requires key { IsJoined key.now }
+    requires short { IsTrue (list_all (λ name. nat_le (length name) 255) (names_of key.now)) }
     ensures { option_map (λ name. name.octets.now) result ≡ name_in (names_of above.now) (names_of key.now) }
 {
     if !is_within(above, key) || key.len() <= above.len() {

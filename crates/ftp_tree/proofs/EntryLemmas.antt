@@ -272,13 +272,6 @@ module _ {A : Type 0} where
 
   -- ---- moves
 
-  pub move-allowed : (es : List (Entry A)) (i : ℕ) (x : Entry A) (from to : Names) → i < length es → x ≡ get_or es i x → all_moves_fit from to (rows es) ≡ true
-      → (not (is_within from x.path) || fits (moved_path from to x.path)) ≡ true
-  move-allowed es i x from to within is all =
-      let allowed = λ (e : Names × Node). not (is_within from e.0) || fits (moved_path from to e.0) in
-      let long = rows-length es in
-      ap allowed (sym (row-at es i x ([], Dir) within is)) ∙ AllPass-from_list_all allowed (rows es) all i ([], Dir) (omega arith)
-
   pub moves-more : (es : List (Entry A)) (i : ℕ) (x : Entry A) (from to : Names) (moves new : List (Option Names)) (name : Option Names) → i < length es → x ≡ get_or es i x
       → moves ≡ map (λ e. moved_name from to e.0) (rows (take i es)) → new ≡ moves ++ name ∷ [] → name ≡ moved_name from to x.path → new ≡ map (λ e. moved_name from to e.0) (rows (take (i + 1) es))
   moves-more es i x from to moves new name within is so_far push named =
@@ -330,14 +323,3 @@ module _ {A : Type 0} where
       let long = rows-length es in
       let moved = length-moved_rows ms (rows es) (omega arith) in
       ap put_all (drop_all (length es) (moved_rows ms (rows es)) (omega arith))
-
-  -- the octets so far and those of the next file are no more than all
-  pub octets-more-le : (es : List (Entry A)) (i : ℕ) (x : Entry A) (so_far own : ℕ) → i < length es → x ≡ get_or es i x → so_far ≡ octets_of_rows (rows (take i es)) → own ≡ length_of (kept_node x.node)
-      → so_far + own ≤ octets_of_rows (rows es)
-  octets-more-le es i x so_far own within is sums has =
-      let size = λ (e : Names × Node). length_of e.1 in
-      let long = rows-length es in
-      let front : so_far ≡ octets_of_rows (take i (rows es)) = sums ∙ ap octets_of_rows (sym (take-map row i es)) in
-      let here : own ≡ length_of (get_or (rows es) i ([], Dir)).1 = has ∙ ap size (sym (row-at es i x ([], Dir) within is)) in
-      let le = sum_by_more_le size (rows es) i ([], Dir) (omega arith) in
-      omega arith

@@ -4,4 +4,7 @@ pub mod EntryLemmas
 pub mod KeepLaws
 pub mod LawLemmas
 pub mod PartLemmas
+pub mod PlaceLemmas
+pub mod StoreLemmas
 pub mod TableLemmas
+pub mod UnderLemmas

@@ -72,19 +72,6 @@ within-root : (name : List ℕ) (names : Names) → is_within (name ∷ names) [
 unfolding is_within
 within-root name names = refl
 
-list_all-keys : (f : Names → Bool) (es : Rows) → list_all f (map (λ e. e.0) es) ≡ list_all (λ e. f e.0) es
-list_all-keys f [] = refl
-list_all-keys f (e ∷ es) = ap (λ b. f e.0 && b) (list_all-keys f es)
-
-pub moves_fit-table : (es : Rows) → is_in_order es ≡ true → (name : List ℕ) (names to : Names) → moves_fit (table_of es) (name ∷ names) to ≡ all_moves_fit (name ∷ names) to es
-unfolding moves_fit
-moves_fit-table es sorted name names to =
-    let from = name ∷ names in
-    let allowed = λ (path : Names). not (is_within from path) || fits (moved_path from to path) in
-    ap (λ (l : Rows). list_all allowed (map (λ e. e.0) l)) (entries-table es sorted)
-    ∙ ap (λ b. (not b || fits (moved_path from to [])) && list_all allowed (map (λ e. e.0) es)) (within-root name names)
-    ∙ list_all-keys allowed es
-
 -- ---- changes
 
 pub in_order-put : (es : Rows) → is_in_order es ≡ true → (name : List ℕ) (names : Names) (v : Node) → is_in_order (put path_cmp (name ∷ names) v es) ≡ true
@@ -121,67 +108,6 @@ remove-table es sorted name names =
     ]
     ∙ sym (fin.get-remove path_total (table_of es) p q ∙ ap (cond (eq_by_cmp path_cmp q p) None) (get-table es sorted q)))
 
--- ---- sizes
-
-abbrev pub found_length : Option Node → ℕ
-found_length None = 0
-found_length (Some node) = length_of node
-
-octets-cons : (e : Names × Node) (es : Rows) → octets_of_rows (e ∷ es) ≡ length_of e.1 + octets_of_rows es
-octets-cons e es = sum_by-cons (λ entry. length_of entry.1) e es
-
--- what is put comes in the place of what was found
-pub octets-put : (es : Rows) → is_sorted path_cmp es ≡ true → (q : Names) (v : Node) → octets_of_rows (put path_cmp q v es) + found_length (find path_cmp q es) ≡ octets_of_rows es + length_of v
-octets-put [] sorted q v = omega (arith, octets-cons (q, v) [])
-octets-put (e ∷ es) sorted q v =
-    let both = and_parts (below_all path_cmp e.0 es) (is_sorted path_cmp es) sorted in
-    elim (path_cmp q e.0) as (λ r. path_cmp q e.0 ≡ r → octets_of_rows (by_order r ((q, v) ∷ e ∷ es) ((e.0, v) ∷ es) (e ∷ put path_cmp q v es)) + found_length (cond (is_eq r) (Some e.1) (find path_cmp q es)) ≡ octets_of_rows (e ∷ es) + length_of v) [
-      | Less ↦ λ is.
-          let none : found_length (find path_cmp q es) ≡ 0 = ap found_length (find-below q es (below-less q e.0 es is both.0)) in
-          omega (arith, octets-cons (q, v) (e ∷ es))
-      | Equal ↦ λ is. omega (arith, octets-cons (e.0, v) es, octets-cons e es)
-      | Greater ↦ λ is. omega (arith, octets-cons e (put path_cmp q v es), octets-cons e es, octets-put es both.1 q v)
-    ] refl
-
-pub octets-put-le : (es : Rows) → is_sorted path_cmp es ≡ true → (q : Names) (v : Node) → octets_of_rows (put path_cmp q v es) ≤ octets_of_rows es + length_of v
-octets-put-le es sorted q v = omega (arith, octets-put es sorted q v)
-
-pub length-put-le : (es : Rows) → is_sorted path_cmp es ≡ true → (q : Names) (v : Node) → length (put path_cmp q v es) ≤ length es + 1
-length-put-le es sorted q v =
-    let counted = length-put path_cmp path_total q v es (T-from _ sorted) in
-    elim (is_some (find path_cmp q es)) as (λ b. length (put path_cmp q v es) ≡ cond b (length es) (length es + 1) → length (put path_cmp q v es) ≤ length es + 1) [
-      | true ↦ λ is. omega arith
-      | false ↦ λ is. omega arith
-    ] counted
-
--- where something is found, nothing is added
-pub length-put-same : (es : Rows) → is_sorted path_cmp es ≡ true → (q : Names) (v : Node) → is_some (find path_cmp q es) ≡ true → length (put path_cmp q v es) ≡ length es
-length-put-same es sorted q v found = length-put path_cmp path_total q v es (T-from _ sorted) ∙ cond-true (is_some (find path_cmp q es)) (length es) (length es + 1) found
-
-pub length-without : (q : Names) (es : Rows) → length (without q es) ≤ length es
-length-without q [] = omega arith
-length-without q (e ∷ es) =
-    let rest = length-without q es in
-    elim (not (eq_by_cmp path_cmp q e.0)) as (λ b. length (cond b (e ∷ without q es) (without q es)) ≤ suc (length es)) [ true ↦ omega arith | false ↦ omega arith ]
-
-pub octets-without : (q : Names) (es : Rows) → octets_of_rows (without q es) ≤ octets_of_rows es
-octets-without q [] = omega arith
-octets-without q (e ∷ es) =
-    let rest = octets-without q es in
-    let whole = octets-cons e es in
-    elim (not (eq_by_cmp path_cmp q e.0)) as (λ b. octets_of_rows (cond b (e ∷ without q es) (without q es)) ≤ octets_of_rows (e ∷ es)) [
-      | true ↦ omega (arith, octets-cons e (without q es))
-      | false ↦ omega arith
-    ]
-
-pub octets-put_all : (es : Rows) → octets_of_rows (put_all es) ≤ octets_of_rows es
-octets-put_all [] = omega arith
-octets-put_all (e ∷ es) = omega (arith, octets-put-le (put_all es) (sorted-put_all es) e.0 e.1, octets-put_all es, octets-cons e es)
-
-pub length-put_all : (es : Rows) → length (put_all es) ≤ length es
-length-put_all [] = omega arith
-length-put_all (e ∷ es) = omega (arith, length-put-le (put_all es) (sorted-put_all es) e.0 e.1, length-put_all es)
-
 -- ---- moves
 
 pub all_moved : Names → Names → Rows → Rows
@@ -198,22 +124,11 @@ moved_rows-all from to (e ∷ es) =
     either true x y = refl
     either false x y = refl
 
-pub octets-all_moved : (from to : Names) (es : Rows) → octets_of_rows (all_moved from to es) ≡ octets_of_rows es
-unfolding all_moved
-octets-all_moved from to [] = refl
-octets-all_moved from to (e ∷ es) =
-    octets-cons (moved_path from to e.0, e.1) (all_moved from to es) ∙ ap (λ n. length_of e.1 + n) (octets-all_moved from to es) ∙ sym (octets-cons e es)
-
-pub length-all_moved : (from to : Names) (es : Rows) → length (all_moved from to es) ≡ length es
-unfolding all_moved
-length-all_moved from to [] = refl
-length-all_moved from to (e ∷ es) = ap suc (length-all_moved from to es)
-
 none-left : (es : Rows) → length es ≡ 0 → es ≡ []
 none-left [] none = refl
 none-left (e ∷ es) none = absurd (omega arith)
 
-entries-all : (es : Rows) → fin.entries (fin.from_entries {R = path_cmp} es) ≡ put_all es
+pub entries-all : (es : Rows) → fin.entries (fin.from_entries {R = path_cmp} es) ≡ put_all es
 entries-all [] = none-left _ (sym (fin.len-entries {R = path_cmp} fin.empty) ∙ fin.len-empty path_cmp Node)
 entries-all (e ∷ es) = fin.entries-insert path_total (fin.from_entries es) e.0 e.1 ∙ ap (put path_cmp e.0 e.1) (entries-all es)
 
@@ -224,7 +139,7 @@ table_of-none =
     ∙ sym (fin.entries-insert path_total fin.empty [] Dir ∙ ap (put path_cmp [] Dir) (none-left _ (sym (fin.len-entries {R = path_cmp} fin.empty) ∙ fin.len-empty path_cmp Node))))
 
 pub IsStore-none : IsStore []
-IsStore-none = record { sorted = refl; nodes = omega arith; octets = omega arith }
+IsStore-none = record { sorted = refl }
 
 -- ---- the first refusal that applies
 
@@ -244,132 +159,28 @@ pub not-some : (o : Option Node) → is_some o ≡ false → o ≡ None
 not-some None none = refl
 not-some (Some node) none = absurd (true≢false none)
 
-found-le : (q : Names) (es : Rows) → found_length (find path_cmp q es) ≤ octets_of_rows es
-found-le q [] = omega arith
-found-le q (e ∷ es) =
-    let rest = found-le q es in
-    let whole = octets-cons e es in
-    elim (eq_by_cmp path_cmp q e.0) as (λ b. found_length (cond b (Some e.1) (find path_cmp q es)) ≤ octets_of_rows (e ∷ es)) [ true ↦ omega arith | false ↦ omega arith ]
-
-octets_length : (node : Option Node) → length (unwrap_or (of_node octets_of node) []) ≡ found_length node
-octets_length None = refl
-octets_length (Some Dir) = refl
-octets_length (Some (File octets moment)) = refl
-
-pub freed : (es : Rows) → is_in_order es ≡ true → (p : Names) → length (octets_or_none (table_of es) p) ≡ found_length (node_at (table_of es) p)
-unfolding octets_at
-freed es sorted p = octets_length (node_at (table_of es) p)
-
-pub freed-le : (es : Rows) → is_in_order es ≡ true → (p : Names) → length (octets_or_none (table_of es) p) ≤ octets_of_rows es
-freed-le es sorted [] = omega (arith, freed es sorted [], ap found_length (node_at-root es sorted))
-freed-le es sorted (name ∷ names) = omega (arith, freed es sorted (name ∷ names), ap found_length (node_at-name es sorted name names), found-le (name ∷ names) es)
-
-pub room_at-table : (es : Rows) → is_in_order es ≡ true → (p : Names) → room_at (table_of es) p ≡ min 67108864 (67108864 - (octets_of_rows es - length (octets_or_none (table_of es) p)))
-unfolding room_at
-room_at-table es sorted p = ap (λ n. min 67108864 (67108864 - (n - length (octets_or_none (table_of es) p)))) (octets-table es sorted)
-
 -- ---- what each change keeps
-
-few-nodes : (es : Rows) → is_in_order es ≡ true → nodes_refusal (table_of es) ≡ None → length es + 1 ≤ 16384
-few-nodes es sorted none =
-    let few = leb-true (fin.len (table_of es)) 16384 (held (nat_le (fin.len (table_of es)) 16384) Full none) in
-    omega (arith, len-table es sorted)
 
 -- the rows are kept as a tree is, and are this table
 pub record Keeps (new : Rows) (table : Table) : Type 0 where
   pub store : IsStore new
   pub is : table_of new ≡ table
 
-pub made-store : (es new : Rows) (p : Names) → IsStore es → make_refusal (table_of es) p ≡ None → new ≡ put path_cmp p Dir es → Keeps new (made (table_of es) p)
-unfolding make_refusal made
-made-store es new [] store none is =
-    let there = not-held (is_some (node_at (table_of es) [])) Exists (both-none _ _ none).0 in
-    absurd (true≢false (ap is_some (sym (node_at-root es store.sorted)) ∙ there))
-made-store es new (name ∷ names) store none is =
-    let p = name ∷ names in
-    let none_there = both-none _ _ none in
-    let few = few-nodes es store.sorted (both-none _ _ none_there.1).1 in
-    let rising = rows-sorted es store.sorted in
+pub kept-insert : (es new : Rows) (p : Names) (v : Node) → IsStore es → (p ≡ [] → ⊥) → new ≡ put path_cmp p v es → Keeps new (fin.insert (table_of es) p v)
+kept-insert es new [] v store some is = absurd (some refl)
+kept-insert es new (name ∷ names) v store some is =
     record {
-      store = subst IsStore (sym is) (record {
-        sorted = in_order-put es store.sorted name names Dir;
-        nodes = omega (arith, length-put-le es rising p Dir);
-        octets = omega (arith, octets-put-le es rising p Dir, store.octets);
-      });
-      is = ap table_of is ∙ insert-table es store.sorted name names Dir;
+      store = subst IsStore (sym is) (record { sorted = in_order-put es store.sorted name names v });
+      is = ap table_of is ∙ insert-table es store.sorted name names v;
     }
 
--- a file comes in the place of one, or anew where nodes are left
-room-nodes : (es : Rows) → is_in_order es ≡ true → length es ≤ 16384 → (name : List ℕ) (names : Names) (v : Node) → room_refusal (table_of es) (name ∷ names) ≡ None
-    → length (put path_cmp (name ∷ names) v es) ≤ 16384
-unfolding room_refusal
-room-nodes es sorted few name names v none =
-    let p = name ∷ names in
-    let rising = rows-sorted es sorted in
-    let found = node_at-name es sorted name names in
-    elim (node_at (table_of es) p) as (λ o. node_at (table_of es) p ≡ o → room_answer o (table_of es) p ≡ None → length (put path_cmp p v es) ≤ 16384) [
-      | None ↦ λ there none. omega (arith, few-nodes es sorted (both-none _ _ none).1, length-put-le es rising p v)
-      | Some node ↦ λ there none. omega (arith, length-put-same es rising p v (ap is_some (sym found ∙ there)))
-    ] refl none
-
-pub installed-store : (es new : Rows) (p : Names) (octets : List ℕ) (moment : ℕ) → IsStore es → install_refusal (table_of es) p (length octets) ≡ None → new ≡ put path_cmp p (File octets moment) es
-    → Keeps new (installed (table_of es) p octets moment)
-unfolding install_refusal installed room_refusal
-installed-store es new [] octets moment store none is =
-    absurd (kinds (ap (λ node. room_answer node (table_of es) []) (sym (node_at-root es store.sorted)) ∙ (both-none _ _ none).0))
-  where
-    kinds : ◌≡◌ {A = Option TreeFault} (Some WrongKind) None → ⊥
-    kinds e = cc
-installed-store es new (name ∷ names) octets moment store none is =
-    let p = name ∷ names in
-    let parts = both-none _ _ none in
-    let limits = both-none _ _ parts.1 in
-    let rising = rows-sorted es store.sorted in
-    let count = length octets in
-    let room = leb-true count (room_at (table_of es) p) (held (nat_le count (room_at (table_of es) p)) Full limits.1) in
-    let left = room_at-table es store.sorted p in
-    let old = freed es store.sorted p in
-    let found = ap found_length (node_at-name es store.sorted name names) in
-    let change = octets-put es rising p (File octets moment) in
-    let within : octets_of_rows (put path_cmp p (File octets moment) es) ≤ 67108864 = omega (arith, store.octets) in
+pub kept-remove : (es new : Rows) (p : Names) → IsStore es → (p ≡ [] → ⊥) → new ≡ without p es → Keeps new (fin.remove (table_of es) p)
+kept-remove es new [] store some is = absurd (some refl)
+kept-remove es new (name ∷ names) store some is =
     record {
-      store = subst IsStore (sym is) (record {
-        sorted = in_order-put es store.sorted name names (File octets moment);
-        nodes = room-nodes es store.sorted store.nodes name names (File octets moment) parts.0;
-        octets = within;
-      });
-      is = ap table_of is ∙ insert-table es store.sorted name names (File octets moment);
-    }
-
-removed-store : (es new : Rows) (name : List ℕ) (names : Names) → IsStore es → new ≡ without (name ∷ names) es → Keeps new (removed (table_of es) (name ∷ names))
-unfolding removed
-removed-store es new name names store is =
-    record {
-      store = subst IsStore (sym is) (record {
-        sorted = in_order-without es store.sorted name names;
-        nodes = omega (arith, length-without (name ∷ names) es, store.nodes);
-        octets = omega (arith, octets-without (name ∷ names) es, store.octets);
-      });
+      store = subst IsStore (sym is) (record { sorted = in_order-without es store.sorted name names });
       is = ap table_of is ∙ remove-table es store.sorted name names;
     }
-
-pub deleted-store : (es new : Rows) (p : Names) → IsStore es → delete_refusal (table_of es) p ≡ None → new ≡ without p es → Keeps new (removed (table_of es) p)
-unfolding delete_refusal
-deleted-store es new [] store none is = absurd (kinds (ap file_refusal (sym (node_at-root es store.sorted)) ∙ none))
-  where
-    kinds : ◌≡◌ {A = Option TreeFault} (Some WrongKind) None → ⊥
-    kinds e = cc
-deleted-store es new (name ∷ names) store none is = removed-store es new name names store is
-
-pub emptied-store : (es new : Rows) (p : Names) → IsStore es → remove_refusal (table_of es) p ≡ None → new ≡ without p es → Keeps new (removed (table_of es) p)
-unfolding remove_refusal
-emptied-store es new [] store none is =
-    absurd (busy (children (table_of es) []) (ap (λ node. remove_answer node (children (table_of es) []) []) (sym (node_at-root es store.sorted)) ∙ none))
-  where
-    busy : (names : List (List ℕ)) → empty_refusal names [] ≡ None → ⊥
-    busy [] e = cc
-    busy (name ∷ names) e = cc
-emptied-store es new (name ∷ names) store none is = removed-store es new name names store is
 
 -- ---- moves of all rows
 
@@ -429,18 +240,11 @@ moved-table es sorted name names first others kept =
     ∙ ap (λ (p : Names). put path_cmp p Dir rest) (moved-root name names to)
     ∙ put-root rest below))
 
-pub moved-store : (es new : Rows) (from to : Names) → IsStore es → rename_refusal (table_of es) from to ≡ None → new ≡ put_all (moved_rows (map (λ e. moved_name from to e.0) es) es)
+pub kept-moved : (es new : Rows) (from to : Names) → IsStore es → (from ≡ [] → ⊥) → (to ≡ [] → ⊥) → new ≡ put_all (moved_rows (map (λ e. moved_name from to e.0) es) es)
     → Keeps new (moved (table_of es) from to)
-unfolding rename_refusal source_refusal target_refusal
-moved-store es new [] to store none is =
-    absurd (busy (ap (λ node. source_answer node []) (sym (node_at-root es store.sorted)) ∙ (both-none _ _ none).0))
-  where
-    busy : ◌≡◌ {A = Option TreeFault} (Some Busy) None → ⊥
-    busy e = cc
-moved-store es new (name ∷ names) [] store none is =
-    let there = not-held (is_some (node_at (table_of es) [])) Exists (both-none _ _ (both-none _ _ none).1).0 in
-    absurd (true≢false (ap is_some (sym (node_at-root es store.sorted)) ∙ there))
-moved-store es new (name ∷ names) (first ∷ others) store none is =
+kept-moved es new [] to store some other is = absurd (some refl)
+kept-moved es new (name ∷ names) [] store some other is = absurd (other refl)
+kept-moved es new (name ∷ names) (first ∷ others) store some other is =
     let from = name ∷ names in
     let to = first ∷ others in
     let all = all_moved from to es in
@@ -448,43 +252,6 @@ moved-store es new (name ∷ names) (first ∷ others) store none is =
     let below = (and_parts (below_all path_cmp [] es) (is_sorted path_cmp es) store.sorted).0 in
     let kept = and_from (below_all path_cmp [] (put_all all)) (is_sorted path_cmp (put_all all)) (below-put_all all (below-all_moved from first others es below)) (sorted-put_all all) in
     record {
-      store = subst IsStore (sym here) (record {
-        sorted = kept;
-        nodes = omega (arith, length-put_all all, length-all_moved from to es, store.nodes);
-        octets = omega (arith, octets-put_all all, octets-all_moved from to es, store.octets);
-      });
+      store = subst IsStore (sym here) (record { sorted = kept });
       is = ap table_of here ∙ moved-table es store.sorted name names first others kept;
     }
-
--- the paths that are moved keep their limits
-pub moves-store : (es : Rows) (from to : Names) → IsStore es → source_refusal (table_of es) from ≡ None → moves_fit (table_of es) from to ≡ all_moves_fit from to es
-unfolding source_refusal
-moves-store es [] to store none = absurd (busy (ap (λ node. source_answer node []) (sym (node_at-root es store.sorted)) ∙ none))
-  where
-    busy : ◌≡◌ {A = Option TreeFault} (Some Busy) None → ⊥
-    busy e = cc
-moves-store es (name ∷ names) to store none = moves_fit-table es store.sorted name names to
-
-pub moves-allowed : (es : Rows) (from to : Names) → IsStore es → rename_refusal (table_of es) from to ≡ None → all_moves_fit from to es ≡ true
-unfolding rename_refusal target_refusal
-moves-allowed es from to store none =
-    let parts = both-none _ _ none in
-    let first = both-none (whenever (is_some (node_at (table_of es) to)) Exists) _ parts.1 in
-    let second = both-none (whenever (is_within from to) WrongKind) _ first.1 in
-    let rest = both-none (directory_refusal (node_at (table_of es) (parent to))) _ second.1 in
-    sym (moves-store es from to store parts.0) ∙ held (moves_fit (table_of es) from to) TooBig rest.1
-
--- where nothing new can stand
-pub new-refusal : (table : Table) (path : Names) → directory_refusal (node_at table (parent path)) ≡ None → fits path ≡ true → or_else (place_refusal table path) (nodes_refusal table) ≡ nodes_refusal table
-new-refusal table path above short =
-    ap (λ o. or_else (or_else o (whenever (not (fits path)) TooBig)) (nodes_refusal table)) above ∙ ap (λ b. or_else (whenever (not b) TooBig) (nodes_refusal table)) short
-
-pub nodes-full : (es : Rows) → is_in_order es ≡ true → 16384 ≤ length es → nodes_refusal (table_of es) ≡ Some Full
-nodes-full es sorted full =
-    let long = len-table es sorted in
-    ap (λ b. whenever (not b) Full) (lt-leb (fin.len (table_of es)) 16384 (omega arith))
-
-pub nodes-free : (es : Rows) → is_in_order es ≡ true → length es < 16384 → nodes_refusal (table_of es) ≡ None
-nodes-free es sorted free =
-    let long = len-table es sorted in
-    ap (λ b. whenever (not b) Full) (le-leb (fin.len (table_of es)) 16384 (omega arith))

@@ -1,14 +1,15 @@
 -- How a tree is kept: entries in the order of their paths, with none for the root.
-use Rattle.std.specs.Prelude.{◌≡◌, ℕ, zero, suc, ◌≤◌, ◌||◌, not, Bool, List, [], ◌∷◌, length, map, Option, Some, None, refl, IsTrue, if◌then◌else◌}
-use Rattle.std.specs.List.{list_all, sum_by}
+use Rattle.std.specs.Prelude.{◌≡◌, ℕ, zero, suc, ◌||◌, not, Bool, List, [], ◌∷◌, ◌++◌, length, drop, map, nat_le, Option, Some, None, refl, IsTrue, if◌then◌else◌}
+use Rattle.std.specs.List.{filter, list_all, sum_by}
 use Rattle.std.specs.Coded.{Coded, code_by, coded×, coded_ℕ, coded_list, coded_option}
 use Rattle.std.specs.FinMap as fin
 use Rattle.std.specs.FinMap.{is_sorted}
 use Rattle.std.specs.FinMap.Entries.{put}
 use Rattle.std.specs.Option.{unwrap_or}
 use Rattle.std.specs.declared.cmp.Ordering.TheVariants.{Less, Greater}
+use Rattle.ftp_path.specs.Kept.{IsJoined, names_of}
 use Rattle.ftp_path.specs.Path.{fits, Names, path_cmp, is_within, moved_path}
-use Rattle.ftp_tree.specs.Tree.{Node, Dir, File, Table, length_of, node_limit, total_limit}
+use Rattle.ftp_tree.specs.Tree.{Node, Dir, File, Table, length_of}
 use Rattle.ftp_tree.specs.declared.entry.Entry.{Entry}
 use Rattle.ftp_tree.specs.declared.entry.Kept as kept
 use Rattle.ftp_tree.specs.declared.entry.Kept.TheVariants as variants
@@ -30,6 +31,17 @@ node_parts-from (File octets moment) = refl
 
 abbrev pub table_code : Coded Table
 table_code = fin.code (coded_list (coded_list coded_ℕ)) (code_by (Option (List ℕ × ℕ)) (coded_option (coded× (coded_list coded_ℕ) coded_ℕ)) node_parts node_from node_parts-from)
+
+-- ---- places
+
+-- a name of at most 255 octets
+abbrev pub is_short : List ℕ → Bool
+is_short name = nat_le (length name) 255
+
+-- names joined, each short: together they may be as many as a root and a path below it have
+pub record IsPlace (text : List ℕ) : Type 0 where
+  pub joins : IsJoined text
+  pub short : IsTrue (list_all is_short (names_of text))
 
 -- ---- entries
 
@@ -60,13 +72,15 @@ octets_of_rows = sum_by (λ entry. length_of entry.1)
 unfoldable pub table_of : Rows → Table
 table_of entries = fin.from_sorted (([], Dir) ∷ entries)
 
--- the entries are in order and within the limits
+-- those at or below a path
+abbrev pub rows_within : Names → Rows → Rows
+rows_within root = filter (λ entry. is_within root entry.0)
+
+-- the entries are in order
 pub record IsStore (entries : Rows) : Type 0 where
   pub sorted : IsTrue (is_in_order entries)
-  pub nodes : length entries ≤ node_limit
-  pub octets : octets_of_rows entries ≤ total_limit
 
--- ---- places
+-- ---- where rows stand
 
 -- the path stands at a place, and those before it come before
 abbrev pub StandsAt : Rows → Names → ℕ → Type 0
@@ -83,9 +97,10 @@ HasGap (first ∷ others) path (suc at) = (path_cmp first.0 path ≡ Less) × Ha
 
 -- ---- moves
 
--- each path at or below `from` is within the limits once it is moved
+-- each path at or below `from` is within the limits once it is moved, where a root counts as none of it: `above` is that root
+-- and `from` behind it
 abbrev pub all_moves_fit : Names → Names → Rows → Bool
-all_moves_fit from to = list_all (λ entry. not (is_within from entry.0) || fits (moved_path from to entry.0))
+all_moves_fit above to = list_all (λ entry. not (is_within above entry.0) || fits (to ++ drop (length above) entry.0))
 
 -- where a path is moved to, if it is
 abbrev pub moved_name : Names → Names → Names → Option Names

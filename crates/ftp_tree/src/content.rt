@@ -1,6 +1,6 @@
 // The octets of a file that is not installed yet.
 ghost use Rattle.std.specs.Prelude.{◌≡◌, ◌≤◌, ◌++◌, [], None, IfErr, IfOk, OnErr, OnOk, length, take, unwrap_or};
-ghost use Rattle.ftp_tree.specs.Tree.{front_refusal, octets_or_none};
+ghost use Rattle.ftp_tree.specs.Tree.{front_refusal, octets_or_none, under};
 
 use crate::fault::TreeFault;
 use crate::tree::Tree;
@@ -33,26 +33,27 @@ impl<A: Allocator> Content<A> {
         }
     }
 
-    /// The first octets of the file at a path.
+    /// The first octets of the file at a path below a root.
     ///
     /// Refused: `Absent`, `WrongKind` of a directory, `BadOffset` where the file has fewer, then `Memory`.
-    pub fn of<B: Allocator, C: Allocator, T: Tree<B>>(
+    pub fn of<B: Allocator, C: Allocator, D: Allocator, T: Tree<B>>(
         alloc: A,
         tree: &T,
-        path: &Path<C>,
+        root: &Path<C>,
+        path: &Path<D>,
         count: u64,
     ) -> Result<Content<A>, TreeFault>
-        ensures none { OnOk result (front_refusal (T.table tree.now) path.now count ≡ None) }
-        ensures front { IfOk result (λ content. content ≡ take count (octets_or_none (T.table tree.now) path.now)) }
-        ensures fault { IfErr result (λ fault. fault ≡ unwrap_or (front_refusal (T.table tree.now) path.now count) TreeFault.Memory) }
+        ensures none { OnOk result (front_refusal (under (T.table tree.now) root.now) path.now count ≡ None) }
+        ensures front { IfOk result (λ content. content ≡ take count (octets_or_none (under (T.table tree.now) root.now) path.now)) }
+        ensures fault { IfErr result (λ fault. fault ≡ unwrap_or (front_refusal (under (T.table tree.now) root.now) path.now count) TreeFault.Memory) }
     {
-        if let Some(fault) = front_refusal(tree, path, count) {
+        if let Some(fault) = front_refusal(tree, root, path, count) {
             return Err(fault);
         }
         let mut content = Content::new(alloc);
         while content.len() < count {
             let left = count - content.len();
-            let piece = tree.piece(path, content.len(), left as usize);
+            let piece = tree.piece(root, path, content.len(), left as usize);
             let Ok(_) = content.push(piece) else {
                 return Err(TreeFault::Memory);
             };
@@ -92,15 +93,16 @@ impl<A: Allocator> Content<A> {
 }
 
 /// The first reason, memory aside, why so many octets of a file cannot be had.
-fn front_refusal<B: Allocator, C: Allocator, T: Tree<B>>(
+fn front_refusal<B: Allocator, C: Allocator, D: Allocator, T: Tree<B>>(
     tree: &T,
-    path: &Path<C>,
+    root: &Path<C>,
+    path: &Path<D>,
     count: u64,
 ) -> Option<TreeFault>
-    ensures { result ≡ front_refusal (T.table tree.now) path.now count }
+    ensures { result ≡ front_refusal (under (T.table tree.now) root.now) path.now count }
 {
-    let Some(size) = tree.size(path) else {
-        return match tree.kind(path) {
+    let Some(size) = tree.size(root, path) else {
+        return match tree.kind(root, path) {
             None => Some(TreeFault::Absent),
             Some(_) => Some(TreeFault::WrongKind),
         };

@@ -1,5 +1,5 @@
-// Paths and what stands there, in a vector in the order of the paths.
-ghost use Rattle.std.specs.Prelude.{◌≡◌, ◌+◌, ◌≤◌, ◌<◌, ℕ, IfOk, IfErr, OnOk, OnErr, IsTrue, length, map, not, [], ◌||◌};
+// Places and what stands there, in a vector in the order of the places.
+ghost use Rattle.std.specs.Prelude.{◌≡◌, ◌+◌, ◌++◌, ◌≤◌, ◌<◌, IfOk, IfErr, OnOk, OnErr, IsTrue, length, drop, map, not, []};
 ghost use Rattle.std.specs.FinMap.{is_sorted};
 ghost use Rattle.std.specs.FinMap.Entries.{find as found, put, where_key};
 ghost use Rattle.std.specs.List.{filter_map, slice_get};
@@ -7,21 +7,25 @@ ghost use Rattle.std.specs.Option.{option_map, unwrap_or};
 ghost use Rattle.std.specs.Ordering.{eq_by_cmp};
 ghost use Rattle.std.specs.Vec.{vec_capacity, vec_len};
 ghost use Rattle.ftp_path.specs.Kept.{IsJoined, IsKept, names_of};
-ghost use Rattle.ftp_path.specs.Path.{fits, is_within, moved_path, name_in, path_cmp};
-ghost use Rattle.ftp_tree.specs.Store.{HasGap, StandsAt, all_moves_fit, kept_node, moved_name, moved_rows, octets_of_rows, put_all, rows, standing_node};
-ghost use Rattle.ftp_tree.specs.Tree.{octets_of};
+ghost use Rattle.ftp_path.specs.Path.{fits, is_within, name_in, path_cmp};
+ghost use Rattle.ftp_tree.specs.Store.{HasGap, IsPlace, StandsAt, all_moves_fit, kept_node, moved_name, moved_rows, octets_of_rows, put_all, rows, rows_within, standing_node};
+ghost use Rattle.ftp_tree.specs.Tree.{length_of, octets_of};
 
 use crate::content::Content;
+use crate::place::Place;
 use ftp_facts::Moment;
+use ftp_path::Name;
 use ftp_path::key::{is_within, name_in, order};
-use ftp_path::{Name, Path};
 use std::alloc::{AllocError, Allocator};
 use std::cmp::Ordering;
+
+/// The most octets of a canonical text (own choice).
+const TEXT_LIMIT: usize = 900;
 
 /// A path, and what stands there.
 #[derive(Drop)]
 pub(crate) struct Entry<A: Allocator> {
-    pub(crate) path: Path<A>,
+    pub(crate) path: Place<A>,
     pub(crate) node: Kept<A>,
 }
 
@@ -89,24 +93,25 @@ pub(crate) fn find<'a, A: Allocator>(entries: &'a [Entry<A>], key: &[u8]) -> Opt
 }
 
 /// Puts a node at a path, in the place of what stands there. Refused memory, it hands the node back.
-pub(crate) fn put<A: Allocator + Copy, B: Allocator>(
+pub(crate) fn put<A: Allocator + Copy>(
     entries: &mut Vec<Entry<A>, A>,
     alloc: A,
-    path: &Path<B>,
+    key: &[u8],
     node: Kept<A>,
 ) -> Result<(), Kept<A>>
+    requires place { IsPlace key.now }
     requires sorted { IsTrue (is_sorted path_cmp (rows entries.old.items)) }
-    ensures ok { OnOk result (rows entries.new.items ≡ put path_cmp path.now (kept_node node) (rows entries.old.items)) }
+    ensures ok { OnOk result (rows entries.new.items ≡ put path_cmp (names_of key.now) (kept_node node) (rows entries.old.items)) }
     ensures err { OnErr result (entries.new.items ≡ entries.old.items) }
     ensures back { IfErr result (λ back. back ≡ node) }
 {
-    match search(entries.as_slice(), path.key()) {
+    match search(entries.as_slice(), key) {
         Ok(at) => {
             entries[at].node = node;
             Ok(())
         }
         Err(at) => {
-            let Ok(path) = path.copy(alloc) else {
+            let Ok(path) = Place::of(alloc, key) else {
                 return Err(node);
             };
             match entries.insert(at, Entry { path, node }) {
@@ -163,45 +168,84 @@ pub(crate) fn nth_name<'a, A: Allocator>(
     None
 }
 
-/// The octets of all files together.
-pub(crate) fn all_octets<A: Allocator>(entries: &[Entry<A>]) -> u64
-    requires { octets_of_rows (rows entries.now) ≤ 67_108_864 }
-    ensures { result ≡ octets_of_rows (rows entries.now) }
+/// How many entries are at or below a path.
+pub(crate) fn count_within<A: Allocator>(entries: &[Entry<A>], above: &[u8]) -> usize
+    requires { IsJoined above.now }
+    ensures { result ≡ length (rows_within (names_of above.now) (rows entries.now)) }
+{
+    let mut count = 0;
+    for entry in entries {
+        if is_within(above, entry.path.key()) {
+            count += 1;
+        }
+    }
+    count
+}
+
+/// The octets of all files at or below a path.
+pub(crate) fn octets_within<A: Allocator>(entries: &[Entry<A>], above: &[u8]) -> u128
+    requires { IsJoined above.now }
+    ensures { result ≡ octets_of_rows (rows_within (names_of above.now) (rows entries.now)) }
 {
     let mut total = 0;
     for entry in entries {
-        if let Kept::File { content, .. } = &entry.node {
-            total += content.len();
+        if is_within(above, entry.path.key()) {
+            total += octets_of(&entry.node);
         }
     }
     total
 }
 
-/// Whether each path at or below one is within the limits once it is moved.
-pub(crate) fn moves_fit<A: Allocator, B: Allocator, C: Allocator>(
-    entries: &[Entry<A>],
-    from: &Path<B>,
-    to: &Path<C>,
-) -> bool
-    ensures { result ≡ all_moves_fit from.now to.now (rows entries.now) }
+/// The octets of a file; a directory has none.
+fn octets_of<A: Allocator>(node: &Kept<A>) -> u128
+    ensures octets { result ≡ length_of (kept_node node.now) }
+    ensures fits { result < 18_446_744_073_709_551_616 }
+{
+    match node {
+        Kept::Dir => 0,
+        Kept::File { content, .. } => content.len() as u128,
+    }
+}
+
+/// Whether each path at or below one is within the limits once it is called by another, `to`, and the rest of it. Both are
+/// paths below a root, which counts for nothing; `above` is the root and the first behind it.
+pub(crate) fn moves_fit<A: Allocator>(entries: &[Entry<A>], above: &[u8], to: &[u8]) -> bool
+    requires above { IsJoined above.now }
+    requires to { IsKept to.now }
+    requires short { length to.now ≤ 900 }
+    ensures { result ≡ all_moves_fit (names_of above.now) (names_of to.now) (rows entries.now) }
 {
     for entry in entries {
-        if is_within(from.key(), entry.path.key()) && !entry.path.fits_moved(from, to) {
+        let key = entry.path.key();
+        if is_within(above, key) && !fits_moved(key, above, to) {
             return false;
         }
     }
     true
 }
 
+/// Whether a path is within the limits once what stands at `above` is called `to`.
+fn fits_moved(key: &[u8], above: &[u8], to: &[u8]) -> bool
+    requires above { IsJoined above.now }
+    requires to { IsKept to.now }
+    requires short { length to.now ≤ 900 }
+    requires key { IsPlace key.now }
+    requires within { IsTrue (is_within (names_of above.now) (names_of key.now)) }
+    ensures { result ≡ fits (names_of to.now ++ drop (length (names_of above.now)) (names_of key.now)) }
+{
+    key.len() - above.len() <= TEXT_LIMIT - to.len()
+}
+
 /// For each entry the path that it is moved to, if it is moved.
-pub(crate) fn moved_names<A: Allocator + Copy, B: Allocator, C: Allocator>(
+pub(crate) fn moved_names<A: Allocator + Copy>(
     alloc: A,
     entries: &[Entry<A>],
-    from: &Path<B>,
-    to: &Path<C>,
-) -> Result<Vec<Option<Path<A>>, A>, AllocError>
-    requires { IsTrue (all_moves_fit from.now to.now (rows entries.now)) }
-    ensures { IfOk result (λ moves. moves.items ≡ map (λ row. moved_name from.now to.now row.0) (rows entries.now)) }
+    from: &[u8],
+    to: &[u8],
+) -> Result<Vec<Option<Place<A>>, A>, AllocError>
+    requires from { IsJoined from.now }
+    requires to { IsPlace to.now }
+    ensures { IfOk result (λ moves. moves.items ≡ map (λ row. moved_name (names_of from.now) (names_of to.now) row.0) (rows entries.now)) }
 {
     let mut moves = Vec::with_capacity(alloc, entries.len())?;
     for entry in entries {
@@ -212,16 +256,17 @@ pub(crate) fn moved_names<A: Allocator + Copy, B: Allocator, C: Allocator>(
 }
 
 /// The path that one is moved to, if it is moved.
-fn new_name<A: Allocator, B: Allocator, C: Allocator>(
+fn new_name<A: Allocator>(
     alloc: A,
-    path: &Path<A>,
-    from: &Path<B>,
-    to: &Path<C>,
-) -> Result<Option<Path<A>>, AllocError>
-    requires { IsTrue (not (is_within from.now path.now) || fits (moved_path from.now to.now path.now)) }
-    ensures { IfOk result (λ name. name ≡ moved_name from.now to.now path.now) }
+    path: &Place<A>,
+    from: &[u8],
+    to: &[u8],
+) -> Result<Option<Place<A>>, AllocError>
+    requires from { IsJoined from.now }
+    requires to { IsPlace to.now }
+    ensures { IfOk result (λ name. name ≡ moved_name (names_of from.now) (names_of to.now) path.now) }
 {
-    if !is_within(from.key(), path.key()) {
+    if !is_within(from, path.key()) {
         return Ok(None);
     }
     let moved = path.moved(alloc, from, to)?;
@@ -231,7 +276,7 @@ fn new_name<A: Allocator, B: Allocator, C: Allocator>(
 /// Moves entries into another vector that has room for them, each that has a new path under that one.
 pub(crate) fn move_into<A: Allocator>(
     old: &mut Vec<Entry<A>, A>,
-    moves: &mut Vec<Option<Path<A>>, A>,
+    moves: &mut Vec<Option<Place<A>>, A>,
     new: &mut Vec<Entry<A>, A>,
 )
     requires empty { new.old.items ≡ [] }
@@ -246,7 +291,7 @@ pub(crate) fn move_into<A: Allocator>(
 }
 
 /// The entry under a new path, if one is given.
-fn renamed<A: Allocator>(entry: Entry<A>, name: Option<Path<A>>) -> Entry<A>
+fn renamed<A: Allocator>(entry: Entry<A>, name: Option<Place<A>>) -> Entry<A>
     ensures path { result.path ≡ unwrap_or name entry.path }
     ensures node { result.node ≡ entry.node }
 {

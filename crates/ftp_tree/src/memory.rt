@@ -1,14 +1,16 @@
 // A tree in memory: its entries in the order of their paths, and the root, which is none of them.
-ghost use Rattle.std.specs.Prelude.{◌≡◌, ◌≤◌, ◌<◌, [], None, OnErr, OnOk, drop, length, take};
+ghost use Rattle.std.specs.Prelude.{◌≡◌, ◌≤◌, ◌<◌, ◌⊎◌, [], None, OnErr, OnOk, drop, length, take, true};
+ghost use Rattle.std.specs.FinMap as fin;
 ghost use Rattle.std.specs.Option.{option_map};
 ghost use Rattle.ftp_path.specs.Kept.{IsJoined, names_of};
-ghost use Rattle.ftp_path.specs.Path.{parent};
+ghost use Rattle.ftp_path.specs.Path.{fits, parent};
 ghost use Rattle.ftp_tree.specs.Store.{standing_node};
-ghost use Rattle.ftp_tree.specs.Tree.{delete_refusal, directory_refusal, install_refusal, installed, made, make_refusal, moved, moves_fit, node_at, nodes_refusal, octets_or_none, or_else, place_refusal, remove_refusal, removed, rename_refusal, room_at, room_refusal, root_alone, source_refusal, target_refusal};
+ghost use Rattle.ftp_tree.specs.Tree.{delete_refusal, directory_refusal, install_refusal, installed, made, make_refusal, moved, moves_fit, node_at, nodes_refusal, octets_in, octets_or_none, or_else, place_refusal, remove_refusal, removed, rename_refusal, room_at, room_refusal, root_alone, source_refusal, target_refusal, under, with_part};
 
 use crate::content::Content;
 use crate::entry::{self, Entry, Kept, Standing};
 use crate::fault::TreeFault;
+use crate::place::Joined;
 use crate::tree::{NodeKind, Tree};
 use ftp_facts::Moment;
 use ftp_path::key::is_within;
@@ -16,14 +18,14 @@ use ftp_path::{Name, Path};
 use std::alloc::{AllocError, Allocator};
 use std::marker::Model;
 
-/// The most nodes beside the root (own choice).
-const NODE_LIMIT: usize = 16_384;
+/// The most nodes below an account's root (own choice).
+const NODE_LIMIT: u128 = 16_384;
 
 /// The most octets of a file (own choice).
 const FILE_LIMIT: u64 = 67_108_864;
 
-/// The most octets of all files together (own choice).
-const TOTAL_LIMIT: u64 = 67_108_864;
+/// The most octets of all files at or below an account's root together (own choice).
+const TOTAL_LIMIT: u128 = 67_108_864;
 
 /// A tree that is kept in memory. It has no device, so its count of device failures stays at 0.
 #[derive(Drop)]
@@ -53,8 +55,8 @@ impl<A: Allocator + Copy> Tree<A> for MemTree<A> {
     ghost failures = { λ tree. 0 };
 
     #[tactic(auto, unfolding(crate::specs::Tree::kind_at))]
-    fn kind<B: Allocator>(&self, path: &Path<B>) -> Option<NodeKind> {
-        match self.standing(path.key()) {
+    fn kind<B: Allocator, C: Allocator>(&self, root: &Path<B>, path: &Path<C>) -> Option<NodeKind> {
+        match self.standing(root, path) {
             Some(Standing::Dir) => Some(NodeKind::Dir),
             Some(Standing::File(..)) => Some(NodeKind::File),
             None => None,
@@ -62,33 +64,49 @@ impl<A: Allocator + Copy> Tree<A> for MemTree<A> {
     }
 
     #[tactic(auto, unfolding(crate::specs::Tree::size_at, crate::specs::Tree::octets_at))]
-    fn size<B: Allocator>(&self, path: &Path<B>) -> Option<u64> {
-        match self.standing(path.key()) {
+    fn size<B: Allocator, C: Allocator>(&self, root: &Path<B>, path: &Path<C>) -> Option<u64> {
+        match self.standing(root, path) {
             Some(Standing::File(octets, _)) => Some(octets.len() as u64),
             Some(Standing::Dir) | None => None,
         }
     }
 
     #[tactic(auto, unfolding(crate::specs::Tree::stamp_at))]
-    fn stamp<B: Allocator>(&self, path: &Path<B>) -> Option<Moment> {
-        match self.standing(path.key()) {
+    fn stamp<B: Allocator, C: Allocator>(&self, root: &Path<B>, path: &Path<C>) -> Option<Moment> {
+        match self.standing(root, path) {
             Some(Standing::File(_, moment)) => Some(moment),
             Some(Standing::Dir) | None => None,
         }
     }
 
-    fn piece<B: Allocator>(&self, path: &Path<B>, at: u64, max: usize) -> &[u8] {
-        piece_of(self.octets(path.key()), at, max)
+    fn piece<B: Allocator, C: Allocator>(
+        &self,
+        root: &Path<B>,
+        path: &Path<C>,
+        at: u64,
+        max: usize,
+    ) -> &[u8] {
+        piece_of(self.octets(root, path), at, max)
     }
 
-    fn nth_name<B: Allocator>(&self, path: &Path<B>, place: usize) -> Option<Name<'_>> {
-        entry::nth_name(self.entries.as_slice(), path.key(), place)
+    fn nth_name<B: Allocator, C: Allocator>(
+        &self,
+        root: &Path<B>,
+        path: &Path<C>,
+        place: usize,
+    ) -> Option<Name<'_>> {
+        let above = Joined::of(root, path);
+        entry::nth_name(self.entries.as_slice(), above.key(), place)
     }
 
-    fn room<B: Allocator>(&self, path: &Path<B>) -> Result<u64, TreeFault> {
-        match self.room_refusal(path) {
+    fn room<B: Allocator, C: Allocator>(
+        &self,
+        root: &Path<B>,
+        path: &Path<C>,
+    ) -> Result<u64, TreeFault> {
+        match self.room_refusal(root, path) {
             Some(fault) => Err(fault),
-            None => Ok(self.room_at(path.key())),
+            None => Ok(self.room_at(root, path)),
         }
     }
 
@@ -96,56 +114,70 @@ impl<A: Allocator + Copy> Tree<A> for MemTree<A> {
         0
     }
 
-    fn make_dir<B: Allocator>(&mut self, path: &Path<B>) -> Result<(), TreeFault> {
-        if let Some(fault) = self.make_refusal(path) {
-            return Err(fault);
-        }
-        match self.put_dir(path) {
-            Ok(()) => Ok(()),
-            Err(_) => Err(TreeFault::Memory),
-        }
-    }
-
-    fn remove_dir<B: Allocator>(&mut self, path: &Path<B>) -> Result<(), TreeFault> {
-        if let Some(fault) = self.remove_refusal(path) {
-            return Err(fault);
-        }
-        entry::remove(&mut self.entries, path.key());
-        Ok(())
-    }
-
-    fn delete<B: Allocator>(&mut self, path: &Path<B>) -> Result<(), TreeFault> {
-        if let Some(fault) = self.delete_refusal(path) {
-            return Err(fault);
-        }
-        entry::remove(&mut self.entries, path.key());
-        Ok(())
-    }
-
-    fn rename<B: Allocator, C: Allocator>(
+    fn make_dir<B: Allocator, C: Allocator>(
         &mut self,
-        from: &Path<B>,
-        to: &Path<C>,
+        root: &Path<B>,
+        path: &Path<C>,
     ) -> Result<(), TreeFault> {
-        if let Some(fault) = self.rename_refusal(from, to) {
+        if let Some(fault) = self.make_refusal(root, path) {
             return Err(fault);
         }
-        match self.move_all(from, to) {
+        match self.put_dir(root, path) {
             Ok(()) => Ok(()),
             Err(_) => Err(TreeFault::Memory),
         }
     }
 
-    fn install<B: Allocator>(
+    fn remove_dir<B: Allocator, C: Allocator>(
         &mut self,
-        path: &Path<B>,
+        root: &Path<B>,
+        path: &Path<C>,
+    ) -> Result<(), TreeFault> {
+        if let Some(fault) = self.remove_refusal(root, path) {
+            return Err(fault);
+        }
+        self.take_away(root, path);
+        Ok(())
+    }
+
+    fn delete<B: Allocator, C: Allocator>(
+        &mut self,
+        root: &Path<B>,
+        path: &Path<C>,
+    ) -> Result<(), TreeFault> {
+        if let Some(fault) = self.delete_refusal(root, path) {
+            return Err(fault);
+        }
+        self.take_away(root, path);
+        Ok(())
+    }
+
+    fn rename<B: Allocator, C: Allocator, D: Allocator>(
+        &mut self,
+        root: &Path<B>,
+        from: &Path<C>,
+        to: &Path<D>,
+    ) -> Result<(), TreeFault> {
+        if let Some(fault) = self.rename_refusal(root, from, to) {
+            return Err(fault);
+        }
+        match self.move_all(root, from, to) {
+            Ok(()) => Ok(()),
+            Err(_) => Err(TreeFault::Memory),
+        }
+    }
+
+    fn install<B: Allocator, C: Allocator>(
+        &mut self,
+        root: &Path<B>,
+        path: &Path<C>,
         content: &mut Content<A>,
         moment: Moment,
     ) -> Result<(), TreeFault> {
-        if let Some(fault) = self.install_refusal(path, content.len()) {
+        if let Some(fault) = self.install_refusal(root, path, content.len()) {
             return Err(fault);
         }
-        match self.put_file(path, content, moment) {
+        match self.put_file(root, path, content, moment) {
             Ok(()) => Ok(()),
             Err(_) => Err(TreeFault::Memory),
         }
@@ -163,92 +195,34 @@ impl<A: Allocator + Copy> MemTree<A> {
         }
     }
 
-    /// What stands at the path whose names a text joins.
-    fn standing(&self, key: &[u8]) -> Option<Standing<'_>>
-        requires { IsJoined key.now }
-        ensures { option_map standing_node result ≡ node_at self.now (names_of key.now) }
-    {
-        let entries = self.entries.as_slice();
-        if key.is_empty() {
-            return Some(Standing::Dir);
-        }
-        entry::find(entries, key)
-    }
-
-    /// The octets of the file there, and none where no file stands.
-    #[tactic(auto, unfolding(crate::specs::Tree::octets_or_none, crate::specs::Tree::octets_at))]
-    fn octets(&self, key: &[u8]) -> &[u8]
-        requires { IsJoined key.now }
-        ensures { result.now ≡ octets_or_none self.now (names_of key.now) }
-    {
-        match self.standing(key) {
-            Some(Standing::File(octets, _)) => octets,
-            Some(Standing::Dir) | None => b"".as_slice(),
-        }
-    }
-
-    /// The most octets that a file may have there.
-    fn room_at(&self, key: &[u8]) -> u64
-        requires { IsJoined key.now }
-        ensures { result ≡ room_at self.now (names_of key.now) }
-    {
-        let freed = self.octets(key).len() as u64;
-        let others = entry::all_octets(self.entries.as_slice()) - freed;
-        FILE_LIMIT.min(TOTAL_LIMIT - others)
-    }
-
-    /// Why what stands at a path is no directory.
-    fn directory_refusal(&self, key: &[u8]) -> Option<TreeFault>
-        requires { IsJoined key.now }
-        ensures { result ≡ directory_refusal (node_at self.now (names_of key.now)) }
-    {
-        match self.standing(key) {
-            None => Some(TreeFault::Absent),
-            Some(Standing::Dir) => None,
-            Some(Standing::File(..)) => Some(TreeFault::WrongKind),
-        }
-    }
-
-    /// Why nothing new can stand at a path: a `Path` is within its limits.
-    fn new_refusal<B: Allocator>(&self, path: &Path<B>) -> Option<TreeFault>
-        ensures { result ≡ or_else (place_refusal self.now path.now) (nodes_refusal self.now) }
-    {
-        if let Some(fault) = self.directory_refusal(path.parent_key()) {
-            return Some(fault);
-        }
-        self.nodes_refusal()
-    }
-
-    /// Why no node can come anew.
-    fn nodes_refusal(&self) -> Option<TreeFault>
-        ensures { result ≡ nodes_refusal self.now }
-    {
-        if self.entries.as_slice().len() >= NODE_LIMIT {
-            return Some(TreeFault::Full);
-        }
-        None
-    }
-
     /// The first reason, memory and a device aside, why no directory can be made at a path.
     #[tactic(auto, unfolding(crate::specs::Tree::make_refusal))]
-    pub fn make_refusal<B: Allocator>(&self, path: &Path<B>) -> Option<TreeFault>
-        ensures { result ≡ make_refusal self.now path.now }
+    pub fn make_refusal<B: Allocator, C: Allocator>(
+        &self,
+        root: &Path<B>,
+        path: &Path<C>,
+    ) -> Option<TreeFault>
+        ensures { result ≡ make_refusal (under self.now root.now) path.now }
     {
-        match self.standing(path.key()) {
+        match self.standing(root, path) {
             Some(_) => Some(TreeFault::Exists),
-            None => self.new_refusal(path),
+            None => self.new_refusal(root, path),
         }
     }
 
     /// The same, why no directory can be removed.
     #[tactic(auto, unfolding(crate::specs::Tree::remove_refusal))]
-    pub fn remove_refusal<B: Allocator>(&self, path: &Path<B>) -> Option<TreeFault>
-        ensures { result ≡ remove_refusal self.now path.now }
+    pub fn remove_refusal<B: Allocator, C: Allocator>(
+        &self,
+        root: &Path<B>,
+        path: &Path<C>,
+    ) -> Option<TreeFault>
+        ensures { result ≡ remove_refusal (under self.now root.now) path.now }
     {
-        if let Some(fault) = self.directory_refusal(path.key()) {
+        if let Some(fault) = directory_refusal(self.standing(root, path)) {
             return Some(fault);
         }
-        if self.nth_name(path, 0).is_some() {
+        if self.nth_name(root, path, 0).is_some() {
             return Some(TreeFault::NotEmpty);
         }
         if path.key().is_empty() {
@@ -259,22 +233,163 @@ impl<A: Allocator + Copy> MemTree<A> {
 
     /// The same, why no file can be deleted.
     #[tactic(auto, unfolding(crate::specs::Tree::delete_refusal))]
-    pub fn delete_refusal<B: Allocator>(&self, path: &Path<B>) -> Option<TreeFault>
-        ensures { result ≡ delete_refusal self.now path.now }
+    pub fn delete_refusal<B: Allocator, C: Allocator>(
+        &self,
+        root: &Path<B>,
+        path: &Path<C>,
+    ) -> Option<TreeFault>
+        ensures { result ≡ delete_refusal (under self.now root.now) path.now }
     {
-        match self.standing(path.key()) {
+        match self.standing(root, path) {
             None => Some(TreeFault::Absent),
             Some(Standing::Dir) => Some(TreeFault::WrongKind),
             Some(Standing::File(..)) => None,
         }
     }
 
-    /// The same, why what stands at a path cannot be moved.
-    #[tactic(auto, unfolding(crate::specs::Tree::source_refusal))]
-    fn source_refusal<B: Allocator>(&self, path: &Path<B>) -> Option<TreeFault>
-        ensures { result ≡ source_refusal self.now path.now }
+    /// The same, why what stands at a path cannot be moved to another.
+    #[tactic(auto, unfolding(crate::specs::Tree::rename_refusal))]
+    pub fn rename_refusal<B: Allocator, C: Allocator, D: Allocator>(
+        &self,
+        root: &Path<B>,
+        from: &Path<C>,
+        to: &Path<D>,
+    ) -> Option<TreeFault>
+        ensures { result ≡ rename_refusal (under self.now root.now) from.now to.now }
     {
-        if self.standing(path.key()).is_none() {
+        match self.source_refusal(root, from) {
+            Some(fault) => Some(fault),
+            None => self.target_refusal(root, from, to),
+        }
+    }
+
+    /// The same, why no file of so many octets can be put at a path.
+    #[tactic(auto, unfolding(crate::specs::Tree::install_refusal))]
+    pub fn install_refusal<B: Allocator, C: Allocator>(
+        &self,
+        root: &Path<B>,
+        path: &Path<C>,
+        count: u64,
+    ) -> Option<TreeFault>
+        ensures { result ≡ install_refusal (under self.now root.now) path.now count }
+    {
+        if let Some(fault) = self.room_refusal(root, path) {
+            return Some(fault);
+        }
+        if count > FILE_LIMIT {
+            return Some(TreeFault::TooBig);
+        }
+        if count > self.room_at(root, path) {
+            return Some(TreeFault::Full);
+        }
+        None
+    }
+
+    /// What stands at the place whose names a text joins.
+    fn at(&self, key: &[u8]) -> Option<Standing<'_>>
+        requires { IsJoined key.now }
+        ensures { option_map standing_node result ≡ node_at self.now (names_of key.now) }
+    {
+        let entries = self.entries.as_slice();
+        if key.is_empty() {
+            return Some(Standing::Dir);
+        }
+        entry::find(entries, key)
+    }
+
+    /// What stands at a path below a root.
+    fn standing<B: Allocator, C: Allocator>(
+        &self,
+        root: &Path<B>,
+        path: &Path<C>,
+    ) -> Option<Standing<'_>>
+        ensures { option_map standing_node result ≡ node_at (under self.now root.now) path.now }
+    {
+        self.at(Joined::of(root, path).key())
+    }
+
+    /// What stands above a path below a root.
+    fn standing_above<B: Allocator, C: Allocator>(
+        &self,
+        root: &Path<B>,
+        path: &Path<C>,
+    ) -> Option<Standing<'_>>
+        ensures node { option_map standing_node result ≡ node_at (under self.now root.now) (parent path.now) }
+        ensures fits { fits path.now ≡ true }
+    {
+        self.at(Joined::above(root, path).key())
+    }
+
+    /// The octets of the file there, and none where no file stands.
+    #[tactic(auto, unfolding(crate::specs::Tree::octets_or_none, crate::specs::Tree::octets_at))]
+    fn octets<B: Allocator, C: Allocator>(&self, root: &Path<B>, path: &Path<C>) -> &[u8]
+        ensures { result.now ≡ octets_or_none (under self.now root.now) path.now }
+    {
+        match self.standing(root, path) {
+            Some(Standing::File(octets, _)) => octets,
+            Some(Standing::Dir) | None => b"".as_slice(),
+        }
+    }
+
+    /// The octets of all files at or below a root.
+    fn octets_below<B: Allocator>(&self, root: &Path<B>) -> u128
+        ensures { result ≡ octets_in (under self.now root.now) }
+    {
+        entry::octets_within(self.entries.as_slice(), root.key())
+    }
+
+    /// How many nodes stand at or below a root.
+    fn nodes_below<B: Allocator>(&self, root: &Path<B>) -> u128
+        ensures { result ≡ fin.len (under self.now root.now) }
+    {
+        let count = entry::count_within(self.entries.as_slice(), root.key());
+        if root.key().is_empty() { count as u128 + 1 } else { count as u128 }
+    }
+
+    /// The most octets that a file may have there.
+    #[tactic(auto, unfolding(crate::specs::Tree::room_at))]
+    fn room_at<B: Allocator, C: Allocator>(&self, root: &Path<B>, path: &Path<C>) -> u64
+        ensures { result ≡ room_at (under self.now root.now) path.now }
+    {
+        let freed = self.octets(root, path).len() as u128;
+        let others = self.octets_below(root).saturating_sub(freed);
+        FILE_LIMIT.min(TOTAL_LIMIT.saturating_sub(others) as u64)
+    }
+
+    /// Why nothing new can stand at a path: a `Path` is within its limits.
+    fn new_refusal<B: Allocator, C: Allocator>(
+        &self,
+        root: &Path<B>,
+        path: &Path<C>,
+    ) -> Option<TreeFault>
+        ensures { let part = under self.now root.now in result ≡ or_else (place_refusal part path.now) (nodes_refusal part) }
+    {
+        if let Some(fault) = directory_refusal(self.standing_above(root, path)) {
+            return Some(fault);
+        }
+        self.nodes_refusal(root)
+    }
+
+    /// Why no node can come anew below a root.
+    fn nodes_refusal<B: Allocator>(&self, root: &Path<B>) -> Option<TreeFault>
+        ensures { result ≡ nodes_refusal (under self.now root.now) }
+    {
+        if self.nodes_below(root) > NODE_LIMIT {
+            return Some(TreeFault::Full);
+        }
+        None
+    }
+
+    /// The first reason, memory aside, why what stands at a path cannot be moved.
+    #[tactic(auto, unfolding(crate::specs::Tree::source_refusal))]
+    fn source_refusal<B: Allocator, C: Allocator>(
+        &self,
+        root: &Path<B>,
+        path: &Path<C>,
+    ) -> Option<TreeFault>
+        ensures { result ≡ source_refusal (under self.now root.now) path.now }
+    {
+        if self.standing(root, path).is_none() {
             return Some(TreeFault::Absent);
         }
         if path.key().is_empty() {
@@ -285,102 +400,87 @@ impl<A: Allocator + Copy> MemTree<A> {
 
     /// The same, why it cannot be moved there.
     #[tactic(auto, unfolding(crate::specs::Tree::target_refusal))]
-    fn target_refusal<B: Allocator, C: Allocator>(
+    fn target_refusal<B: Allocator, C: Allocator, D: Allocator>(
         &self,
-        from: &Path<B>,
-        to: &Path<C>,
+        root: &Path<B>,
+        from: &Path<C>,
+        to: &Path<D>,
     ) -> Option<TreeFault>
-        requires { source_refusal self.now from.now ≡ None }
-        ensures { result ≡ target_refusal self.now from.now to.now }
+        requires { source_refusal (under self.now root.now) from.now ≡ None }
+        ensures { result ≡ target_refusal (under self.now root.now) from.now to.now }
     {
-        if self.standing(to.key()).is_some() {
+        if self.standing(root, to).is_some() {
             return Some(TreeFault::Exists);
         }
         if is_within(from.key(), to.key()) {
             return Some(TreeFault::WrongKind);
         }
-        if let Some(fault) = self.directory_refusal(to.parent_key()) {
+        if let Some(fault) = directory_refusal(self.standing_above(root, to)) {
             return Some(fault);
         }
-        if !self.moves_fit(from, to) {
+        if !self.moves_fit(root, from, to) {
             return Some(TreeFault::TooBig);
         }
         None
     }
 
     /// Whether each path that is moved is within the limits then.
-    fn moves_fit<B: Allocator, C: Allocator>(&self, from: &Path<B>, to: &Path<C>) -> bool
-        requires { source_refusal self.now from.now ≡ None }
-        ensures { result ≡ moves_fit self.now from.now to.now }
-    {
-        entry::moves_fit(self.entries.as_slice(), from, to)
-    }
-
-    /// The same, why what stands at a path cannot be moved to another.
-    #[tactic(auto, unfolding(crate::specs::Tree::rename_refusal))]
-    pub fn rename_refusal<B: Allocator, C: Allocator>(
+    fn moves_fit<B: Allocator, C: Allocator, D: Allocator>(
         &self,
-        from: &Path<B>,
-        to: &Path<C>,
-    ) -> Option<TreeFault>
-        ensures { result ≡ rename_refusal self.now from.now to.now }
+        root: &Path<B>,
+        from: &Path<C>,
+        to: &Path<D>,
+    ) -> bool
+        requires { source_refusal (under self.now root.now) from.now ≡ None }
+        ensures { result ≡ moves_fit (under self.now root.now) from.now to.now }
     {
-        match self.source_refusal(from) {
-            Some(fault) => Some(fault),
-            None => self.target_refusal(from, to),
-        }
+        let above = Joined::of(root, from);
+        entry::moves_fit(self.entries.as_slice(), above.key(), to.key())
     }
 
     /// The same, why no file can be put at a path.
     #[tactic(auto, unfolding(crate::specs::Tree::room_refusal))]
-    fn room_refusal<B: Allocator>(&self, path: &Path<B>) -> Option<TreeFault>
-        ensures { result ≡ room_refusal self.now path.now }
+    fn room_refusal<B: Allocator, C: Allocator>(
+        &self,
+        root: &Path<B>,
+        path: &Path<C>,
+    ) -> Option<TreeFault>
+        ensures { result ≡ room_refusal (under self.now root.now) path.now }
     {
-        match self.standing(path.key()) {
+        match self.standing(root, path) {
             Some(Standing::Dir) => Some(TreeFault::WrongKind),
             Some(Standing::File(..)) => None,
-            None => self.new_refusal(path),
+            None => self.new_refusal(root, path),
         }
-    }
-
-    /// The same, why no file of so many octets can.
-    #[tactic(auto, unfolding(crate::specs::Tree::install_refusal))]
-    pub fn install_refusal<B: Allocator>(&self, path: &Path<B>, count: u64) -> Option<TreeFault>
-        ensures { result ≡ install_refusal self.now path.now count }
-    {
-        if let Some(fault) = self.room_refusal(path) {
-            return Some(fault);
-        }
-        if count > FILE_LIMIT {
-            return Some(TreeFault::TooBig);
-        }
-        if count > self.room_at(path.key()) {
-            return Some(TreeFault::Full);
-        }
-        None
     }
 
     /// Puts a directory where no refusal applies.
-    fn put_dir<B: Allocator>(&mut self, path: &Path<B>) -> Result<(), AllocError>
-        requires { make_refusal self.old path.now ≡ None }
-        ensures ok { OnOk result (self.new ≡ made self.old path.now) }
+    fn put_dir<B: Allocator, C: Allocator>(
+        &mut self,
+        root: &Path<B>,
+        path: &Path<C>,
+    ) -> Result<(), AllocError>
+        requires { make_refusal (under self.old root.now) path.now ≡ None }
+        ensures ok { OnOk result (self.new ≡ with_part self.old root.now (made (under self.old root.now) path.now)) }
         ensures err { OnErr result (self.new ≡ self.old) }
     {
-        let Ok(_) = entry::put(&mut self.entries, self.alloc, path, Kept::Dir) else {
+        let place = Joined::of(root, path);
+        let Ok(_) = entry::put(&mut self.entries, self.alloc, place.key(), Kept::Dir) else {
             return Err(AllocError);
         };
         Ok(())
     }
 
     /// Puts a file where no refusal applies. Its octets are taken out of the content, unless memory is refused.
-    fn put_file<B: Allocator>(
+    fn put_file<B: Allocator, C: Allocator>(
         &mut self,
-        path: &Path<B>,
+        root: &Path<B>,
+        path: &Path<C>,
         content: &mut Content<A>,
         moment: Moment,
     ) -> Result<(), AllocError>
-        requires { install_refusal self.old path.now (length content.old) ≡ None }
-        ensures ok { OnOk result ((self.new ≡ installed self.old path.now content.old moment.seconds) × (content.new ≡ [])) }
+        requires { install_refusal (under self.old root.now) path.now (length content.old) ≡ None }
+        ensures ok { OnOk result ((self.new ≡ with_part self.old root.now (installed (under self.old root.now) path.now content.old moment.seconds)) × (content.new ≡ [])) }
         ensures err { OnErr result ((self.new ≡ self.old) × (content.new ≡ content.old)) }
     {
         let octets = content.take(self.alloc);
@@ -388,28 +488,53 @@ impl<A: Allocator + Copy> MemTree<A> {
             content: octets,
             moment,
         };
-        if let Err(node) = entry::put(&mut self.entries, self.alloc, path, node) {
+        let place = Joined::of(root, path);
+        if let Err(node) = entry::put(&mut self.entries, self.alloc, place.key(), node) {
             *content = node.into_content(self.alloc);
             return Err(AllocError);
         }
         Ok(())
     }
 
+    /// Takes away what stands at a path, where no refusal applies to a file or to a directory there.
+    fn take_away<B: Allocator, C: Allocator>(&mut self, root: &Path<B>, path: &Path<C>)
+        requires { let part = under self.old root.now in (delete_refusal part path.now ≡ None) ⊎ (remove_refusal part path.now ≡ None) }
+        ensures { self.new ≡ with_part self.old root.now (removed (under self.old root.now) path.now) }
+    {
+        let place = Joined::of(root, path);
+        entry::remove(&mut self.entries, place.key());
+    }
+
     /// Moves what stands at a path, with all below it, where no refusal applies: all memory is had first.
-    fn move_all<B: Allocator, C: Allocator>(
+    fn move_all<B: Allocator, C: Allocator, D: Allocator>(
         &mut self,
-        from: &Path<B>,
-        to: &Path<C>,
+        root: &Path<B>,
+        from: &Path<C>,
+        to: &Path<D>,
     ) -> Result<(), AllocError>
-        requires { rename_refusal self.old from.now to.now ≡ None }
-        ensures ok { OnOk result (self.new ≡ moved self.old from.now to.now) }
+        requires { rename_refusal (under self.old root.now) from.now to.now ≡ None }
+        ensures ok { OnOk result (self.new ≡ with_part self.old root.now (moved (under self.old root.now) from.now to.now)) }
         ensures err { OnErr result (self.new ≡ self.old) }
     {
-        let mut moves = entry::moved_names(self.alloc, self.entries.as_slice(), from, to)?;
+        let old = Joined::of(root, from);
+        let new = Joined::of(root, to);
+        let mut moves =
+            entry::moved_names(self.alloc, self.entries.as_slice(), old.key(), new.key())?;
         let mut moved = Vec::with_capacity(self.alloc, self.entries.len())?;
         entry::move_into(&mut self.entries, &mut moves, &mut moved);
         self.entries = moved;
         Ok(())
+    }
+}
+
+/// Why what stands there is no directory.
+fn directory_refusal(standing: Option<Standing<'_>>) -> Option<TreeFault>
+    ensures { result ≡ directory_refusal (option_map standing_node standing.entry) }
+{
+    match standing {
+        None => Some(TreeFault::Absent),
+        Some(Standing::Dir) => None,
+        Some(Standing::File(..)) => Some(TreeFault::WrongKind),
     }
 }
 

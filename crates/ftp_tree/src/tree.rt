@@ -1,7 +1,7 @@
 // What a tree answers, as what its clauses say of one map, however the tree is kept.
 ghost use Rattle.std.specs.Prelude.{◌≡◌, ◌≤◌, ◌<◌, ℕ, [], None, IfOk, IfErr, OnOk, OnErr, length, take, drop, option_map};
 ghost use Rattle.std.specs.List.{slice_get};
-ghost use Rattle.ftp_tree.specs.Tree.{Table, children, delete_refusal, install_refusal, installed, kind_at, made, make_refusal, moved, octets_or_none, remove_refusal, removed, rename_refusal, room_at, room_refusal, size_at, stamp_at};
+ghost use Rattle.ftp_tree.specs.Tree.{Table, children, delete_refusal, install_refusal, installed, kind_at, made, make_refusal, moved, octets_or_none, remove_refusal, removed, rename_refusal, room_at, room_refusal, size_at, stamp_at, under, with_part};
 ghost use Rattle.ftp_tree.specs.Change.{IsDone, IsRefused};
 
 use crate::content::Content;
@@ -27,33 +27,33 @@ pub trait Tree<A: Allocator>: Drop {
     ghost failures: { Self → ℕ };
 
     /// What stands at a path, if anything does.
-    fn kind<B: Allocator>(&self, path: &Path<B>) -> Option<NodeKind>
-        ensures { result ≡ kind_at (table self.now) path.now };
+    fn kind<B: Allocator, C: Allocator>(&self, root: &Path<B>, path: &Path<C>) -> Option<NodeKind>
+        ensures { result ≡ kind_at (under (table self.now) root.now) path.now };
 
     /// How many octets the file at a path has, where one stands there.
-    fn size<B: Allocator>(&self, path: &Path<B>) -> Option<u64>
-        ensures { result ≡ size_at (table self.now) path.now };
+    fn size<B: Allocator, C: Allocator>(&self, root: &Path<B>, path: &Path<C>) -> Option<u64>
+        ensures { result ≡ size_at (under (table self.now) root.now) path.now };
 
     /// When the file at a path was installed, where one stands there.
-    fn stamp<B: Allocator>(&self, path: &Path<B>) -> Option<Moment>
-        ensures { option_map (λ moment. moment.seconds) result ≡ stamp_at (table self.now) path.now };
+    fn stamp<B: Allocator, C: Allocator>(&self, root: &Path<B>, path: &Path<C>) -> Option<Moment>
+        ensures { option_map (λ moment. moment.seconds) result ≡ stamp_at (under (table self.now) root.now) path.now };
 
     /// Some octets of the file at a path from a place on, at most `max` of them: none only at its end, or where `max` is 0,
     /// or where no file stands.
-    fn piece<B: Allocator>(&self, path: &Path<B>, at: u64, max: usize) -> &[u8]
-        ensures octets { result.now ≡ take (length result.now) (drop at (octets_or_none (table self.now) path.now)) }
+    fn piece<B: Allocator, C: Allocator>(&self, root: &Path<B>, path: &Path<C>, at: u64, max: usize) -> &[u8]
+        ensures octets { result.now ≡ take (length result.now) (drop at (octets_or_none (under (table self.now) root.now) path.now)) }
         ensures most { length result.now ≤ max }
-        ensures some { 0 < max → at < length (octets_or_none (table self.now) path.now) → 0 < length result.now };
+        ensures some { 0 < max → at < length (octets_or_none (under (table self.now) root.now) path.now) → 0 < length result.now };
 
     /// The name that comes at a place, counted from 0, among those in a directory in the order of their octets.
-    fn nth_name<B: Allocator>(&self, path: &Path<B>, place: usize) -> Option<Name<'_>>
-        ensures { option_map (λ name. name.octets.now) result ≡ slice_get (children (table self.now) path.now) place };
+    fn nth_name<B: Allocator, C: Allocator>(&self, root: &Path<B>, path: &Path<C>, place: usize) -> Option<Name<'_>>
+        ensures { option_map (λ name. name.octets.now) result ≡ slice_get (children (under (table self.now) root.now) path.now) place };
 
     /// The most octets that `install` takes at a path, or why it takes none: `WrongKind` where a directory stands there or a
     /// file above, `Absent` where nothing stands above, `Full` where 16,384 nodes stand beside the root.
-    fn room<B: Allocator>(&self, path: &Path<B>) -> Result<u64, TreeFault>
-        ensures room { IfOk result (λ count. (room_refusal (table self.now) path.now ≡ None) × (count ≡ room_at (table self.now) path.now)) }
-        ensures refused { IfErr result (λ fault. room_refusal (table self.now) path.now ≡ Some fault) };
+    fn room<B: Allocator, C: Allocator>(&self, root: &Path<B>, path: &Path<C>) -> Result<u64, TreeFault>
+        ensures room { IfOk result (λ count. (room_refusal (under (table self.now) root.now) path.now ≡ None) × (count ≡ room_at (under (table self.now) root.now) path.now)) }
+        ensures refused { IfErr result (λ fault. room_refusal (under (table self.now) root.now) path.now ≡ Some fault) };
 
     /// How many failures of its device it has counted; the count moves on by wrapping.
     fn device_failures(&self) -> u64
@@ -63,49 +63,51 @@ pub trait Tree<A: Allocator>: Drop {
     ///
     /// Refused: `Exists` where something stands there, `Absent` where nothing stands above, `WrongKind` where a file does,
     /// `Full` where 16,384 nodes stand beside the root.
-    fn make_dir<B: Allocator>(&mut self, path: &Path<B>) -> Result<(), TreeFault>
-        ensures done { OnOk result (IsDone (make_refusal (table self.old) path.now) (made (table self.old) path.now) (table self.new) (failures self.old) (failures self.new)) }
-        ensures refused { IfErr result (λ fault. IsRefused (make_refusal (table self.old) path.now) fault (table self.old) (table self.new) (failures self.old) (failures self.new)) };
+    fn make_dir<B: Allocator, C: Allocator>(&mut self, root: &Path<B>, path: &Path<C>) -> Result<(), TreeFault>
+        ensures done { OnOk result (let part = under (table self.old) root.now in IsDone (make_refusal part path.now) (with_part (table self.old) root.now (made part path.now)) (table self.new) (failures self.old) (failures self.new)) }
+        ensures refused { IfErr result (λ fault. IsRefused (make_refusal (under (table self.old) root.now) path.now) fault (table self.old) (table self.new) (failures self.old) (failures self.new)) };
 
     /// Removes a directory.
     ///
     /// Refused: `Absent`, `WrongKind` of a file, `NotEmpty`, `Busy` of the root.
-    fn remove_dir<B: Allocator>(&mut self, path: &Path<B>) -> Result<(), TreeFault>
-        ensures done { OnOk result (IsDone (remove_refusal (table self.old) path.now) (removed (table self.old) path.now) (table self.new) (failures self.old) (failures self.new)) }
-        ensures refused { IfErr result (λ fault. IsRefused (remove_refusal (table self.old) path.now) fault (table self.old) (table self.new) (failures self.old) (failures self.new)) };
+    fn remove_dir<B: Allocator, C: Allocator>(&mut self, root: &Path<B>, path: &Path<C>) -> Result<(), TreeFault>
+        ensures done { OnOk result (let part = under (table self.old) root.now in IsDone (remove_refusal part path.now) (with_part (table self.old) root.now (removed part path.now)) (table self.new) (failures self.old) (failures self.new)) }
+        ensures refused { IfErr result (λ fault. IsRefused (remove_refusal (under (table self.old) root.now) path.now) fault (table self.old) (table self.new) (failures self.old) (failures self.new)) };
 
     /// Deletes a file.
     ///
     /// Refused: `Absent`, `WrongKind` of a directory.
-    fn delete<B: Allocator>(&mut self, path: &Path<B>) -> Result<(), TreeFault>
-        ensures done { OnOk result (IsDone (delete_refusal (table self.old) path.now) (removed (table self.old) path.now) (table self.new) (failures self.old) (failures self.new)) }
-        ensures refused { IfErr result (λ fault. IsRefused (delete_refusal (table self.old) path.now) fault (table self.old) (table self.new) (failures self.old) (failures self.new)) };
+    fn delete<B: Allocator, C: Allocator>(&mut self, root: &Path<B>, path: &Path<C>) -> Result<(), TreeFault>
+        ensures done { OnOk result (let part = under (table self.old) root.now in IsDone (delete_refusal part path.now) (with_part (table self.old) root.now (removed part path.now)) (table self.new) (failures self.old) (failures self.new)) }
+        ensures refused { IfErr result (λ fault. IsRefused (delete_refusal (under (table self.old) root.now) path.now) fault (table self.old) (table self.new) (failures self.old) (failures self.new)) };
 
     /// Moves what stands at a path, with all below it.
     ///
     /// Refused: `Absent` where nothing stands there, `Busy` of the root; then `Exists` where something stands at the new path,
     /// `WrongKind` where that is below the old one, `Absent` or `WrongKind` where no directory is above it, `TooBig` where a
     /// canonical text would pass 900 octets.
-    fn rename<B: Allocator, C: Allocator>(
+    fn rename<B: Allocator, C: Allocator, D: Allocator>(
         &mut self,
-        from: &Path<B>,
-        to: &Path<C>,
+        root: &Path<B>,
+        from: &Path<C>,
+        to: &Path<D>,
     ) -> Result<(), TreeFault>
-        ensures done { OnOk result (IsDone (rename_refusal (table self.old) from.now to.now) (moved (table self.old) from.now to.now) (table self.new) (failures self.old) (failures self.new)) }
-        ensures refused { IfErr result (λ fault. IsRefused (rename_refusal (table self.old) from.now to.now) fault (table self.old) (table self.new) (failures self.old) (failures self.new)) };
+        ensures done { OnOk result (let part = under (table self.old) root.now in IsDone (rename_refusal part from.now to.now) (with_part (table self.old) root.now (moved part from.now to.now)) (table self.new) (failures self.old) (failures self.new)) }
+        ensures refused { IfErr result (λ fault. IsRefused (rename_refusal (under (table self.old) root.now) from.now to.now) fault (table self.old) (table self.new) (failures self.old) (failures self.new)) };
 
     /// Puts a file at a path, in the place of one that stands there. Its octets are taken out of the content.
     ///
-    /// Refused: as `room` says, then `TooBig` past 67,108,864 octets, `Full` where all files together would pass 67,108,864.
+    /// Refused: as `room` says, then `TooBig` past 67,108,864 octets, `Full` where all files below the root together would.
     /// Refused, it leaves the content as it was.
-    fn install<B: Allocator>(
+    fn install<B: Allocator, C: Allocator>(
         &mut self,
-        path: &Path<B>,
+        root: &Path<B>,
+        path: &Path<C>,
         content: &mut Content<A>,
         moment: Moment,
     ) -> Result<(), TreeFault>
-        ensures done { OnOk result (IsDone (install_refusal (table self.old) path.now (length content.old)) (installed (table self.old) path.now content.old moment.seconds) (table self.new) (failures self.old) (failures self.new)) }
-        ensures refused { IfErr result (λ fault. IsRefused (install_refusal (table self.old) path.now (length content.old)) fault (table self.old) (table self.new) (failures self.old) (failures self.new)) }
+        ensures done { OnOk result (let part = under (table self.old) root.now in IsDone (install_refusal part path.now (length content.old)) (with_part (table self.old) root.now (installed part path.now content.old moment.seconds)) (table self.new) (failures self.old) (failures self.new)) }
+        ensures refused { IfErr result (λ fault. IsRefused (install_refusal (under (table self.old) root.now) path.now (length content.old)) fault (table self.old) (table self.new) (failures self.old) (failures self.new)) }
         ensures taken { OnOk result (content.new ≡ []) }
         ensures back { OnErr result (content.new ≡ content.old) };
 }

@@ -5,6 +5,7 @@ mod keys;
 mod listings;
 mod paths;
 mod renames;
+mod roots;
 mod steps;
 mod texts;
 mod trees;

@@ -19,26 +19,30 @@ const PIECES: &[(u64, usize, &[u8])] = &[
     (99, 1, b""),
 ];
 
-fn is_read(tree: &Memory, path: &Path<Global>) -> bool {
+fn is_read(tree: &Memory, root: &Path<Global>, path: &Path<Global>) -> bool {
     PIECES
         .iter()
-        .all(|row| tree.piece(path, row.0, row.1) == row.2)
+        .all(|row| tree.piece(root, path, row.0, row.1) == row.2)
 }
 
-fn is_no_file(tree: &Memory, path: &Path<Global>) -> bool {
-    tree.piece(path, 0, 9).is_empty() && tree.size(path).is_none() && tree.stamp(path).is_none()
+fn is_no_file(tree: &Memory, root: &Path<Global>) -> bool {
+    tree.piece(root, root, 0, 9).is_empty()
+        && tree.size(root, root).is_none()
+        && tree.stamp(root, root).is_none()
 }
 
 /// Puts octets there, and says whether they are read in that second.
 fn is_put(alloc: Global, tree: &mut Memory, octets: &[u8], second: u64) -> Result<bool, TreeFault> {
     let path = place(alloc, b"f")?;
-    put(alloc, tree, &path, octets, second)?;
-    Ok(has(tree, &path, octets, second))
+    let root = Path::root(alloc);
+    put(alloc, tree, &root, &path, octets, second)?;
+    Ok(has(tree, &root, &path, octets, second))
 }
 
 fn pieces_of(alloc: Global, tree: &Memory) -> Result<bool, TreeFault> {
     let path = place(alloc, b"f")?;
-    Ok(is_read(tree, &path) && is_no_file(tree, &Path::root(alloc)))
+    let root = Path::root(alloc);
+    Ok(is_read(tree, &root, &path) && is_no_file(tree, &root))
 }
 
 #[test]
@@ -53,15 +57,17 @@ fn a_file_is_read_by_pieces(rt: HostRuntime) {
 fn is_front(alloc: Global, tree: &mut Memory, count: usize) -> Result<bool, TreeFault> {
     let path = place(alloc, b"/f")?;
     let copy = place(alloc, b"/copy")?;
-    let mut content = Content::of(alloc, tree, &path, count as u64)?;
+    let root = Path::root(alloc);
+    let mut content = Content::of(alloc, tree, &root, &path, count as u64)?;
     let had = content.len() == count as u64;
     let Some(moment) = Moment::new(8) else {
         return Err(TreeFault::BadOffset);
     };
-    tree.install(&copy, &mut content, moment)?;
+    tree.install(&root, &copy, &mut content, moment)?;
     Ok(
         had && has(
             tree,
+            &root,
             &copy,
             b"hello".as_slice().get(..count).unwrap_or(b"?".as_slice()),
             8,
@@ -96,7 +102,7 @@ const FILE_LIMIT: usize = 67_108_864;
 
 fn is_old(alloc: Global, tree: &Memory) -> Result<(), TreeFault> {
     let path = place(alloc, b"/f")?;
-    only_if(has(tree, &path, b"old", 1))
+    only_if(has(tree, &Path::root(alloc), &path, b"old", 1))
 }
 
 const TOO_LONG: &[Row] = &[

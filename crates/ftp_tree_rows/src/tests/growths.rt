@@ -1,5 +1,6 @@
 //! Each growth of a tree refused in turn.
 use super::steps::{Step, act, has, only_if, place};
+use ftp_path::Path;
 use ftp_refusing::Refusing;
 use ftp_tree::{MemTree, Tree, TreeFault};
 use std::alloc::Global;
@@ -26,8 +27,9 @@ fn is_so(alloc: Global, tree: &MemTree<Heap<'_>>, text: &[u8], expected: bool) -
     let Ok(path) = place(alloc, text) else {
         return false;
     };
-    let as_put = tree.size(&path).is_none() || has(tree, &path, b"xxxxxx", 7);
-    as_put && tree.kind(&path).is_some() == expected
+    let root = Path::root(alloc);
+    let as_put = tree.size(&root, &path).is_none() || has(tree, &root, &path, b"xxxxxx", 7);
+    as_put && tree.kind(&root, &path).is_some() == expected
 }
 
 fn stands(alloc: Global, tree: &MemTree<Heap<'_>>, expected: [bool; 4]) -> bool {

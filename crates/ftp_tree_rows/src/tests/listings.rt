@@ -12,7 +12,7 @@ fn joined(
 ) -> Result<Vec<u8, Global>, AllocError> {
     let mut all = Vec::new(alloc);
     for place in 0..16usize {
-        if let Some(name) = tree.nth_name(path, place) {
+        if let Some(name) = tree.nth_name(&Path::root(alloc), path, place) {
             all.extend_from_slice(name.octets())?;
             all.push(b',')?;
         }

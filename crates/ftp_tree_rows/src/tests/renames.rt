@@ -55,10 +55,10 @@ fn below(alloc: Global, above: &Path<Global>, count: usize) -> Result<Path<Globa
 /// Makes three directories of 255 octets, each below the one before, and gives the path of the last.
 fn make_deep(alloc: Global, tree: &mut MemTree<Global>) -> Result<Path<Global>, TreeFault> {
     let mut here = below(alloc, &Path::root(alloc), 255)?;
-    tree.make_dir(&here)?;
+    tree.make_dir(&Path::root(alloc), &here)?;
     for _ in 0..2 {
         here = below(alloc, &here, 255)?;
-        tree.make_dir(&here)?;
+        tree.make_dir(&Path::root(alloc), &here)?;
     }
     Ok(here)
 }
@@ -67,7 +67,7 @@ fn make_deep(alloc: Global, tree: &mut MemTree<Global>) -> Result<Path<Global>, 
 fn put_deep(alloc: Global, tree: &mut MemTree<Global>) -> Result<Path<Global>, TreeFault> {
     let here = make_deep(alloc, tree)?;
     let file = below(alloc, &here, 131)?;
-    put(alloc, tree, &file, b"x", 7)?;
+    put(alloc, tree, &Path::root(alloc), &file, b"x", 7)?;
     Ok(file)
 }
 
@@ -76,7 +76,7 @@ fn call_by(alloc: Global, tree: &mut MemTree<Global>, count: usize) -> Result<()
     let top = below(alloc, &Path::root(alloc), 255)?;
     let shelf = place(alloc, b"/d")?;
     let to = below(alloc, &shelf, count)?;
-    tree.rename(&top, &to)
+    tree.rename(&Path::root(alloc), &top, &to)
 }
 
 /// Whether nothing fits below a file, and whether something stands there.
@@ -84,7 +84,7 @@ fn is_last(alloc: Global, tree: &MemTree<Global>, file: &Path<Global>) -> (bool,
     let farther = below(alloc, file, 1);
     (
         matches!(&farther, Err(TreeFault::TooBig)),
-        tree.kind(file).is_some(),
+        tree.kind(&Path::root(alloc), file).is_some(),
     )
 }
 

@@ -46,6 +46,7 @@ pub(super) fn only_if(holds: bool) -> Result<(), TreeFault> {
 pub(super) fn put<A: Allocator + Copy>(
     alloc: A,
     tree: &mut MemTree<A>,
+    root: &Path<A>,
     path: &Path<A>,
     octets: &[u8],
     second: u64,
@@ -57,7 +58,7 @@ pub(super) fn put<A: Allocator + Copy>(
     let Some(moment) = Moment::new(second) else {
         return Err(TreeFault::BadOffset);
     };
-    let answer = tree.install(path, &mut content, moment);
+    let answer = tree.install(root, path, &mut content, moment);
     let left = if answer.is_ok() {
         0
     } else {
@@ -70,53 +71,68 @@ pub(super) fn put<A: Allocator + Copy>(
 fn fill<A: Allocator + Copy>(
     alloc: A,
     tree: &mut MemTree<A>,
+    root: &Path<A>,
     path: &Path<A>,
     count: usize,
 ) -> Result<(), TreeFault> {
     let Ok(octets) = Vec::from_elem(alloc, b'x', count) else {
         return Err(TreeFault::Memory);
     };
-    put(alloc, tree, path, octets.as_slice(), 7)
+    put(alloc, tree, root, path, octets.as_slice(), 7)
 }
 
 fn call<A: Allocator + Copy>(
     alloc: A,
     tree: &mut MemTree<A>,
+    root: &Path<A>,
     path: &Path<A>,
     text: &[u8],
 ) -> Result<(), TreeFault> {
     let to = place(alloc, text)?;
-    tree.rename(path, &to)
+    tree.rename(root, path, &to)
 }
 
 fn has_front<A: Allocator + Copy>(
     alloc: A,
     tree: &MemTree<A>,
+    root: &Path<A>,
     path: &Path<A>,
     count: u64,
 ) -> Result<(), TreeFault> {
-    let content = Content::of(alloc, tree, path, count)?;
+    let content = Content::of(alloc, tree, root, path, count)?;
     only_if(content.len() == count)
 }
 
-/// Does a step.
+/// Does a step at a path from the root of the whole.
 pub(super) fn act<A: Allocator + Copy>(
     alloc: A,
     tree: &mut MemTree<A>,
     text: &[u8],
     step: Step,
 ) -> Result<(), TreeFault> {
+    act_below(alloc, tree, b"/", text, step)
+}
+
+/// Does a step at a path below a root.
+pub(super) fn act_below<A: Allocator + Copy>(
+    alloc: A,
+    tree: &mut MemTree<A>,
+    root: &[u8],
+    text: &[u8],
+    step: Step,
+) -> Result<(), TreeFault> {
+    let root = place(alloc, root)?;
     let path = place(alloc, text)?;
     match step {
-        Step::Make => tree.make_dir(&path),
-        Step::Remove => tree.remove_dir(&path),
-        Step::Delete => tree.delete(&path),
-        Step::Install(count) => fill(alloc, tree, &path, count),
-        Step::Rename(to) => call(alloc, tree, &path, to),
-        Step::Kind(kind) => only_if(tree.kind(&path) == kind),
-        Step::Size(size) => only_if(tree.size(&path) == size),
-        Step::Room(room) => only_if(tree.room(&path)? == room),
-        Step::Front(count) => has_front(alloc, tree, &path, count),
+        Step::Make => tree.make_dir(&root, &path),
+        Step::Remove => tree.remove_dir(&root, &path),
+        Step::Delete => tree.delete(&root, &path),
+        Step::Install(count) => fill(alloc, tree, &root, &path, count),
+        Step::Rename(to) => call(alloc, tree, &root, &path, to),
+        Step::Kind(kind) => only_if(tree.kind(&root, &path) == kind),
+        Step::Size(size) => only_if(tree.size(&root, &path) == size),
+        Step::Room(room) => only_if(tree.room(&root, &path)? == room),
+        Step::Front(count) => has_front(alloc, tree, &root, &path, count),
     }
 }
 
@@ -137,15 +153,16 @@ pub(super) fn all_answer<A: Allocator + Copy>(
 /// Whether the file there has these octets and this second.
 pub(super) fn has<A: Allocator + Copy, B: Allocator>(
     tree: &MemTree<A>,
+    root: &Path<B>,
     path: &Path<B>,
     octets: &[u8],
     second: u64,
 ) -> bool {
-    let stamped = match tree.stamp(path) {
+    let stamped = match tree.stamp(root, path) {
         Some(moment) => moment.seconds == second,
         None => false,
     };
     stamped
-        && tree.size(path) == Some(octets.len() as u64)
-        && tree.piece(path, 0, octets.len() + 1) == octets
+        && tree.size(root, path) == Some(octets.len() as u64)
+        && tree.piece(root, path, 0, octets.len() + 1) == octets
 }

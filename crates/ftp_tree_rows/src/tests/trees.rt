@@ -1,5 +1,6 @@
 //! Rows of trees: the order of the refusals, and how many nodes fit.
 use super::steps::{Row, Step, all_answer, place};
+use ftp_path::Path;
 use ftp_tree::{MemTree, NodeKind, Tree, TreeFault};
 use std::alloc::Global;
 
@@ -72,7 +73,7 @@ fn make_some(alloc: Global, tree: &mut MemTree<Global>, first: u8) -> Result<(),
     for high in b'0'..=b'o' {
         for low in b'0'..=b'o' {
             let path = place(alloc, &[first, high, low])?;
-            tree.make_dir(&path)?;
+            tree.make_dir(&Path::root(alloc), &path)?;
         }
     }
     Ok(())
