@@ -1,6 +1,7 @@
 pub mod ListingLemmas
 pub mod NodeLemmas
 pub mod PieceLemmas
+pub mod PlaceLemmas
 pub mod PutLemmas
 pub mod RefusalLemmas
 pub mod RenameLemmas

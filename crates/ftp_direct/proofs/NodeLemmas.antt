@@ -1,17 +1,16 @@
 -- What the reading calls of a tree say of the node that stands at a path.
 use Rattle.std.proofs.Common.{◌≡◌, ℕ, Bool, true, false, not, nat_le, List, [], length, Option, Some, None, is_some, refl, ap, sym, ◌∙◌, ◌∷◌}
-use Rattle.std.proofs.Math.Dec.{leb-zero}
 use mathlib.Core.Bool.{false≢true, true≢false}
 use Rattle.ftp_path.specs.Path.{fits, resolved, Names, is_within}
 use Rattle.std.specs.Option.{option_map, unwrap_or}
-use Rattle.ftp_tree.specs.Tree.{Node, Dir, File, Table, node_at, kind_of, kind_at, octets_of, moment_of, of_node, octets_at, size_at, stamp_at, octets_or_none, directory_refusal, front_answer, front_refusal, whenever, or_else, source_answer, source_refusal, target_refusal, rename_refusal}
+use Rattle.ftp_tree.specs.Tree.{Node, Dir, File, Table, node_at, kind_of, kind_at, octets_of, moment_of, of_node, octets_at, size_at, stamp_at, octets_or_none, directory_refusal, file_refusal, under, whenever, or_else, source_answer, source_refusal, target_refusal, rename_refusal}
 use Rattle.ftp_tree.specs.declared.fault.TreeFault.{TreeFault}
 use Rattle.ftp_tree.specs.declared.fault.TreeFault.TheVariants.{Absent, WrongKind, Busy}
 use Rattle.ftp_tree.specs.declared.tree.NodeKind.{NodeKind}
 use Rattle.ftp_tree.specs.declared.tree.NodeKind.TheVariants as Kinds
 use Rattle.ftp_operation.specs.declared.op.Op.TheVariants as Ops
 use Rattle.ftp_operation.specs.Answer.{Refused, Stamp}
-use Rattle.ftp_direct.specs.Direct.{absent_refusal, due, here, is_file}
+use Rattle.ftp_direct.specs.Direct.{absent_refusal, due, here, is_directory, is_file}
 use Rattle.ftp_direct.specs.Run.{Gives}
 use Rattle.ftp_direct.proofs.RefusalLemmas.{gives_refused, gives_done, there_some, there_none}
 use Rattle.ftp_direct.specs.declared.refusal.Refusal.TheVariants.{Unavailable}
@@ -45,38 +44,49 @@ pub absent_kind : (table : Table) (path : Names) → absent_refusal (node_at tab
 unfolding kind_at
 absent_kind table path = absent_node (node_at table path)
 
-abbrev file_by : Option NodeKind → Bool
-file_by None = false
-file_by (Some Kinds.Dir) = false
-file_by (Some Kinds.File) = true
+abbrev file_by : Option NodeKind → Option TreeFault
+file_by None = Some Absent
+file_by (Some Kinds.Dir) = Some WrongKind
+file_by (Some Kinds.File) = None
 
-file_node : (node : Option Node) → is_file node ≡ file_by (option_map kind_of node)
+file_node : (node : Option Node) → file_refusal node ≡ file_by (option_map kind_of node)
 file_node None = refl
 file_node (Some Dir) = refl
 file_node (Some (File octets moment)) = refl
 
-pub file_kind : (table : Table) (path : Names) → is_file (node_at table path) ≡ file_by (kind_at table path)
+pub file_kind : (table : Table) (path : Names) → file_refusal (node_at table path) ≡ file_by (kind_at table path)
 unfolding kind_at
 file_kind table path = file_node (node_at table path)
 
+abbrev is_file_by : Option NodeKind → Bool
+is_file_by None = false
+is_file_by (Some Kinds.Dir) = false
+is_file_by (Some Kinds.File) = true
+
+is_file_node : (node : Option Node) → is_file node ≡ is_file_by (option_map kind_of node)
+is_file_node None = refl
+is_file_node (Some Dir) = refl
+is_file_node (Some (File octets moment)) = refl
+
+pub is_file_kind : (table : Table) (path : Names) → is_file (node_at table path) ≡ is_file_by (kind_at table path)
+unfolding kind_at
+is_file_kind table path = is_file_node (node_at table path)
+
+abbrev is_directory_by : Option NodeKind → Bool
+is_directory_by None = false
+is_directory_by (Some Kinds.Dir) = true
+is_directory_by (Some Kinds.File) = false
+
+is_directory_node : (node : Option Node) → is_directory node ≡ is_directory_by (option_map kind_of node)
+is_directory_node None = refl
+is_directory_node (Some Dir) = refl
+is_directory_node (Some (File octets moment)) = refl
+
+pub is_directory_kind : (table : Table) (path : Names) → is_directory (node_at table path) ≡ is_directory_by (kind_at table path)
+unfolding kind_at
+is_directory_kind table path = is_directory_node (node_at table path)
+
 -- by its size
-abbrev lacks : Option ℕ → ℕ → Bool
-lacks None count = true
-lacks (Some size) count = not (nat_le count size)
-
-whenever-some : (holds : Bool) (fault : TreeFault) → is_some (whenever holds fault) ≡ holds
-whenever-some true fault = refl
-whenever-some false fault = refl
-
-front_node : (node : Option Node) (count : ℕ) → is_some (front_answer node count) ≡ lacks (option_map length (of_node octets_of node)) count
-front_node None count = refl
-front_node (Some Dir) count = refl
-front_node (Some (File octets moment)) count = whenever-some _ _
-
-pub front_size : (table : Table) (path : Names) (count : ℕ) → is_some (front_refusal table path count) ≡ lacks (size_at table path) count
-unfolding front_refusal size_at octets_at
-front_size table path count = front_node (node_at table path) count
-
 len_option : (octets : Option (List ℕ)) → length (unwrap_or octets []) ≡ unwrap_or (option_map length octets) 0
 len_option None = refl
 len_option (Some octets) = refl
@@ -86,14 +96,14 @@ unfolding size_at
 len_size table path = len_option (octets_at table path)
 
 -- by its moment
-stamp_node : (node : Option Node) → is_some (front_answer node 0) ≡ not (is_some (of_node moment_of node))
+stamp_node : (node : Option Node) → is_some (file_refusal node) ≡ not (is_some (of_node moment_of node))
 stamp_node None = refl
 stamp_node (Some Dir) = refl
-stamp_node (Some (File octets moment)) = whenever-some _ _ ∙ ap not (leb-zero (length octets))
+stamp_node (Some (File octets moment)) = refl
 
-pub front_stamp : (table : Table) (path : Names) → is_some (front_refusal table path 0) ≡ not (is_some (stamp_at table path))
-unfolding front_refusal stamp_at
-front_stamp table path = stamp_node (node_at table path)
+pub file_stamp : (table : Table) (path : Names) → is_some (file_refusal (node_at table path)) ≡ not (is_some (stamp_at table path))
+unfolding stamp_at
+file_stamp table path = stamp_node (node_at table path)
 
 -- ---- what is moved
 
@@ -144,17 +154,19 @@ rename_free table from to busy free = rename_target table from to (or_free (sour
 
 -- ---- when a file was installed
 
-pub stamp_said : (table : Table) (cwd : Names) (text : List ℕ) (path : Names) (seconds : ℕ) → path ≡ resolved cwd text → fits path ≡ true
-    → Some seconds ≡ stamp_at table path → Gives (due (here table cwd) (Ops.Modified text) 0) (Stamp seconds) (here table cwd)
-stamp_said table cwd text path seconds is fit some =
-    let there : stamp_at table (resolved cwd text) ≡ Some seconds = ap (stamp_at table) (sym is) ∙ sym some in
-    let free = there_none _ _ (ap fits (sym is) ∙ fit) (front_stamp table (resolved cwd text) ∙ ap (λ stamp. not (is_some stamp)) there) in
-    let gives = gives_done (here table cwd) (Ops.Modified text) 0 free in
+pub stamp_said : (table : Table) (root cwd : Names) (text : List ℕ) (path : Names) (seconds : ℕ) → path ≡ resolved cwd text → fits path ≡ true
+    → Some seconds ≡ stamp_at (under table root) path → Gives (due (here table root cwd) (Ops.Modified text) 0) (Stamp seconds) (here table root cwd)
+stamp_said table root cwd text path seconds is fit some =
+    let seen = under table root in
+    let there : stamp_at seen (resolved cwd text) ≡ Some seconds = ap (stamp_at seen) (sym is) ∙ sym some in
+    let free = there_none _ _ (ap fits (sym is) ∙ fit) (file_stamp seen (resolved cwd text) ∙ ap (λ stamp. not (is_some stamp)) there) in
+    let gives = gives_done (here table root cwd) (Ops.Modified text) 0 free in
     (ap (λ stamp. Stamp (unwrap_or stamp 0)) (sym there) ∙ gives.0, gives.1)
 
-pub stamp_none : (table : Table) (cwd : Names) (text : List ℕ) (path : Names) → path ≡ resolved cwd text → fits path ≡ true
-    → None ≡ stamp_at table path → Gives (due (here table cwd) (Ops.Modified text) 0) (Refused (code_of Unavailable)) (here table cwd)
-stamp_none table cwd text path is fit none =
-    let absent : stamp_at table (resolved cwd text) ≡ None = ap (stamp_at table) (sym is) ∙ sym none in
-    gives_refused (here table cwd) (Ops.Modified text) 0 Unavailable
-    (there_some _ _ (ap fits (sym is) ∙ fit) (front_stamp table (resolved cwd text) ∙ ap (λ stamp. not (is_some stamp)) absent))
+pub stamp_none : (table : Table) (root cwd : Names) (text : List ℕ) (path : Names) → path ≡ resolved cwd text → fits path ≡ true
+    → None ≡ stamp_at (under table root) path → Gives (due (here table root cwd) (Ops.Modified text) 0) (Refused (code_of Unavailable)) (here table root cwd)
+stamp_none table root cwd text path is fit none =
+    let seen = under table root in
+    let absent : stamp_at seen (resolved cwd text) ≡ None = ap (stamp_at seen) (sym is) ∙ sym none in
+    gives_refused (here table root cwd) (Ops.Modified text) 0 Unavailable
+    (there_some _ _ (ap fits (sym is) ∙ fit) (file_stamp seen (resolved cwd text) ∙ ap (λ stamp. not (is_some stamp)) absent))

@@ -3,7 +3,7 @@ use Rattle.std.proofs.Common.{◌≡◌, ℕ, ◌+◌, ◌≤◌, true, not, nat
 use Rattle.std.proofs.lemmas.Bool.{le-leb, leb-true}
 use Rattle.std.proofs.lemmas.List.{length-take-le}
 use Rattle.ftp_path.specs.Path.{fits, Names}
-use Rattle.ftp_tree.specs.Tree.{Table, or_else, whenever, installed, room_refusal, room_at, octets_refusal, install_refusal}
+use Rattle.ftp_tree.specs.Tree.{Table, or_else, whenever, installed, under, with_part, room_refusal, room_at, octets_refusal, install_refusal}
 use Rattle.ftp_tree.specs.declared.fault.TreeFault.{TreeFault}
 use Rattle.ftp_tree.specs.declared.fault.TreeFault.TheVariants.{TooBig, Full}
 use Rattle.ftp_operation.specs.Answer.{Done}
@@ -41,15 +41,17 @@ parts : (table : Table) (path : Names) (count : ℕ) → install_refusal table p
 unfolding install_refusal
 parts table path count none = or_none (room_refusal table path) (octets_refusal table path count) none
 
-pub put_done : (table : Table) (path cwd : Names) (count : ℕ) (content kept octets : List ℕ) (moment : ℕ) → fits path ≡ true → content ≡ kept ++ octets
-    → length content ≡ count → install_refusal table path (length content) ≡ None
-    → Gives (chosen (put_refusal (here table cwd) path count) (here table cwd) (put (here table cwd) path kept octets moment)) Done (here (installed table path content moment) cwd)
-put_done table path cwd count content kept octets moment fit is long none =
-    let both = parts table path (length content) none in
-    let free : put_refusal (here table cwd) path count ≡ None =
-    ap (λ b. or_refused (refused_room (if b then room_refusal table path else Some TooBig)) (refused_octets (octets_refusal table path count))) fit
-    ∙ ap (λ r. or_refused (refused_room r) (refused_octets (octets_refusal table path count))) both.0
-    ∙ ap (λ n. refused_octets (octets_refusal table path n)) (sym long) ∙ ap refused_octets both.1 in
-    let old = here table cwd in
+pub put_done : (table : Table) (root path cwd : Names) (count : ℕ) (content kept octets : List ℕ) (moment : ℕ) → fits path ≡ true → content ≡ kept ++ octets
+    → length content ≡ count → install_refusal (under table root) path (length content) ≡ None
+    → Gives (chosen (put_refusal (here table root cwd) path count) (here table root cwd) (put (here table root cwd) path kept octets moment)) Done
+    (here (with_part table root (installed (under table root) path content moment)) root cwd)
+put_done table root path cwd count content kept octets moment fit is long none =
+    let seen = under table root in
+    let both = parts seen path (length content) none in
+    let old = here table root cwd in
+    let free : put_refusal old path count ≡ None =
+    ap (λ b. or_refused (refused_room (if b then room_refusal seen path else Some TooBig)) (refused_octets (octets_refusal seen path count))) fit
+    ∙ ap (λ r. or_refused (refused_room r) (refused_octets (octets_refusal seen path count))) both.0
+    ∙ ap (λ n. refused_octets (octets_refusal seen path n)) (sym long) ∙ ap refused_octets both.1 in
     let done = put old path kept octets moment in
-    (ap (λ c. (chosen c old done).0) (sym free), ap (λ octets. here (installed table path octets moment) cwd) is ∙ ap (λ c. (chosen c old done).1) (sym free))
+    (ap (λ c. (chosen c old done).0) (sym free), ap (λ octets. here (with_part table root (installed seen path octets moment)) root cwd) is ∙ ap (λ c. (chosen c old done).1) (sym free))

@@ -95,30 +95,30 @@ told-other Device way other = absurd (other refl)
 told-other Memory way other = refl
 
 -- what a refused call leaves and says is the answer: where the map gave a reason that way was due
-answers : (refusal : Option TreeFault) (fault : TreeFault) (way : Refusal) (before after : ℕ) (table new : Table) (cwd : Names) (due : Said × State) (said : Said)
+answers : (refusal : Option TreeFault) (fault : TreeFault) (way : Refusal) (before after : ℕ) (table new : Table) (root cwd : Names) (due : Said × State) (said : Said)
     → IsRefused refusal fault table new before after → fault ≢ Memory → NoDevice refusal
-    → ((why : TreeFault) → refusal ≡ Some why → Gives due (Refused (code_of way)) (here table cwd)) → said ≡ Refused (code_of (told fault way))
-    → IsAnswer before after due (here table cwd) said (here new cwd)
-answers None fault way before after table new cwd due said (same, inl (memory, kept)) other never is e = absurd (other memory)
-answers None fault way before after table new cwd due said (same, inr (device, moved)) other never is e = record {
+    → ((why : TreeFault) → refusal ≡ Some why → Gives due (Refused (code_of way)) (here table root cwd)) → said ≡ Refused (code_of (told fault way))
+    → IsAnswer before after due (here table root cwd) said (here new root cwd)
+answers None fault way before after table new root cwd due said (same, inl (memory, kept)) other never is e = absurd (other memory)
+answers None fault way before after table new root cwd due said (same, inr (device, moved)) other never is e = record {
   steady = λ kept. absurd (next_count-moves before (sym kept ∙ moved));
-  failed = λ ne. (moved, (e ∙ ap (λ f. Refused (code_of (told f way))) device, ap (λ t. here t cwd) same));
+  failed = λ ne. (moved, (e ∙ ap (λ f. Refused (code_of (told f way))) device, ap (λ t. here t root cwd) same));
 }
-answers (Some why) fault way before after table new cwd due said (same, (reason, kept)) other never is e =
+answers (Some why) fault way before after table new root cwd due said (same, (reason, kept)) other never is e =
     let ours : fault ≢ Device = λ d. never (ap Some (sym reason ∙ d)) in
     let gives = is why refl in record {
-      steady = λ kept. (e ∙ ap (λ w. Refused (code_of w)) (told-other fault way ours) ∙ gives.0, ap (λ t. here t cwd) same ∙ gives.1);
+      steady = λ kept. (e ∙ ap (λ w. Refused (code_of w)) (told-other fault way ours) ∙ gives.0, ap (λ t. here t root cwd) same ∙ gives.1);
       failed = λ ne. absurd (ne kept);
     }
 
-pub if_refused : {A E : Type 0} (result : Result (Answer A) E) (refusal : Option TreeFault) (fault : TreeFault) (way : Refusal) (before after : ℕ) (table new : Table) (cwd : Names) (due : Said × State)
+pub if_refused : {A E : Type 0} (result : Result (Answer A) E) (refusal : Option TreeFault) (fault : TreeFault) (way : Refusal) (before after : ℕ) (table new : Table) (root cwd : Names) (due : Said × State)
     → IfOk result (λ answer. said_of answer ≡ Refused (code_of (told fault way))) → OnOk result (fault ≢ Memory)
     → IsRefused refusal fault table new before after → NoDevice refusal
-    → ((why : TreeFault) → refusal ≡ Some why → Gives due (Refused (code_of way)) (here table cwd))
-    → IfOk result (λ answer. IsAnswer before after due (here table cwd) (said_of answer) (here new cwd))
-if_refused (Ok answer) refusal fault way before after table new cwd due e other refused never is =
-    answers refusal fault way before after table new cwd due (said_of answer) refused other never is e
-if_refused (Err why) refusal fault way before after table new cwd due e other refused never is = tt
+    → ((why : TreeFault) → refusal ≡ Some why → Gives due (Refused (code_of way)) (here table root cwd))
+    → IfOk result (λ answer. IsAnswer before after due (here table root cwd) (said_of answer) (here new root cwd))
+if_refused (Ok answer) refusal fault way before after table new root cwd due e other refused never is =
+    answers refusal fault way before after table new root cwd due (said_of answer) refused other never is e
+if_refused (Err why) refusal fault way before after table new root cwd due e other refused never is = tt
 
 -- ---- what is due, by the refusal
 

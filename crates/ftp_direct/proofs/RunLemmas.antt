@@ -1,16 +1,16 @@
 -- One operation, and operations one after another.
-use Rattle.std.proofs.Common.{◌≡◌, ℕ, Vec, Bool, true, false, List, [], ◌∷◌, ◌++◌, Some, Result, Ok, Err, IfOk, IfErr, ◌+◌, ◌%◌, ◌^◌, ◌==◌, ◌<◌, ◌≤◌, zero, suc, length, take, get_or, add-one, arith, refl, ap, sym, ◌∙◌, subst, if◌then◌else◌}
+use Rattle.std.proofs.Common.{◌≡◌, ℕ, Vec, Bool, true, false, List, [], ◌∷◌, ◌++◌, Option, Some, None, Result, Ok, Err, IfOk, IfErr, ◌+◌, ◌%◌, ◌^◌, ◌==◌, ◌<◌, ◌≤◌, zero, suc, length, take, get_or, add-one, arith, refl, ap, sym, ◌∙◌, subst, if◌then◌else◌}
 use Rattle.std.specs.Prelude.{map}
 use Rattle.std.proofs.lemmas.List.{map-append, take_all, length-map, length-take}
 use Rattle.std.proofs.lemmas.Bool.Decides.{Decides-eqb, not_from_Decides}
 use Rattle.ftp_facts.specs.declared.moment.Moment.{Moment}
 use Rattle.ftp_path.specs.Path.{Names}
-use Rattle.ftp_tree.specs.Tree.{Table}
+use Rattle.ftp_tree.specs.Tree.{Table, node_at}
 use Rattle.ftp_operation.specs.declared.op.Op.{Op}
 use Rattle.ftp_operation.specs.declared.answer.Answer.{Answer}
 use Rattle.ftp_operation.specs.Answer.{Said, BadOperation, Refused, said_of}
 use Rattle.ftp_operation.specs.Operation.{can_be_sent}
-use Rattle.ftp_direct.specs.Direct.{State, answer, answers, chosen, done, first_refusal, due, here, refusal, standing, start}
+use Rattle.ftp_direct.specs.Direct.{State, answer, answers, chosen, done, first_refusal, due, here, is_directory, refusal, standing, start}
 use Rattle.ftp_tree.specs.Change.{next_count}
 use Rattle.ftp_direct.specs.Run.{Gives, IsAnswer, Ran, Turn, answer_of, failures_of, moved_on, order_of, orders_of, run}
 use Rattle.ftp_direct.proofs.RefusalLemmas.{still}
@@ -33,21 +33,21 @@ bad_operation count state op moment unsent =
     let e = as_answer state op moment false unsent in
     still count _ state BadOperation (ap (λ p. p.0) (sym e), ap (λ p. p.1) (sym e))
 
-pub unknown_login : (count : ℕ) (table : Table) (cwd : Names) (known : Bool) (op : Op (List ℕ)) (moment : ℕ) (said : Said) → said ≡ Refused (code_of NotLoggedIn) → can_be_sent op ≡ true → known ≡ false
-    → IsAnswer count count (answer (standing table cwd known) op moment) (standing table cwd known) said (standing table cwd known)
-unknown_login count table cwd known op moment said told sent unknown =
-    let state = standing table cwd known in
+pub unknown_login : (count : ℕ) (table : Table) (root cwd : Names) (known : Bool) (op : Op (List ℕ)) (moment : ℕ) (said : Said) → said ≡ Refused (code_of NotLoggedIn) → can_be_sent op ≡ true → known ≡ false
+    → IsAnswer count count (answer (standing table root cwd known) op moment) (standing table root cwd known) said (standing table root cwd known)
+unknown_login count table root cwd known op moment said told sent unknown =
+    let state = standing table root cwd known in
     let e = as_answer state op moment true sent ∙ ap (λ b. chosen (if b then refusal state op else Some NotLoggedIn) state (done state op moment)) unknown in
     still count _ state said (told ∙ ap (λ p. p.0) (sym e), ap (λ p. p.1) (sym e))
 
-pub known_due : {A E : Type 0} (result : Result (Answer A) E) (before after : ℕ) (table new : Table) (cwd at : Names) (known : Bool) (op : Op (List ℕ)) (moment : ℕ)
+pub known_due : {A E : Type 0} (result : Result (Answer A) E) (before after : ℕ) (table new : Table) (root cwd at : Names) (known : Bool) (op : Op (List ℕ)) (moment : ℕ)
     → can_be_sent op ≡ true → known ≡ true
-    → IfOk result (λ answer. IsAnswer before after (due (here table cwd) op moment) (here table cwd) (said_of answer) (here new at))
-    → IfOk result (λ said. IsAnswer before after (answer (standing table cwd known) op moment) (standing table cwd known) (said_of said) (standing new at known))
-known_due result before after table new cwd at known op moment sent is so =
-    let P : Bool → Type 0 = λ known. IfOk result (λ said. IsAnswer before after (answer (standing table cwd known) op moment) (standing table cwd known) (said_of said) (standing new at known)) in
-    let Q : Said × State → Type 0 = λ due. IfOk result (λ said. IsAnswer before after due (here table cwd) (said_of said) (here new at)) in
-    subst P (sym is) (subst Q (sym (as_answer (here table cwd) op moment true sent)) so)
+    → IfOk result (λ answer. IsAnswer before after (due (here table root cwd) op moment) (here table root cwd) (said_of answer) (here new root at))
+    → IfOk result (λ said. IsAnswer before after (answer (standing table root cwd known) op moment) (standing table root cwd known) (said_of said) (standing new root at known))
+known_due result before after table new root cwd at known op moment sent is so =
+    let P : Bool → Type 0 = λ known. IfOk result (λ said. IsAnswer before after (answer (standing table root cwd known) op moment) (standing table root cwd known) (said_of said) (standing new root at known)) in
+    let Q : Said × State → Type 0 = λ due. IfOk result (λ said. IsAnswer before after due (here table root cwd) (said_of said) (here new root at)) in
+    subst P (sym is) (subst Q (sym (as_answer (here table root cwd) op moment true sent)) so)
 
 -- ---- operations one after another
 
@@ -212,25 +212,31 @@ stepped before middle after old state new list i order said one within is so_far
 abbrev pub Begun : ℕ → State → List (Op (List ℕ) × Moment) → ℕ → Table → Type 0
 Begun before old list after table = (count : ℕ) × (said : List Said) × Ran before old (take count (orders_of list)) said after table
 
-pub begun : {T E : Type 0} (result : Result T E) (before after count : ℕ) (old : Table) (known other : Bool) (new : State) (list : List (Op (List ℕ) × Moment)) (i : ℕ) (said : List Said) (table : Table)
-    → known ≡ other → RunsTo before (start old known) (take i (orders_of list)) said after new → count ≡ after → new.table ≡ table
-    → IfErr result (λ _. Begun before (start old other) list count table)
-begun (Ok value) before after count old known other new list i said table same so_far is left = tt
-begun (Err fault) before after count old known other new list i said table same so_far is left =
-    let P : Bool → Type 0 = λ known. Begun before (start old known) list count table in
-    subst P same (i, said, ran before after count (start old known) new (take i (orders_of list)) said table so_far is left)
+pub begun : {T E : Type 0} (result : Result T E) (before after count : ℕ) (old new : State) (list : List (Op (List ℕ) × Moment)) (i : ℕ) (said : List Said) (table : Table)
+    → RunsTo before old (take i (orders_of list)) said after new → count ≡ after → new.table ≡ table
+    → IfErr result (λ _. Begun before old list count table)
+begun (Ok value) before after count old new list i said table so_far is left = tt
+begun (Err fault) before after count old new list i said table so_far is left =
+    (i, said, ran before after count old new (take i (orders_of list)) said table so_far is left)
 
 orders_len : (list : List (Op (List ℕ) × Moment)) → length (orders_of list) ≡ length list
 orders_len [] = refl
 orders_len (order ∷ list) = ap suc (orders_len list)
 
 -- the whole list was run
-pub whole : (before after : ℕ) (old : Table) (known other : Bool) (new : State) (list : List (Op (List ℕ) × Moment)) (i : ℕ) (said : List Said) → length list ≤ i
-    → known ≡ other → RunsTo before (start old known) (take i (orders_of list)) said after new → Ran before (start old other) (orders_of list) said after new.table
-whole before after old known other new list i said past same so_far =
-    let P : Bool → Type 0 = λ known. Ran before (start old known) (orders_of list) said after new.table in
+pub whole : (before after : ℕ) (old new : State) (list : List (Op (List ℕ) × Moment)) (i : ℕ) (said : List Said) → length list ≤ i
+    → RunsTo before old (take i (orders_of list)) said after new → Ran before old (orders_of list) said after new.table
+whole before after old new list i said past so_far =
     let all : take i (orders_of list) ≡ orders_of list = take_all i (orders_of list) (omega (arith, orders_len list)) in
-    subst P same (ran before after after (start old known) new (orders_of list) said new.table (runs_as before after (start old known) new _ _ _ _ all refl so_far) refl refl)
+    ran before after after old new (orders_of list) said new.table (runs_as before after old new _ _ _ _ all refl so_far) refl refl
+
+-- the state at the start, by the login
+pub start_known : (table : Table) (root : Names) (found : Option Names) (known : Bool) → Some root ≡ found → known ≡ is_directory (node_at table root)
+    → standing table root [] known ≡ start table found
+start_known table root found known is dir = ap (standing table root []) dir ∙ ap (start table) is
+
+pub start_unknown : (table : Table) (root : Names) (found : Option Names) → root ≡ [] → None ≡ found → standing table root [] false ≡ start table found
+start_unknown table root found top none = ap (λ root. standing table root [] false) top ∙ ap (start table) none
 
 -- ---- a tree whose device never fails
 

@@ -1,11 +1,11 @@
 -- The operations of a user, run directly on a map from paths to files and directories: the answer and the change of each, and a
 -- list of them in order. This is what a session of client and server is measured against; no command, reply or connection
--- stands in it (RFC 959, section 4.1; RFC 3659).
+-- stands in it (RFC 959, section 4.1; RFC 3659). Each row is said of the part of the map that the user's account sees.
 use Rattle.std.specs.Prelude.{ℕ, ◌+◌, ◌==◌, ◌&&◌, ◌||◌, Bool, true, false, not, nat_le, nat_eq, codes, List, [], ◌∷◌, ◌++◌, length, take, drop, Option, Some, None, if◌then◌else◌}
-use Rattle.std.specs.Option.{option_map, option_or, unwrap_or}
-use Rattle.std.specs.List.{filter_map, ends_with}
+use Rattle.std.specs.Option.{is_some, option_map, option_or, unwrap_or}
+use Rattle.std.specs.List.{filter_map, find, ends_with, range_with_len}
 use Rattle.ftp_path.specs.Path.{parent, fits, resolved, text_of, Names, is_within}
-use Rattle.ftp_tree.specs.Tree.{Node, Dir, File, Table, node_at, octets_or_none, stamp_at, children, or_else, whenever, directory_refusal, made, removed, installed, moved, make_refusal, remove_refusal, delete_refusal, source_refusal, target_refusal, room_refusal, octets_refusal, front_refusal}
+use Rattle.ftp_tree.specs.Tree.{Node, Dir, File, Table, node_at, octets_or_none, stamp_at, children, or_else, whenever, directory_refusal, made, removed, installed, moved, under, with_part, make_refusal, remove_refusal, delete_refusal, file_refusal, source_refusal, target_refusal, room_refusal, octets_refusal}
 use Rattle.ftp_tree.specs.declared.fault.TreeFault.{TreeFault}
 use Rattle.ftp_tree.specs.declared.fault.TreeFault.TheVariants as Faults
 use Rattle.ftp_repr.specs.Ascii.{asc}
@@ -22,18 +22,34 @@ use Rattle.ftp_direct.specs.declared.refusal.Refusal.TheVariants.{BadParameter, 
 use Rattle.ftp_direct.specs.Refusal.{code_of, name_refusal, listing_refusal}
 use Rattle.ftp_operation.specs.Answer.{Listed, Said, Done, Path, Octets, Number, Stamp, Entry, Entries, Names as NameList, Refused, BadOperation}
 
--- the state: the map, the current directory, and whether the login is known
+-- the state: the map, the root of the account, the current directory below that root, and whether the login is known
 pub record State : Type 0 where
   pub table : Table
+  pub root : Names
   pub cwd : Names
   pub known : Bool
 
-abbrev pub standing : Table → Names → Bool → State
-standing table cwd known = record { table = table; cwd = cwd; known = known }
+abbrev pub standing : Table → Names → Names → Bool → State
+standing table root cwd known = record { table = table; root = root; cwd = cwd; known = known }
 
--- at the start the current directory is the root
-abbrev pub start : Table → Bool → State
-start table known = standing table [] known
+-- what the account sees of the map: the part at and below its root, which is `/` in it
+abbrev pub part : State → Table
+part state = under state.table state.root
+
+-- the state with another such part; the rest of the map stays
+abbrev pub changed : State → Table → State
+changed state new = record state { table = with_part state.table state.root new }
+
+abbrev pub is_directory : Option Node → Bool
+is_directory None = false
+is_directory (Some Dir) = true
+is_directory (Some (File octets moment)) = false
+
+-- the state at the start, by the root of the account that the login names, if it names one: the current directory is that root,
+-- and the login is known where a directory stands there
+abbrev pub start : Table → Option Names → State
+start table None = standing table [] [] false
+start table (Some root) = standing table root [] (is_directory (node_at table root))
 
 -- ---- what a path text names
 
@@ -46,6 +62,10 @@ place cwd text = if length text == 0 then cwd else resolved cwd text
 
 abbrev pub named_or_here : State → List ℕ → Names
 named_or_here state text = place state.cwd text
+
+-- the octets of the file that a text names, and none where no file stands
+abbrev pub file_of : State → List ℕ → List ℕ
+file_of state text = octets_or_none (part state) (named state text)
 
 -- a path past the limits of paths is refused first (own choice)
 abbrev pub limited : Names → Option TreeFault → Option TreeFault
@@ -87,31 +107,48 @@ absent_refusal (Some node) = None
 
 -- a file of so many octets at a path
 abbrev pub put_refusal : State → Names → ℕ → Option Refusal
-put_refusal state path count = or_refused (refused_room (limited path (room_refusal state.table path))) (refused_octets (octets_refusal state.table path count))
+put_refusal state path count = or_refused (refused_room (limited path (room_refusal (part state) path))) (refused_octets (octets_refusal (part state) path count))
 
--- an offset is past the end of the file there; an absent file has none
-abbrev pub is_past : State → Names → ℕ → Bool
-is_past state path offset = not (nat_le offset (length (octets_or_none state.table path)))
+-- no file stands where a text leads
+abbrev pub refused_file : State → List ℕ → Option Refusal
+refused_file state text = refused_there (limited (named state text) (file_refusal (node_at (part state) (named state text))))
 
-abbrev pub past_refusal : State → Names → ℕ → Option Refusal
-past_refusal state path offset = if is_past state path offset then Some BadName else None
-
-abbrev pub is_as_it_is : Kind → Structure → Bool
-is_as_it_is Image Structures.File = true
-is_as_it_is kind structure = false
-
--- an offset other than 0 is for octets that go as they are: TYPE I and STRU F (RFC 3659, section 5; own choice)
-abbrev pub offset_refusal : ℕ → How → Option Refusal
-offset_refusal offset how = if (offset == 0) || is_as_it_is how.representation.kind how.representation.structure then None else Some BadParameter
-
--- the first octets of the file that a text names are not had
-abbrev pub refused_front : State → List ℕ → ℕ → Option Refusal
-refused_front state text count = refused_there (limited (named state text) (front_refusal state.table (named state text) count))
+-- ---- places of a file
 
 -- the octets that a transfer in this type would have, in file structure and stream mode (RFC 3659, section 4)
 abbrev pub size_in : Kind → List ℕ → ℕ
 size_in Ascii octets = length (asc octets)
 size_in Image octets = length octets
+
+-- an offset counts octets of such a transfer: the place is how many first octets of the file go as so many (RFC 3659, section 5)
+unfoldable pub place_in : Kind → List ℕ → ℕ → Option ℕ
+place_in kind octets offset = find (λ place. size_in kind (take place octets) == offset) (range_with_len 0 (length octets + 1))
+
+-- the place of the file at a path, where no file stands that of no octets
+abbrev pub place_at : State → Names → How → ℕ → Option ℕ
+place_at state path how offset = place_in how.representation.kind (octets_or_none (part state) path) offset
+
+-- how many of its first octets an offset skips; where it leads to no place nothing is done
+abbrev pub skipped : State → Names → How → ℕ → ℕ
+skipped state path how offset = unwrap_or (place_at state path how offset) 0
+
+-- an offset leads to no place: into an octet that goes as two, or past the end
+abbrev pub place_refusal : State → Names → How → ℕ → Option TreeFault
+place_refusal state path how offset = whenever (not (is_some (place_at state path how offset))) Faults.BadOffset
+
+abbrev pub is_in_files : Structure → Bool
+is_in_files Structures.File = true
+is_in_files Structures.Record = false
+
+-- an offset other than 0 has no meaning in records (own choice)
+abbrev pub offset_refusal : ℕ → How → Option Refusal
+offset_refusal offset how = if (offset == 0) || is_in_files how.representation.structure then None else Some BadParameter
+
+-- the file that a text names is not had from an offset on
+abbrev pub refused_from : State → List ℕ → How → ℕ → Option Refusal
+refused_from state text how offset = or_refused (refused_file state text) (refused_there (place_refusal state (named state text) how offset))
+
+-- ---- what is refused
 
 -- a number that is too long to be said (own choice)
 abbrev pub refused_number : ℕ → Option Refusal
@@ -120,25 +157,27 @@ refused_number number = if is_number number then None else Some Unavailable
 -- the first reason by the map why an operation is refused, one row an operation
 abbrev pub refusal : State → Op (List ℕ) → Option Refusal
 refusal state Ops.Where = None
-refusal state (Ops.ChangeDir text) = refused_there (limited (named state text) (directory_refusal (node_at state.table (named state text))))
+refusal state (Ops.ChangeDir text) = refused_there (limited (named state text) (directory_refusal (node_at (part state) (named state text))))
 refusal state Ops.Up = None
-refusal state (Ops.MakeDir text) = refused_there (limited (named state text) (make_refusal state.table (named state text)))
-refusal state (Ops.RemoveDir text) = refused_there (limited (named state text) (or_else (remove_refusal state.table (named state text)) (busy_refusal state (named state text))))
-refusal state (Ops.Delete text) = refused_there (limited (named state text) (delete_refusal state.table (named state text)))
+refusal state (Ops.MakeDir text) = refused_there (limited (named state text) (make_refusal (part state) (named state text)))
+refusal state (Ops.RemoveDir text) = refused_there (limited (named state text) (or_else (remove_refusal (part state) (named state text)) (busy_refusal state (named state text))))
+refusal state (Ops.Delete text) = refused_there (limited (named state text) (delete_refusal (part state) (named state text)))
 refusal state (Ops.Rename text new) =
-    or_refused (refused_there (limited (named state text) (or_else (source_refusal state.table (named state text)) (busy_refusal state (named state text)))))
-    (refused_name (limited (named state new) (target_refusal state.table (named state text) (named state new))))
+    or_refused (refused_there (limited (named state text) (or_else (source_refusal (part state) (named state text)) (busy_refusal state (named state text)))))
+    (refused_name (limited (named state new) (target_refusal (part state) (named state text) (named state new))))
 refusal state (Ops.Put text octets how) = put_refusal state (named state text) (length octets)
-refusal state (Ops.Append text octets how) = put_refusal state (named state text) (length (octets_or_none state.table (named state text)) + length octets)
+refusal state (Ops.Append text octets how) = put_refusal state (named state text) (length (file_of state text) + length octets)
 refusal state (Ops.PutFrom text offset octets how) =
-    or_refused (offset_refusal offset how) (or_refused (past_refusal state (named state text) offset) (put_refusal state (named state text) (offset + length octets)))
-refusal state (Ops.Get text how) = refused_front state text 0
-refusal state (Ops.GetFrom text offset how) = or_refused (offset_refusal offset how) (refused_front state text offset)
-refusal state (Ops.Size text how) = or_refused (refused_front state text 0) (refused_number (size_in how.representation.kind (octets_or_none state.table (named state text))))
-refusal state (Ops.Modified text) = refused_front state text 0
-refusal state (Ops.Facts text) = refused_there (limited (named_or_here state text) (absent_refusal (node_at state.table (named_or_here state text))))
-refusal state (Ops.List text how) = refused_listing (limited (named_or_here state text) (directory_refusal (node_at state.table (named_or_here state text))))
-refusal state (Ops.Names text how) = refused_there (limited (named_or_here state text) (absent_refusal (node_at state.table (named_or_here state text))))
+    or_refused (offset_refusal offset how)
+    (or_refused (refused_name (place_refusal state (named state text) how offset)) (put_refusal state (named state text) (skipped state (named state text) how offset + length octets)))
+refusal state (Ops.Get text how) = refused_file state text
+refusal state (Ops.GetFrom text offset how) = or_refused (offset_refusal offset how) (refused_from state text how offset)
+refusal state (Ops.Peek text count how) = refused_file state text
+refusal state (Ops.Size text how) = or_refused (refused_file state text) (refused_number (size_in how.representation.kind (file_of state text)))
+refusal state (Ops.Modified text) = refused_file state text
+refusal state (Ops.Facts text) = refused_there (limited (named_or_here state text) (absent_refusal (node_at (part state) (named_or_here state text))))
+refusal state (Ops.List text how) = refused_listing (limited (named_or_here state text) (directory_refusal (node_at (part state) (named_or_here state text))))
+refusal state (Ops.Names text how) = refused_there (limited (named_or_here state text) (absent_refusal (node_at (part state) (named_or_here state text))))
 
 -- ---- what is answered
 
@@ -194,27 +233,28 @@ names_for table path text = if is_file (node_at table path) then text ∷ [] els
 
 -- a file put behind some octets that are kept
 abbrev pub put : State → Names → List ℕ → List ℕ → ℕ → Said × State
-put state path kept octets moment = (Done, record state { table = installed state.table path (kept ++ octets) moment })
+put state path kept octets moment = (Done, changed state (installed (part state) path (kept ++ octets) moment))
 
 -- the answer of an operation that is not refused, and the state after it, one row an operation
 abbrev pub done : State → Op (List ℕ) → ℕ → Said × State
 done state Ops.Where moment = (Path (text_of state.cwd), state)
 done state (Ops.ChangeDir text) moment = (Done, record state { cwd = named state text })
 done state Ops.Up moment = (Done, record state { cwd = parent state.cwd })
-done state (Ops.MakeDir text) moment = (Path (text_of (named state text)), record state { table = made state.table (named state text) })
-done state (Ops.RemoveDir text) moment = (Done, record state { table = removed state.table (named state text) })
-done state (Ops.Delete text) moment = (Done, record state { table = removed state.table (named state text) })
-done state (Ops.Rename text new) moment = (Done, record state { table = moved state.table (named state text) (named state new) })
+done state (Ops.MakeDir text) moment = (Path (text_of (named state text)), changed state (made (part state) (named state text)))
+done state (Ops.RemoveDir text) moment = (Done, changed state (removed (part state) (named state text)))
+done state (Ops.Delete text) moment = (Done, changed state (removed (part state) (named state text)))
+done state (Ops.Rename text new) moment = (Done, changed state (moved (part state) (named state text) (named state new)))
 done state (Ops.Put text octets how) moment = put state (named state text) [] octets moment
-done state (Ops.Append text octets how) moment = put state (named state text) (octets_or_none state.table (named state text)) octets moment
-done state (Ops.PutFrom text offset octets how) moment = put state (named state text) (take offset (octets_or_none state.table (named state text))) octets moment
-done state (Ops.Get text how) moment = (Octets (octets_or_none state.table (named state text)), state)
-done state (Ops.GetFrom text offset how) moment = (Octets (drop offset (octets_or_none state.table (named state text))), state)
-done state (Ops.Size text how) moment = (Number (size_in how.representation.kind (octets_or_none state.table (named state text))), state)
-done state (Ops.Modified text) moment = (Stamp (unwrap_or (stamp_at state.table (named state text)) 0), state)
-done state (Ops.Facts text) moment = (Entry (entry_at state.table (named_or_here state text) (text_of (named_or_here state text))), state)
-done state (Ops.List text how) moment = (Entries (entries_in state.table (named_or_here state text)), state)
-done state (Ops.Names text how) moment = (NameList (names_for state.table (named_or_here state text) text), state)
+done state (Ops.Append text octets how) moment = put state (named state text) (file_of state text) octets moment
+done state (Ops.PutFrom text offset octets how) moment = put state (named state text) (take (skipped state (named state text) how offset) (file_of state text)) octets moment
+done state (Ops.Get text how) moment = (Octets (file_of state text), state)
+done state (Ops.GetFrom text offset how) moment = (Octets (drop (skipped state (named state text) how offset) (file_of state text)), state)
+done state (Ops.Peek text count how) moment = (Octets (take count (file_of state text)), state)
+done state (Ops.Size text how) moment = (Number (size_in how.representation.kind (file_of state text)), state)
+done state (Ops.Modified text) moment = (Stamp (unwrap_or (stamp_at (part state) (named state text)) 0), state)
+done state (Ops.Facts text) moment = (Entry (entry_at (part state) (named_or_here state text) (text_of (named_or_here state text))), state)
+done state (Ops.List text how) moment = (Entries (entries_in (part state) (named_or_here state text)), state)
+done state (Ops.Names text how) moment = (NameList (names_for (part state) (named_or_here state text) text), state)
 
 -- ---- operations in order
 
@@ -241,8 +281,8 @@ answers state (order ∷ orders) =
 
 -- ---- what is due to a user whose login is known
 
-abbrev pub here : Table → Names → State
-here table cwd = standing table cwd true
+abbrev pub here : Table → Names → Names → State
+here table root cwd = standing table root cwd true
 
 abbrev pub due : State → Op (List ℕ) → ℕ → Said × State
 due state op moment = chosen (refusal state op) state (done state op moment)

@@ -1,3 +1,4 @@
 pub mod Direct
+pub mod Laws
 pub mod Refusal
 pub mod Run

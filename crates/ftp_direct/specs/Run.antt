@@ -1,5 +1,6 @@
 -- Operations one after another on a tree whose device may fail.
-use Rattle.std.specs.Prelude.{◌≡◌, ◌≢◌, ℕ, zero, suc, Bool, List, [], ◌∷◌, map, if◌then◌else◌}
+use Rattle.std.specs.Prelude.{◌≡◌, ◌≢◌, ℕ, zero, suc, ◌==◌, Bool, false, List, [], ◌∷◌, length, map, if◌then◌else◌}
+use Rattle.std.specs.List.{filter}
 use Rattle.ftp_facts.specs.declared.moment.Moment.{Moment}
 use Rattle.ftp_tree.specs.Tree.{Table}
 use Rattle.ftp_tree.specs.Change.{next_count}
@@ -58,6 +59,15 @@ pub record Ran (before : ℕ) (old : State) (orders : List (Op (List ℕ) × ℕ
   pub says : (run old turns).0 ≡ said
   pub leaves : (run old turns).1.table ≡ table
   pub counts : after ≡ moved_on (failures_of turns) before
+
+-- an answer tells a failure of the device
+abbrev pub is_local_fault : Said → Bool
+is_local_fault (Refused code) = code == code_of LocalFault
+is_local_fault other = false
+
+-- how many of them do
+abbrev pub faults_told : List Said → ℕ
+faults_told said = length (filter is_local_fault said)
 
 -- operations with the seconds of their moments
 abbrev pub orders_of : List (Op (List ℕ) × Moment) → List (Op (List ℕ) × ℕ)

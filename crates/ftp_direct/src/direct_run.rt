@@ -1,14 +1,16 @@
 // Operations one after another.
-ghost use Rattle.std.specs.Prelude.{◌≡◌, ℕ, IsTrue, IfOk, IfErr, List, OnErr, map, take};
-ghost use Rattle.ftp_operation.specs.Account.{is_known};
+ghost use Rattle.std.specs.Prelude.{◌≡◌, ℕ, [], IsTrue, IfOk, IfErr, List, OnErr, map, take};
+ghost use Rattle.ftp_operation.specs.Account.{login_root};
 ghost use Rattle.ftp_operation.specs.Answer.{Said, said_of};
 ghost use Rattle.ftp_direct.specs.Direct.{answer, due, here, standing, start};
 ghost use Rattle.ftp_operation.specs.Operation.{can_be_sent};
 ghost use Rattle.ftp_direct.specs.Run.{IsAnswer, Ran, orders_of};
 
-use crate::files::{append, get, get_from, modified, put, put_from};
+use crate::files::{append, put, put_from};
 use crate::listings::{facts, list, names};
+use crate::nodes::is_dir;
 use crate::places::{change_dir, delete, go_up, make_dir, remove_dir, rename, say_where};
+use crate::reading::{get, get_from, modified, peek};
 use crate::refusal::{Refusal, tell};
 use crate::sizes::size;
 use ftp_facts::{Moment, Text};
@@ -16,7 +18,8 @@ use ftp_operation::{Accounts, Answer, Login, Op, can_be_sent};
 use ftp_tree::{Path, Tree};
 use std::alloc::{AllocError, Allocator};
 
-/// Runs operations on a tree, one after another, each at its moment, as the user that a login names (RFC 959, section 4.1).
+/// Runs operations on a tree, one after another, each at its moment, as the user that a login names (RFC 959, section 4.1). All are of
+/// the part of the tree at and below the root of that user's account, and the current directory is that root at first.
 ///
 /// Where the count of the tree's device failures changes in an operation's call, that operation is refused by 451 and changes
 /// nothing. It gives up only where memory was refused: then a beginning of the list was done, and the rest was not begun.
@@ -27,16 +30,38 @@ pub fn direct<A: Allocator + Clone, T: Tree<A>>(
     login: &Login<A>,
     list: &[(Op<Text<A>>, Moment)],
 ) -> Result<Vec<Answer<A>, A>, AllocError>
-    ensures answers { IfOk result (λ answers. let known = is_known accounts.now login.now.user login.now.pass in
-        Ran (T.failures tree.old) (start (T.table tree.old) known) (orders_of list.now) (map said_of answers.items) (T.failures tree.new) (T.table tree.new)) }
-    ensures begun { IfErr result (λ _. let known = is_known accounts.now login.now.user login.now.pass in
-        (count : ℕ) × (said : List Said) × Ran (T.failures tree.old) (start (T.table tree.old) known) (take count (orders_of list.now)) said (T.failures tree.new) (T.table tree.new)) }
+    ensures answers { IfOk result (λ answers. let root = login_root accounts.now login.now.user login.now.pass in
+        Ran (T.failures tree.old) (start (T.table tree.old) root) (orders_of list.now) (map said_of answers.items) (T.failures tree.new) (T.table tree.new)) }
+    ensures begun { IfErr result (λ _. let root = login_root accounts.now login.now.user login.now.pass in
+        (count : ℕ) × (said : List Said) × Ran (T.failures tree.old) (start (T.table tree.old) root) (take count (orders_of list.now)) said (T.failures tree.new) (T.table tree.new)) }
 {
-    let known = accounts.is_known(login);
+    let top = Path::root(alloc.clone()?);
+    match accounts.login_root(login) {
+        Some(root) => {
+            let known = is_dir(tree, &top, root);
+            run(alloc, tree, root, known, list)
+        }
+        None => run(alloc, tree, &top, false, list),
+    }
+}
+
+/// Runs operations below a root, for a login that is known or not.
+fn run<A: Allocator + Clone, T: Tree<A>>(
+    alloc: &A,
+    tree: &mut T,
+    root: &Path<A>,
+    known: bool,
+    list: &[(Op<Text<A>>, Moment)],
+) -> Result<Vec<Answer<A>, A>, AllocError>
+    ensures answers { IfOk result (λ answers.
+        Ran (T.failures tree.old) (standing (T.table tree.old) root.now [] known) (orders_of list.now) (map said_of answers.items) (T.failures tree.new) (T.table tree.new)) }
+    ensures begun { IfErr result (λ _.
+        (count : ℕ) × (said : List Said) × Ran (T.failures tree.old) (standing (T.table tree.old) root.now [] known) (take count (orders_of list.now)) said (T.failures tree.new) (T.table tree.new)) }
+{
     let mut answers = Vec::new(alloc.clone()?);
     let mut cwd = Path::root(alloc.clone()?);
     for (op, moment) in list {
-        answers.push(answer(alloc, tree, &mut cwd, known, op, *moment)?)?;
+        answers.push(answer(alloc, tree, root, &mut cwd, known, op, *moment)?)?;
     }
     Ok(answers)
 }
@@ -45,13 +70,14 @@ pub fn direct<A: Allocator + Clone, T: Tree<A>>(
 fn answer<A: Allocator + Clone, T: Tree<A>>(
     alloc: &A,
     tree: &mut T,
+    root: &Path<A>,
     cwd: &mut Path<A>,
     known: bool,
     op: &Op<Text<A>>,
     moment: Moment,
 ) -> Result<Answer<A>, AllocError>
-    ensures answer { IfOk result (λ said. let old = standing (T.table tree.old) cwd.old known in
-        IsAnswer (T.failures tree.old) (T.failures tree.new) (answer old op.now moment.seconds) old (said_of said) (standing (T.table tree.new) cwd.new known)) }
+    ensures answer { IfOk result (λ said. let old = standing (T.table tree.old) root.now cwd.old known in
+        IsAnswer (T.failures tree.old) (T.failures tree.new) (answer old op.now moment.seconds) old (said_of said) (standing (T.table tree.new) root.now cwd.new known)) }
     ensures kept { OnErr result ((T.table tree.new ≡ T.table tree.old) × (T.failures tree.new ≡ T.failures tree.old)) }
 {
     if !can_be_sent(op) {
@@ -60,41 +86,43 @@ fn answer<A: Allocator + Clone, T: Tree<A>>(
     if !known {
         return Ok(tell(Refusal::NotLoggedIn));
     }
-    due(alloc, tree, cwd, op, moment)
+    due(alloc, tree, root, cwd, op, moment)
 }
 
 /// Answers one operation that can be sent, for a login that is known.
 fn due<A: Allocator + Clone, T: Tree<A>>(
     alloc: &A,
     tree: &mut T,
+    root: &Path<A>,
     cwd: &mut Path<A>,
     op: &Op<Text<A>>,
     moment: Moment,
 ) -> Result<Answer<A>, AllocError>
     requires { IsTrue (can_be_sent op.now) }
-    ensures answer { IfOk result (λ answer. let old = here (T.table tree.old) cwd.old in
-        IsAnswer (T.failures tree.old) (T.failures tree.new) (due old op.now moment.seconds) old (said_of answer) (here (T.table tree.new) cwd.new)) }
+    ensures answer { IfOk result (λ answer. let old = here (T.table tree.old) root.now cwd.old in
+        IsAnswer (T.failures tree.old) (T.failures tree.new) (due old op.now moment.seconds) old (said_of answer) (here (T.table tree.new) root.now cwd.new)) }
     ensures kept { OnErr result ((T.table tree.new ≡ T.table tree.old) × (T.failures tree.new ≡ T.failures tree.old)) }
 {
     match op {
         Op::Where => say_where(alloc, cwd),
-        Op::ChangeDir(text) => change_dir(alloc, tree, cwd, text),
+        Op::ChangeDir(text) => change_dir(alloc, tree, root, cwd, text),
         Op::Up => go_up(alloc, cwd),
-        Op::MakeDir(text) => make_dir(alloc, tree, cwd, text),
-        Op::RemoveDir(text) => remove_dir(alloc, tree, cwd, text),
-        Op::Delete(text) => delete(alloc, tree, cwd, text),
-        Op::Rename(from, to) => rename(alloc, tree, cwd, from, to),
-        Op::Put(text, octets, _) => put(alloc, tree, cwd, text, octets, moment),
-        Op::Append(text, octets, _) => append(alloc, tree, cwd, text, octets, moment),
+        Op::MakeDir(text) => make_dir(alloc, tree, root, cwd, text),
+        Op::RemoveDir(text) => remove_dir(alloc, tree, root, cwd, text),
+        Op::Delete(text) => delete(alloc, tree, root, cwd, text),
+        Op::Rename(from, to) => rename(alloc, tree, root, cwd, from, to),
+        Op::Put(text, octets, _) => put(alloc, tree, root, cwd, text, octets, moment),
+        Op::Append(text, octets, _) => append(alloc, tree, root, cwd, text, octets, moment),
         Op::PutFrom(text, offset, octets, how) => put_from(
-            alloc, tree, cwd, text, *offset, octets, *how, moment,
+            alloc, tree, root, cwd, text, *offset, octets, *how, moment,
         ),
-        Op::Get(text, _) => get(alloc, tree, cwd, text),
-        Op::GetFrom(text, offset, how) => get_from(alloc, tree, cwd, text, *offset, *how),
-        Op::Size(text, how) => size(alloc, tree, cwd, text, *how),
-        Op::Modified(text) => modified(alloc, tree, cwd, text),
-        Op::Facts(text) => facts(alloc, tree, cwd, text),
-        Op::List(text, _) => list(alloc, tree, cwd, text),
-        Op::Names(text, _) => names(alloc, tree, cwd, text),
+        Op::Get(text, _) => get(alloc, tree, root, cwd, text),
+        Op::GetFrom(text, offset, how) => get_from(alloc, tree, root, cwd, text, *offset, *how),
+        Op::Peek(text, count, _) => peek(alloc, tree, root, cwd, text, *count),
+        Op::Size(text, how) => size(alloc, tree, root, cwd, text, *how),
+        Op::Modified(text) => modified(alloc, tree, root, cwd, text),
+        Op::Facts(text) => facts(alloc, tree, root, cwd, text),
+        Op::List(text, _) => list(alloc, tree, root, cwd, text),
+        Op::Names(text, _) => names(alloc, tree, root, cwd, text),
     }
 }

@@ -1,6 +1,6 @@
 // What holds of runs.
 ghost use Rattle.std.specs.Prelude.{◌≡◌, ◌<◌, ◌^◌, ℕ, List, IfOk, IfErr, length, map, take};
-ghost use Rattle.ftp_operation.specs.Account.{is_known};
+ghost use Rattle.ftp_operation.specs.Account.{login_root};
 ghost use Rattle.ftp_operation.specs.declared.op.Op.{Op};
 ghost use Rattle.ftp_operation.specs.Answer.{Said, said_of};
 ghost use Rattle.ftp_tree.specs.Tree.{Table};
@@ -29,9 +29,9 @@ pub fn direct_in_memory<A: Allocator + Copy>(
     login: &Login<A>,
     list: &[(Op<Text<A>>, Moment)],
 ) -> Result<Vec<Answer<A>, A>, AllocError>
-    ensures answers { IfOk result (λ all. let done = answers (start tree.old (is_known accounts.now login.now.user login.now.pass)) (orders_of list.now) in
+    ensures answers { IfOk result (λ all. let done = answers (start tree.old (login_root accounts.now login.now.user login.now.pass)) (orders_of list.now) in
         (map said_of all.items ≡ done.0) × (tree.new ≡ done.1.table)) }
-    ensures begun { IfErr result (λ _. let from = start tree.old (is_known accounts.now login.now.user login.now.pass) in
+    ensures begun { IfErr result (λ _. let from = start tree.old (login_root accounts.now login.now.user login.now.pass) in
         (count : ℕ) × (tree.new ≡ (answers from (take count (orders_of list.now))).1.table)) }
 {
     direct(alloc, tree, accounts, login, list)

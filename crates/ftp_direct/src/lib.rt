@@ -7,11 +7,15 @@ mod files;
 mod laws;
 mod listings;
 mod nodes;
+mod offsets;
 mod places;
+mod reading;
 mod refusal;
 mod sizes;
 
 pub use direct_run::direct;
-pub use ftp_operation::{Account, Accounts, Answer, How, Login, Op, SameUser};
+pub use ftp_operation::{
+    Account, Accounts, AccountsFault, Answer, How, Login, Op, RefusedAccounts,
+};
 pub use laws::{direct_in_memory, steady_run};
 pub use refusal::Refusal;

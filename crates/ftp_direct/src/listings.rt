@@ -4,7 +4,7 @@ ghost use Rattle.std.specs.List.{filter_map, list_all};
 ghost use Rattle.std.specs.Option.{ForSome, option_to_list};
 ghost use Rattle.ftp_facts.specs.Fact.{IsValue};
 ghost use Rattle.ftp_path.specs.Path.{IsPathText, fits, is_name};
-ghost use Rattle.ftp_tree.specs.Tree.{Dir, children, size_at};
+ghost use Rattle.ftp_tree.specs.Tree.{Dir, children, size_at, under};
 ghost use Rattle.ftp_operation.specs.Answer.{listed_of, said_of};
 ghost use Rattle.ftp_direct.specs.Direct.{behind, due, entries_in, entry_at, entry_in, file_in, here, names_for, perm_of, place, size_fact};
 ghost use Rattle.ftp_operation.specs.Operation.{is_optional_text};
@@ -22,36 +22,38 @@ use std::alloc::{AllocError, Allocator};
 pub(crate) fn facts<A: Allocator + Clone, T: Tree<A>>(
     alloc: &A,
     tree: &T,
+    root: &Path<A>,
     cwd: &Path<A>,
     text: &Text<A>,
 ) -> Result<Answer<A>, AllocError>
     requires { IsTrue (is_optional_text text.now) }
-    ensures { IfOk result (λ answer. let old = here (T.table tree.now) cwd.now in Gives (due old (Op.Facts text.now) 0) (said_of answer) old) }
+    ensures { IfOk result (λ answer. let old = here (T.table tree.now) root.now cwd.now in Gives (due old (Op.Facts text.now) 0) (said_of answer) old) }
 {
     let Some(path) = find_here(alloc, cwd, text)? else {
         return Ok(tell(Refusal::Unavailable));
     };
-    if absent_fault(tree, &path).is_some() {
+    if absent_fault(tree, root, &path).is_some() {
         return Ok(tell(Refusal::Unavailable));
     }
-    Ok(Answer::Entry(entry(alloc, tree, &path, path.text())?))
+    Ok(Answer::Entry(entry(alloc, tree, root, &path, path.text())?))
 }
 
 /// Lists a directory.
 pub(crate) fn list<A: Allocator + Clone, T: Tree<A>>(
     alloc: &A,
     tree: &T,
+    root: &Path<A>,
     cwd: &Path<A>,
     text: &Text<A>,
 ) -> Result<Answer<A>, AllocError>
     requires { IsTrue (is_optional_text text.now) }
-    ensures { (how : How) → IfOk result (λ answer. let old = here (T.table tree.now) cwd.now in Gives (due old (Op.List text.now how) 0) (said_of answer) old) }
+    ensures { (how : How) → IfOk result (λ answer. let old = here (T.table tree.now) root.now cwd.now in Gives (due old (Op.List text.now how) 0) (said_of answer) old) }
 {
     let Some(path) = find_here(alloc, cwd, text)? else {
         return Ok(tell(Refusal::Unavailable));
     };
-    match directory_fault(tree, &path) {
-        None => Ok(Answer::Entries(entries(alloc, tree, &path)?)),
+    match directory_fault(tree, root, &path) {
+        None => Ok(Answer::Entries(entries(alloc, tree, root, &path)?)),
         Some(fault) => Ok(tell(listing_refusal(fault))),
     }
 }
@@ -70,19 +72,20 @@ fn listing_refusal(fault: TreeFault) -> Refusal
 pub(crate) fn names<A: Allocator + Clone, T: Tree<A>>(
     alloc: &A,
     tree: &T,
+    root: &Path<A>,
     cwd: &Path<A>,
     text: &Text<A>,
 ) -> Result<Answer<A>, AllocError>
     requires { IsTrue (is_optional_text text.now) }
-    ensures { (how : How) → IfOk result (λ answer. let old = here (T.table tree.now) cwd.now in Gives (due old (Op.Names text.now how) 0) (said_of answer) old) }
+    ensures { (how : How) → IfOk result (λ answer. let old = here (T.table tree.now) root.now cwd.now in Gives (due old (Op.Names text.now how) 0) (said_of answer) old) }
 {
     let Some(path) = find_here(alloc, cwd, text)? else {
         return Ok(tell(Refusal::Unavailable));
     };
-    if absent_fault(tree, &path).is_some() {
+    if absent_fault(tree, root, &path).is_some() {
         return Ok(tell(Refusal::Unavailable));
     }
-    Ok(Answer::Names(pathnames(alloc, tree, &path, text)?))
+    Ok(Answer::Names(pathnames(alloc, tree, root, &path, text)?))
 }
 
 /// The path that a text names, or the current directory's where it is empty; `None` past the limits of paths.
@@ -106,14 +109,15 @@ fn find_here<A: Allocator + Clone>(
 fn entry<A: Allocator + Clone, T: Tree<A>>(
     alloc: &A,
     tree: &T,
+    root: &Path<A>,
     path: &Path<A>,
     name: &[u8],
 ) -> Result<Entry<A>, AllocError>
     requires { IsPathText name.now }
-    ensures { IfOk result (λ entry. listed_of entry ≡ entry_at (T.table tree.now) path.now name.now) }
+    ensures { IfOk result (λ entry. listed_of entry ≡ entry_at (under (T.table tree.now) root.now) path.now name.now) }
 {
     let name = Text::copy_of(alloc.clone()?, name)?;
-    if !is_file(tree, path) {
+    if !is_file(tree, root, path) {
         let perm = Text::copy_of(alloc.clone()?, dir_perm(path))?;
         return Ok(Entry {
             name,
@@ -127,8 +131,8 @@ fn entry<A: Allocator + Clone, T: Tree<A>>(
     Ok(Entry {
         name,
         kind: Some(Kind::File),
-        size: size_fact(tree, path),
-        modify: tree.stamp(path),
+        size: size_fact(tree, root, path),
+        modify: tree.stamp(root, path),
         perm: Some(perm),
     })
 }
@@ -146,11 +150,11 @@ fn dir_perm<A: Allocator>(path: &Path<A>) -> &'static [u8]
 }
 
 /// The size of the file at a path, where it can be said.
-fn size_fact<A: Allocator, T: Tree<A>>(tree: &T, path: &Path<A>) -> Option<u64>
-    ensures value { result ≡ option_and_then size_fact (size_at (T.table tree.now) path.now) }
+fn size_fact<A: Allocator, T: Tree<A>>(tree: &T, root: &Path<A>, path: &Path<A>) -> Option<u64>
+    ensures value { result ≡ option_and_then size_fact (size_at (under (T.table tree.now) root.now) path.now) }
     ensures fits { ForSome result (λ size. size < 1_000_000_000_000_000_000) }
 {
-    match tree.size(path) {
+    match tree.size(root, path) {
         Some(size) => { if is_number(size) { Some(size) } else { None } }
         None => None,
     }
@@ -160,14 +164,15 @@ fn size_fact<A: Allocator, T: Tree<A>>(tree: &T, path: &Path<A>) -> Option<u64>
 fn entries<A: Allocator + Clone, T: Tree<A>>(
     alloc: &A,
     tree: &T,
+    root: &Path<A>,
     path: &Path<A>,
 ) -> Result<Vec<Entry<A>, A>, AllocError>
-    ensures { IfOk result (λ entries. map listed_of entries.items ≡ entries_in (T.table tree.now) path.now) }
+    ensures { IfOk result (λ entries. map listed_of entries.items ≡ entries_in (under (T.table tree.now) root.now) path.now) }
 {
-    let names = names_in(alloc, tree, path)?;
+    let names = names_in(alloc, tree, root, path)?;
     let mut entries = Vec::new(alloc.clone()?);
     for name in &names {
-        push_some(&mut entries, entry_in(alloc, tree, path, name)?)?;
+        push_some(&mut entries, entry_in(alloc, tree, root, path, name)?)?;
     }
     Ok(entries)
 }
@@ -176,29 +181,31 @@ fn entries<A: Allocator + Clone, T: Tree<A>>(
 fn entry_in<A: Allocator + Clone, T: Tree<A>>(
     alloc: &A,
     tree: &T,
+    root: &Path<A>,
     path: &Path<A>,
     name: &Text<A>,
 ) -> Result<Option<Entry<A>>, AllocError>
     requires { IsTrue (is_name name.now) }
-    ensures { IfOk result (λ entry. option_map listed_of entry ≡ entry_in (T.table tree.now) path.now name.now) }
+    ensures { IfOk result (λ entry. option_map listed_of entry ≡ entry_in (under (T.table tree.now) root.now) path.now name.now) }
 {
     let Some(child) = find(alloc, path, name)? else {
         return Ok(None);
     };
-    Ok(Some(entry(alloc, tree, &child, name.as_slice())?))
+    Ok(Some(entry(alloc, tree, root, &child, name.as_slice())?))
 }
 
 /// The text of a file, or the pathnames of a directory's files.
 fn pathnames<A: Allocator + Clone, T: Tree<A>>(
     alloc: &A,
     tree: &T,
+    root: &Path<A>,
     path: &Path<A>,
     text: &Text<A>,
 ) -> Result<Vec<Text<A>, A>, AllocError>
-    ensures { IfOk result (λ names. names.items ≡ names_for (T.table tree.now) path.now text.now) }
+    ensures { IfOk result (λ names. names.items ≡ names_for (under (T.table tree.now) root.now) path.now text.now) }
 {
-    if !is_file(tree, path) {
-        return files(alloc, tree, path, text);
+    if !is_file(tree, root, path) {
+        return files(alloc, tree, root, path, text);
     }
     let mut names = Vec::new(alloc.clone()?);
     names.push(Text::copy_of(alloc.clone()?, text.as_slice())?)?;
@@ -209,15 +216,16 @@ fn pathnames<A: Allocator + Clone, T: Tree<A>>(
 fn files<A: Allocator + Clone, T: Tree<A>>(
     alloc: &A,
     tree: &T,
+    root: &Path<A>,
     path: &Path<A>,
     text: &Text<A>,
 ) -> Result<Vec<Text<A>, A>, AllocError>
-    ensures { IfOk result (λ files. files.items ≡ filter_map (file_in (T.table tree.now) path.now text.now) (children (T.table tree.now) path.now)) }
+    ensures { IfOk result (λ files. files.items ≡ filter_map (file_in (under (T.table tree.now) root.now) path.now text.now) (children (under (T.table tree.now) root.now) path.now)) }
 {
-    let names = names_in(alloc, tree, path)?;
+    let names = names_in(alloc, tree, root, path)?;
     let mut files = Vec::new(alloc.clone()?);
     for name in &names {
-        push_some(&mut files, file_in(alloc, tree, path, text, name)?)?;
+        push_some(&mut files, file_in(alloc, tree, root, path, text, name)?)?;
     }
     Ok(files)
 }
@@ -226,17 +234,18 @@ fn files<A: Allocator + Clone, T: Tree<A>>(
 fn file_in<A: Allocator + Clone, T: Tree<A>>(
     alloc: &A,
     tree: &T,
+    root: &Path<A>,
     path: &Path<A>,
     text: &Text<A>,
     name: &Text<A>,
 ) -> Result<Option<Text<A>>, AllocError>
     requires { IsTrue (is_name name.now) }
-    ensures { IfOk result (λ file. file ≡ file_in (T.table tree.now) path.now text.now name.now) }
+    ensures { IfOk result (λ file. file ≡ file_in (under (T.table tree.now) root.now) path.now text.now name.now) }
 {
     let Some(child) = find(alloc, path, name)? else {
         return Ok(None);
     };
-    if !is_file(tree, &child) {
+    if !is_file(tree, root, &child) {
         return Ok(None);
     }
     Ok(Some(behind(alloc, text.as_slice(), name.as_slice())?))
@@ -258,13 +267,14 @@ fn behind<A: Allocator + Clone>(alloc: &A, text: &[u8], name: &[u8]) -> Result<T
 fn names_in<A: Allocator + Clone, T: Tree<A>>(
     alloc: &A,
     tree: &T,
+    root: &Path<A>,
     path: &Path<A>,
 ) -> Result<Vec<Text<A>, A>, AllocError>
-    ensures names { IfOk result (λ names. names.items ≡ children (T.table tree.now) path.now) }
+    ensures names { IfOk result (λ names. names.items ≡ children (under (T.table tree.now) root.now) path.now) }
     ensures named { IfOk result (λ names. IsTrue (list_all is_name names.items)) }
 {
     let mut names = Vec::new(alloc.clone()?);
-    while let Some(name) = tree.nth_name(path, names.len()) {
+    while let Some(name) = tree.nth_name(root, path, names.len()) {
         names.push(Text::copy_of(alloc.clone()?, name.octets())?)?;
     }
     Ok(names)

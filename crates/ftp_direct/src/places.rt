@@ -1,8 +1,8 @@
 // Operations on the current directory, on directories and on names.
 ghost use Rattle.std.specs.Prelude.{◌≡◌, IsTrue, IfOk, OnErr, is_some};
 ghost use Rattle.ftp_operation.specs.Answer.{said_of};
-ghost use Rattle.ftp_path.specs.Path.{is_within};
-ghost use Rattle.ftp_tree.specs.Tree.{Table, or_else, source_refusal};
+ghost use Rattle.ftp_path.specs.Path.{Names, is_within};
+ghost use Rattle.ftp_tree.specs.Tree.{Table, or_else, source_refusal, under};
 ghost use Rattle.ftp_direct.specs.Direct.{busy_refusal, due, here};
 ghost use Rattle.ftp_operation.specs.Operation.{is_path_text};
 ghost use Rattle.ftp_direct.specs.Run.{Gives, IsAnswer};
@@ -20,7 +20,7 @@ pub(crate) fn say_where<A: Allocator + Clone>(
     alloc: &A,
     cwd: &Path<A>,
 ) -> Result<Answer<A>, AllocError>
-    ensures { (table : Table) → IfOk result (λ answer. let old = here table cwd.now in Gives (due old Op.Where 0) (said_of answer) old) }
+    ensures { (table : Table) (root : Names) → IfOk result (λ answer. let old = here table root cwd.now in Gives (due old Op.Where 0) (said_of answer) old) }
 {
     Ok(Answer::Path(Text::copy_of(alloc.clone()?, cwd.text())?))
 }
@@ -29,18 +29,19 @@ pub(crate) fn say_where<A: Allocator + Clone>(
 pub(crate) fn change_dir<A: Allocator + Clone, T: Tree<A>>(
     alloc: &A,
     tree: &T,
+    root: &Path<A>,
     cwd: &mut Path<A>,
     text: &Text<A>,
 ) -> Result<Answer<A>, AllocError>
     requires { IsTrue (is_path_text text.now) }
     ensures answer { IfOk result (λ answer. let table = T.table tree.now in
-        Gives (due (here table cwd.old) (Op.ChangeDir text.now) 0) (said_of answer) (here table cwd.new)) }
+        Gives (due (here table root.now cwd.old) (Op.ChangeDir text.now) 0) (said_of answer) (here table root.now cwd.new)) }
     ensures kept { OnErr result (cwd.new ≡ cwd.old) }
 {
     let Some(path) = find(alloc, cwd, text)? else {
         return Ok(tell(Refusal::Unavailable));
     };
-    if directory_fault(tree, &path).is_some() {
+    if directory_fault(tree, root, &path).is_some() {
         return Ok(tell(Refusal::Unavailable));
     }
     *cwd = path;
@@ -53,7 +54,7 @@ pub(crate) fn go_up<A: Allocator + Clone>(
     alloc: &A,
     cwd: &mut Path<A>,
 ) -> Result<Answer<A>, AllocError>
-    ensures answer { (table : Table) → IfOk result (λ answer. Gives (due (here table cwd.old) Op.Up 0) (said_of answer) (here table cwd.new)) }
+    ensures answer { (table : Table) (root : Names) → IfOk result (λ answer. Gives (due (here table root cwd.old) Op.Up 0) (said_of answer) (here table root cwd.new)) }
     ensures kept { OnErr result (cwd.new ≡ cwd.old) }
 {
     match cwd.resolve(alloc.clone()?, b"..") {
@@ -69,19 +70,20 @@ pub(crate) fn go_up<A: Allocator + Clone>(
 pub(crate) fn make_dir<A: Allocator + Clone, T: Tree<A>>(
     alloc: &A,
     tree: &mut T,
+    root: &Path<A>,
     cwd: &Path<A>,
     text: &Text<A>,
 ) -> Result<Answer<A>, AllocError>
     requires { IsTrue (is_path_text text.now) }
-    ensures answer { IfOk result (λ answer. let old = here (T.table tree.old) cwd.now in
-        IsAnswer (T.failures tree.old) (T.failures tree.new) (due old (Op.MakeDir text.now) 0) old (said_of answer) (here (T.table tree.new) cwd.now)) }
+    ensures answer { IfOk result (λ answer. let old = here (T.table tree.old) root.now cwd.now in
+        IsAnswer (T.failures tree.old) (T.failures tree.new) (due old (Op.MakeDir text.now) 0) old (said_of answer) (here (T.table tree.new) root.now cwd.now)) }
     ensures kept { OnErr result ((T.table tree.new ≡ T.table tree.old) × (T.failures tree.new ≡ T.failures tree.old)) }
 {
     let Some(path) = find(alloc, cwd, text)? else {
         return Ok(tell(Refusal::Unavailable));
     };
     let made = Text::copy_of(alloc.clone()?, path.text())?;
-    match tree.make_dir(&path) {
+    match tree.make_dir(root, &path) {
         Ok(()) => Ok(Answer::Path(made)),
         Err(fault) => refused(fault, Refusal::Unavailable),
     }
@@ -91,12 +93,13 @@ pub(crate) fn make_dir<A: Allocator + Clone, T: Tree<A>>(
 pub(crate) fn remove_dir<A: Allocator + Clone, T: Tree<A>>(
     alloc: &A,
     tree: &mut T,
+    root: &Path<A>,
     cwd: &Path<A>,
     text: &Text<A>,
 ) -> Result<Answer<A>, AllocError>
     requires { IsTrue (is_path_text text.now) }
-    ensures answer { IfOk result (λ answer. let old = here (T.table tree.old) cwd.now in
-        IsAnswer (T.failures tree.old) (T.failures tree.new) (due old (Op.RemoveDir text.now) 0) old (said_of answer) (here (T.table tree.new) cwd.now)) }
+    ensures answer { IfOk result (λ answer. let old = here (T.table tree.old) root.now cwd.now in
+        IsAnswer (T.failures tree.old) (T.failures tree.new) (due old (Op.RemoveDir text.now) 0) old (said_of answer) (here (T.table tree.new) root.now cwd.now)) }
     ensures kept { OnErr result ((T.table tree.new ≡ T.table tree.old) × (T.failures tree.new ≡ T.failures tree.old)) }
 {
     let Some(path) = find(alloc, cwd, text)? else {
@@ -105,7 +108,7 @@ pub(crate) fn remove_dir<A: Allocator + Clone, T: Tree<A>>(
     if is_busy(&path, cwd) {
         return Ok(tell(Refusal::Unavailable));
     }
-    match tree.remove_dir(&path) {
+    match tree.remove_dir(root, &path) {
         Ok(()) => Ok(Answer::Done),
         Err(fault) => refused(fault, Refusal::Unavailable),
     }
@@ -115,18 +118,19 @@ pub(crate) fn remove_dir<A: Allocator + Clone, T: Tree<A>>(
 pub(crate) fn delete<A: Allocator + Clone, T: Tree<A>>(
     alloc: &A,
     tree: &mut T,
+    root: &Path<A>,
     cwd: &Path<A>,
     text: &Text<A>,
 ) -> Result<Answer<A>, AllocError>
     requires { IsTrue (is_path_text text.now) }
-    ensures answer { IfOk result (λ answer. let old = here (T.table tree.old) cwd.now in
-        IsAnswer (T.failures tree.old) (T.failures tree.new) (due old (Op.Delete text.now) 0) old (said_of answer) (here (T.table tree.new) cwd.now)) }
+    ensures answer { IfOk result (λ answer. let old = here (T.table tree.old) root.now cwd.now in
+        IsAnswer (T.failures tree.old) (T.failures tree.new) (due old (Op.Delete text.now) 0) old (said_of answer) (here (T.table tree.new) root.now cwd.now)) }
     ensures kept { OnErr result ((T.table tree.new ≡ T.table tree.old) × (T.failures tree.new ≡ T.failures tree.old)) }
 {
     let Some(path) = find(alloc, cwd, text)? else {
         return Ok(tell(Refusal::Unavailable));
     };
-    match tree.delete(&path) {
+    match tree.delete(root, &path) {
         Ok(()) => Ok(Answer::Done),
         Err(fault) => refused(fault, Refusal::Unavailable),
     }
@@ -136,36 +140,37 @@ pub(crate) fn delete<A: Allocator + Clone, T: Tree<A>>(
 pub(crate) fn rename<A: Allocator + Clone, T: Tree<A>>(
     alloc: &A,
     tree: &mut T,
+    root: &Path<A>,
     cwd: &Path<A>,
     from: &Text<A>,
     to: &Text<A>,
 ) -> Result<Answer<A>, AllocError>
     requires old { IsTrue (is_path_text from.now) }
     requires new { IsTrue (is_path_text to.now) }
-    ensures answer { IfOk result (λ answer. let old = here (T.table tree.old) cwd.now in
-        IsAnswer (T.failures tree.old) (T.failures tree.new) (due old (Op.Rename from.now to.now) 0) old (said_of answer) (here (T.table tree.new) cwd.now)) }
+    ensures answer { IfOk result (λ answer. let old = here (T.table tree.old) root.now cwd.now in
+        IsAnswer (T.failures tree.old) (T.failures tree.new) (due old (Op.Rename from.now to.now) 0) old (said_of answer) (here (T.table tree.new) root.now cwd.now)) }
     ensures kept { OnErr result ((T.table tree.new ≡ T.table tree.old) × (T.failures tree.new ≡ T.failures tree.old)) }
 {
     let Some(source) = find(alloc, cwd, from)? else {
         return Ok(tell(Refusal::Unavailable));
     };
-    if is_held(tree, &source, cwd) {
+    if is_held(tree, root, &source, cwd) {
         return Ok(tell(Refusal::Unavailable));
     }
     let Some(target) = find(alloc, cwd, to)? else {
         return Ok(tell(Refusal::BadName));
     };
-    match tree.rename(&source, &target) {
+    match tree.rename(root, &source, &target) {
         Ok(()) => Ok(Answer::Done),
         Err(fault) => refused(fault, Refusal::BadName),
     }
 }
 
 /// Whether nothing can be moved from a path: nothing stands there, or it is in use.
-fn is_held<A: Allocator, T: Tree<A>>(tree: &T, path: &Path<A>, cwd: &Path<A>) -> bool
-    ensures { is_some (or_else (source_refusal (T.table tree.now) path.now) (busy_refusal (here (T.table tree.now) cwd.now) path.now)) ≡ result }
+fn is_held<A: Allocator, T: Tree<A>>(tree: &T, root: &Path<A>, path: &Path<A>, cwd: &Path<A>) -> bool
+    ensures { is_some (or_else (source_refusal (under (T.table tree.now) root.now) path.now) (busy_refusal (here (T.table tree.now) root.now cwd.now) path.now)) ≡ result }
 {
-    absent_fault(tree, path).is_some() || is_busy(path, cwd)
+    absent_fault(tree, root, path).is_some() || is_busy(path, cwd)
 }
 
 /// Whether the current directory is at or below a path.

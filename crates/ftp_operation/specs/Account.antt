@@ -1,8 +1,16 @@
--- Who may log in (RFC 959, section 4.1.1).
-use Rattle.std.specs.Prelude.{ℕ, ◌&&◌, ◌==◌, Bool, true, false, not, nat_le, nat_eq, List, [], ◌∷◌, length, Option, Some, None}
-use Rattle.std.specs.List.{list_all, list_any}
+-- Who may log in, and what an account sees of the tree (RFC 959, section 4.1.1; roots are an own choice).
+use Rattle.std.specs.Prelude.{ℕ, ◌&&◌, ◌||◌, ◌==◌, Bool, true, not, nat_le, nat_eq, List, [], ◌∷◌, length, Option, Some, None, if◌then◌else◌}
+use Rattle.std.specs.List.{find, list_all, list_any}
+use Rattle.std.specs.Option.{option_map}
 use Rattle.std.specs.Cmp.Lexicographic.{pointwise}
-use Rattle.ftp_operation.specs.declared.account.Account.{Account}
+use Rattle.ftp_path.specs.Path.{Names, is_within}
+use Rattle.ftp_operation.specs.declared.account.Account.{Account as Held}
+use Rattle.ftp_operation.specs.declared.account.AccountsFault.{AccountsFault}
+use Rattle.ftp_operation.specs.declared.account.AccountsFault.TheVariants.{SameUser, NestedRoots}
+
+-- an account: a user name, the password that it needs, if it needs one, and its root: the path that is `/` to its user
+abbrev pub Account : Type 0
+Account = Held (List ℕ) Names
 
 -- an octet of a user name or a password: neither CR nor LF nor NUL
 abbrev pub is_login_octet : ℕ → Bool
@@ -16,13 +24,31 @@ abbrev pub is_password : List ℕ → Bool
 is_password pass = nat_le (length pass) 255 && list_all is_login_octet pass
 
 -- an account has this user name
-abbrev pub has_user : List ℕ → Account (List ℕ) → Bool
+abbrev pub has_user : List ℕ → Account → Bool
 has_user user account = pointwise nat_eq account.user user
 
 -- no two accounts have one user name
-abbrev pub are_distinct : List (Account (List ℕ)) → Bool
+abbrev pub are_distinct : List Account → Bool
 are_distinct [] = true
 are_distinct (account ∷ accounts) = not (list_any (has_user account.user) accounts) && are_distinct accounts
+
+-- the second path is below the first, and not the first
+abbrev pub is_below : Names → Names → Bool
+is_below above path = is_within above path && not (is_within path above)
+
+-- an account's root is below this one, or above it
+abbrev pub has_nested : Names → Account → Bool
+has_nested root account = is_below root account.root || is_below account.root root
+
+-- no account's root is below another's; equal ones are allowed
+abbrev pub are_apart : List Account → Bool
+are_apart [] = true
+are_apart (account ∷ accounts) = not (list_any (has_nested account.root) accounts) && are_apart accounts
+
+-- the first reason why these can't be the accounts
+abbrev pub accounts_refusal : List Account → Option AccountsFault
+accounts_refusal accounts =
+    if not (are_distinct accounts) then Some SameUser else (if not (are_apart accounts) then Some NestedRoots else None)
 
 -- a password is the account's, or none is needed
 abbrev pub passes : Option (List ℕ) → List ℕ → Bool
@@ -30,8 +56,9 @@ passes None pass = true
 passes (Some right) pass = pointwise nat_eq right pass
 
 -- a login names an account without a password, or one with the password given
-abbrev pub knows : List ℕ → List ℕ → Account (List ℕ) → Bool
+abbrev pub knows : List ℕ → List ℕ → Account → Bool
 knows user pass account = has_user user account && passes account.pass pass
 
-unfoldable pub is_known : List (Account (List ℕ)) → List ℕ → List ℕ → Bool
-is_known accounts user pass = list_any (knows user pass) accounts
+-- the root of the account that a login names so; none where it names no account
+unfoldable pub login_root : List Account → List ℕ → List ℕ → Option Names
+login_root accounts user pass = option_map (λ account. account.root) (find (knows user pass) accounts)

@@ -32,6 +32,7 @@ can_be_sent (Ops.Append path octets how) = is_path_text path
 can_be_sent (Ops.PutFrom path offset octets how) = is_path_text path && is_number offset
 can_be_sent (Ops.Get path how) = is_path_text path
 can_be_sent (Ops.GetFrom path offset how) = is_path_text path && is_number offset
+can_be_sent (Ops.Peek path count how) = is_path_text path && is_number count
 can_be_sent (Ops.Size path how) = is_path_text path
 can_be_sent (Ops.Modified path) = is_path_text path
 can_be_sent (Ops.Facts path) = is_optional_text path

@@ -1,17 +1,21 @@
-// Who may log in (RFC 959, section 4.1.1).
-ghost use Rattle.std.specs.Prelude.{◌≡◌, ◌&&◌, ◌↔◌, false, true, drop, IfOk, IfErr, IfSome, IsSome, IsTrue, not};
+// Who may log in, and what an account sees of the tree (RFC 959, section 4.1.1).
+ghost use Rattle.std.specs.Prelude.{◌≡◌, ◌&&◌, ◌↔◌, None, Some, IfOk, IfErr, IfSome, IsSome, IsTrue, drop};
 ghost use Rattle.std.specs.List.{list_all, list_any};
-ghost use Rattle.ftp_operation.specs.Account.{are_distinct, has_user, is_known, is_login_octet, is_password, is_user, knows, passes};
+ghost use Rattle.std.specs.Option.{option_map};
+ghost use Rattle.ftp_operation.specs.Account.{accounts_refusal, are_apart, are_distinct, has_nested, has_user, is_below, is_login_octet, is_password, is_user, knows, login_root, passes};
 
 use ftp_facts::Text;
+use ftp_path::Path;
+use ftp_path::key::is_within;
 use std::alloc::Allocator;
 use std::marker::Model;
 
-/// A user name, and the password that it needs, if it needs one; `P` is how a text is held.
-#[derive(Debug, Drop)]
-pub struct Account<P> {
+/// A user name, the password that it needs, if it needs one, and the path that is `/` to its user; `P` is how a text is held, `R` how a path is.
+#[derive(Drop)]
+pub struct Account<P, R> {
     pub user: P,
     pub pass: Option<P>,
+    pub root: R,
 }
 
 /// A user name of 1 to 255 octets and a password of at most 255, without CR, LF and NUL.
@@ -77,54 +81,73 @@ fn is_login_octet(octet: u8) -> bool
     octet != b'\r' && octet != b'\n' && octet != 0
 }
 
-/// Accounts of which no two have one user name.
-#[derive(Debug, Drop)]
+/// Accounts of which no two have one user name, and no root is below another.
+#[derive(Drop)]
 pub struct Accounts<A: Allocator> {
-    list: Vec<Account<Text<A>>, A>,
+    list: Vec<Account<Text<A>, Path<A>>, A>,
 }
 
 impl<A: Allocator> Model for Accounts<A> {
-    ghost use Rattle.std.specs.Prelude.{ℕ, List};
-    ghost use Rattle.ftp_operation.specs.declared.account.Account.{Account};
+    ghost use Rattle.std.specs.Prelude.{List};
+    ghost use Rattle.ftp_operation.specs.Account.{Account};
 
-    ghost Value = { List (Account (List ℕ)) };
+    ghost Value = { List Account };
 
     ghost view = { λ accounts. accounts.list.items };
 }
 
-/// Two accounts have one user name: the list, handed back.
-#[derive(Debug, Drop)]
-pub struct SameUser<A: Allocator> {
-    pub list: Vec<Account<Text<A>>, A>,
+/// Why a list of accounts is refused.
+#[derive(Clone, Copy, Debug, PartialEq, Eq)]
+pub enum AccountsFault {
+    /// Two accounts have one user name.
+    SameUser,
+    /// An account's root is below another's. Equal ones are allowed.
+    NestedRoots,
+}
+
+/// A list of accounts that was refused, handed back, and why.
+#[derive(Drop)]
+pub struct RefusedAccounts<A: Allocator> {
+    pub fault: AccountsFault,
+    pub list: Vec<Account<Text<A>, Path<A>>, A>,
 }
 
 impl<A: Allocator> Accounts<A> {
-    /// These accounts, in this order, or the list back where two have one user name. An account with a user name or a
+    /// These accounts, in this order, or the list back with the first reason why not. An account with a user name or a
     /// password that no login has is accepted. Takes no memory.
-    pub fn new(list: Vec<Account<Text<A>>, A>) -> Result<Accounts<A>, SameUser<A>>
-        ensures accounts { IfOk result (λ accounts. (accounts ≡ list.items) × (are_distinct list.items ≡ true)) }
-        ensures back { IfErr result (λ same. (same.list.items ≡ list.items) × (are_distinct list.items ≡ false)) }
+    pub fn new(list: Vec<Account<Text<A>, Path<A>>, A>) -> Result<Accounts<A>, RefusedAccounts<A>>
+        ensures accounts { IfOk result (λ accounts. (accounts ≡ list.items) × (accounts_refusal list.items ≡ None)) }
+        ensures back { IfErr result (λ refused. (refused.list.items ≡ list.items) × (accounts_refusal list.items ≡ Some refused.fault)) }
     {
-        if are_distinct(list.as_slice()) {
-            Ok(Accounts { list })
-        } else {
-            Err(SameUser { list })
+        if !are_distinct(list.as_slice()) {
+            return Err(RefusedAccounts {
+                fault: AccountsFault::SameUser,
+                list,
+            });
         }
+        if !are_apart(list.as_slice()) {
+            return Err(RefusedAccounts {
+                fault: AccountsFault::NestedRoots,
+                list,
+            });
+        }
+        Ok(Accounts { list })
     }
 
-    /// Whether a login names an account without a password, or one with the password given. Takes no memory.
-    #[tactic(auto, unfolding(crate::specs::Account::is_known))]
-    pub fn is_known(&self, login: &Login<A>) -> bool
-        ensures { result ≡ is_known self.now login.now.user login.now.pass }
+    /// The root of the account that a login names, where that needs no password or the one given. Takes no memory.
+    #[tactic(auto, unfolding(crate::specs::Account::login_root))]
+    pub fn login_root(&self, login: &Login<A>) -> Option<&Path<A>>
+        ensures { option_map (λ root. root.now) result ≡ login_root self.now login.now.user login.now.pass }
     {
         self.list
             .iter()
-            .any(|account| knows(account, login.user(), login.pass()))
+            .find(|account| knows(account, login.user(), login.pass()))
+            .map(|account| &account.root)
     }
 }
 
 /// Whether no two accounts have one user name.
-fn are_distinct<A: Allocator>(list: &[Account<Text<A>>]) -> bool
+fn are_distinct<A: Allocator>(list: &[Account<Text<A>, Path<A>>]) -> bool
     ensures { result ≡ are_distinct list.now }
 {
     for at in 0..list.len() {
@@ -136,14 +159,41 @@ fn are_distinct<A: Allocator>(list: &[Account<Text<A>>]) -> bool
 }
 
 /// Whether an account has a user name.
-fn is_taken<A: Allocator>(list: &[Account<Text<A>>], user: &[u8]) -> bool
+fn is_taken<A: Allocator>(list: &[Account<Text<A>, Path<A>>], user: &[u8]) -> bool
     ensures { result ≡ list_any (has_user user.now) list.now }
 {
     list.iter().any(|account| account.user.as_slice() == user)
 }
 
+/// Whether no account's root is below another's.
+fn are_apart<A: Allocator>(list: &[Account<Text<A>, Path<A>>]) -> bool
+    ensures { result ≡ are_apart list.now }
+{
+    for at in 0..list.len() {
+        if is_nested(&list[at + 1..], &list[at].root) {
+            return false;
+        }
+    }
+    true
+}
+
+/// Whether an account's root is below this one, or above it.
+fn is_nested<A: Allocator>(list: &[Account<Text<A>, Path<A>>], root: &Path<A>) -> bool
+    ensures { result ≡ list_any (has_nested root.now) list.now }
+{
+    list.iter()
+        .any(|account| is_below(root, &account.root) || is_below(&account.root, root))
+}
+
+/// Whether the second path is below the first, and not the first.
+fn is_below<A: Allocator>(above: &Path<A>, path: &Path<A>) -> bool
+    ensures { result ≡ is_below above.now path.now }
+{
+    is_within(above.key(), path.key()) && !is_within(path.key(), above.key())
+}
+
 /// Whether an account is that of a user name and needs no password or this one.
-fn knows<A: Allocator>(account: &Account<Text<A>>, user: &[u8], pass: &[u8]) -> bool
+fn knows<A: Allocator>(account: &Account<Text<A>, Path<A>>, user: &[u8], pass: &[u8]) -> bool
     ensures { result ≡ knows user.now pass.now account.now }
 {
     account.user.as_slice() == user && passes(&account.pass, pass)

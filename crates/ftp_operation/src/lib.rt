@@ -7,7 +7,7 @@ mod answer;
 mod op;
 mod sendable;
 
-pub use account::{Account, Accounts, Login, SameUser};
+pub use account::{Account, Accounts, AccountsFault, Login, RefusedAccounts};
 pub use answer::Answer;
 pub use op::{How, Op};
 pub use sendable::{can_be_sent, is_number};

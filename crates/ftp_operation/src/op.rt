@@ -29,11 +29,13 @@ pub enum Op<P> {
     Put(P, P, How),
     /// A path and the octets that go behind those of the file.
     Append(P, P, How),
-    /// A path, how many octets of the file stay, and the octets that go behind them.
+    /// A path, how many octets of the file's transfer stay, and the octets that go behind them.
     PutFrom(P, u64, P, How),
     Get(P, How),
-    /// A path, and the place from which its octets are asked for.
+    /// A path, and how many octets of the file's transfer are left out.
     GetFrom(P, u64, How),
+    /// A path, and how many of the file's first octets are asked for: all where it has fewer.
+    Peek(P, u64, How),
     /// How many octets a transfer in that type would have, in file structure and stream mode.
     Size(P, How),
     Modified(P),

@@ -8,7 +8,7 @@ use ftp_endpoint::NUMBER_LIMIT;
 use ftp_facts::Text;
 use std::alloc::Allocator;
 
-/// Whether an operation can be sent: its path texts are path texts (where one may be left out, none too), its offset has at
+/// Whether an operation can be sent: its path texts are path texts (where one may be left out, none too), its number has at
 /// most 18 digits, and the text of names does not begin with `-`.
 pub fn can_be_sent<A: Allocator>(op: &Op<Text<A>>) -> bool
     ensures { result ≡ can_be_sent op.now }
@@ -23,9 +23,8 @@ pub fn can_be_sent<A: Allocator>(op: &Op<Text<A>>) -> bool
         Op::Rename(from, to) => is_path_text(from.as_slice()) && is_path_text(to.as_slice()),
         Op::Put(path, _, _) | Op::Append(path, _, _) | Op::Get(path, _) | Op::Size(path, _) =>
             is_path_text(path.as_slice()),
-        Op::PutFrom(path, offset, _, _) | Op::GetFrom(path, offset, _) => is_path_text(
-            path.as_slice(),
-        ) && is_number(*offset),
+        Op::PutFrom(path, number, _, _) | Op::GetFrom(path, number, _) | Op::Peek(path, number, _) =>
+            is_path_text(path.as_slice()) && is_number(*number),
         Op::Facts(path) | Op::List(path, _) => is_optional_text(path.as_slice()),
         Op::Names(path, _) => is_optional_text(path.as_slice()) && !is_option(path.as_slice()),
     }

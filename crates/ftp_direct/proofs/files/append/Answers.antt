@@ -1,6 +1,6 @@
 use Rattle.std.proofs.Common.{◌∙◌, ◌+◌, ap, length, take}
 use Rattle.std.proofs.Math.Seq.{take-length}
-use Rattle.ftp_tree.specs.Tree.{octets_or_none}
+use Rattle.ftp_tree.specs.Tree.{octets_or_none, under}
 use Rattle.ftp_direct.specs.Direct.{chosen, here, put, put_refusal}
 use Rattle.ftp_direct.proofs.RefusalLemmas.{if_due}
 use Rattle.ftp_direct.proofs.files.append.Goals as goal
@@ -8,8 +8,8 @@ use Rattle.ftp_direct.proofs.files.append.Goals as goal
 pub returns-clause-answer : goal.returns-clause-answer
 returns-clause-answer g c = λ how.
     let found = rw c.in-Some.is at c.in_ok-path.ensures in
-    let table = g.T.Tree.table c.args.tree.now in
-    let old = here table c.args.cwd.now in
+    let table = under (g.T.Tree.table c.args.tree.now) c.args.root.now in
+    let old = here (g.T.Tree.table c.args.tree.now) c.args.root.now c.args.cwd.now in
     let octets = c.args.octets.now in
     let moment = c.args.moment.seconds in
     let file = octets_or_none table c.in-Some.path in

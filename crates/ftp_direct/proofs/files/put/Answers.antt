@@ -6,7 +6,7 @@ use Rattle.ftp_direct.proofs.files.put.Goals as goal
 pub returns-clause-answer : goal.returns-clause-answer
 returns-clause-answer g c = λ how.
     let found = rw c.in-Some.is at c.in_ok-path.ensures in
-    let old = here (g.T.Tree.table c.args.tree.now) c.args.cwd.now in
+    let old = here (g.T.Tree.table c.args.tree.now) c.args.root.now c.args.cwd.now in
     let octets = c.args.octets.now in
     let moment = c.args.moment.seconds in
     if_due c.install.result _ _ _ _ _ _

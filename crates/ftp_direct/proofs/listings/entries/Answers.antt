@@ -6,6 +6,7 @@ use Rattle.std.specs.Option.{option_map}
 use Rattle.std.proofs.lemmas.List.Sums.{AllPass-from_list_all}
 use Rattle.ftp_path.specs.Path.{is_name}
 use Rattle.ftp_operation.specs.Answer.{listed_of}
+use Rattle.ftp_tree.specs.Tree.{under}
 use Rattle.ftp_direct.specs.Direct.{entries_in, entry_in}
 use Rattle.ftp_direct.proofs.ListingLemmas.{listed_more}
 use Rattle.ftp_direct.proofs.listings.entries.Goals as goal
@@ -18,7 +19,7 @@ entry_in-requires g c =
 
 pub loop-name-preserved : goal.loop-name-preserved
 loop-name-preserved g c =
-    let table = g.T.Tree.table c.args.tree.now in
+    let table = under (g.T.Tree.table c.args.tree.now) c.args.root.now in
     let path = c.args.path.now in
     let items = c.deref-name-items.result.now in
     let i = c.loop-name.name-index in
@@ -31,7 +32,7 @@ loop-name-preserved g c =
 pub returns : goal.returns
 unfolding entries_in
 returns g c =
-    let table = g.T.Tree.table c.args.tree.now in
+    let table = under (g.T.Tree.table c.args.tree.now) c.args.root.now in
     let h = entry_in table c.args.path.now in
     c.loop-name.invariant ∙ ap (filter_map h) (take_all c.loop-name.name-index c.deref-name-items.result.now c.loop-name-test.false)
     ∙ ap (filter_map h) (c.deref-name-items.ensures.value ∙ c.in_ok-names.ensures.names)

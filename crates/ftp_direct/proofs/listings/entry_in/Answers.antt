@@ -1,6 +1,7 @@
 use Rattle.std.proofs.Common.{◌∙◌, ap, subst, sym}
 use Rattle.ftp_path.specs.Path.{IsPathText}
 use Rattle.ftp_path.proofs.TextLemmas.{name-text}
+use Rattle.ftp_tree.specs.Tree.{under}
 use Rattle.ftp_direct.specs.Direct.{entry_at}
 use Rattle.ftp_direct.proofs.ListingLemmas.{name_text, entry_in_none, entry_in_some}
 use Rattle.ftp_direct.proofs.listings.entry_in.Goals as goal
@@ -18,4 +19,4 @@ pub returns : goal.returns
 returns g c =
     let found = rw c.in-Some.is at c.in_ok-child.ensures in
     entry_in_some _ _ c.args.name.now c.requires _ found.0 found.1 _
-    (c.in_ok-entry.ensures ∙ ap (entry_at (g.T.Tree.table c.args.tree.now) c.in-Some.child) c.as_slice.ensures)
+    (c.in_ok-entry.ensures ∙ ap (entry_at (under (g.T.Tree.table c.args.tree.now) c.args.root.now) c.in-Some.child) c.as_slice.ensures)

@@ -2,13 +2,13 @@ use Rattle.std.proofs.Common.{◌≡◌, ◌∙◌, ◌++◌, ◌∷◌, [], Som
 use Rattle.std.specs.List.{list_all, slice_get}
 use Rattle.std.proofs.lemmas.List.{take_all}
 use Rattle.ftp_path.specs.Path.{is_name}
-use Rattle.ftp_tree.specs.Tree.{children}
+use Rattle.ftp_tree.specs.Tree.{children, under}
 use Rattle.ftp_direct.proofs.ListingLemmas.{names_more, names_named, names_within, names_end}
 use Rattle.ftp_direct.proofs.listings.names_in.Goals as goal
 
 pub loop-name-preserved : goal.loop-name-preserved
 loop-name-preserved g c =
-    let all = children (g.T.Tree.table c.args.tree.now) c.args.path.now in
+    let all = children (under (g.T.Tree.table c.args.tree.now) c.args.root.now) c.args.path.now in
     let n = vec_len c.loop-name.names in
     let name = c.in-Some.name.octets.now in
     let some : Some name ≡ slice_get all n = c.in-Some.ensures ∙ ap (slice_get all) c.len.ensures in
@@ -22,7 +22,7 @@ loop-name-preserved g c =
 
 pub returns-clause-names : goal.returns-clause-names
 returns-clause-names g c =
-    let all = children (g.T.Tree.table c.args.tree.now) c.args.path.now in
+    let all = children (under (g.T.Tree.table c.args.tree.now) c.args.root.now) c.args.path.now in
     let n = vec_len c.loop-name.names in
     let none : None ≡ slice_get all n = c.in_default.ensures ∙ ap (slice_get all) c.len.ensures in
     c.loop-name.invariant.so_far ∙ take_all n all (names_end all n none)

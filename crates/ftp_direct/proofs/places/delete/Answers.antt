@@ -5,4 +5,4 @@ use Rattle.ftp_direct.specs.declared.refusal.Refusal.TheVariants.{Unavailable}
 
 pub returns-clause-answer : goal.returns-clause-answer
 returns-clause-answer g c =
-    if_refused c.refused.result _ _ Unavailable _ _ _ _ _ _ c.refused.ensures.said c.refused.ensures.other c.in-Err.ensures.refused (delete-no _ _) (λ why e. search rules)
+    if_refused c.refused.result _ _ Unavailable _ _ _ _ _ _ _ c.refused.ensures.said c.refused.ensures.other c.in-Err.ensures.refused (delete-no _ _) (λ why e. search rules)

@@ -1,14 +1,14 @@
 use Rattle.std.proofs.Common.{refl, sym, arith, ◌+◌, []}
 use Rattle.ftp_direct.proofs.RunLemmas.{begun, runs_none, stepped, whole}
-use Rattle.ftp_direct.proofs.direct_run.direct.Goals as goal
+use Rattle.ftp_direct.proofs.direct_run.run.Goals as goal
 
 pub returns-in_err-clone-clause-begun : goal.returns-in_err-clone-clause-begun
 returns-in_err-clone-clause-begun g c =
-    begun c.from_residual.result _ _ _ _ c.is_known-known.result _ _ c.args.list.now 0 [] _ c.is_known-known.ensures (runs_none _ _) refl refl
+    begun c.from_residual.result _ _ _ _ _ c.args.list.now 0 [] _ (runs_none _ _) refl refl
 
 pub returns-in_err-clone-2-clause-begun : goal.returns-in_err-clone-2-clause-begun
 returns-in_err-clone-2-clause-begun g c =
-    begun c.from_residual-in_err-clone-2.result _ _ _ _ c.is_known-known.result _ _ c.args.list.now 0 [] _ c.is_known-known.ensures (runs_none _ _) refl refl
+    begun c.from_residual-in_err-clone-2.result _ _ _ _ _ c.args.list.now 0 [] _ (runs_none _ _) refl refl
 
 pub loop-op-init : goal.loop-op-init
 loop-op-init g c = rw (c.new-answers.ensures.items, c.root-cwd.ensures) (runs_none _ _)
@@ -16,12 +16,11 @@ loop-op-init g c = rw (c.new-answers.ensures.items, c.root-cwd.ensures) (runs_no
 pub returns-in_err-answer-clause-begun : goal.returns-in_err-answer-clause-begun
 returns-in_err-answer-clause-begun g c =
     let kept = c.in_err-answer.ensures.kept in
-    begun c.from_residual-in_err-answer.result _ _ _ _ c.is_known-known.result _ _ c.args.list.now c.loop-op.op-index _ _
-    c.is_known-known.ensures c.loop-op.invariant kept.1 (sym kept.0)
+    begun c.from_residual-in_err-answer.result _ _ _ _ _ c.args.list.now c.loop-op.op-index _ _ c.loop-op.invariant kept.1 (sym kept.0)
 
 pub returns-in_err-push-clause-begun : goal.returns-in_err-push-clause-begun
 returns-in_err-push-clause-begun g c =
-    begun c.from_residual-in_err-push.result _ _ _ _ c.is_known-known.result _ _ c.args.list.now (c.loop-op.op-index + 1) _ _ c.is_known-known.ensures
+    begun c.from_residual-in_err-push.result _ _ _ _ _ c.args.list.now (c.loop-op.op-index + 1) _ _
     (stepped _ _ _ _ _ _ c.args.list.now c.loop-op.op-index c.loop-op-item.result c.loop-op.answers.items c.in_ok-answer.field-0 (omega arith) c.loop-op-item.is
     c.loop-op.invariant c.in_ok-answer.ensures.answer) refl refl
 
@@ -32,4 +31,4 @@ loop-op-preserved g c = rw c.in_ok-push.ensures.items (
 
 pub returns-clause-answers : goal.returns-clause-answers
 returns-clause-answers g c =
-    whole _ _ _ c.is_known-known.result _ _ c.args.list.now c.loop-op.op-index _ c.loop-op-test.false c.is_known-known.ensures c.loop-op.invariant
+    whole _ _ _ _ c.args.list.now c.loop-op.op-index _ c.loop-op-test.false c.loop-op.invariant
