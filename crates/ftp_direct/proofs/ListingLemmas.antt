@@ -1,17 +1,17 @@
 -- Names in a directory, and what is said of each.
-use Rattle.std.proofs.Common.{◌≡◌, ◌≢◌, ℕ, zero, suc, ◌+◌, ◌<◌, ◌≤◌, Bool, true, false, not, ◌&&◌, ◌==◌, nat_le, eqb, List, [], ◌∷◌, ◌++◌, length, take, get_or, Option, Some, None, refl, ap, sym, ◌∙◌, arith, if◌then◌else◌}
+use Rattle.std.proofs.Common.{◌≡◌, ℕ, zero, suc, ◌+◌, ◌<◌, ◌≤◌, Bool, true, false, not, ◌&&◌, ◌==◌, nat_le, eqb, List, [], ◌∷◌, ◌++◌, length, take, get_or, Option, Some, None, refl, ap, sym, ◌∙◌, arith, if◌then◌else◌}
 use Rattle.std.specs.Prelude.{codes, fold, map, option_and_then}
 use Rattle.std.specs.Option.{option_to_list}
 use Rattle.std.specs.List.{list_all, filter_map, cons_option, slice_split, onto_first, slice_get}
 use Rattle.std.specs.Option.{option_map, unwrap_or}
-use Rattle.std.proofs.lemmas.Bool.{and_parts, and_from, cond-false, not-true, le-leb, leb-true}
+use Rattle.std.proofs.lemmas.Bool.{and_parts, and_from, cond-false, not-true}
 use Rattle.std.proofs.lemmas.Bool.Decides.{nat_tests}
 use Rattle.std.proofs.lemmas.List.{map-append, take_more}
 use Rattle.std.proofs.lemmas.List.Elements.{filter_map-append}
 use Rattle.std.proofs.lemmas.Option.{slice_get_within, get_or_from_slice_get}
 use Rattle.std.proofs.lemmas.List.Folds.{list_all-append}
 use mathlib.Core.Bool.{false≢true, true≢false}
-use Rattle.ftp_path.specs.Path.{is_slash, is_name_octet, is_part, is_here, is_above, is_component, is_name, is_rooted, followed, resolved, fits, text_of, Names}
+use Rattle.ftp_path.specs.Path.{is_slash, is_name_octet, is_part, is_here, is_above, is_component, is_name, is_rooted, followed, resolved, fits, Names}
 use Rattle.ftp_tree.specs.Tree.{Node, Dir, File, Table, node_at, octets_of, moment_of, of_node, octets_at, size_at, stamp_at}
 use Rattle.ftp_path.proofs.PathLemmas.{component-octets, name_octet-slash, followed-name}
 use Rattle.ftp_path.proofs.TextLemmas.{name-text}

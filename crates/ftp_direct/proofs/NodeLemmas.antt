@@ -1,9 +1,9 @@
 -- What the reading calls of a tree say of the node that stands at a path.
-use Rattle.std.proofs.Common.{◌≡◌, ℕ, Bool, true, false, not, nat_le, List, [], length, Option, Some, None, is_some, refl, ap, sym, ◌∙◌, ◌∷◌}
+use Rattle.std.proofs.Common.{◌≡◌, ℕ, Bool, true, false, not, List, [], length, Option, Some, None, is_some, refl, ap, sym, ◌∙◌, ◌∷◌}
 use mathlib.Core.Bool.{false≢true, true≢false}
 use Rattle.ftp_path.specs.Path.{fits, resolved, Names, is_within}
 use Rattle.std.specs.Option.{option_map, unwrap_or}
-use Rattle.ftp_tree.specs.Tree.{Node, Dir, File, Table, node_at, kind_of, kind_at, octets_of, moment_of, of_node, octets_at, size_at, stamp_at, octets_or_none, directory_refusal, file_refusal, under, whenever, or_else, source_answer, source_refusal, target_refusal, rename_refusal}
+use Rattle.ftp_tree.specs.Tree.{Node, Dir, File, Table, node_at, kind_of, kind_at, moment_of, of_node, octets_at, size_at, stamp_at, octets_or_none, directory_refusal, file_refusal, under, whenever, or_else, source_answer, source_refusal, target_refusal, rename_refusal}
 use Rattle.ftp_tree.specs.declared.fault.TreeFault.{TreeFault}
 use Rattle.ftp_tree.specs.declared.fault.TreeFault.TheVariants.{Absent, WrongKind, Busy}
 use Rattle.ftp_tree.specs.declared.tree.NodeKind.{NodeKind}

@@ -1,13 +1,13 @@
 -- Where an offset leads to in a file, found piece by piece.
-use Rattle.std.proofs.Common.{◌≡◌, ℕ, zero, suc, ◌+◌, ◌<◌, ◌≤◌, ◌⊎◌, inl, inr, Bool, true, false, ◌==◌, List, [], ◌++◌, length, take, drop, Option, Some, None, refl, ap, sym, subst, ◌∙◌, arith}
+use Rattle.std.proofs.Common.{◌≡◌, ◌≢◌, ℕ, zero, suc, ◌+◌, ◌<◌, ◌≤◌, ◌⊎◌, inl, inr, Bool, true, false, ◌==◌, List, ◌++◌, length, take, drop, Some, None, refl, ap, sym, subst, ◌∙◌, arith, zero-add, if◌then◌else◌}
 use Rattle.std.specs.List.{find, range_with_len}
-use Rattle.std.proofs.lemmas.List.{take-append-drop, drop-drop}
-use Rattle.std.proofs.lemmas.Bool.Decides.{Decides-eqb, not_from_Decides}
-use Rattle.std.proofs.Math.Seq.{take-add, take-length}
+use Rattle.std.proofs.lemmas.List.{take-append-drop, length-drop, length-take}
+use Rattle.std.proofs.lemmas.Bool.Decides.{Decides-eqb}
+use Rattle.std.proofs.Math.Seq.{take-add}
 use Rattle.ftp_repr.specs.Signs.{wire_row}
 use Rattle.ftp_repr.specs.Skipping.{IsPlace, Skips}
 use Rattle.ftp_repr.specs.declared.skipping.Skipped.TheVariants.{Within, Left, Inside}
-use Rattle.ftp_repr.proofs.SkipLemmas.{goes, goes_up, place_once, row_append, within_stays, inside_stays}
+use Rattle.ftp_repr.proofs.SkipLemmas.{goes_up, place_once, row_append, within_stays, inside_stays}
 use Rattle.ftp_representation.specs.declared.representation.Kind.{Kind}
 use Rattle.ftp_direct.specs.Direct.{place_in, size_in}
 use Rattle.ftp_direct.specs.Laws.{OffsetsLead}
@@ -45,4 +45,106 @@ module _ (kind : Kind) (file : List ℕ) (offset : ℕ) where
   is_place place within is = record { within = within; goes = size_piece kind (take place file) ∙ (Decides-eqb (size_in kind (take place file)) offset).0 is }
 
   fails : (place : ℕ) → place ≤ length file → (IsPlace kind file offset place → ⊥) → test place ≡ false
-  fails place within no = elim (test place) as (λ b. test place ≡ b → b ≡ false) [ | true ↦ λ is. absurd (no (is_place place within is)) | false ↦ λ _. refl ] refl
+  fails place within none = elim (test place) as (λ b. test place ≡ b → b ≡ false) [ | true ↦ λ is. absurd (none (is_place place within is)) | false ↦ λ _. refl ] refl
+
+  -- it is the one place
+  pub leads : (place : ℕ) → IsPlace kind file offset place → place_in kind file offset ≡ Some place
+  unfolding place_in test
+  leads place is =
+      found test 0 (length file + 1) place (omega (arith, is.within)) (ap test (zero-add place) ∙ passes place is)
+      (λ k less. ap test (zero-add k) ∙ fails k (omega (arith, less, is.within)) (λ other. absurd (omega (arith, less, place_once kind file offset k place other is))))
+      ∙ ap Some (zero-add place)
+
+  pub leads_nowhere : ((place : ℕ) → IsPlace kind file offset place → ⊥) → place_in kind file offset ≡ None
+  unfolding place_in test
+  leads_nowhere none = missing test 0 (length file + 1) (λ k less. ap test (zero-add k) ∙ fails k (omega (arith, less)) (none k))
+
+  passing : (place : ℕ) → (count from : ℕ) → find test (range_with_len from count) ≡ Some place → (place < from + count) × (test place ≡ true)
+  passing place zero from is = cc
+  passing place (suc count) from is =
+      elim (test from) as (λ b. test from ≡ b → (place < from + suc count) × (test place ≡ true)) [
+        | true ↦ λ yes. let same : from ≡ place = cc (ap (λ b. if b then Some from else find test (range_with_len (from + 1) count)) (sym yes) ∙ is) in
+            (omega (arith, same), ap test (sym same) ∙ yes)
+        | false ↦ λ not. let rest = passing place count (from + 1) (ap (λ b. if b then Some from else find test (range_with_len (from + 1) count)) (sym not) ∙ is) in
+            (omega (arith, rest.0), rest.1)
+      ] refl
+
+  pub led : (place : ℕ) → place_in kind file offset ≡ Some place → IsPlace kind file offset place
+  unfolding place_in test
+  led place is = let both = passing place (length file + 1) 0 is in is_place place (omega (arith, both.0)) both.1
+
+pub offsets_lead : OffsetsLead
+offsets_lead kind octets offset place = (led kind octets offset place, leads kind octets offset place)
+
+-- ---- piece by piece
+
+-- the first octets of a file go as some of those that an offset counts, and what is left counts behind them
+abbrev pub IsLeft : Kind → List ℕ → ℕ → ℕ → ℕ → Type 0
+IsLeft kind file offset at left = length (wire_row kind (take at file)) + left ≡ offset
+
+behind : (kind : Kind) (file : List ℕ) (at k : ℕ) → length (wire_row kind (take (at + k) file)) ≡ length (wire_row kind (take at file)) + length (wire_row kind (take k (drop at file)))
+behind kind file at k = ap (λ l. length (wire_row kind l)) (take-add at k file) ∙ row_append kind (take at file) (take k (drop at file))
+
+-- a place behind is one of the file
+place_behind : (kind : Kind) (file : List ℕ) (offset at left k : ℕ) → at ≤ length file → IsLeft kind file offset at left → IsPlace kind (drop at file) left k
+    → IsPlace kind file offset (at + k)
+place_behind kind file offset at left k within so_far is = record {
+  within = omega (arith, within, is.within, length-drop at file);
+  goes = behind kind file at k ∙ omega (arith, is.goes, so_far);
+}
+
+-- and a place of the file is one behind
+place_ahead : (kind : Kind) (file : List ℕ) (offset at left place : ℕ) → at ≤ length file → IsLeft kind file offset at left → IsPlace kind file offset place
+    → (k : ℕ) × IsPlace kind (drop at file) left k
+place_ahead kind file offset at left place within so_far is =
+    elim (le_or_behind place at) [
+      | inl before ↦
+          let less = goes_up kind file place at before in
+          (0, record { within = omega arith; goes = omega (arith, less, so_far, is.goes) })
+      | inr (k, same) ↦
+          (k, record {
+            within = omega (arith, is.within, length-drop at file, same);
+            goes = omega (arith, so_far, is.goes, behind kind file at k, ap (λ p. length (wire_row kind (take p file))) same);
+          })
+    ]
+  where
+    le_or_behind : (p a : ℕ) → (p ≤ a) ⊎ ((k : ℕ) × (p ≡ a + k))
+    le_or_behind zero a = inl (omega arith)
+    le_or_behind (suc p) zero = inr (suc p, omega arith)
+    le_or_behind (suc p) (suc a) = elim (le_or_behind p a) [ inl h ↦ inl (omega (arith, h)) | inr f ↦ inr (f.0, omega (arith, f.1)) ]
+
+module _ (kind : Kind) (file piece : List ℕ) (offset at left : ℕ) (within : at ≤ length file) (so_far : IsLeft kind file offset at left)
+    (is : piece ≡ take (length piece) (drop at file)) where
+  whole : piece ++ drop (length piece) (drop at file) ≡ drop at file
+  whole = ap (λ p. p ++ drop (length piece) (drop at file)) is ∙ take-append-drop (length piece) (drop at file)
+
+  -- the piece has the place
+  pub in_piece : (place : ℕ) → Skips kind piece left (Within place) → place_in kind file offset ≡ Some (at + place)
+  in_piece place skips =
+      let P : List ℕ → Type 0 = λ rest. IsPlace kind rest left place in
+      leads kind file offset (at + place) (place_behind kind file offset at left place within so_far (subst P whole (within_stays kind piece (drop (length piece) (drop at file)) left place skips)))
+
+  pub piece_end : (place : ℕ) → Skips kind piece left (Within place) → at + place ≤ length file
+  piece_end place skips = omega (arith, skips.within, within, ap length is, length-take (length piece) (drop at file), length-drop at file)
+
+  -- the piece has an octet that is cut
+  pub in_octet : Skips kind piece left Inside → place_in kind file offset ≡ None
+  in_octet skips =
+      let P : List ℕ → Type 0 = λ rest. Skips kind rest left Inside in
+      let inside = subst P whole (inside_stays kind piece (drop (length piece) (drop at file)) left skips) in
+      leads_nowhere kind file offset (λ place other. let ahead = place_ahead kind file offset at left place within so_far other in inside.1 ahead.0 ahead.1)
+
+  -- the piece goes whole
+  pub past_piece : (more : ℕ) → Skips kind piece left (Left more) → IsLeft kind file offset (at + length piece) more
+  past_piece more skips = omega (arith, so_far, skips.1, behind kind file at (length piece), ap (λ l. length (wire_row kind l)) is)
+
+-- all pieces have gone
+pub at_end : (kind : Kind) (file : List ℕ) (offset at left : ℕ) → at ≡ length file → IsLeft kind file offset at left → left ≡ 0
+    → place_in kind file offset ≡ Some at
+at_end kind file offset at left end so_far none =
+    leads kind file offset at (record { within = omega (arith, end); goes = omega (arith, so_far, none) })
+
+pub past_end : (kind : Kind) (file : List ℕ) (offset at left : ℕ) → at ≡ length file → IsLeft kind file offset at left → left ≢ 0
+    → place_in kind file offset ≡ None
+past_end kind file offset at left end so_far some =
+    leads_nowhere kind file offset (λ place other. some (omega (arith, other.goes, so_far, goes_up kind file place at (omega (arith, other.within, end)))))

@@ -238,6 +238,10 @@ start_known table root found known is dir = ap (standing table root []) dir ∙ 
 pub start_unknown : (table : Table) (root : Names) (found : Option Names) → root ≡ [] → None ≡ found → standing table root [] false ≡ start table found
 start_unknown table root found top none = ap (λ root. standing table root [] false) top ∙ ap (start table) none
 
+pub start_table : (table : Table) (found : Option Names) → (start table found).table ≡ table
+start_table table None = refl
+start_table table (Some root) = refl
+
 -- ---- a tree whose device never fails
 
 pub steady_all : {A B E : Type 0} (result : Result (Vec (Answer A) B) E) (old : State) (list : List (Op (List ℕ) × Moment)) (table : Table) → length list < 2 ^ 64

@@ -1,7 +1,7 @@
 -- The operations of a user, run directly on a map from paths to files and directories: the answer and the change of each, and a
 -- list of them in order. This is what a session of client and server is measured against; no command, reply or connection
 -- stands in it (RFC 959, section 4.1; RFC 3659). Each row is said of the part of the map that the user's account sees.
-use Rattle.std.specs.Prelude.{ℕ, ◌+◌, ◌==◌, ◌&&◌, ◌||◌, Bool, true, false, not, nat_le, nat_eq, codes, List, [], ◌∷◌, ◌++◌, length, take, drop, Option, Some, None, if◌then◌else◌}
+use Rattle.std.specs.Prelude.{ℕ, ◌+◌, ◌==◌, ◌&&◌, ◌||◌, Bool, true, false, not, nat_eq, codes, List, [], ◌∷◌, ◌++◌, length, take, drop, Option, Some, None, if◌then◌else◌}
 use Rattle.std.specs.Option.{is_some, option_map, option_or, unwrap_or}
 use Rattle.std.specs.List.{filter_map, find, ends_with, range_with_len}
 use Rattle.ftp_path.specs.Path.{parent, fits, resolved, text_of, Names, is_within}

@@ -1,5 +1,5 @@
 // Operations that get a file's octets, or ask for its moment.
-ghost use Rattle.std.specs.Prelude.{◌≡◌, ◌≤◌, IsTrue, IfOk, MatchOption, None, Some, drop, length, take};
+ghost use Rattle.std.specs.Prelude.{◌≡◌, ◌≤◌, IsTrue, IfOk, MatchOption, None, Some, drop, length, min, take};
 ghost use Rattle.ftp_path.specs.Path.{resolved};
 ghost use Rattle.ftp_tree.specs.Tree.{octets_or_none, under};
 ghost use Rattle.ftp_operation.specs.Answer.{Octets, said_of};
@@ -14,7 +14,6 @@ use ftp_facts::Text;
 use ftp_operation::{Answer, How, Op};
 use ftp_tree::{Path, Tree};
 use std::alloc::{AllocError, Allocator};
-use std::cmp;
 
 /// Gets a file's octets.
 pub(crate) fn get<A: Allocator + Clone, T: Tree<A>>(
@@ -75,7 +74,7 @@ pub(crate) fn peek<A: Allocator + Clone, T: Tree<A>>(
     let Some(path) = find_file(alloc, tree, root, cwd, text)? else {
         return Ok(tell(Refusal::Unavailable));
     };
-    let end = cmp::min(count, len_at(tree, root, &path));
+    let end = lesser(count, len_at(tree, root, &path));
     say_octets(alloc, tree, root, &path, 0, end)
 }
 
@@ -137,7 +136,6 @@ fn say_octets<A: Allocator + Clone, T: Tree<A>>(
 }
 
 /// The octets of the file at a path from a place on up to another.
-#[tactic(auto, using(crate::proofs::PieceLemmas::read_more))]
 fn read<A: Allocator, T: Tree<A>>(
     alloc: A,
     tree: &T,
@@ -152,10 +150,17 @@ fn read<A: Allocator, T: Tree<A>>(
     let mut octets = Vec::new(alloc);
     let mut at = from;
     while at < end {
-        let most = cmp::min(PIECE as u64, end - at) as usize;
+        let most = lesser(PIECE as u64, end - at) as usize;
         let piece = tree.piece(root, path, at, most);
         octets.extend_from_slice(piece)?;
         at += piece.len() as u64;
     }
     Ok(octets)
+}
+
+/// The lesser of two counts.
+fn lesser(one: u64, other: u64) -> u64
+    ensures { result ≡ min one other }
+{
+    if one < other { one } else { other }
 }

@@ -1,4 +1,4 @@
-use Rattle.std.proofs.Common.{◌≡◌, ◌∙◌, ap, sym, subst, List, ℕ, true, false, IfOk, MatchOption, ◌∷◌, [], ◌==◌, length}
+use Rattle.std.proofs.Common.{◌≡◌, ◌∙◌, ap, sym, subst, true, false, IfOk, MatchOption, ◌==◌, length}
 use Rattle.ftp_path.specs.Path.{fits, is_path_text, resolved, Names}
 use Rattle.ftp_direct.specs.Direct.{place}
 use Rattle.ftp_path.proofs.TextLemmas.{dot-text}

@@ -1,4 +1,3 @@
-use Rattle.std.proofs.lemmas.Bool.{and_parts}
 use Rattle.ftp_path.proofs.TextLemmas.{dots-text}
 use Rattle.ftp_direct.proofs.places.go_up.Goals as goal
 

@@ -1,4 +1,4 @@
-use Rattle.std.proofs.Common.{◌≡◌, ◌≤◌, ◌++◌, ◌-◌, drop, take}
+use Rattle.std.proofs.Common.{◌≡◌, ◌++◌, ◌-◌, drop, take}
 use Rattle.ftp_tree.specs.Tree.{octets_or_none, under}
 use Rattle.ftp_direct.proofs.reading.read.Given as goal
 

@@ -1,0 +1,35 @@
+use Rattle.std.proofs.Common.{refl, subst, [], take, IfOk, IfErr, List, ℕ}
+use Rattle.std.specs.Prelude.{map}
+use Rattle.ftp_operation.specs.Answer.{Said, said_of}
+use Rattle.ftp_operation.specs.Account.{login_root}
+use Rattle.ftp_direct.specs.Direct.{State, start}
+use Rattle.ftp_direct.specs.Run.{Ran, orders_of}
+use Rattle.ftp_direct.proofs.RunLemmas.{begun, runs_none, start_known, start_table, start_unknown}
+use Rattle.ftp_direct.proofs.direct_run.direct.Goals as goal
+
+pub returns-in_err-clone-clause-begun : goal.returns-in_err-clone-clause-begun
+returns-in_err-clone-clause-begun g c =
+    let table = g.T.Tree.table c.args.tree.now in
+    let found = login_root c.args.accounts.now c.args.login.now.user c.args.login.now.pass in
+    let old = start table found in
+    begun c.from_residual.result _ _ _ old old c.args.list.now 0 [] table (runs_none _ old) refl (start_table table found)
+
+pub returns-in-Some-clause-answers : goal.returns-in-Some-clause-answers
+returns-in-Some-clause-answers g c =
+    let P : State → Type 0 = λ state. IfOk c.run.result (λ answers. Ran (g.T.Tree.failures c.args.tree.now) state (orders_of c.args.list.now) (map said_of answers.items) (g.T.Tree.failures c.run.new.tree) (g.T.Tree.table c.run.new.tree)) in
+    subst P (start_known _ _ _ _ c.in-Some.ensures c.is_dir-known.ensures) c.run.ensures.answers
+
+pub returns-in-Some-clause-begun : goal.returns-in-Some-clause-begun
+returns-in-Some-clause-begun g c =
+    let P : State → Type 0 = λ state. IfErr c.run.result (λ _. (count : ℕ) × (said : List Said) × Ran (g.T.Tree.failures c.args.tree.now) state (take count (orders_of c.args.list.now)) said (g.T.Tree.failures c.run.new.tree) (g.T.Tree.table c.run.new.tree)) in
+    subst P (start_known _ _ _ _ c.in-Some.ensures c.is_dir-known.ensures) c.run.ensures.begun
+
+pub returns-clause-answers : goal.returns-clause-answers
+returns-clause-answers g c =
+    let P : State → Type 0 = λ state. IfOk c.run-in-None.result (λ answers. Ran (g.T.Tree.failures c.args.tree.now) state (orders_of c.args.list.now) (map said_of answers.items) (g.T.Tree.failures c.run-in-None.new.tree) (g.T.Tree.table c.run-in-None.new.tree)) in
+    subst P (start_unknown _ _ _ c.root-top.ensures c.in-None.ensures) c.run-in-None.ensures.answers
+
+pub returns-clause-begun : goal.returns-clause-begun
+returns-clause-begun g c =
+    let P : State → Type 0 = λ state. IfErr c.run-in-None.result (λ _. (count : ℕ) × (said : List Said) × Ran (g.T.Tree.failures c.args.tree.now) state (take count (orders_of c.args.list.now)) said (g.T.Tree.failures c.run-in-None.new.tree) (g.T.Tree.table c.run-in-None.new.tree)) in
+    subst P (start_unknown _ _ _ c.root-top.ensures c.in-None.ensures) c.run-in-None.ensures.begun
