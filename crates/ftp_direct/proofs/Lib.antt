@@ -1,3 +1,5 @@
+pub mod BelowLemmas
+pub mod FaultLemmas
 pub mod ListingLemmas
 pub mod NodeLemmas
 pub mod PieceLemmas

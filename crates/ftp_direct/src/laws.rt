@@ -5,7 +5,8 @@ ghost use Rattle.ftp_operation.specs.declared.op.Op.{Op};
 ghost use Rattle.ftp_operation.specs.Answer.{Said, said_of};
 ghost use Rattle.ftp_tree.specs.Tree.{Table};
 ghost use Rattle.ftp_direct.specs.Direct.{State, answers, start};
-ghost use Rattle.ftp_direct.specs.Run.{Ran, orders_of};
+ghost use Rattle.ftp_direct.specs.Run.{Ran, faults_told, moved_on, orders_of};
+ghost use Rattle.ftp_direct.specs.Laws.{OffsetsLead, PartsAreApart};
 
 use crate::direct_run::direct;
 use ftp_facts::{Moment, Text};
@@ -18,6 +19,24 @@ use std::alloc::{AllocError, Allocator};
 pub fn steady_run()
     ensures { (count : ℕ) (old : State) (orders : List (Op (List ℕ) × ℕ)) (said : List Said) (table : Table) → length orders < 2 ^ 64 → Ran count old orders said count table →
         (said ≡ (answers old orders).0) × (table ≡ (answers old orders).1.table) }
+{}
+
+/// The answers of a run tell each failure of the device, and nothing else is told so: the count of failures has moved on by as many as
+/// answers tell one.
+pub fn failures_are_told()
+    ensures { (before : ℕ) (old : State) (orders : List (Op (List ℕ) × ℕ)) (said : List Said) (after : ℕ) (table : Table) → Ran before old orders said after table →
+        after ≡ moved_on (faults_told said) before }
+{}
+
+/// Operations below an account's root say what they say on the part of the map at and below it, as a map of its own, and leave the map with
+/// what they leave of that part put in its place. So `..` never leads past the root, and nothing elsewhere is seen or changed.
+pub fn parts_are_apart()
+    ensures { PartsAreApart }
+{}
+
+/// An offset leads to a place of a file just where the first octets up to there go as so many; there is one at most.
+pub fn offsets_lead()
+    ensures { OffsetsLead }
 {}
 
 /// `direct` on a tree in memory, whose device never fails: what the operations do on a map, one after another, or a beginning of

@@ -17,5 +17,5 @@ pub use direct_run::direct;
 pub use ftp_operation::{
     Account, Accounts, AccountsFault, Answer, How, Login, Op, RefusedAccounts,
 };
-pub use laws::{direct_in_memory, steady_run};
+pub use laws::{direct_in_memory, failures_are_told, offsets_lead, parts_are_apart, steady_run};
 pub use refusal::Refusal;
