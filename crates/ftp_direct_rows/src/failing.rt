@@ -58,76 +58,105 @@ impl<A: Allocator + Copy> Tree<A> for FailingTree<A> {
 
     ghost failures = { λ tree. tree.failures };
 
-    fn kind<B: Allocator>(&self, path: &Path<B>) -> Option<NodeKind> {
-        self.tree.kind(path)
+    fn kind<B: Allocator, C: Allocator>(&self, root: &Path<B>, path: &Path<C>) -> Option<NodeKind> {
+        self.tree.kind(root, path)
     }
 
-    fn size<B: Allocator>(&self, path: &Path<B>) -> Option<u64> {
-        self.tree.size(path)
+    fn size<B: Allocator, C: Allocator>(&self, root: &Path<B>, path: &Path<C>) -> Option<u64> {
+        self.tree.size(root, path)
     }
 
-    fn stamp<B: Allocator>(&self, path: &Path<B>) -> Option<Moment> {
-        self.tree.stamp(path)
+    fn stamp<B: Allocator, C: Allocator>(&self, root: &Path<B>, path: &Path<C>) -> Option<Moment> {
+        self.tree.stamp(root, path)
     }
 
-    fn piece<B: Allocator>(&self, path: &Path<B>, at: u64, max: usize) -> &[u8] {
-        self.tree.piece(path, at, max)
+    fn piece<B: Allocator, C: Allocator>(
+        &self,
+        root: &Path<B>,
+        path: &Path<C>,
+        at: u64,
+        max: usize,
+    ) -> &[u8] {
+        self.tree.piece(root, path, at, max)
     }
 
-    fn nth_name<B: Allocator>(&self, path: &Path<B>, place: usize) -> Option<Name<'_>> {
-        self.tree.nth_name(path, place)
+    fn nth_name<B: Allocator, C: Allocator>(
+        &self,
+        root: &Path<B>,
+        path: &Path<C>,
+        place: usize,
+    ) -> Option<Name<'_>> {
+        self.tree.nth_name(root, path, place)
     }
 
-    fn room<B: Allocator>(&self, path: &Path<B>) -> Result<u64, TreeFault> {
-        self.tree.room(path)
+    fn room<B: Allocator, C: Allocator>(
+        &self,
+        root: &Path<B>,
+        path: &Path<C>,
+    ) -> Result<u64, TreeFault> {
+        self.tree.room(root, path)
     }
 
     fn device_failures(&self) -> u64 {
         self.failures
     }
 
-    fn make_dir<B: Allocator>(&mut self, path: &Path<B>) -> Result<(), TreeFault> {
-        if self.tree.make_refusal(path).is_none() && self.fails() {
-            return Err(TreeFault::Device);
-        }
-        self.tree.make_dir(path)
-    }
-
-    fn remove_dir<B: Allocator>(&mut self, path: &Path<B>) -> Result<(), TreeFault> {
-        if self.tree.remove_refusal(path).is_none() && self.fails() {
-            return Err(TreeFault::Device);
-        }
-        self.tree.remove_dir(path)
-    }
-
-    fn delete<B: Allocator>(&mut self, path: &Path<B>) -> Result<(), TreeFault> {
-        if self.tree.delete_refusal(path).is_none() && self.fails() {
-            return Err(TreeFault::Device);
-        }
-        self.tree.delete(path)
-    }
-
-    fn rename<B: Allocator, C: Allocator>(
+    fn make_dir<B: Allocator, C: Allocator>(
         &mut self,
-        from: &Path<B>,
-        to: &Path<C>,
+        root: &Path<B>,
+        path: &Path<C>,
     ) -> Result<(), TreeFault> {
-        if self.tree.rename_refusal(from, to).is_none() && self.fails() {
+        if self.tree.make_refusal(root, path).is_none() && self.fails() {
             return Err(TreeFault::Device);
         }
-        self.tree.rename(from, to)
+        self.tree.make_dir(root, path)
     }
 
-    fn install<B: Allocator>(
+    fn remove_dir<B: Allocator, C: Allocator>(
         &mut self,
-        path: &Path<B>,
+        root: &Path<B>,
+        path: &Path<C>,
+    ) -> Result<(), TreeFault> {
+        if self.tree.remove_refusal(root, path).is_none() && self.fails() {
+            return Err(TreeFault::Device);
+        }
+        self.tree.remove_dir(root, path)
+    }
+
+    fn delete<B: Allocator, C: Allocator>(
+        &mut self,
+        root: &Path<B>,
+        path: &Path<C>,
+    ) -> Result<(), TreeFault> {
+        if self.tree.delete_refusal(root, path).is_none() && self.fails() {
+            return Err(TreeFault::Device);
+        }
+        self.tree.delete(root, path)
+    }
+
+    fn rename<B: Allocator, C: Allocator, D: Allocator>(
+        &mut self,
+        root: &Path<B>,
+        from: &Path<C>,
+        to: &Path<D>,
+    ) -> Result<(), TreeFault> {
+        if self.tree.rename_refusal(root, from, to).is_none() && self.fails() {
+            return Err(TreeFault::Device);
+        }
+        self.tree.rename(root, from, to)
+    }
+
+    fn install<B: Allocator, C: Allocator>(
+        &mut self,
+        root: &Path<B>,
+        path: &Path<C>,
         content: &mut Content<A>,
         moment: Moment,
     ) -> Result<(), TreeFault> {
-        let refusal = self.tree.install_refusal(path, content.len());
+        let refusal = self.tree.install_refusal(root, path, content.len());
         if refusal.is_none() && self.fails() {
             return Err(TreeFault::Device);
         }
-        self.tree.install(path, content, moment)
+        self.tree.install(root, path, content, moment)
     }
 }

@@ -1,5 +1,5 @@
 //! Operations on a tree whose device fails once: the operation is refused by 451, and the later ones find the map as it was.
-use super::rows::{IMAGE, Row, answers_on};
+use super::rows::{GUEST, IMAGE, Row, answers_on};
 use crate::FailingTree;
 use ftp_direct::Op;
 use ftp_tree::Tree;
@@ -102,7 +102,7 @@ const FAILING: &'static [(u64, &'static [Row])] = &[
 /// Whether the operations answer as their rows on a tree whose device fails at that change, and its count wrapped to 0.
 fn fails_as_said(alloc: Global, change: u64, rows: &[Row]) -> Result<bool, Fail> {
     let mut tree = FailingTree::new(alloc, change);
-    let other = answers_on(alloc, &mut tree, b"guest", b"secret", rows)?;
+    let other = answers_on(alloc, &mut tree, GUEST, rows)?;
     Ok(other.is_none() && tree.device_failures() == 0)
 }
 

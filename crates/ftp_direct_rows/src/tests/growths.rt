@@ -1,5 +1,5 @@
 //! Each growth that `direct` asks for is refused in turn.
-use super::rows::{IMAGE, Row, first_other, run};
+use super::rows::{GUEST, IMAGE, Row, first_other, run};
 use ftp_direct::Op;
 use ftp_refusing::Refusing;
 use ftp_tree::{MemTree, Path, Tree, is_path_text};
@@ -19,6 +19,7 @@ const LIST: &'static [Row] = &[
     (Op::PutFrom(b"f", 4, b"f", IMAGE), b"done"),
     (Op::Get(b"f", IMAGE), b"abcdf"),
     (Op::GetFrom(b"f", 1, IMAGE), b"bcdf"),
+    (Op::Peek(b"f", 2, IMAGE), b"ab"),
     (Op::Size(b"f", IMAGE), b"5"),
     (Op::Modified(b"f"), b"1005"),
     (
@@ -49,8 +50,9 @@ fn size(alloc: Global, tree: &MemTree<Heap<'_>>, text: &[u8]) -> Result<Option<u
     if !is_path_text(text) {
         return Ok(None);
     }
-    let path = Path::root(alloc).resolve(alloc, text).ok().ok_or("path")?;
-    Ok(tree.size(&path))
+    let root = Path::root(alloc);
+    let path = root.resolve(alloc, text).ok().ok_or("path")?;
+    Ok(tree.size(&root, &path))
 }
 
 /// Whether the files are as some of the operations leave them.
@@ -67,7 +69,7 @@ fn is_as_due<'a>(
     refused: bool,
 ) -> Result<bool, Fail> {
     let mut tree = MemTree::new(heap);
-    match run(ample, heap, &mut tree, (b"guest", b"secret"), LIST)? {
+    match run(ample, heap, &mut tree, GUEST, LIST)? {
         Ok(answers) => Ok(!refused && first_other(alloc, answers.as_slice(), LIST)?.is_none()),
         Err(_) => Ok(refused && is_begun(alloc, &tree)?),
     }

@@ -1,5 +1,5 @@
 //! The limits of octets and of nodes, by single operations on one tree.
-use super::rows::{IMAGE, accounts, login, text};
+use super::rows::{IMAGE, WHOLE, accounts, login, text};
 use super::said::number_of;
 use ftp_direct::{Op, direct};
 use ftp_facts::{Moment, Text};
@@ -9,7 +9,7 @@ use std::test::Fail;
 
 /// The code that refuses an operation, or the number that it answers; 0 for any other answer.
 fn code_of(alloc: Global, tree: &mut MemTree<Global>, op: Op<Text<Global>>) -> Result<u64, Fail> {
-    let accounts = accounts(alloc)?.ok_or("accounts")?;
+    let accounts = accounts(alloc, WHOLE)?.ok_or("accounts")?;
     let login = login(alloc, b"anonymous", b"")?.ok_or("login")?;
     let moment = Moment::new(1000).ok_or("moment")?;
     let answers = direct(&alloc, tree, &accounts, &login, &[(op, moment)])?;

@@ -1,7 +1,8 @@
 //! Accounts and logins: which are made, and which are known.
-use super::rows::{accounts, login, text};
-use ftp_direct::{Account, Accounts};
+use super::rows::{WHOLE, accounts, login, path, text};
+use ftp_direct::{Account, Accounts, AccountsFault};
 use ftp_facts::Text;
+use ftp_tree::Path;
 use std::alloc::{AllocError, Global};
 use std::test::Fail;
 
@@ -25,12 +26,12 @@ fn is_as_expected(
     known: bool,
 ) -> Result<bool, Fail> {
     let login = login(alloc, user, pass)?.ok_or("login")?;
-    Ok(login.user() == user && login.pass() == pass && accounts.is_known(&login) == known)
+    Ok(login.user() == user && login.pass() == pass && accounts.login_root(&login).is_some() == known)
 }
 
 #[test]
 fn a_login_is_known_by_its_password(rt: HostRuntime) -> Result<(), Fail> {
-    let accounts = accounts(rt.alloc())?.ok_or("accounts")?;
+    let accounts = accounts(rt.alloc(), WHOLE)?.ok_or("accounts")?;
     for (user, pass, known) in LOGINS {
         assert!(&rt; is_as_expected(rt.alloc(), &accounts, *user, *pass, *known)?);
     }
@@ -59,48 +60,61 @@ fn a_login_is_within_its_limits(rt: HostRuntime) -> Result<(), Fail> {
     Ok(())
 }
 
-/// Accounts without passwords, but for the one between.
-fn three(
-    alloc: Global,
-    first: &[u8],
-    last: &[u8],
-) -> Result<Vec<Account<Text<Global>>>, AllocError> {
+/// A list of accounts with texts of their own.
+type List = Vec<Account<Text<Global>, Path<Global>>, Global>;
+
+/// An account: its user name, whether it needs a password, and its root.
+type Row = (&'static [u8], bool, &'static [u8]);
+
+fn list_of(alloc: Global, rows: &[Row]) -> Result<List, AllocError> {
     let mut list = Vec::new(alloc);
-    list.push(Account {
-        user: text(alloc, first)?,
-        pass: None,
-    })?;
-    list.push(Account {
-        user: text(alloc, b"between")?,
-        pass: Some(text(alloc, b"")?),
-    })?;
-    list.push(Account {
-        user: text(alloc, last)?,
-        pass: None,
-    })?;
+    for (user, locked, root) in rows {
+        list.push(Account {
+            user: text(alloc, *user)?,
+            pass: if *locked { Some(text(alloc, b"")?) } else { None },
+            root: path(alloc, *root)?,
+        })?;
+    }
     Ok(list)
 }
 
-/// How many accounts are handed back.
-fn handed_back(list: Vec<Account<Text<Global>>>) -> usize {
+/// Why accounts are refused, and how many are handed back.
+fn refused(list: List) -> Option<(AccountsFault, usize)> {
     match Accounts::new(list) {
-        Ok(_accounts) => 0,
-        Err(same) => same.list.len(),
+        Ok(_accounts) => None,
+        Err(refused) => Some((refused.fault, refused.list.len())),
     }
 }
 
-/// The first and the last user name, and how many accounts are handed back.
-const NAMES: &'static [(&'static [u8], &'static [u8], usize)] = &[
-    (b"a", b"b", 0),
-    (b"a", b"a", 3),
-    (b"between", b"b", 3),
+/// Accounts, and why they are refused.
+const LISTS: &'static [(&'static [Row], Option<AccountsFault>)] = &[
+    (&[], None),
+    (&[(b"a", false, b"/"), (b"between", true, b"/"), (b"b", false, b"/")], None),
+    (
+        &[(b"a", false, b"/"), (b"between", true, b"/"), (b"a", false, b"/")],
+        Some(AccountsFault::SameUser),
+    ),
+    (&[(b"a", false, b"/guest"), (b"b", false, b"/pub")], None),
+    (&[(b"a", false, b"/pub"), (b"b", false, b"/public")], None),
+    (
+        &[(b"a", false, b"/pub"), (b"b", false, b"/pub/in")],
+        Some(AccountsFault::NestedRoots),
+    ),
+    (
+        &[(b"a", false, b"/pub"), (b"b", false, b"/guest"), (b"c", false, b"/")],
+        Some(AccountsFault::NestedRoots),
+    ),
+    (
+        &[(b"a", false, b"/pub"), (b"a", false, b"/")],
+        Some(AccountsFault::SameUser),
+    ),
 ];
 
 #[test]
-fn no_user_name_stands_twice(rt: HostRuntime) -> Result<(), Fail> {
-    for (first, last, count) in NAMES {
-        assert!(&rt; handed_back(three(rt.alloc(), *first, *last)?) == *count);
+fn accounts_have_names_and_roots_of_their_own(rt: HostRuntime) -> Result<(), Fail> {
+    for (rows, fault) in LISTS {
+        let expected = fault.map(|fault| (fault, rows.len()));
+        assert!(&rt; refused(list_of(rt.alloc(), *rows)?) == expected);
     }
-    assert!(&rt; handed_back(Vec::new(rt.alloc())) == 0);
     Ok(())
 }

@@ -1,9 +1,9 @@
-use super::rows::{IMAGE, Row, answers};
+use super::rows::{ANONYMOUS, GUEST, IMAGE, Row, User, WHOLE, answers};
 use ftp_direct::{How, Op};
 use ftp_representation::{Kind, Mode, Representation, Structure};
 use std::test::Fail;
 
-const ASCII: How = How {
+pub(crate) const ASCII: How = How {
     representation: Representation {
         kind: Kind::Ascii,
         structure: Structure::File,
@@ -14,7 +14,7 @@ const ASCII: How = How {
     extended: false,
 };
 
-const RECORDS: How = How {
+pub(crate) const RECORDS: How = How {
     representation: Representation {
         kind: Kind::Image,
         structure: Structure::Record,
@@ -53,7 +53,7 @@ const DIRECTORIES: &'static [Row] = &[
 #[test]
 fn directories_answer_as_their_rows(rt: HostRuntime) -> Result<(), Fail> {
     assert_eq!(&rt;
-        answers(rt.alloc(), b"guest", b"secret", DIRECTORIES)?,
+        answers(rt.alloc(), GUEST, DIRECTORIES)?,
         None
     );
     Ok(())
@@ -66,14 +66,17 @@ const FILES: &'static [Row] = &[
     (Op::GetFrom(b"f", 5, IMAGE), b"56789"),
     (Op::GetFrom(b"f", 10, IMAGE), b""),
     (Op::GetFrom(b"f", 11, IMAGE), b"550"),
-    (Op::GetFrom(b"f", 1, ASCII), b"504"),
+    (Op::GetFrom(b"f", 1, ASCII), b"123456789"),
+    (Op::GetFrom(b"f", 1, RECORDS), b"504"),
     (Op::GetFrom(b"no", 1, RECORDS), b"504"),
+    (Op::GetFrom(b"f", 0, RECORDS), b"0123456789"),
     (Op::GetFrom(b"f", 0, ASCII), b"0123456789"),
     (Op::PutFrom(b"f", 11, b"x", IMAGE), b"553"),
     (Op::PutFrom(b"f", 10, b"ab", IMAGE), b"done"),
     (Op::PutFrom(b"f", 3, b"x", IMAGE), b"done"),
     (Op::Get(b"f", ASCII), b"012x"),
-    (Op::PutFrom(b"/no/f", 1, b"x", ASCII), b"504"),
+    (Op::PutFrom(b"/no/f", 1, b"x", ASCII), b"553"),
+    (Op::PutFrom(b"/no/f", 1, b"x", RECORDS), b"504"),
     (Op::PutFrom(b"new", 1, b"x", IMAGE), b"553"),
     (Op::Append(b"f", b"yz", ASCII), b"done"),
     (Op::Get(b"f", IMAGE), b"012xyz"),
@@ -88,7 +91,23 @@ const FILES: &'static [Row] = &[
 
 #[test]
 fn files_answer_as_their_rows(rt: HostRuntime) -> Result<(), Fail> {
-    assert_eq!(&rt; answers(rt.alloc(), b"anonymous", b"", FILES)?, None);
+    assert_eq!(&rt; answers(rt.alloc(), ANONYMOUS, FILES)?, None);
+    Ok(())
+}
+
+const FRONTS: &'static [Row] = &[
+    (Op::Peek(b"f", 3, IMAGE), b"550"),
+    (Op::Put(b"f", b"0123456789", IMAGE), b"done"),
+    (Op::Peek(b"f", 0, IMAGE), b""),
+    (Op::Peek(b"f", 3, IMAGE), b"012"),
+    (Op::Peek(b"f", 10, ASCII), b"0123456789"),
+    (Op::Peek(b"f", 99, RECORDS), b"0123456789"),
+    (Op::Peek(b"/", 3, IMAGE), b"550"),
+];
+
+#[test]
+fn first_octets_are_had(rt: HostRuntime) -> Result<(), Fail> {
+    assert_eq!(&rt; answers(rt.alloc(), GUEST, FRONTS)?, None);
     Ok(())
 }
 
@@ -119,7 +138,7 @@ const LISTINGS: &'static [Row] = &[
 
 #[test]
 fn listings_answer_as_their_rows(rt: HostRuntime) -> Result<(), Fail> {
-    assert_eq!(&rt; answers(rt.alloc(), b"guest", b"secret", LISTINGS)?, None);
+    assert_eq!(&rt; answers(rt.alloc(), GUEST, LISTINGS)?, None);
     Ok(())
 }
 
@@ -133,13 +152,18 @@ const UNSENT: &'static [Row] = &[
     (Op::Delete(b"a\nb"), b"bad"),
     (Op::GetFrom(b"f", 1, ASCII), b"530"),
     (Op::GetFrom(b"f", 1_000_000_000_000_000_000, ASCII), b"bad"),
+    (Op::Peek(b"f", 1_000_000_000_000_000_000, ASCII), b"bad"),
     (Op::Facts(b""), b"530"),
 ];
 
+const WRONG: User = (b"guest", b"wrong", WHOLE);
+
+const NOBODY: User = (b"nobody", b"secret", WHOLE);
+
 #[test]
 fn what_cannot_be_sent_is_told_before_the_login(rt: HostRuntime) -> Result<(), Fail> {
-    assert_eq!(&rt; answers(rt.alloc(), b"guest", b"wrong", UNSENT)?, None);
-    assert_eq!(&rt; answers(rt.alloc(), b"nobody", b"secret", UNSENT)?, None);
+    assert_eq!(&rt; answers(rt.alloc(), WRONG, UNSENT)?, None);
+    assert_eq!(&rt; answers(rt.alloc(), NOBODY, UNSENT)?, None);
     Ok(())
 }
 
@@ -161,6 +185,6 @@ const LONG_NAMES: &'static [Row] = &[
 
 #[test]
 fn a_component_of_256_octets_acts_as_absent(rt: HostRuntime) -> Result<(), Fail> {
-    assert_eq!(&rt; answers(rt.alloc(), b"guest", b"secret", LONG_NAMES)?, None);
+    assert_eq!(&rt; answers(rt.alloc(), GUEST, LONG_NAMES)?, None);
     Ok(())
 }

@@ -3,7 +3,7 @@ use super::said::says;
 use ftp_direct::{Account, Accounts, Answer, How, Login, Op, direct};
 use ftp_facts::{Moment, Text};
 use ftp_representation::{Kind, Mode, Representation, Structure};
-use ftp_tree::{MemTree, Tree};
+use ftp_tree::{MemTree, Path, Tree, is_path_text};
 use std::alloc::{AllocError, Allocator, Global};
 use std::test::Fail;
 
@@ -35,6 +35,7 @@ fn texts(op: &Op<&'static [u8]>) -> (&'static [u8], &'static [u8]) {
         | Op::Delete(path)
         | Op::Get(path, _)
         | Op::GetFrom(path, _, _)
+        | Op::Peek(path, _, _)
         | Op::Size(path, _)
         | Op::Modified(path)
         | Op::Facts(path)
@@ -68,6 +69,7 @@ pub(crate) fn owned<A: Allocator + Copy>(
         Op::PutFrom(_, offset, _, how) => Op::PutFrom(path, *offset, other, *how),
         Op::Get(_, how) => Op::Get(path, *how),
         Op::GetFrom(_, offset, how) => Op::GetFrom(path, *offset, *how),
+        Op::Peek(_, count, how) => Op::Peek(path, *count, *how),
         Op::Size(_, how) => Op::Size(path, *how),
         Op::Modified(_) => Op::Modified(path),
         Op::Facts(_) => Op::Facts(path),
@@ -76,16 +78,38 @@ pub(crate) fn owned<A: Allocator + Copy>(
     })
 }
 
-/// `guest` with the password `secret`, and `anonymous` without one.
-pub(crate) fn accounts<A: Allocator + Copy>(alloc: A) -> Result<Option<Accounts<A>>, AllocError> {
+/// The roots of `guest` and of `anonymous`.
+pub(crate) type Roots = (&'static [u8], &'static [u8]);
+
+/// Both accounts see the whole tree.
+pub(crate) const WHOLE: Roots = (b"/", b"/");
+
+/// The path that a text names from the top.
+pub(crate) fn path<A: Allocator + Copy>(alloc: A, text: &[u8]) -> Result<Path<A>, AllocError> {
+    if !is_path_text(text) {
+        return Err(AllocError);
+    }
+    match Path::root(alloc).resolve(alloc, text) {
+        Ok(path) => Ok(path),
+        Err(_) => Err(AllocError),
+    }
+}
+
+/// `guest` with the password `secret`, and `anonymous` without one, each with its root.
+pub(crate) fn accounts<A: Allocator + Copy>(
+    alloc: A,
+    roots: Roots,
+) -> Result<Option<Accounts<A>>, AllocError> {
     let mut list = Vec::new(alloc);
     list.push(Account {
         user: text(alloc, b"guest")?,
         pass: Some(text(alloc, b"secret")?),
+        root: path(alloc, roots.0)?,
     })?;
     list.push(Account {
         user: text(alloc, b"anonymous")?,
         pass: None,
+        root: path(alloc, roots.1)?,
     })?;
     Ok(Accounts::new(list).ok())
 }
@@ -132,39 +156,40 @@ pub(crate) fn first_other<A: Allocator>(
     }
 }
 
-/// What `direct` makes of the rows' operations, on a tree, by a user with a password; `ample` is for what it is called with.
+/// Who logs in: a user name and a password, and the roots of the two accounts.
+pub(crate) type User = (&'static [u8], &'static [u8], Roots);
+
+pub(crate) const GUEST: User = (b"guest", b"secret", WHOLE);
+
+pub(crate) const ANONYMOUS: User = (b"anonymous", b"", WHOLE);
+
+/// What `direct` makes of the rows' operations, on a tree, by a user; `ample` is for what it is called with.
 pub(crate) fn run<A: Allocator + Copy, T: Tree<A>>(
     ample: A,
     alloc: A,
     tree: &mut T,
-    user: (&[u8], &[u8]),
+    user: User,
     rows: &[Row],
 ) -> Result<Result<Vec<Answer<A>, A>, AllocError>, Fail> {
-    let accounts = accounts(ample)?.ok_or("accounts")?;
+    let accounts = accounts(ample, user.2)?.ok_or("accounts")?;
     let login = login(ample, user.0, user.1)?.ok_or("login")?;
     let list = list_of(ample, rows)?;
     Ok(direct(&alloc, tree, &accounts, &login, list.as_slice()))
 }
 
-/// The first row that is not answered as it says, on a tree, by a user with a password.
+/// The first row that is not answered as it says, on a tree, by a user.
 pub(crate) fn answers_on<T: Tree<Global>>(
     alloc: Global,
     tree: &mut T,
-    user: &[u8],
-    pass: &[u8],
+    user: User,
     rows: &[Row],
 ) -> Result<Option<usize>, Fail> {
-    let answers = run(alloc, alloc, tree, (user, pass), rows)??;
+    let answers = run(alloc, alloc, tree, user, rows)??;
     first_other(alloc, answers.as_slice(), rows)
 }
 
 /// The same on an empty tree in memory.
-pub(crate) fn answers(
-    alloc: Global,
-    user: &[u8],
-    pass: &[u8],
-    rows: &[Row],
-) -> Result<Option<usize>, Fail> {
+pub(crate) fn answers(alloc: Global, user: User, rows: &[Row]) -> Result<Option<usize>, Fail> {
     let mut tree = MemTree::new(alloc);
-    answers_on(alloc, &mut tree, user, pass, rows)
+    answers_on(alloc, &mut tree, user, rows)
 }

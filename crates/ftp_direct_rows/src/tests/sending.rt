@@ -40,6 +40,9 @@ const SENT: &'static [Row] = &[
     (Op::Rename(b"", b"b"), b"bad"),
     (Op::GetFrom(b"a", 999_999_999_999_999_999, IMAGE), b"sent"),
     (Op::GetFrom(b"a", 1_000_000_000_000_000_000, IMAGE), b"bad"),
+    (Op::Peek(b"a", 999_999_999_999_999_999, IMAGE), b"sent"),
+    (Op::Peek(b"a", 1_000_000_000_000_000_000, IMAGE), b"bad"),
+    (Op::Peek(b"", 1, IMAGE), b"bad"),
 ];
 
 /// Whether an operation can be sent.

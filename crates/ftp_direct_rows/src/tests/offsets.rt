@@ -1,0 +1,100 @@
+//! Offsets in type A count octets of the transfer: the file `61 0A 62 0D 63` has seven of them.
+use super::operations::{ASCII, RECORDS};
+use super::rows::{GUEST, IMAGE, Row, answers};
+use ftp_direct::{How, Op};
+use ftp_representation::{Kind, Mode, Representation, Structure};
+use std::alloc::Global;
+use std::test::Fail;
+
+const BLOCKS: How = How {
+    representation: Representation {
+        kind: Kind::Ascii,
+        structure: Structure::File,
+        mode: Mode::Block,
+    },
+    marks: false,
+    active: false,
+    extended: false,
+};
+
+const FILE: &'static [u8] = b"a\nb\rc";
+
+/// An offset, what is had from there on, and the file once `x` is put there, or none where it leads to no place.
+const PLACES: &'static [(u64, Option<(&'static [u8], &'static [u8])>)] = &[
+    (0, Some((b"a\nb\rc", b"x"))),
+    (1, Some((b"\nb\rc", b"ax"))),
+    (2, None),
+    (3, Some((b"b\rc", b"a\nx"))),
+    (4, Some((b"\rc", b"a\nbx"))),
+    (5, None),
+    (6, Some((b"c", b"a\nb\rx"))),
+    (7, Some((b"", b"a\nb\rcx"))),
+    (8, None),
+];
+
+/// Whether an offset leads to that place, in a representation.
+fn leads(
+    alloc: Global,
+    how: How,
+    offset: u64,
+    rest: &'static [u8],
+    whole: &'static [u8],
+) -> Result<bool, Fail> {
+    let rows: [Row; 4] = [
+        (Op::Put(b"f", FILE, how), b"done"),
+        (Op::GetFrom(b"f", offset, how), rest),
+        (Op::PutFrom(b"f", offset, b"x", how), b"done"),
+        (Op::Get(b"f", how), whole),
+    ];
+    Ok(answers(alloc, GUEST, rows.as_slice())?.is_none())
+}
+
+/// Whether an offset leads to no place, in a representation.
+fn leads_nowhere(alloc: Global, how: How, offset: u64) -> Result<bool, Fail> {
+    let rows: [Row; 4] = [
+        (Op::Put(b"f", FILE, how), b"done"),
+        (Op::GetFrom(b"f", offset, how), b"550"),
+        (Op::PutFrom(b"f", offset, b"x", how), b"553"),
+        (Op::Get(b"f", how), FILE),
+    ];
+    Ok(answers(alloc, GUEST, rows.as_slice())?.is_none())
+}
+
+/// Whether all offsets lead as the table says, in a representation.
+fn all_lead(alloc: Global, how: How) -> Result<bool, Fail> {
+    for (offset, place) in PLACES {
+        let as_said = match place {
+            Some((rest, whole)) => leads(alloc, how, *offset, *rest, *whole)?,
+            None => leads_nowhere(alloc, how, *offset)?,
+        };
+        if !as_said {
+            return Ok(false);
+        }
+    }
+    Ok(true)
+}
+
+#[test]
+fn offsets_in_type_a_lead_as_the_table_says(rt: HostRuntime) -> Result<(), Fail> {
+    assert!(&rt; all_lead(rt.alloc(), ASCII)?);
+    assert!(&rt; all_lead(rt.alloc(), BLOCKS)?);
+    Ok(())
+}
+
+const OTHERS: &'static [Row] = &[
+    (Op::Put(b"f", FILE, IMAGE), b"done"),
+    (Op::GetFrom(b"f", 2, IMAGE), b"b\rc"),
+    (Op::GetFrom(b"f", 5, IMAGE), b""),
+    (Op::GetFrom(b"f", 6, IMAGE), b"550"),
+    (Op::GetFrom(b"f", 3, RECORDS), b"504"),
+    (Op::PutFrom(b"f", 3, b"x", RECORDS), b"504"),
+    (Op::PutFrom(b"new", 0, b"x", ASCII), b"done"),
+    (Op::PutFrom(b"newer", 1, b"x", ASCII), b"553"),
+    (Op::GetFrom(b"no", 1, ASCII), b"550"),
+];
+
+#[test]
+fn other_offsets_are_as_before(rt: HostRuntime) -> Result<(), Fail> {
+    assert_eq!(&rt; answers(rt.alloc(), GUEST, OTHERS)?, None);
+    Ok(())
+}
