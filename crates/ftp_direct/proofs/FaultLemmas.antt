@@ -1,18 +1,16 @@
 -- No refusal by the map is told as a failure of the device, so the answers of a run tell how many there were.
-use Rattle.std.proofs.Common.{◌≡◌, ℕ, zero, suc, Bool, true, false, not, List, [], ◌∷◌, Option, Some, None, length, refl, ap, sym, ◌∙◌, if◌then◌else◌}
+use Rattle.std.proofs.Common.{◌≡◌, ℕ, suc, Bool, true, false, List, [], ◌∷◌, Option, Some, None, length, refl, ap, sym, ◌∙◌, if◌then◌else◌}
 use Rattle.std.specs.List.{filter}
-use Rattle.std.specs.Option.{option_map}
 use Rattle.ftp_tree.specs.Tree.{Table}
 use Rattle.ftp_tree.specs.declared.fault.TreeFault.{TreeFault}
 use Rattle.ftp_tree.specs.declared.fault.TreeFault.TheVariants as Faults
-use Rattle.ftp_operation.specs.declared.op.How.{How}
 use Rattle.ftp_operation.specs.declared.op.Op.{Op}
 use Rattle.ftp_operation.specs.declared.op.Op.TheVariants as Ops
 use Rattle.ftp_operation.specs.Answer.{Said, BadOperation, Refused}
 use Rattle.ftp_operation.specs.Operation.{can_be_sent}
 use Rattle.ftp_direct.specs.declared.refusal.Refusal.{Refusal}
 use Rattle.ftp_direct.specs.declared.refusal.Refusal.TheVariants.{LocalFault, NoRoom, BadArgument, BadParameter, NotLoggedIn, Unavailable, TooMuch, BadName}
-use Rattle.ftp_direct.specs.Refusal.{code_of, name_refusal, listing_refusal}
+use Rattle.ftp_direct.specs.Refusal.{code_of}
 use Rattle.ftp_direct.specs.Direct.{State, answer, chosen, done, first_refusal, refusal, refused_there, refused_name, refused_room, refused_octets, refused_listing, or_refused}
 use Rattle.ftp_direct.specs.Run.{Ran, Turn, answer_of, failures_of, faults_told, is_local_fault, moved_on, run}
 

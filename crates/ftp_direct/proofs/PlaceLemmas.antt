@@ -45,7 +45,7 @@ module _ (kind : Kind) (file : List ℕ) (offset : ℕ) where
   is_place place within is = record { within = within; goes = size_piece kind (take place file) ∙ (Decides-eqb (size_in kind (take place file)) offset).0 is }
 
   fails : (place : ℕ) → place ≤ length file → (IsPlace kind file offset place → ⊥) → test place ≡ false
-  fails place within none = elim (test place) as (λ b. test place ≡ b → b ≡ false) [ | true ↦ λ is. absurd (none (is_place place within is)) | false ↦ λ _. refl ] refl
+  fails place within none = elim (test place) as (λ b. test place ≡ b → b ≡ false) [ true ↦ λ is. absurd (none (is_place place within is)) | false ↦ λ _. refl ] refl
 
   -- it is the one place
   pub leads : (place : ℕ) → IsPlace kind file offset place → place_in kind file offset ≡ Some place
@@ -101,11 +101,13 @@ place_ahead kind file offset at left place within so_far is =
       | inl before ↦
           let less = goes_up kind file place at before in
           (0, record { within = omega arith; goes = omega (arith, less, so_far, is.goes) })
-      | inr (k, same) ↦
-          (k, record {
-            within = omega (arith, is.within, length-drop at file, same);
-            goes = omega (arith, so_far, is.goes, behind kind file at k, ap (λ p. length (wire_row kind (take p file))) same);
-          })
+      | inr (k, same) ↦ (
+        k,
+        record {
+          within = omega (arith, is.within, length-drop at file, same);
+          goes = omega (arith, so_far, is.goes, behind kind file at k, ap (λ p. length (wire_row kind (take p file))) same);
+        },
+      )
     ]
   where
     le_or_behind : (p a : ℕ) → (p ≤ a) ⊎ ((k : ℕ) × (p ≡ a + k))

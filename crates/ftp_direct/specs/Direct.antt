@@ -40,6 +40,7 @@ part state = under state.table state.root
 abbrev pub changed : State → Table → State
 changed state new = record state { table = with_part state.table state.root new }
 
+-- a directory stands there
 abbrev pub is_directory : Option Node → Bool
 is_directory None = false
 is_directory (Some Dir) = true
@@ -101,6 +102,7 @@ or_refused first second = option_or first second
 abbrev pub busy_refusal : State → Names → Option TreeFault
 busy_refusal state path = whenever (is_within path state.cwd) Faults.Busy
 
+-- nothing stands there
 abbrev pub absent_refusal : Option Node → Option TreeFault
 absent_refusal None = Some Faults.Absent
 absent_refusal (Some node) = None
@@ -136,6 +138,7 @@ skipped state path how offset = unwrap_or (place_at state path how offset) 0
 abbrev pub place_refusal : State → Names → How → ℕ → Option TreeFault
 place_refusal state path how offset = whenever (not (is_some (place_at state path how offset))) Faults.BadOffset
 
+-- a file goes as one row of octets, and not in records (RFC 959, section 3.1.2)
 abbrev pub is_in_files : Structure → Bool
 is_in_files Structures.File = true
 is_in_files Structures.Record = false
@@ -281,8 +284,10 @@ answers state (order ∷ orders) =
 
 -- ---- what is due to a user whose login is known
 
+-- the state of such a user
 abbrev pub here : Table → Names → Names → State
 here table root cwd = standing table root cwd true
 
+-- the answer that is due to an operation that can be sent, and the state after it
 abbrev pub due : State → Op (List ℕ) → ℕ → Said × State
 due state op moment = chosen (refusal state op) state (done state op moment)

@@ -40,7 +40,11 @@ pub(crate) fn file_fault<A: Allocator, T: Tree<A>>(
 
 /// Why nothing is had at a path.
 #[tactic(auto, using(crate::proofs::NodeLemmas::absent_kind))]
-pub(crate) fn absent_fault<A: Allocator, T: Tree<A>>(tree: &T, root: &Path<A>, path: &Path<A>) -> Option<TreeFault>
+pub(crate) fn absent_fault<A: Allocator, T: Tree<A>>(
+    tree: &T,
+    root: &Path<A>,
+    path: &Path<A>,
+) -> Option<TreeFault>
     ensures { result ≡ absent_refusal (node_at (under (T.table tree.now) root.now) path.now) }
 {
     match tree.kind(root, path) {

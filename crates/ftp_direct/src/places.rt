@@ -167,7 +167,12 @@ pub(crate) fn rename<A: Allocator + Clone, T: Tree<A>>(
 }
 
 /// Whether nothing can be moved from a path: nothing stands there, or it is in use.
-fn is_held<A: Allocator, T: Tree<A>>(tree: &T, root: &Path<A>, path: &Path<A>, cwd: &Path<A>) -> bool
+fn is_held<A: Allocator, T: Tree<A>>(
+    tree: &T,
+    root: &Path<A>,
+    path: &Path<A>,
+    cwd: &Path<A>,
+) -> bool
     ensures { is_some (or_else (source_refusal (under (T.table tree.now) root.now) path.now) (busy_refusal (here (T.table tree.now) root.now cwd.now) path.now)) ≡ result }
 {
     absent_fault(tree, root, path).is_some() || is_busy(path, cwd)

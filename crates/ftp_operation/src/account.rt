@@ -181,8 +181,7 @@ fn are_apart<A: Allocator>(list: &[Account<Text<A>, Path<A>>]) -> bool
 fn is_nested<A: Allocator>(list: &[Account<Text<A>, Path<A>>], root: &Path<A>) -> bool
     ensures { result ≡ list_any (has_nested root.now) list.now }
 {
-    list.iter()
-        .any(|account| is_below(root, &account.root) || is_below(&account.root, root))
+    list.iter().any(|account| is_below(root, &account.root) || is_below(&account.root, root))
 }
 
 /// Whether the second path is below the first, and not the first.

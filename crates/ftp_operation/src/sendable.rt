@@ -23,8 +23,9 @@ pub fn can_be_sent<A: Allocator>(op: &Op<Text<A>>) -> bool
         Op::Rename(from, to) => is_path_text(from.as_slice()) && is_path_text(to.as_slice()),
         Op::Put(path, _, _) | Op::Append(path, _, _) | Op::Get(path, _) | Op::Size(path, _) =>
             is_path_text(path.as_slice()),
-        Op::PutFrom(path, number, _, _) | Op::GetFrom(path, number, _) | Op::Peek(path, number, _) =>
-            is_path_text(path.as_slice()) && is_number(*number),
+        Op::PutFrom(path, number, _, _)
+        | Op::GetFrom(path, number, _)
+        | Op::Peek(path, number, _) => is_path_text(path.as_slice()) && is_number(*number),
         Op::Facts(path) | Op::List(path, _) => is_optional_text(path.as_slice()),
         Op::Names(path, _) => is_optional_text(path.as_slice()) && !is_option(path.as_slice()),
     }

@@ -26,7 +26,11 @@ fn is_as_expected(
     known: bool,
 ) -> Result<bool, Fail> {
     let login = login(alloc, user, pass)?.ok_or("login")?;
-    Ok(login.user() == user && login.pass() == pass && accounts.login_root(&login).is_some() == known)
+    Ok(
+        login.user() == user
+            && login.pass() == pass
+            && accounts.login_root(&login).is_some() == known,
+    )
 }
 
 #[test]
@@ -71,7 +75,11 @@ fn list_of(alloc: Global, rows: &[Row]) -> Result<List, AllocError> {
     for (user, locked, root) in rows {
         list.push(Account {
             user: text(alloc, *user)?,
-            pass: if *locked { Some(text(alloc, b"")?) } else { None },
+            pass: if *locked {
+                Some(text(alloc, b"")?)
+            } else {
+                None
+            },
             root: path(alloc, *root)?,
         })?;
     }
@@ -89,9 +97,20 @@ fn refused(list: List) -> Option<(AccountsFault, usize)> {
 /// Accounts, and why they are refused.
 const LISTS: &'static [(&'static [Row], Option<AccountsFault>)] = &[
     (&[], None),
-    (&[(b"a", false, b"/"), (b"between", true, b"/"), (b"b", false, b"/")], None),
     (
-        &[(b"a", false, b"/"), (b"between", true, b"/"), (b"a", false, b"/")],
+        &[
+            (b"a", false, b"/"),
+            (b"between", true, b"/"),
+            (b"b", false, b"/"),
+        ],
+        None,
+    ),
+    (
+        &[
+            (b"a", false, b"/"),
+            (b"between", true, b"/"),
+            (b"a", false, b"/"),
+        ],
         Some(AccountsFault::SameUser),
     ),
     (&[(b"a", false, b"/guest"), (b"b", false, b"/pub")], None),
@@ -101,7 +120,11 @@ const LISTS: &'static [(&'static [Row], Option<AccountsFault>)] = &[
         Some(AccountsFault::NestedRoots),
     ),
     (
-        &[(b"a", false, b"/pub"), (b"b", false, b"/guest"), (b"c", false, b"/")],
+        &[
+            (b"a", false, b"/pub"),
+            (b"b", false, b"/guest"),
+            (b"c", false, b"/"),
+        ],
         Some(AccountsFault::NestedRoots),
     ),
     (

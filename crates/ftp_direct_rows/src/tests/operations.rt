@@ -52,10 +52,7 @@ const DIRECTORIES: &'static [Row] = &[
 
 #[test]
 fn directories_answer_as_their_rows(rt: HostRuntime) -> Result<(), Fail> {
-    assert_eq!(&rt;
-        answers(rt.alloc(), GUEST, DIRECTORIES)?,
-        None
-    );
+    assert_eq!(&rt; answers(rt.alloc(), GUEST, DIRECTORIES)?, None);
     Ok(())
 }
 
