@@ -5,6 +5,12 @@ use Rattle.ftp_endpoint.specs.Written.{six_text}
 use Rattle.ftp_ends.specs.RowWords.{here}
 use Rattle.ftp_server_machine.specs.Rows.{at}
 
+pub of_0 : decimal 0 ≡ codes "0"
+of_0 = decimal_digit 0 (omega arith)
+
+pub of_2 : decimal 2 ≡ codes "2"
+of_2 = decimal_digit 2 (omega arith)
+
 pub of_3 : decimal 3 ≡ codes "3"
 of_3 = decimal_digit 3 (omega arith)
 

@@ -4,10 +4,14 @@ use Rattle.std.specs.Prelude.{if◌then◌else◌}
 use Rattle.std.proofs.lemmas.List.{length-drop}
 use Rattle.ftp_ends.specs.Link.{same_host}
 use Rattle.ftp_server_machine.specs.Calls.{connection_of, given_by, listening_turn, unheard, port_opens_for, opens, refuses, takes_given, ends, breaks, control_end, clock_step, control_step, listening_step, no_port_step, opened_step, refused_step, end_step, break_step, close_step, given_step}
-use Rattle.ftp_server_machine.specs.Endpoint.{is_standing}
+use Rattle.ftp_server_machine.specs.Endpoint.{is_standing, disconnected}
 use Rattle.ftp_server_machine.specs.Failing.{LineFails, WaitingFails, Late, InstallFails, ListingFails, install_lost, Ended, Given}
-use Rattle.ftp_server_machine.specs.Machine.{given_out, completed, obeyed, waited, later, is_idle, turned, faulted}
-use Rattle.ftp_server_machine.specs.View.{Transfer, View}
+use Rattle.ftp_server_machine.specs.Machine.{given_out, completed, obeyed, waited, later, is_idle, turned, concluded, faulted, Ending, is_over, put_in, installs, at_break, at_end}
+use Rattle.ftp_server_machine.specs.View.{Session, Transfer, View}
+use Rattle.ftp_path.specs.Path.{Names}
+use Rattle.ftp_ends.specs.Decoder.{Decoder, broken, ended, is_whole}
+use Rattle.ftp_server_machine.specs.declared.reply.Text.{Text}
+use Rattle.ftp_server_machine.specs.declared.reply.Text.TheVariants as Texts
 use Rattle.ftp_server_machine.specs.Bounds.{lines_left, stages_left, to_begin, Lowers, ServerLowers}
 use Rattle.ftp_server_machine.specs.declared.heard.Heard.{Heard}
 use Rattle.ftp_server_machine.specs.declared.heard.Heard.TheVariants.{TooLong, Bad, Asks}
@@ -191,9 +195,44 @@ refuses_lowers (Data.Asked asked) v is = same v
 refuses_lowers Data.Ready v is = same v
 refuses_lowers (Data.Transferring transfer) v is = same v
 
+-- the end of a transfer leaves the data connection as it was before
+installs_gone : (moment : ℕ) (path : Names) (keep : ℕ) (d : Decoder) (text : Text) (s : Session)
+    → (installs moment path keep d text s).0.connection ≡ s.connection
+installs_gone moment path keep d text s = by_over (is_over path keep d s)
+  where
+    by_over : (over : Bool) → (let ending : Ending = if over then (s, Texts.TooMuch) else (put_in moment path keep d.content s, text) in ending.0.connection ≡ s.connection)
+    by_over true = refl
+    by_over false = refl
+
+break_gone : (moment : ℕ) (transfer : Transfer) (s : Session) → (at_break moment transfer s).0.connection ≡ s.connection
+break_gone moment (Transfers.Upload path keep d) s = installs_gone moment path keep (broken d) Texts.Broken s
+break_gone moment Transfers.OverLimit s = refl
+break_gone moment (Transfers.Download rest) s = refl
+break_gone moment (Transfers.Listing rest) s = refl
+
+end_gone : (moment : ℕ) (transfer : Transfer) (s : Session) → (at_end moment transfer s).0.connection ≡ s.connection
+end_gone moment (Transfers.Upload path keep d) s = by_whole (is_whole d)
+  where
+    by_whole : (whole : Bool)
+        → (let ending : Ending = if whole then installs moment path keep (ended d) Texts.Complete s else at_break moment (Transfers.Upload path keep d) s in
+        ending.0.connection ≡ s.connection)
+    by_whole true = installs_gone moment path keep (ended d) Texts.Complete s
+    by_whole false = break_gone moment (Transfers.Upload path keep d) s
+end_gone moment Transfers.OverLimit s = refl
+end_gone moment (Transfers.Download rest) s = refl
+end_gone moment (Transfers.Listing rest) s = refl
+
+-- so nothing is left of one that is gone
+concluded_lowers : (ending : Ending) (transfer : Transfer) (v : View) → v.session.connection ≡ Data.Transferring transfer → ending.0.connection ≡ Data.Free
+    → Lowers 0 v (concluded ending v)
+concluded_lowers ending transfer v is gone =
+    let none : stages_left ending.0.connection ≡ 0 = ap stages_left gone in
+    link_falls 0 v (concluded ending v) (Data.Transferring transfer) is refl (omega (arith, none))
+
 ends_lowers : (connection : DataConnection Transfer) (v : View) → v.session.connection ≡ connection → Lowers 0 v (ends connection v)
 ends_lowers Data.Ready v is = link_falls 0 v (ends Data.Ready v) Data.Ready is refl (omega arith)
-ends_lowers (Data.Transferring transfer) v is = link_falls 0 v (ends (Data.Transferring transfer) v) (Data.Transferring transfer) is refl (omega arith)
+ends_lowers (Data.Transferring transfer) v is =
+    concluded_lowers (at_end v.footing.moment transfer (disconnected v.session)) transfer v is (end_gone v.footing.moment transfer (disconnected v.session))
 ends_lowers Data.Free v is = same v
 ends_lowers (Data.Active endpoint) v is = same v
 ends_lowers (Data.Asked asked) v is = same v
@@ -202,7 +241,8 @@ ends_lowers (Data.Opening transfer way) v is = same v
 
 breaks_lowers : (connection : DataConnection Transfer) (v : View) → v.session.connection ≡ connection → Lowers 0 v (breaks connection v)
 breaks_lowers Data.Ready v is = link_falls 0 v (breaks Data.Ready v) Data.Ready is refl (omega arith)
-breaks_lowers (Data.Transferring transfer) v is = link_falls 0 v (breaks (Data.Transferring transfer) v) (Data.Transferring transfer) is refl (omega arith)
+breaks_lowers (Data.Transferring transfer) v is =
+    concluded_lowers (at_break v.footing.moment transfer (disconnected v.session)) transfer v is (break_gone v.footing.moment transfer (disconnected v.session))
 breaks_lowers Data.Free v is = same v
 breaks_lowers (Data.Active endpoint) v is = same v
 breaks_lowers (Data.Asked asked) v is = same v

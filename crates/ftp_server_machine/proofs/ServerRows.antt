@@ -1,200 +1,294 @@
 -- The worked rows of a server, computed.
-use Rattle.std.proofs.Common.{◌≡◌, ℕ, List, [], ◌∷◌, ◌++◌, Option, Some, None, true, refl, ap, ◌∙◌}
-use Rattle.std.specs.Prelude.{codes, decimal, drop, filter_map, nat_le, unwrap_or}
+use Rattle.std.proofs.Common.{◌≡◌, ℕ, List, [], ◌∷◌, ◌++◌, Bool, false, Option, Some, None, refl, ap, ◌∙◌}
+use Rattle.std.specs.Prelude.{codes, decimal, drop, filter_map, unwrap_or}
 use Rattle.ftp_command.specs.declared.command.Command.TheVariants as command
 use Rattle.ftp_representation.specs.declared.representation.Kind.TheVariants as Kinds
+use Rattle.ftp_representation.specs.declared.representation.Structure.TheVariants as Structures
+use Rattle.ftp_representation.specs.Representation.{defaults}
 use Rattle.ftp_command.specs.declared.command.Passive.TheVariants as Families
-use Rattle.ftp_operation.specs.Account.{is_known}
+use Rattle.ftp_operation.specs.Account.{login_root}
 use Rattle.ftp_direct.specs.declared.refusal.Refusal.{Refusal}
-use Rattle.ftp_direct.specs.Direct.{refusal, refused_front}
+use Rattle.ftp_direct.specs.Direct.{is_directory, refusal, refused_file, file_of, place_in, or_refused, refused_there}
 use Rattle.ftp_operation.specs.declared.op.Op.TheVariants as Ops
-use Rattle.ftp_path.specs.Path.{resolved, fits, parent, text_of, is_within}
-use Rattle.ftp_tree.specs.Tree.{source_refusal, target_refusal, rename_refusal, front_refusal, octets_at, octets_or_none, node_at, children, Table, Dir, File}
-use Rattle.ftp_server_machine.specs.View.{Transfer, Session, View, direct_of, how_in_force}
+use Rattle.ftp_path.specs.Path.{resolved, fits, parent, text_of, is_within, Names}
+use Rattle.ftp_tree.specs.Tree.{source_refusal, target_refusal, rename_refusal, octets_at, node_at, children, under, Table, Dir, File}
+use Rattle.ftp_server_machine.specs.View.{Transfer, Session, View, direct_of, how_in_force, seen}
 use Rattle.ftp_server_machine.specs.Replies.{reply_octets, reply_of}
-use Rattle.ftp_server_machine.specs.Transfer.{transfer_starts, file_wire, path_or_here}
+use Rattle.ftp_server_machine.specs.Login.{enters}
+use Rattle.ftp_server_machine.specs.Transfer.{transfer_starts, file_wire, misplaced, path_or_here, place_of, sent_from, stor_at}
 use Rattle.ftp_server_machine.specs.Listing.{listing_wire, list_lines, list_lines_at, child_line, node_line, right_in, month_word}
 use Rattle.ftp_facts.specs.Calendar.{year_and_place, month_and_place}
 use Rattle.ftp_facts.specs.Moment.{four_digits}
 use Rattle.ftp_server_machine.specs.Machine.{obeyed, completed, turned, owes, with_session}
 use Rattle.ftp_server_machine.specs.Calls.{gives_control, listening, listen_refused, data_opened, data_refused, gives_data, to_give, wants}
 use Rattle.ftp_ends.specs.RowWords.{here, elsewhere}
-use Rattle.ftp_server_machine.specs.Rows.{RowEvent, after_events, member, at, of, asks, opened, refused, LoginAnswered, WrongPassword, OrderOfDecisions, BeforeLogin, FeaturesTold, Utf8Chosen, FactsChosen, OnlyExtended, Reinitialized, QuitHeard, ByFamily, ForeignEndpoint, RefusedOpening, RefusedListen, ForeignOpener, RenameDone, LateRename, DownloadSent, RestartSent, LateRestart, ListingSent, EarlyAbort, WaitingLine}
+use Rattle.ftp_server_machine.specs.Rows.{RowEvent, after_events, server, member, entered, at, of, five, asks, opened, refused, LoginAnswered, OpenLogin, RootMissing, RootIsTop, MadeBelowRoot, WrongPassword, OrderOfDecisions, BeforeLogin, FeaturesTold, Utf8Chosen, FactsChosen, OnlyExtended, Reinitialized, QuitHeard, ByFamily, ForeignEndpoint, RefusedOpening, RefusedListen, ForeignOpener, RenameDone, LateRename, DownloadSent, RestartSent, LateRestart, RestartInAscii, RestartInPair, RestartInRecords, ListingSent, EarlyAbort, WaitingLine}
 use Rattle.ftp_server_machine.specs.declared.session.Pending.TheVariants as Pendings
 use Rattle.ftp_server_machine.specs.declared.session.DataConnection.TheVariants as Data
 use Rattle.ftp_server_machine.specs.declared.session.Transfer.TheVariants as Transfers
-use Rattle.ftp_server_machine.proofs.RowNumbers.{of_1, of_3, of_5, of_1930, six_is}
+use Rattle.ftp_server_machine.proofs.RowNumbers.{of_0, of_1, of_2, of_3, of_5, of_1930, six_is}
 
 pub login : LoginAnswered
-unfolding obeyed is_known
-login table = refl
+unfolding obeyed login_root
+login table root dir = rw dir refl
+
+pub open_login : OpenLogin
+unfolding obeyed
+open_login table root dir = rw dir refl
+
+-- a login to an account with this root, by whether that is a directory
+abbrev entering : Bool → Names → View → View
+entering is_there root v = completed (turned (enters is_there root v.session) v)
+
+pub missing_root : RootMissing
+unfolding obeyed login_root
+missing_root table root none =
+    let absent : is_directory (node_at table root) ≡ false = ap is_directory none in
+    let v : View = server table root [] in
+    let rest : List RowEvent = asks (command.Pass (codes "secret")) ∷ asks command.Pwd ∷ [] in
+    let w : View = after_events (asks (command.User (codes "guest")) ∷ []) (entering false root v) in
+    ap (λ b. (after_events (asks (command.User (codes "guest")) ∷ rest) (entering b root v)).owed) absent
+    ∙ ap (λ b. (after_events (asks command.Pwd ∷ []) (entering b root w)).owed) absent
 
 pub wrong_password : WrongPassword
-unfolding obeyed is_known
-wrong_password table = refl
+unfolding obeyed login_root
+wrong_password table root = refl
 
 pub order : OrderOfDecisions
-unfolding obeyed is_known
-order table = refl
+unfolding obeyed
+order table root = refl
 
 pub before_login : BeforeLogin
 unfolding obeyed
-before_login table = refl
+before_login table root = refl
 
 pub features : FeaturesTold
 unfolding obeyed
-features table = refl
+features table root = refl
 
 pub utf8 : Utf8Chosen
 unfolding obeyed
-utf8 table = refl
+utf8 table root = refl
 
 pub facts : FactsChosen
 unfolding obeyed
-facts table = refl
+facts table root = refl
 
 pub only_extended : OnlyExtended
-unfolding obeyed is_known
-only_extended table = refl
+unfolding obeyed
+only_extended table root = refl
 
 pub reinitialized : Reinitialized
-unfolding obeyed is_known
-reinitialized table = refl
+unfolding obeyed
+reinitialized table root = refl
 
 pub quit : QuitHeard
-unfolding obeyed is_known gives_control
-quit table = (refl, refl, refl, refl)
+unfolding obeyed gives_control
+quit table root = (refl, refl, refl, refl)
 
 pub by_family : ByFamily
-unfolding obeyed is_known
-by_family table = (refl, refl, refl)
+unfolding obeyed
+by_family table root = (refl, refl, refl)
 
 pub refused_listen : RefusedListen
-unfolding obeyed is_known listen_refused
-refused_listen table = refl
+unfolding obeyed listen_refused
+refused_listen table root = refl
 
 pub foreign_endpoint : ForeignEndpoint
-unfolding obeyed is_known fits text_of
-foreign_endpoint table root = rw root refl
+unfolding obeyed fits text_of
+foreign_endpoint table root top = rw top refl
+
+pub top : RootIsTop
+unfolding obeyed fits text_of resolved parent
+top table root dir = rw dir refl
+
+pub made : MadeBelowRoot
+unfolding obeyed fits text_of resolved
+made table root free = (rw free refl, rw free refl)
 
 pub late_rename : LateRename
-unfolding obeyed is_known fits text_of resolved source_refusal is_within
-late_rename table d = rw d refl
+unfolding obeyed fits text_of resolved source_refusal is_within
+late_rename table root d = rw d refl
 
 pub rename : RenameDone
-unfolding obeyed is_known fits text_of resolved source_refusal rename_refusal target_refusal is_within parent
-rename table root d e fit = (rw d (rw d (rw e (rw root (rw fit refl)))), rw d (rw d (rw e (rw root (rw fit refl)))))
+unfolding obeyed fits text_of resolved source_refusal rename_refusal target_refusal is_within parent
+rename table root top d e fit = (rw d (rw d (rw e (rw top (rw fit refl)))), rw d (rw d (rw e (rw top (rw fit refl)))))
 
 pub active_download : DownloadSent
-unfolding obeyed is_known fits text_of resolved front_refusal octets_at data_opened gives_data
-active_download table moment f = (rw f refl, rw f refl, rw f refl, rw f refl, rw f refl)
+unfolding obeyed fits text_of resolved octets_at data_opened gives_data
+active_download table root moment f = (rw f refl, rw f refl, rw f refl, rw f refl, rw f refl)
 
 -- ---- a command that the map decides: its code first, and then the rest computes
 
 -- the root can be listed
-root_code : (s : Session) → node_at s.table [] ≡ Some Dir → s.cwd ≡ [] → refusal (direct_of s) (Ops.Names [] (how_in_force s.settings)) ≡ None
+root_code : (s : Session) → node_at (seen s) [] ≡ Some Dir → s.cwd ≡ [] → refusal (direct_of s) (Ops.Names [] (how_in_force s.settings)) ≡ None
 unfolding fits text_of
-root_code s root home = rw home (rw root refl)
+root_code s top home = rw home (rw top refl)
 
 -- the view behind a transfer command, by its code
 abbrev pub started : View → Transfer → Option Refusal → View
 started v transfer code = completed (turned (transfer_starts code transfer v.session) v)
 
 abbrev listed : View → Option Refusal → View
-listed v code = started v (Transfers.Listing (listing_wire v.session.settings.mode (list_lines v.session.table (path_or_here v.session None)))) code
+listed v code = started v (Transfers.Listing (listing_wire v.session.settings.mode (list_lines (seen v.session) (path_or_here v.session None)))) code
 
 pub early_abort : EarlyAbort
-unfolding obeyed is_known fits text_of
-early_abort table root =
-    let v : View = member table (asks (command.Port (at here)) ∷ []) in
+unfolding obeyed fits text_of
+early_abort table root top =
+    let v : View = member table root (asks (command.Port (at here)) ∷ []) in
     let more : View → View = λ w. after_events (asks command.Abor ∷ []) w in
-    let code : refusal (direct_of v.session) (Ops.Names [] (how_in_force v.session.settings)) ≡ None = root_code v.session root refl in
+    let code : refusal (direct_of v.session) (Ops.Names [] (how_in_force v.session.settings)) ≡ None = root_code v.session top refl in
     (ap (λ c. (more (listed v c)).owed) code, ap (λ c. wants (more (listed v c))) code)
 
 pub waiting_line : WaitingLine
-unfolding obeyed is_known fits text_of data_refused
-waiting_line table root =
-    let v : View = member table (asks (command.Port (at here)) ∷ []) in
+unfolding obeyed fits text_of data_refused
+waiting_line table root top =
+    let v : View = member table root (asks (command.Port (at here)) ∷ []) in
     let more : View → View = λ w. after_events (asks command.Noop ∷ refused ∷ []) w in
-    let code : refusal (direct_of v.session) (Ops.Names [] (how_in_force v.session.settings)) ≡ None = root_code v.session root refl in
+    let code : refusal (direct_of v.session) (Ops.Names [] (how_in_force v.session.settings)) ≡ None = root_code v.session top refl in
     ap (λ c. (more (listed v c)).owed) code
 
 -- the view behind the port that PASV, and EPSV, asked for, by the text of what is told
-abbrev pub passive_view : Table → List ℕ → View
-passive_view table six =
-    let v : View = member table (asks command.Pasv ∷ []) in
+abbrev pub passive_view : Table → Names → List ℕ → View
+passive_view table root six =
+    let v : View = member table root (asks command.Pasv ∷ []) in
     owes (reply_octets (reply_of 227 (codes "Entering Passive Mode (" ++ (six ++ codes ")")))) (with_session (record v.session { connection = Data.Passive }) v)
 
-abbrev extended_view : Table → List ℕ → View
-extended_view table number =
-    let v : View = member table (asks (command.Epsv Families.Any) ∷ []) in
+abbrev extended_view : Table → Names → List ℕ → View
+extended_view table root number =
+    let v : View = member table root (asks (command.Epsv Families.Any) ∷ []) in
     owes (reply_octets (reply_of 229 (codes "Entering Extended Passive Mode (|||" ++ (number ++ codes "|)")))) (with_session (record v.session { connection = Data.Passive }) v)
 
 pub refused_opening : RefusedOpening
-unfolding obeyed is_known fits text_of listening data_refused
-refused_opening table root =
-    let v : View = passive_view table (codes "127,0,0,1,7,138") in
+unfolding obeyed fits text_of listening data_refused
+refused_opening table root top =
+    let v : View = passive_view table root (codes "127,0,0,1,7,138") in
     let w : View = after_events (refused ∷ []) (listed v None) in
-    ap (λ six. (after_events (asks (command.List None) ∷ refused ∷ asks (command.List None) ∷ []) (passive_view table six)).owed) six_is
-    ∙ ap (λ c. (after_events (refused ∷ asks (command.List None) ∷ []) (listed v c)).owed) (root_code v.session root refl)
-    ∙ ap (λ c. (listed w c).owed) (root_code w.session root refl)
+    ap (λ six. (after_events (asks (command.List None) ∷ refused ∷ asks (command.List None) ∷ []) (passive_view table root six)).owed) six_is
+    ∙ ap (λ c. (after_events (refused ∷ asks (command.List None) ∷ []) (listed v c)).owed) (root_code v.session top refl)
+    ∙ ap (λ c. (listed w c).owed) (root_code w.session top refl)
 
 pub foreign_opener : ForeignOpener
-unfolding obeyed is_known fits text_of listening data_opened
-foreign_opener table root =
-    let v : View = extended_view table (codes "1930") in
+unfolding obeyed fits text_of listening data_opened
+foreign_opener table root top =
+    let v : View = extended_view table root (codes "1930") in
     let rest : List RowEvent = opened elsewhere ∷ [] in
-    let code : refusal (direct_of v.session) (Ops.Names [] (how_in_force v.session.settings)) ≡ None = root_code v.session root refl in (
-      ap (λ n. (after_events (asks (command.List None) ∷ rest) (extended_view table n)).owed) of_1930 ∙ ap (λ c. (after_events rest (listed v c)).owed) code,
-      ap (λ n. wants (after_events (asks (command.List None) ∷ rest) (extended_view table n))) of_1930 ∙ ap (λ c. wants (after_events rest (listed v c))) code,
+    let code : refusal (direct_of v.session) (Ops.Names [] (how_in_force v.session.settings)) ≡ None = root_code v.session top refl in (
+      ap (λ n. (after_events (asks (command.List None) ∷ rest) (extended_view table root n)).owed) of_1930 ∙ ap (λ c. (after_events rest (listed v c)).owed) code,
+      ap (λ n. wants (after_events (asks (command.List None) ∷ rest) (extended_view table root n))) of_1930 ∙ ap (λ c. wants (after_events rest (listed v c))) code,
     )
 
 -- what stood for the line before is used up
 abbrev taken : View → View
 taken v = with_session (record v.session { pending = Pendings.Nothing }) v
 
--- a file is there from a place on
-file_code : (table : Table) (moment place : ℕ) (s : Session) → s.table ≡ table → s.cwd ≡ [] → nat_le place 10 ≡ true
-    → node_at table (of (codes "f")) ≡ Some (File (codes "0123456789") moment) → refused_front (direct_of s) (codes "f") place ≡ None
-unfolding fits text_of resolved front_refusal
-file_code table moment place s here home within f = rw here (rw home (rw f (rw within refl)))
+-- a file is there
+file_code : (s : Session) (octets : List ℕ) (moment : ℕ) → s.cwd ≡ [] → node_at (seen s) (of (codes "f")) ≡ Some (File octets moment)
+    → refused_file (direct_of s) (codes "f") ≡ None
+unfolding fits text_of resolved
+file_code s octets moment home f = rw home (rw f refl)
 
-file_octets : (table : Table) (moment : ℕ) → node_at table (of (codes "f")) ≡ Some (File (codes "0123456789") moment)
-    → octets_or_none table (of (codes "f")) ≡ codes "0123456789"
-unfolding octets_at
-file_octets table moment f = rw f refl
+file_octets : (s : Session) (octets : List ℕ) (moment : ℕ) → s.cwd ≡ [] → node_at (seen s) (of (codes "f")) ≡ Some (File octets moment)
+    → file_of (direct_of s) (codes "f") ≡ octets
+unfolding octets_at fits text_of resolved
+file_octets s octets moment home f = rw home (rw f refl)
 
--- what is to be given behind RETR and the opening of the link, by the code and by the octets of the file
-abbrev fetched : View → ℕ → Option Refusal → List ℕ → List ℕ
+-- what is to be given behind RETR and the opening of the data connection, by its place, by whether the file is there, and by its octets
+abbrev fetched : View → Option ℕ → Option Refusal → List ℕ → List ℕ
 fetched v place code octets =
-    to_give (after_events (opened here ∷ []) (started v (Transfers.Download (file_wire v.session.settings place (drop place octets))) code))
+    to_give (after_events (opened here ∷ []) (started v (Transfers.Download (file_wire v.session.settings (unwrap_or place 0) (drop (unwrap_or place 0) octets)))
+    (or_refused code (refused_there (misplaced place)))))
 
--- the view behind REST 5, by the text of what is told
-abbrev rested : Table → List ℕ → View
-rested table number =
-    let v : View = member table (asks (command.Repr Kinds.Image) ∷ asks (command.Port (at here)) ∷ []) in
-    owes (reply_octets (reply_of 350 (codes "Restarting at " ++ number))) (with_session (record v.session { pending = Pendings.Restart 5 }) v)
+-- the view behind a REST, by the text of what is told
+abbrev rested : View → ℕ → List ℕ → View
+rested v offset number =
+    owes (reply_octets (reply_of 350 (codes "Restarting at " ++ number))) (with_session (record v.session { pending = Pendings.Restart offset }) v)
+
+abbrev image_view : Table → Names → View
+image_view table root = member table root (asks (command.Repr Kinds.Image) ∷ asks (command.Port (at here)) ∷ [])
+
+abbrev ascii_view : Table → Names → View
+ascii_view table root = member table root (asks (command.Port (at here)) ∷ [])
+
+abbrev digits : List ℕ
+digits = codes "0123456789"
+
+-- the fifth octet, in type I
+image_place : (s : Session) (moment : ℕ) → s.settings ≡ record defaults { kind = Kinds.Image } → node_at (seen s) (of (codes "f")) ≡ Some (File digits moment)
+    → place_of (Pendings.Restart 5) (of (codes "f")) s ≡ Some 5
+unfolding octets_at place_in
+image_place s moment kind f = rw kind (rw f refl)
 
 pub restart : RestartSent
-unfolding obeyed is_known fits text_of resolved data_opened
-restart table moment f =
-    let v : View = taken (rested table (codes "5")) in
-    ap (λ n. to_give (after_events (asks (command.Retr (codes "f")) ∷ opened here ∷ []) (rested table n))) of_5
-    ∙ ap (λ c. fetched v 5 c (octets_or_none table (of (codes "f")))) (file_code table moment 5 v.session refl refl refl f)
-    ∙ ap (λ o. fetched v 5 None o) (file_octets table moment f)
+unfolding obeyed fits text_of resolved data_opened
+restart table root moment f =
+    let v : View = taken (rested (image_view table root) 5 (codes "5")) in
+    ap (λ n. to_give (after_events (asks (command.Retr (codes "f")) ∷ opened here ∷ []) (rested (image_view table root) 5 n))) of_5
+    ∙ ap (λ p. fetched v p (refused_file (direct_of v.session) (codes "f")) (file_of (direct_of v.session) (codes "f"))) (image_place v.session moment refl f)
+    ∙ ap (λ c. fetched v (Some 5) c (file_of (direct_of v.session) (codes "f"))) (file_code v.session digits moment refl f)
+    ∙ ap (λ o. fetched v (Some 5) None o) (file_octets v.session digits moment refl f)
 
 pub late_restart : LateRestart
-unfolding obeyed is_known fits text_of resolved data_opened
-late_restart table moment f =
-    let v : View = after_events (asks command.Noop ∷ []) (rested table (codes "5")) in
-    ap (λ n. to_give (after_events (asks command.Noop ∷ asks (command.Retr (codes "f")) ∷ opened here ∷ []) (rested table n))) of_5
-    ∙ ap (λ c. fetched v 0 c (octets_or_none table (of (codes "f")))) (file_code table moment 0 v.session refl refl refl f)
-    ∙ ap (λ o. fetched v 0 None o) (file_octets table moment f)
+unfolding obeyed fits text_of resolved data_opened
+late_restart table root moment f =
+    let v : View = after_events (asks command.Noop ∷ []) (rested (image_view table root) 5 (codes "5")) in
+    ap (λ n. to_give (after_events (asks command.Noop ∷ asks (command.Retr (codes "f")) ∷ opened here ∷ []) (rested (image_view table root) 5 n))) of_5
+    ∙ ap (λ c. fetched v (Some 0) c (file_of (direct_of v.session) (codes "f"))) (file_code v.session digits moment refl f)
+    ∙ ap (λ o. fetched v (Some 0) None o) (file_octets v.session digits moment refl f)
+
+-- three octets in type A are two of the file; two of them are none
+ascii_place : (s : Session) (moment : ℕ) → s.settings ≡ defaults → node_at (seen s) (of (codes "f")) ≡ Some (File five moment)
+    → place_of (Pendings.Restart 3) (of (codes "f")) s ≡ Some 2
+unfolding octets_at place_in
+ascii_place s moment kind f = rw kind (rw f refl)
+
+no_place : (s : Session) (moment : ℕ) → s.settings ≡ defaults → node_at (seen s) (of (codes "f")) ≡ Some (File five moment)
+    → place_of (Pendings.Restart 2) (of (codes "f")) s ≡ None
+unfolding octets_at place_in
+no_place s moment kind f = rw kind (rw f refl)
+
+pub restart_in_ascii : RestartInAscii
+unfolding obeyed fits text_of resolved data_opened
+restart_in_ascii table root moment f =
+    let v : View = taken (rested (ascii_view table root) 3 (codes "3")) in
+    ap (λ n. to_give (after_events (asks (command.Retr (codes "f")) ∷ opened here ∷ []) (rested (ascii_view table root) 3 n))) of_3
+    ∙ ap (λ p. fetched v p (refused_file (direct_of v.session) (codes "f")) (file_of (direct_of v.session) (codes "f"))) (ascii_place v.session moment refl f)
+    ∙ ap (λ c. fetched v (Some 2) c (file_of (direct_of v.session) (codes "f"))) (file_code v.session five moment refl f)
+    ∙ ap (λ o. fetched v (Some 2) None o) (file_octets v.session five moment refl f)
+
+-- RETR and STOR by a place that there is not
+abbrev not_fetched : View → Option ℕ → Option Refusal → View
+not_fetched v place code =
+    completed (turned (transfer_starts (or_refused code (refused_there (misplaced place)))
+    (Transfers.Download (sent_from v.session (codes "f") (unwrap_or place 0))) v.session) v)
+
+abbrev not_stored : View → Option ℕ → View
+not_stored v place = completed (turned (stor_at place (of (codes "f")) v.session) v)
+
+pub restart_in_pair : RestartInPair
+unfolding obeyed fits text_of resolved
+restart_in_pair table root moment f =
+    let e : View = entered table root in
+    let v : View = taken (rested e 2 (codes "2")) in
+    let again : View → View = λ w. taken (rested w 2 (codes "2")) in
+    let w : View = again (not_fetched v None None) in
+    ap (λ n. (after_events (asks (command.Retr (codes "f")) ∷ asks (command.Rest 2) ∷ asks (command.Stor (codes "f")) ∷ []) (rested e 2 n)).owed) of_2
+    ∙ ap (λ p. (after_events (asks (command.Rest 2) ∷ asks (command.Stor (codes "f")) ∷ []) (not_fetched v p (refused_file (direct_of v.session) (codes "f")))).owed)
+    (no_place v.session moment refl f)
+    ∙ ap (λ c. (after_events (asks (command.Rest 2) ∷ asks (command.Stor (codes "f")) ∷ []) (not_fetched v None c)).owed) (file_code v.session five moment refl f)
+    ∙ ap (λ n. (after_events (asks (command.Stor (codes "f")) ∷ []) (rested (not_fetched v None None) 2 n)).owed) of_2
+    ∙ ap (λ p. (not_stored w p).owed) (no_place w.session moment refl f)
+
+pub restart_in_records : RestartInRecords
+unfolding obeyed
+restart_in_records table root =
+    let v : View = member table root (asks (command.Stru Structures.Record) ∷ asks (command.Rest 3) ∷ []) in
+    ap (λ n. (rested v 0 n).owed) of_0
 
 -- ---- LIST
 
 -- the directory can be listed
-dir_code : (s : Session) → node_at s.table (of (codes "d")) ≡ Some Dir → s.cwd ≡ [] → refusal (direct_of s) (Ops.Names (codes "d") (how_in_force s.settings)) ≡ None
+dir_code : (s : Session) → node_at (seen s) (of (codes "d")) ≡ Some Dir → s.cwd ≡ [] → refusal (direct_of s) (Ops.Names (codes "d") (how_in_force s.settings)) ≡ None
 unfolding fits text_of resolved
 dir_code s d home = rw home (rw d refl)
 
@@ -213,10 +307,10 @@ x_lines table d kids x =
     ∙ ap (λ node. node_line (codes "x") (unwrap_or node Dir) ∷ []) x
 
 pub listing : ListingSent
-unfolding obeyed is_known fits text_of resolved data_opened
-listing table d kids x =
-    let v : View = member table (asks (command.Port (at here)) ∷ []) in
+unfolding obeyed fits text_of resolved data_opened
+listing table root d kids x =
+    let v : View = member table root (asks (command.Port (at here)) ∷ []) in
     let sent : Option Refusal → List (List ℕ) → List ℕ = λ c texts. to_give (after_events (opened here ∷ []) (started v (Transfers.Listing (listing_wire v.session.settings.mode texts)) c)) in
-    ap (λ c. sent c (list_lines table (of (codes "d")))) (dir_code v.session d refl)
-    ∙ ap (λ texts. sent None texts) (x_lines table d kids x)
+    ap (λ c. sent c (list_lines (under table root) (of (codes "d")))) (dir_code v.session d refl)
+    ∙ ap (λ texts. sent None texts) (x_lines (under table root) d kids x)
     ∙ ap (λ n. sent None (x_line n (decimal 1) ∷ [])) of_3 ∙ ap (λ n. sent None (x_line (codes "3") n ∷ [])) of_1

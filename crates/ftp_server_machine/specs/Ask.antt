@@ -1,14 +1,14 @@
 -- What is asked of a path: SIZE, MDTM, MLST (RFC 3659, sections 3, 4 and 7).
 use Rattle.std.specs.Prelude.{ℕ, Bool, ◌&&◌, List, [], Option, if◌then◌else◌}
 use Rattle.std.specs.Option.{unwrap_or}
-use Rattle.ftp_tree.specs.Tree.{octets_or_none, stamp_at}
+use Rattle.ftp_tree.specs.Tree.{stamp_at}
 use Rattle.ftp_facts.specs.Moment.{moment_digits}
-use Rattle.ftp_direct.specs.Direct.{refusal, named_or_here, size_in}
+use Rattle.ftp_direct.specs.Direct.{refusal, file_of, named_or_here, size_in}
 use Rattle.ftp_operation.specs.declared.op.Op.TheVariants as Ops
 use Rattle.ftp_representation.specs.Representation.{same_structure, same_mode}
 use Rattle.ftp_representation.specs.declared.representation.Structure.TheVariants as Structures
 use Rattle.ftp_representation.specs.declared.representation.Mode.TheVariants as Modes
-use Rattle.ftp_server_machine.specs.View.{Session, direct_of, how_in_force}
+use Rattle.ftp_server_machine.specs.View.{Session, direct_of, how_in_force, seen}
 use Rattle.ftp_server_machine.specs.Replies.{Turn, tells}
 use Rattle.ftp_server_machine.specs.Walk.{unless, path_of}
 use Rattle.ftp_representation.specs.declared.representation.Representation.{Representation}
@@ -17,7 +17,7 @@ use Rattle.ftp_server_machine.specs.declared.reply.ReplyKind.TheVariants as Repl
 
 -- the octets that a transfer of the file would have, in the type in force
 abbrev pub size_of : Session → List ℕ → ℕ
-size_of s text = size_in s.settings.kind (octets_or_none s.table (path_of s text))
+size_of s text = size_in s.settings.kind (file_of (direct_of s) text)
 
 -- the settings in which a size is told
 abbrev pub has_size : Representation → Bool
@@ -31,7 +31,7 @@ size text s =
 
 -- MDTM: the second in which a file was installed
 abbrev pub stamp_of : Session → List ℕ → ℕ
-stamp_of s text = unwrap_or (stamp_at s.table (path_of s text)) 0
+stamp_of s text = unwrap_or (stamp_at (seen s) (path_of s text)) 0
 
 -- MDTM: YYYYMMDDHHMMSS in UTC (RFC 3659, section 3)
 abbrev pub mdtm : List ℕ → Session → Turn

@@ -13,7 +13,7 @@ use Rattle.ftp_ends.specs.Link.{same_host}
 use Rattle.ftp_server_machine.specs.View.{Accounts, Footing, Transfer, Session, View, first_session}
 use Rattle.ftp_server_machine.specs.Replies.{Turn, fixed_reply, reply_octets, mark_reply}
 use Rattle.ftp_server_machine.specs.Endpoint.{forgotten, disconnected}
-use Rattle.ftp_server_machine.specs.Machine.{with_session, owes, turned, replied, completed, has_room, later, is_over, at_end, at_break, ends_disconnected, faulted}
+use Rattle.ftp_server_machine.specs.Machine.{with_session, owes, turned, replied, completed, has_room, later, is_over, at_end, at_break, concluded, faulted}
 use Rattle.ftp_ends.specs.declared.link.Wants.{Wants}
 use Rattle.ftp_ends.specs.declared.link.Wants.TheVariants as Want
 use Rattle.ftp_server_machine.specs.declared.reply.Text.TheVariants as Texts
@@ -131,8 +131,8 @@ data_refused v = later (refused_step v)
 -- ---- the octets of an upload
 
 -- an upload with more octets settled, or past a limit: from then on the rest is dropped unread (own choice)
-abbrev pub grown : Table → Names → ℕ → Decoder → DataConnection Transfer
-grown table path keep d = if is_over table path keep d then Data.Transferring Transfers.OverLimit else Data.Transferring (Transfers.Upload path keep d)
+abbrev pub grown : Names → ℕ → Decoder → Session → DataConnection Transfer
+grown path keep d s = if is_over path keep d s then Data.Transferring Transfers.OverLimit else Data.Transferring (Transfers.Upload path keep d)
 
 -- the data connection is in another state; all else stays
 abbrev pub with_connection : DataConnection Transfer → View → View
@@ -144,7 +144,7 @@ marker_answered theirs held v = owes (reply_octets (mark_reply theirs held)) v
 
 -- one thing that the wire says: a sign of the file, or a marker
 abbrev pub takes_said : DataConnection Transfer → Said → View → View
-takes_said (Data.Transferring (Transfers.Upload path keep d)) (says sign) v = with_connection (grown v.session.table path keep (with_sign d sign)) v
+takes_said (Data.Transferring (Transfers.Upload path keep d)) (says sign) v = with_connection (grown path keep (with_sign d sign) v.session) v
 takes_said (Data.Transferring (Transfers.Upload path keep d)) (marker text) v =
     marker_answered text (keep + length d.content) (with_connection (Data.Transferring (Transfers.Upload path keep (with_said d (marker text)))) v)
 takes_said connection said v = v
@@ -219,7 +219,7 @@ gives_data count v = later (given_step count v)
 -- the client closed it; before a transfer command the endpoint is forgotten and nothing is said (own choice)
 abbrev pub ends : DataConnection Transfer → View → View
 ends Data.Ready v = with_session (disconnected v.session) v
-ends (Data.Transferring transfer) v = ends_disconnected (at_end v.footing v.session.table transfer) v
+ends (Data.Transferring transfer) v = concluded (at_end v.footing.moment transfer (disconnected v.session)) v
 ends connection v = v
 
 -- what that means for the transfer that it carried
@@ -232,7 +232,7 @@ data_end v = later (end_step v)
 -- it broke
 abbrev pub breaks : DataConnection Transfer → View → View
 breaks Data.Ready v = with_session (disconnected v.session) v
-breaks (Data.Transferring transfer) v = ends_disconnected (at_break v.footing v.session.table transfer) v
+breaks (Data.Transferring transfer) v = concluded (at_break v.footing.moment transfer (disconnected v.session)) v
 breaks connection v = v
 
 -- what that means for the transfer that it carried

@@ -1,7 +1,11 @@
 -- Who is logged in: USER, PASS, REIN, QUIT (RFC 959, sections 4.1.1 and 5.4).
-use Rattle.std.specs.Prelude.{ℕ, Bool, true, false, ◌&&◌, List, [], is_none, if◌then◌else◌}
-use Rattle.std.specs.List.{list_any}
-use Rattle.ftp_operation.specs.Account.{has_user, is_known}
+use Rattle.std.specs.Prelude.{ℕ, Bool, true, false, ◌&&◌, List, [], Option, Some, None, is_none}
+use Rattle.std.specs.List.{find}
+use Rattle.std.specs.Option.{option_map}
+use Rattle.ftp_operation.specs.Account.{Account, has_user, login_root}
+use Rattle.ftp_path.specs.Path.{Names}
+use Rattle.ftp_tree.specs.Tree.{node_at}
+use Rattle.ftp_direct.specs.Direct.{is_directory}
 use Rattle.ftp_representation.specs.Representation.{defaults}
 use Rattle.ftp_server_machine.specs.View.{Accounts, Session, all_facts}
 use Rattle.ftp_server_machine.specs.Replies.{Turn, tells}
@@ -11,32 +15,50 @@ use Rattle.ftp_server_machine.specs.declared.session.Access.{Access}
 use Rattle.ftp_server_machine.specs.declared.session.Access.TheVariants.{Nobody, AwaitsPass, Known}
 use Rattle.ftp_server_machine.specs.declared.session.Life.TheVariants as Lives
 
--- an account of this name needs no password
-abbrev pub is_open : Accounts → List ℕ → Bool
-is_open accounts name = list_any (λ account. has_user name account && is_none account.pass) accounts
+-- nobody is logged in
+abbrev pub logged_out : Session → Session
+logged_out s = record s { access = Nobody; root = []; cwd = [] }
 
--- USER ends the login in force and goes to the root; any name that needs a password, or that no account has, is asked for one (own
--- choice)
+-- a login is 230, and the root of its account is the current directory
+abbrev pub enters : Bool → Names → Session → Turn
+enters true root s = tells Texts.LoggedIn (record s { access = Known; root = root; cwd = [] })
+enters false root s = tells Texts.LoginRefused (logged_out s)
+
+-- it is 530 where the root of its account is no directory (own choice)
+abbrev pub logs_in : Names → Session → Turn
+logs_in root s = enters (is_directory (node_at s.table root)) root s
+
+-- an account of this name that needs no password
+abbrev pub is_open : List ℕ → Account → Bool
+is_open name account = has_user name account && is_none account.pass
+
+-- its root, if there is one
+abbrev pub open_root : Accounts → List ℕ → Option Names
+open_root accounts name = option_map (λ account. account.root) (find (is_open name) accounts)
+
+-- any name that needs a password, or that no account has, is asked for one (own choice)
+abbrev pub named : Option Names → List ℕ → Session → Turn
+named (Some root) name s = logs_in root s
+named None name s = tells Texts.PasswordNeeded (record (logged_out s) { access = AwaitsPass name })
+
+-- USER ends the login in force
 abbrev pub user : Accounts → List ℕ → Session → Turn
-user accounts name s =
-    if is_open accounts name then tells Texts.LoggedIn (record s { access = Known; cwd = [] })
-    else tells Texts.PasswordNeeded (record s { access = AwaitsPass name; cwd = [] })
+user accounts name s = named (open_root accounts name) name s
 
 -- 230 or 530; either way the USER that waited is used up
-abbrev pub checked : Bool → Session → Turn
-checked true s = tells Texts.LoggedIn (record s { access = Known })
-checked false s = tells Texts.LoginRefused (record s { access = Nobody })
+abbrev pub checked : Option Names → Session → Turn
+checked (Some root) s = logs_in root s
+checked None s = tells Texts.LoginRefused (logged_out s)
 
 -- PASS counts where a USER waits for it, and only once
 abbrev pub pass : Access (List ℕ) → Accounts → List ℕ → Session → Turn
-pass (AwaitsPass name) accounts word s = checked (is_known accounts name word) s
+pass (AwaitsPass name) accounts word s = checked (login_root accounts name word) s
 pass Nobody accounts word s = tells Texts.BadSequence s
 pass Known accounts word s = tells Texts.BadSequence s
 
 -- REIN: all is as at the start, but the map and the moment (RFC 959, section 4.1.1)
 abbrev pub rein : Session → Turn
-rein s =
-    tells Texts.Ready (record (forgotten s) { access = Nobody; cwd = []; settings = defaults; facts = all_facts; only_extended = false })
+rein s = tells Texts.Ready (record (logged_out (forgotten s)) { settings = defaults; facts = all_facts; only_extended = false })
 
 -- QUIT: its reply is the last, and nothing is heard after it (RFC 959, section 4.1.1)
 abbrev pub quit : Session → Turn

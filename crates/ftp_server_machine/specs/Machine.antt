@@ -7,12 +7,12 @@ use Rattle.ftp_command.specs.Line.{IsStated, IsTyped, line_of}
 use Rattle.ftp_command.specs.declared.command.Command.{Command}
 use Rattle.ftp_command.specs.declared.command.Command.TheVariants as command
 use Rattle.ftp_path.specs.Path.{Names}
-use Rattle.ftp_tree.specs.Tree.{Table, octets_or_none, octets_refusal, installed}
+use Rattle.ftp_tree.specs.Tree.{octets_or_none, octets_refusal, installed}
 use Rattle.ftp_ends.specs.Ear.{ear_step, ear_out}
 use Rattle.ftp_ends.specs.Decoder.{Decoder, is_whole, ended, broken}
-use Rattle.ftp_server_machine.specs.View.{Footing, Transfer, Session, View, line_limit}
+use Rattle.ftp_server_machine.specs.View.{Session, Transfer, View, line_limit, seen, with_seen}
 use Rattle.ftp_server_machine.specs.Replies.{Turn, fixed_reply, reply_octets, said_octets}
-use Rattle.ftp_server_machine.specs.Endpoint.{forgotten, disconnected}
+use Rattle.ftp_server_machine.specs.Endpoint.{forgotten}
 use Rattle.ftp_server_machine.specs.Act.{decided}
 use Rattle.ftp_server_machine.specs.declared.heard.Heard.{Heard}
 use Rattle.ftp_server_machine.specs.declared.heard.Heard.TheVariants.{TooLong, Bad, Asks}
@@ -89,57 +89,48 @@ later v = waited v.waiting v
 
 -- ---- how an upload ends
 
--- how a transfer ends: the map that it leaves, and its last reply
+-- how a transfer ends: the session that it leaves, and its last reply
 abbrev pub Ending : Type 0
-Ending = Table × Text
+Ending = Session × Text
 
 -- the octets kept and these pass a limit of octets
-abbrev pub is_over : Table → Names → ℕ → Decoder → Bool
-is_over table path keep d = is_some (octets_refusal table path (keep + length d.content))
+abbrev pub is_over : Names → ℕ → Decoder → Session → Bool
+is_over path keep d s = is_some (octets_refusal (seen s) path (keep + length d.content))
 
--- the map with the file: the octets kept, and behind them those that came, at the moment in force
-abbrev pub put_in : Footing → Table → Names → ℕ → List ℕ → Table
-put_in footing table path keep octets = installed table path (take keep (octets_or_none table path) ++ octets) footing.moment
+-- the file is in the map: the octets kept, and behind them those that came, at this moment
+abbrev pub put_in : (moment : ℕ) → Names → ℕ → List ℕ → Session → Session
+put_in moment path keep octets s = with_seen (installed (seen s) path (take keep (octets_or_none (seen s) path) ++ octets) moment) s
 
 -- what came is installed and answered so; past a limit of octets nothing is, and the reply is 552 (own choice)
-abbrev pub installs : Footing → Table → Names → ℕ → Decoder → Text → Ending
-installs footing table path keep d text =
-    if is_over table path keep d then (table, Texts.TooMuch) else (put_in footing table path keep d.content, text)
+abbrev pub installs : (moment : ℕ) → Names → ℕ → Decoder → Text → Session → Ending
+installs moment path keep d text s = if is_over path keep d s then (s, Texts.TooMuch) else (put_in moment path keep d.content s, text)
 
 -- the data connection broke, or the transfer is aborted: what was settled of an upload is kept (own choice)
-abbrev pub at_break : Footing → Table → Transfer → Ending
-at_break footing table (Transfers.Upload path keep d) = installs footing table path keep (broken d) Texts.Broken
-at_break footing table Transfers.OverLimit = (table, Texts.TooMuch)
-at_break footing table (Transfers.Download rest) = (table, Texts.Broken)
-at_break footing table (Transfers.Listing rest) = (table, Texts.Broken)
+abbrev pub at_break : (moment : ℕ) → Transfer → Session → Ending
+at_break moment (Transfers.Upload path keep d) s = installs moment path keep (broken d) Texts.Broken s
+at_break moment Transfers.OverLimit s = (s, Texts.TooMuch)
+at_break moment (Transfers.Download rest) s = (s, Texts.Broken)
+at_break moment (Transfers.Listing rest) s = (s, Texts.Broken)
 
 -- the client closed the data connection: the file is whole, or it ended early, which counts as broken (RFC 959, section 3.4)
-abbrev pub at_end : Footing → Table → Transfer → Ending
-at_end footing table (Transfers.Upload path keep d) =
-    if is_whole d then installs footing table path keep (ended d) Texts.Complete else at_break footing table (Transfers.Upload path keep d)
-at_end footing table transfer = at_break footing table transfer
+abbrev pub at_end : (moment : ℕ) → Transfer → Session → Ending
+at_end moment (Transfers.Upload path keep d) s =
+    if is_whole d then installs moment path keep (ended d) Texts.Complete s else at_break moment (Transfers.Upload path keep d) s
+at_end moment transfer s = at_break moment transfer s
 
--- the transfer is over: its map is in force, in this session, and its last reply is owed
-abbrev pub concluded : Ending → Session → View → View
-concluded ending session v = replied ending.1 (record session { table = ending.0 }) v
+-- the transfer is over, and its last reply is owed
+abbrev pub concluded : Ending → View → View
+concluded ending v = replied ending.1 ending.0 v
 
--- the data connection is gone
-abbrev pub ends_disconnected : Ending → View → View
-ends_disconnected ending v = concluded ending (disconnected v.session) v
-
--- the server ends the transfer, and its side of the data connection is still to be closed
-abbrev pub ends_closing : Ending → View → View
-ends_closing ending v = concluded ending (forgotten v.session) v
-
--- a fault of the wire, or want of memory: 451, and the map is as it was
+-- a fault of the wire, or refused memory: 451, the map is as it was, and the data connection is to be closed
 abbrev pub faulted : View → View
-faulted v = ends_closing (v.session.table, Texts.LocalFault) v
+faulted v = replied Texts.LocalFault (forgotten v.session) v
 
 -- ---- ABOR during a transfer (RFC 959, section 4.1.3); a client that peeks into a file ends its download by it
 
 -- it acts as a break; before the data connection is open, as a refused opening
 abbrev pub aborts : DataConnection Transfer → View → View
-aborts (Data.Transferring transfer) v = ends_closing (at_break v.footing v.session.table transfer) v
+aborts (Data.Transferring transfer) v = concluded (at_break v.footing.moment transfer (forgotten v.session)) v
 aborts (Data.Opening transfer way) v = replied Texts.NoConnection (forgotten v.session) v
 aborts connection v = v
 

@@ -8,7 +8,7 @@ use Rattle.ftp_path.specs.Path.{text_of as path_text, Names}
 use Rattle.ftp_direct.specs.Direct.{entry_at}
 pub use Rattle.ftp_ends.specs.Reply.{Reply, reply_of, reply_octets}
 use Rattle.ftp_server_machine.specs.Texts.{code_of, text_of}
-use Rattle.ftp_server_machine.specs.View.{Session}
+use Rattle.ftp_server_machine.specs.View.{Session, seen}
 use Rattle.ftp_server_machine.specs.Entries.{listed_line, features_text, chosen_text, is_any_chosen}
 use Rattle.ftp_server_machine.specs.declared.session.Facts.{Facts}
 use Rattle.ftp_server_machine.specs.declared.reply.Text.{Text}
@@ -43,7 +43,7 @@ extended_text port = codes "Entering Extended Passive Mode (|||" ++ (decimal por
 abbrev pub entry_reply : Session → Names → Reply
 entry_reply s path = record {
   code = 250;
-  lines = codes "Listing" ∷ (32 ∷ listed_line s.facts (entry_at s.table path (path_text path))) ∷ codes "End" ∷ [];
+  lines = codes "Listing" ∷ (32 ∷ listed_line s.facts (entry_at (seen s) path (path_text path))) ∷ codes "End" ∷ [];
 }
 
 -- FEAT: nine lines, those between in the order of the alphabet (RFC 2389, section 3.2; UTF8 by RFC 2640, section 3.2)

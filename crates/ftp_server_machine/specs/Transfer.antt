@@ -1,15 +1,18 @@
 -- How a transfer begins: REST (RFC 3659, section 5), RETR, STOR, APPE, LIST, NLST, MLSD (RFC 959, section 4.1.3).
-use Rattle.std.specs.Prelude.{ℕ, List, drop, length, Option, Some, None, if◌then◌else◌}
+use Rattle.std.specs.Prelude.{ℕ, not, List, drop, length, Option, Some, None, is_some, if◌then◌else◌}
+use Rattle.std.specs.Option.{unwrap_or}
 use Rattle.ftp_path.specs.Path.{Names}
-use Rattle.ftp_tree.specs.Tree.{octets_or_none, room_refusal}
+use Rattle.ftp_tree.specs.Tree.{octets_or_none, room_refusal, whenever}
+use Rattle.ftp_tree.specs.declared.fault.TreeFault.{TreeFault}
+use Rattle.ftp_tree.specs.declared.fault.TreeFault.TheVariants as Faults
 use Rattle.ftp_direct.specs.declared.refusal.Refusal.{Refusal}
-use Rattle.ftp_direct.specs.Direct.{refusal, refused_room, limited, or_refused, past_refusal, refused_front, offset_refusal, named_or_here}
+use Rattle.ftp_direct.specs.Direct.{refusal, refused_room, refused_name, refused_there, refused_file, limited, or_refused, offset_refusal, place_at, file_of, named_or_here}
 use Rattle.ftp_operation.specs.declared.op.Op.TheVariants as Ops
 use Rattle.ftp_framer.specs.Block.{marked_text}
 use Rattle.ftp_framer.specs.Wire.{wire}
 use Rattle.ftp_representation.specs.Representation.{form_of, has_markers}
 use Rattle.ftp_ends.specs.Decoder.{no_octets}
-use Rattle.ftp_server_machine.specs.View.{Transfer, Session, direct_of, how_in_force}
+use Rattle.ftp_server_machine.specs.View.{Session, Transfer, direct_of, how_in_force, seen}
 use Rattle.ftp_server_machine.specs.Replies.{Turn, tells}
 use Rattle.ftp_server_machine.specs.Endpoint.{forgotten}
 use Rattle.ftp_server_machine.specs.Walk.{refusal_text, path_of}
@@ -27,20 +30,24 @@ use Rattle.ftp_server_machine.specs.declared.session.DataConnection.TheVariants 
 
 -- ---- where a transfer begins in its file
 
--- the place that REST named right before, or the file's start
-abbrev pub place_of : Pending Names → ℕ
-place_of (Pendings.Restart place) = place
-place_of Pendings.Nothing = 0
-place_of (Pendings.Rename from) = 0
-
--- REST: the place is pending for the next line, or refused
+-- REST: the offset is pending for the next line, or refused
 abbrev pub rests : Option Refusal → ℕ → Session → Turn
-rests None place s = (record s { pending = Pendings.Restart place }, Replies.Restarting place)
-rests (Some why) place s = tells (refusal_text why) s
+rests None offset s = (record s { pending = Pendings.Restart offset }, Replies.Restarting offset)
+rests (Some why) offset s = tells (refusal_text why) s
 
--- REST: 504 for another place than the start but in type I and file structure (own choice)
+-- REST: it counts octets of the transfer, and is 504 in records, but for 0 (own choice)
 abbrev pub rest : ℕ → Session → Turn
-rest place s = rests (offset_refusal place (how_in_force s.settings)) place s
+rest offset s = rests (offset_refusal offset (how_in_force s.settings)) offset s
+
+-- the place in the file at a path where a transfer begins: where the offset of REST leads, if it leads to one, else the start
+abbrev pub place_of : Pending Names → Names → Session → Option ℕ
+place_of (Pendings.Restart offset) path s = place_at (direct_of s) path (how_in_force s.settings) offset
+place_of Pendings.Nothing path s = Some 0
+place_of (Pendings.Rename from) path s = Some 0
+
+-- an offset leads to no place: into an octet that goes as two, or past the end
+abbrev pub misplaced : Option ℕ → Option TreeFault
+misplaced place = whenever (not (is_some place)) Faults.BadOffset
 
 -- ---- the data connection: at an endpoint, at a port, or open already
 
@@ -66,14 +73,19 @@ transfer_starts (Some why) transfer s = tells (refusal_text why) (forgotten s)
 abbrev pub file_wire : Representation → ℕ → List ℕ → List ℕ
 file_wire settings from octets = if has_markers settings then marked_text from octets else wire settings.mode (form_of settings) octets
 
--- the wire of the file at a path, behind its first `place` octets
-abbrev pub sent_from : Session → Names → ℕ → List ℕ
-sent_from s path place = file_wire s.settings place (drop place (octets_or_none s.table path))
+-- what is sent of the file that a text names, from a place on
+abbrev pub sent_from : Session → List ℕ → ℕ → List ℕ
+sent_from s text place = file_wire s.settings place (drop place (file_of (direct_of s) text))
 
--- RETR
+-- RETR, from a place on
+abbrev pub retr_at : Option ℕ → List ℕ → Session → Turn
+retr_at place text s =
+    transfer_starts (or_refused (refused_file (direct_of s) text) (refused_there (misplaced place)))
+    (Transfers.Download (sent_from s text (unwrap_or place 0))) s
+
+-- RETR, where REST put it
 abbrev pub retr : Pending Names → List ℕ → Session → Turn
-retr pending text s =
-    transfer_starts (refused_front (direct_of s) text (place_of pending)) (Transfers.Download (sent_from s (path_of s text) (place_of pending))) s
+retr pending text s = retr_at (place_of pending (path_of s text) s) text s
 
 -- the path that an argument names which may be left out
 abbrev pub path_or_here : Session → Option (List ℕ) → Names
@@ -83,38 +95,39 @@ path_or_here s text = named_or_here (direct_of s) (or_empty text)
 abbrev pub list : Option (List ℕ) → Session → Turn
 list text s =
     transfer_starts (refusal (direct_of s) (Ops.Names (or_empty text) (how_in_force s.settings)))
-    (Transfers.Listing (listing_wire s.settings.mode (list_lines s.table (path_or_here s text)))) s
+    (Transfers.Listing (listing_wire s.settings.mode (list_lines (seen s) (path_or_here s text)))) s
 
 -- NLST
 abbrev pub nlst : Option (List ℕ) → Session → Turn
 nlst text s =
     transfer_starts (refusal (direct_of s) (Ops.Names (or_empty text) (how_in_force s.settings)))
-    (Transfers.Listing (listing_wire s.settings.mode (name_lines s.table (path_or_here s text) (or_empty text)))) s
+    (Transfers.Listing (listing_wire s.settings.mode (name_lines (seen s) (path_or_here s text) (or_empty text)))) s
 
 -- MLSD
 abbrev pub mlsd : Option (List ℕ) → Session → Turn
 mlsd text s =
     transfer_starts (refusal (direct_of s) (Ops.List (or_empty text) (how_in_force s.settings)))
-    (Transfers.Listing (listing_wire s.settings.mode (entry_lines s.facts s.table (path_or_here s text)))) s
+    (Transfers.Listing (listing_wire s.settings.mode (entry_lines s.facts (seen s) (path_or_here s text)))) s
 
 -- ---- uploads: held apart from the map until they end (own choice)
 
 -- why no octet at all can be put at a path
 abbrev pub refused_to_hold : Session → Names → Option Refusal
-refused_to_hold s path = refused_room (limited path (room_refusal s.table path))
+refused_to_hold s path = refused_room (limited path (room_refusal (seen s) path))
 
--- STOR: behind as many octets of the file there as REST named, which has to have so many
-abbrev pub stor_at : ℕ → Names → Session → Turn
+-- STOR, behind the octets before a place
+abbrev pub stor_at : Option ℕ → Names → Session → Turn
 stor_at place path s =
-    transfer_starts (or_refused (past_refusal (direct_of s) path place) (refused_to_hold s path)) (Transfers.Upload path place (no_octets s.settings)) s
+    transfer_starts (or_refused (refused_name (misplaced place)) (refused_to_hold s path))
+    (Transfers.Upload path (unwrap_or place 0) (no_octets s.settings)) s
 
--- STOR, at the place that REST named
+-- STOR, where REST put it
 abbrev pub stor : Pending Names → List ℕ → Session → Turn
-stor pending text s = stor_at (place_of pending) (path_of s text) s
+stor pending text s = stor_at (place_of pending (path_of s text) s) (path_of s text) s
 
 -- APPE: behind all octets of the file there
 abbrev pub appe_at : Names → Session → Turn
-appe_at path s = transfer_starts (refused_to_hold s path) (Transfers.Upload path (length (octets_or_none s.table path)) (no_octets s.settings)) s
+appe_at path s = transfer_starts (refused_to_hold s path) (Transfers.Upload path (length (octets_or_none (seen s) path)) (no_octets s.settings)) s
 
 -- APPE: a REST before it is of no matter
 abbrev pub appe : List ℕ → Session → Turn

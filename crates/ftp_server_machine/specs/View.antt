@@ -5,8 +5,8 @@ use Rattle.ftp_endpoint.specs.declared.host.Host.{Host}
 use Rattle.ftp_path.specs.Path.{Names}
 pub use Rattle.ftp_command.specs.Line.{line_limit}
 use Rattle.ftp_tree.specs.Tree.{Table}
-use Rattle.ftp_direct.specs.Direct.{State}
-use Rattle.ftp_operation.specs.declared.account.Account.{Account}
+use Rattle.ftp_direct.specs.Direct.{State, part, changed}
+use Rattle.ftp_operation.specs.Account.{Account}
 use Rattle.ftp_operation.specs.declared.op.How.{How}
 use Rattle.ftp_representation.specs.Representation.{defaults}
 use Rattle.ftp_ends.specs.Ear.{Ear}
@@ -24,10 +24,9 @@ use Rattle.ftp_server_machine.specs.declared.session.DataConnection.{DataConnect
 use Rattle.ftp_server_machine.specs.declared.session.DataConnection.TheVariants as Data
 use Rattle.ftp_server_machine.specs.declared.session.Transfer.{Transfer as TransferOf}
 
--- who may log in (RFC 959, section 4.1.1). Account roots will enter here, as a third part of an account, and in `Known`: the
--- map that commands see is then the part below the root of the login
+-- who may log in, each with the root of what he sees of the map (RFC 959, section 4.1.1; roots are an own choice)
 abbrev pub Accounts : Type 0
-Accounts = List (Account (List ℕ))
+Accounts = List Account
 
 -- what no command changes: who may log in, the hosts of the control connection, the moment in force
 pub record Footing : Type 0 where
@@ -40,10 +39,12 @@ pub record Footing : Type 0 where
 abbrev pub Transfer : Type 0
 Transfer = TransferOf Names Decoder (List ℕ) (List ℕ)
 
--- what commands and the data connection change
+-- what commands and the data connection change: the whole map; who is logged in, the root of his account, and the current directory
+-- below that root; what is pending for the next line; the settings; the data connection
 pub record Session : Type 0 where
   pub table : Table
   pub access : Access (List ℕ)
+  pub root : Names
   pub cwd : Names
   pub pending : Pending Names
   pub settings : Representation
@@ -70,6 +71,7 @@ abbrev pub first_session : Table → Session
 first_session table = record {
   table = table;
   access = Accesses.Nobody;
+  root = [];
   cwd = [];
   pending = Pendings.Nothing;
   settings = defaults;
@@ -85,10 +87,18 @@ abbrev pub how_in_force : Representation → How
 how_in_force settings =
     record { representation = settings; marks = false; active = false; extended = false }
 
--- how the direct run sees the session of somebody who is logged in: the same map and current directory
+-- how the direct run sees the session of somebody who is logged in: the same map, root and current directory
 abbrev pub direct_of : Session → State
-direct_of s = record { table = s.table; cwd = s.cwd; known = true }
+direct_of s = record { table = s.table; root = s.root; cwd = s.cwd; known = true }
 
 -- the session with the map and the current directory that the direct run leaves
 abbrev pub as_direct : State → Session → Session
 as_direct state s = record s { table = state.table; cwd = state.cwd }
+
+-- what the account sees of the map: the part at and below its root, which is `/` in it
+abbrev pub seen : Session → Table
+seen s = part (direct_of s)
+
+-- the session with another such part; the rest of the map stays
+abbrev pub with_seen : Table → Session → Session
+with_seen new s = record s { table = (changed (direct_of s) new).table }

@@ -8,7 +8,7 @@ use Rattle.ftp_direct.specs.declared.refusal.Refusal.TheVariants as Refusals
 use Rattle.ftp_direct.specs.Direct.{refusal, done, refused_there, refused_name, limited, busy_refusal}
 use Rattle.ftp_operation.specs.declared.op.Op.{Op}
 use Rattle.ftp_operation.specs.declared.op.Op.TheVariants as Ops
-use Rattle.ftp_server_machine.specs.View.{Session, direct_of, as_direct}
+use Rattle.ftp_server_machine.specs.View.{Session, direct_of, as_direct, seen, with_seen}
 use Rattle.ftp_server_machine.specs.Replies.{Turn, tells}
 use Rattle.ftp_server_machine.specs.declared.reply.Text.{Text}
 use Rattle.ftp_server_machine.specs.declared.reply.Text.TheVariants as Texts
@@ -64,7 +64,7 @@ dele text s = performs (Ops.Delete text) (Replies.Fixed Texts.Done) s
 
 -- RNFR, the first half of a rename: what it names stands, and the current directory is not at or below it
 abbrev pub refused_source : Session → Names → Option Refusal
-refused_source s from = refused_there (limited from (or_else (source_refusal s.table from) (busy_refusal (direct_of s) from)))
+refused_source s from = refused_there (limited from (or_else (source_refusal (seen s) from) (busy_refusal (direct_of s) from)))
 
 -- RNFR: what it names is pending for the next line only
 abbrev pub rnfr : List ℕ → Session → Turn
@@ -73,7 +73,7 @@ rnfr text s = unless (refused_source s (path_of s text)) s (tells Texts.NewName 
 -- RNTO, the second half, right behind it
 abbrev pub renames : Names → Names → Session → Turn
 renames from to s =
-    unless (refused_name (limited to (rename_refusal s.table from to))) s (tells Texts.Done (record s { table = moved s.table from to }))
+    unless (refused_name (limited to (rename_refusal (seen s) from to))) s (tells Texts.Done (with_seen (moved (seen s) from to) s))
 
 -- RNTO: 503 where no RNFR stood right before it
 abbrev pub rnto : Pending Names → List ℕ → Session → Turn

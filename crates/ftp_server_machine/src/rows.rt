@@ -1,9 +1,19 @@
 //! Worked rows of a server: functions that do nothing, whose contracts are rows of `specs/Rows`.
-ghost use Rattle.ftp_server_machine.specs.Rows.{AbortAnswered, BeforeLogin, BrokenUploadKept, ByFamily, DownloadSent, EarlyAbort, FactsChosen, FeaturesTold, ForeignEndpoint, ForeignOpener, LateRename, LateRestart, ListingSent, LoginAnswered, MarkerAnswered, OnlyExtended, OrderOfDecisions, UploadInstalled, QuitHeard, RefusedListen, RefusedOpening, Reinitialized, RenameDone, RestartSent, TooMuchRefused, Utf8Chosen, WaitingLine, WrongPassword};
+ghost use Rattle.ftp_server_machine.specs.Rows.{AbortAnswered, BeforeLogin, BrokenUploadKept, ByFamily, DownloadSent, EarlyAbort, FactsChosen, FaultyUpload, FeaturesTold, ForeignEndpoint, ForeignOpener, LateRename, LateRestart, ListingSent, LoginAnswered, MadeBelowRoot, MarkerAnswered, OnlyExtended, OpenLogin, OrderOfDecisions, QuitHeard, RefusedListen, RefusedOpening, Reinitialized, RenameDone, RestartInAscii, RestartInPair, RestartInRecords, RestartSent, RootIsTop, RootMissing, TooMuchRefused, UploadInstalled, Utf8Chosen, WaitingLine, WrongPassword};
 
 /// A login with a password.
 pub fn login()
     ensures { LoginAnswered }
+{}
+
+/// A login without a password.
+pub fn open_login()
+    ensures { OpenLogin }
+{}
+
+/// A login to an account whose root is no directory.
+pub fn missing_root()
+    ensures { RootMissing }
 {}
 
 /// A wrong password ends the waiting of a USER.
@@ -76,6 +86,16 @@ pub fn foreign_opener()
     ensures { ForeignOpener }
 {}
 
+/// `..` at the root of an account.
+pub fn top()
+    ensures { RootIsTop }
+{}
+
+/// MKD below the root of an account.
+pub fn made()
+    ensures { MadeBelowRoot }
+{}
+
 /// RNFR and RNTO.
 pub fn rename()
     ensures { RenameDone }
@@ -101,6 +121,21 @@ pub fn late_restart()
     ensures { LateRestart }
 {}
 
+/// REST in ASCII.
+pub fn restart_in_ascii()
+    ensures { RestartInAscii }
+{}
+
+/// REST into an octet that goes as two.
+pub fn restart_in_pair()
+    ensures { RestartInPair }
+{}
+
+/// REST in records.
+pub fn restart_in_records()
+    ensures { RestartInRecords }
+{}
+
 /// LIST of a directory.
 pub fn listing()
     ensures { ListingSent }
@@ -119,6 +154,11 @@ pub fn broken_upload()
 /// An upload past the room for it.
 pub fn too_much()
     ensures { TooMuchRefused }
+{}
+
+/// A fault of the wire in an upload.
+pub fn faulty_upload()
+    ensures { FaultyUpload }
 {}
 
 /// A restart marker in an upload.
