@@ -17,4 +17,6 @@ pub mod Calls
 pub mod Failing
 pub mod Far
 pub mod Bounds
+pub mod Play
+pub mod Held
 pub mod Rows

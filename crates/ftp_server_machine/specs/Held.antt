@@ -1,0 +1,95 @@
+-- How many octets a server holds, beside the map, the accounts and what came of an upload (own choice of the limits). Of a download and of
+-- a listing the view has all that is still to be given, which is the map's; here is what of it a server may hold at once.
+use Rattle.std.specs.Prelude.{◌≡◌, ℕ, ◌+◌, ◌≤◌, Bool, true, List, length, Option, Some, None}
+use Rattle.std.specs.List.{list_all}
+use Rattle.ftp_endpoint.specs.declared.host.Host.{Host}
+use Rattle.ftp_command.specs.Line.{line_of}
+use Rattle.ftp_path.specs.Path.{Names, fits, text_of}
+use Rattle.ftp_representation.specs.declared.marker.TheConstants.{MARKER_LIMIT}
+use Rattle.ftp_tree.specs.Tree.{Table}
+use Rattle.ftp_ends.specs.Ear.{Ear}
+use Rattle.ftp_server_machine.specs.View.{Accounts, Session, Transfer, View, line_limit}
+use Rattle.ftp_server_machine.specs.Calls.{start}
+use Rattle.ftp_server_machine.specs.Machine.{Reading, IsReading}
+use Rattle.ftp_server_machine.specs.Play.{Cue, left_by}
+use Rattle.ftp_server_machine.specs.declared.heard.Heard.{Heard}
+use Rattle.ftp_server_machine.specs.declared.heard.Heard.TheVariants.{TooLong, Bad, Asks}
+use Rattle.ftp_server_machine.specs.declared.session.Access.{Access}
+use Rattle.ftp_server_machine.specs.declared.session.Access.TheVariants.{Nobody, AwaitsPass, Known}
+use Rattle.ftp_server_machine.specs.declared.session.Pending.{Pending}
+use Rattle.ftp_server_machine.specs.declared.session.Pending.TheVariants as Pendings
+use Rattle.ftp_server_machine.specs.declared.session.DataConnection.{DataConnection}
+use Rattle.ftp_server_machine.specs.declared.session.DataConnection.TheVariants as Data
+use Rattle.ftp_server_machine.specs.declared.session.Transfer.TheVariants as Transfers
+
+-- the most octets of a block as it is sent: three of its header, and its data (RFC 959, section 3.4.2)
+abbrev pub block_limit : ℕ
+block_limit = 8195
+
+-- the most octets of a pathname, as `ftp_path` has it
+abbrev pub path_limit : ℕ
+path_limit = 900
+
+-- a sender holds a block, a line of a listing, and the path of its file or directory
+abbrev pub sending_limit : ℕ
+sending_limit = block_limit + (line_limit + path_limit)
+
+-- ---- what each part holds
+
+-- a path, by its text
+abbrev pub path_len : Names → ℕ
+path_len path = length (text_of path)
+
+-- the name of a USER that waits for its PASS
+abbrev pub access_len : Access (List ℕ) → ℕ
+access_len Nobody = 0
+access_len (AwaitsPass name) = length name
+access_len Known = 0
+
+-- the path of an RNFR
+abbrev pub pending_len : Pending Names → ℕ
+pending_len Pendings.Nothing = 0
+pending_len (Pendings.Rename from) = path_len from
+pending_len (Pendings.Restart offset) = 0
+
+-- an upload: its path, and a marker that comes
+abbrev pub transfer_len : Transfer → ℕ
+transfer_len (Transfers.Upload path keep d) = path_len path + MARKER_LIMIT
+transfer_len Transfers.OverLimit = 0
+transfer_len (Transfers.Download rest) = sending_limit
+transfer_len (Transfers.Listing rest) = sending_limit
+
+-- a transfer that waits for its data connection, or has it
+abbrev pub connection_len : DataConnection Transfer → ℕ
+connection_len (Data.Opening transfer way) = transfer_len transfer
+connection_len (Data.Transferring transfer) = transfer_len transfer
+connection_len other = 0
+
+-- a line that waits
+abbrev pub waiting_len : Option (Heard (List ℕ)) → ℕ
+waiting_len (Some (Asks command)) = length (line_of command)
+waiting_len other = 0
+
+-- ---- all of it
+
+-- a session
+abbrev pub session_len : Session → ℕ
+session_len s = access_len s.access + (path_len s.root + (path_len s.cwd + (pending_len s.pending + connection_len s.connection)))
+
+-- a server: its control output, the line that is being read, the line that waits, and the session
+abbrev pub held : View → ℕ
+held v = length v.owed + (length v.ear.line.text + (waiting_len v.waiting + session_len v.session))
+
+-- the most octets that an end holds
+abbrev pub held_limit : ℕ
+held_limit = 24576
+
+-- each account's root is within the limits of paths
+abbrev pub AreWithinLimits : Accounts → Type 0
+AreWithinLimits accounts = list_all (λ account. fits account.root) accounts ≡ true
+
+-- whatever is called, a server never holds more
+abbrev pub HoldsLittle : Type 0
+HoldsLittle =
+    (read : Reading) (table : Table) (accounts : Accounts) (here peer : Host) (cues : List Cue)
+    → IsReading read → AreWithinLimits accounts → held (left_by read cues (start table accounts here peer)) ≤ held_limit
