@@ -3,7 +3,7 @@ use Rattle.std.specs.Prelude.{ℕ, List, [], ◌∷◌}
 use Rattle.std.specs.List.{flat_map}
 use Rattle.ftp_endpoint.specs.declared.host.Host.{Host}
 use Rattle.ftp_endpoint.specs.declared.host.Host.TheVariants.{V4}
-use Rattle.ftp_nvt.specs.Lines.{written_line}
+pub use Rattle.ftp_nvt.specs.Lines.{written_line}
 
 -- the host of both ends, 127.0.0.1
 abbrev pub here : Host

@@ -37,7 +37,7 @@ unfolding obeyed
 open_login table root dir = rw dir refl
 
 -- a login to an account with this root, by whether that is a directory
-abbrev entering : Bool → Names → View → View
+abbrev pub entering : Bool → Names → View → View
 entering is_there root v = completed (turned (enters is_there root v.session) v)
 
 pub missing_root : RootMissing

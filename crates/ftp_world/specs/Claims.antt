@@ -6,12 +6,12 @@ use Rattle.std.specs.Prelude.{◌≡◌, ℕ, ◌≤◌, ◌&&◌, Bool, true, n
 use Rattle.ftp_endpoint.specs.declared.host.Host.{Host}
 use Rattle.ftp_endpoint.specs.declared.host.Host.TheVariants.{V4, V6}
 use Rattle.ftp_endpoint.specs.Written.{IsTypedHost}
-use Rattle.ftp_operation.specs.Account.{is_known, is_user, is_password}
+use Rattle.ftp_operation.specs.Account.{accounts_refusal, login_root, is_user, is_password}
 use Rattle.ftp_operation.specs.Answer.{Said, Done}
-use Rattle.ftp_direct.specs.Direct.{State, start as direct_start, answers, named}
+use Rattle.ftp_direct.specs.Direct.{State, start as direct_start, answers, changed, named, part}
 use Rattle.std.specs.List.{list_all}
 use Rattle.std.specs.FinMap as fin
-use Rattle.ftp_path.specs.Path.{is_name, Names}
+use Rattle.ftp_path.specs.Path.{fits, is_name, Names}
 use Rattle.ftp_tree.specs.Tree.{Node, Dir, File, Table, IsTree, octets_in, total_limit, installed}
 use Rattle.ftp_client_machine.specs.Tries.{OverBreaks}
 use Rattle.ftp_client_machine.specs.View.{client}
@@ -52,10 +52,17 @@ is_sound_node (File octets moment) = nat_le moment last_second
 abbrev pub is_sound_entry : Names × Node → Bool
 is_sound_entry entry = list_all is_name entry.0 && is_sound_node entry.1
 
--- a login of the type, a map of names and moments within the limits, hosts of one family
+-- a path of names, within the limits of paths
+abbrev pub is_path : Names → Bool
+is_path path = list_all is_name path && fits path
+
+-- a login of the type; accounts of which no two have one user name and no root is below another; a map of names and moments within the
+-- limits; hosts of one family
 pub record IsFair (b : Beginning) : Type 0 where
   pub user : IsTrue (is_user b.user)
   pub pass : IsTrue (is_password b.pass)
+  pub accounts : accounts_refusal b.accounts ≡ None
+  pub roots : IsTrue (list_all (λ account. is_path account.root) b.accounts)
   pub tree : IsTree b.table
   pub octets : octets_in b.table ≤ total_limit
   pub entries : IsTrue (list_all is_sound_entry (fin.entries b.table))
@@ -69,7 +76,7 @@ world_of b = world (client b.user b.pass b.near_host b.far_host) (start b.table 
 
 -- where the direct run begins
 abbrev pub state_of : Beginning → State
-state_of b = direct_start b.table (is_known b.accounts b.user b.pass)
+state_of b = direct_start b.table (login_root b.accounts b.user b.pass)
 
 -- ---- the claims
 
@@ -132,7 +139,7 @@ Headline = Always (λ read b events begun w. AreHonest events → AreSingle begu
 
 -- an item of an upload over breaks whose report is Done has put exactly its octets, and changed no other path, whatever broke
 pub record HasPutAll (state : State) (upload : OverBreaks) (moment : ℕ) (item : Item) : Type 0 where
-  pub table : (item_did state item).1.table ≡ installed state.table (named state upload.path) upload.octets moment
+  pub table : (item_did state item).1.table ≡ (changed state (installed (part state) (named state upload.path) upload.octets moment)).table
   pub cwd : (item_did state item).1.cwd ≡ state.cwd
 
 -- so it is of every item that agreement can have, and with agreement of every world

@@ -4,7 +4,7 @@ use Rattle.std.specs.Prelude.{◌≡◌, ◌⊎◌, ℕ, ◌+◌, List, [], ◌�
 use Rattle.std.specs.Option.{is_some}
 use Rattle.ftp_operation.specs.Answer.{Said, Broken as BrokenOff, Unopened as NotOpened, Lost as LostOff}
 use Rattle.ftp_direct.specs.declared.refusal.Refusal.TheVariants as Refusals
-use Rattle.ftp_direct.specs.Direct.{State, answer, first_refusal, named, named_or_here}
+use Rattle.ftp_direct.specs.Direct.{State, answer, first_refusal, changed, file_of, named, named_or_here, part, skipped}
 use Rattle.ftp_operation.specs.Operation.{can_be_sent}
 use Rattle.ftp_operation.specs.declared.op.How.{How}
 use Rattle.ftp_operation.specs.declared.op.Op.{Op}
@@ -13,7 +13,7 @@ use Rattle.ftp_mode.specs.Laws.{settled_content}
 use Rattle.ftp_framer.specs.Said.{Said as WireSaid, says, marker}
 use Rattle.ftp_machine.specs.Machine.{IsFront}
 use Rattle.ftp_path.specs.Path.{Names}
-use Rattle.ftp_tree.specs.Tree.{installed, octets_or_none, octets_refusal}
+use Rattle.ftp_tree.specs.Tree.{installed, octets_refusal}
 use Rattle.ftp_ends.specs.Decoder.{Decoder, no_octets, octet_says, decoded_octet}
 use Rattle.ftp_representation.specs.Representation.{form_of, has_markers}
 use Rattle.ftp_client_machine.specs.Octets.{written, upload_text, last_mark}
@@ -48,9 +48,9 @@ pub record Stored : Type 0 where
 abbrev pub upload_of : State → Op (List ℕ) → Option Stored
 upload_of state (Ops.Put text octets how) = Some (record { path = named state text; kept = []; start = 0; octets = octets; how = how })
 upload_of state (Ops.Append text octets how) =
-    Some (record { path = named state text; kept = octets_or_none state.table (named state text); start = 0; octets = octets; how = how })
+    Some (record { path = named state text; kept = file_of state text; start = 0; octets = octets; how = how })
 upload_of state (Ops.PutFrom text offset octets how) =
-    Some (record { path = named state text; kept = take offset (octets_or_none state.table (named state text)); start = offset; octets = octets; how = how })
+    Some (record { path = named state text; kept = take (skipped state (named state text) how offset) (file_of state text); start = offset; octets = octets; how = how })
 upload_of state other = None
 
 -- a download: octets in some settings, with the place from which markers count
@@ -61,17 +61,17 @@ pub record Fetched : Type 0 where
 
 -- the file that MLSD sends where all facts are in force (`ftp_server_machine`, `Listing`)
 abbrev pub listing_text : State → List ℕ → List ℕ
-listing_text state text = lines_file (entry_lines all_facts state.table (named_or_here state text))
+listing_text state text = lines_file (entry_lines all_facts (part state) (named_or_here state text))
 
 -- the file that NLST sends
 abbrev pub names_text : State → List ℕ → List ℕ
-names_text state text = lines_file (name_lines state.table (named_or_here state text) text)
+names_text state text = lines_file (name_lines (part state) (named_or_here state text) text)
 
 -- the download or the listing that an operation asks for, if it is one
 abbrev pub download_of : State → Op (List ℕ) → Option Fetched
-download_of state (Ops.Get text how) = Some (record { settings = settings_of how; start = 0; octets = octets_or_none state.table (named state text) })
+download_of state (Ops.Get text how) = Some (record { settings = settings_of how; start = 0; octets = file_of state text })
 download_of state (Ops.GetFrom text offset how) =
-    Some (record { settings = settings_of how; start = offset; octets = drop offset (octets_or_none state.table (named state text)) })
+    Some (record { settings = settings_of how; start = offset; octets = drop (skipped state (named state text) how offset) (file_of state text) })
 download_of state (Ops.List text how) = Some (record { settings = listing_settings how.representation.mode; start = 0; octets = listing_text state text })
 download_of state (Ops.Names text how) = Some (record { settings = listing_settings how.representation.mode; start = 0; octets = names_text state text })
 download_of state other = None
@@ -107,7 +107,7 @@ mmmm_in kept d mark (octet ∷ wire) =
 abbrev pub cut_upload : Stored → State → ℕ → List ℕ → Said × State
 cut_upload u state moment wire = (
   BrokenOff [] (mmmm_in (length u.kept) (no_octets (settings_of u.how)) None wire),
-  record state { table = installed state.table u.path (u.kept ++ front (settings_of u.how) wire) moment },
+  changed state (installed (part state) u.path (u.kept ++ front (settings_of u.how) wire) moment),
 )
 
 -- the client has what was settled, and the last marker that came whole; the map stays
@@ -149,7 +149,7 @@ IsTaken state op = IsTrue (can_be_sent op) × ((first_refusal state op ≡ None)
 abbrev pub IsCutOf : Option Stored → Option Fetched → State → List ℕ → Type 0
 IsCutOf (Some u) down state wire =
     IsFront wire (upload_text u.how u.start u.octets)
-    × (octets_refusal state.table u.path (length (u.kept ++ front (settings_of u.how) wire)) ≡ None)
+    × (octets_refusal (part state) u.path (length (u.kept ++ front (settings_of u.how) wire)) ≡ None)
 IsCutOf None (Some d) state wire = IsFront wire (download_text d)
 IsCutOf None None state wire = ⊥
 

@@ -1,6 +1,6 @@
 -- Worked rows of a world: both ends and what lies between them, octet by octet. Each is a theorem that computes. The login is
 -- `guest` with password `secret`, both hosts are 127.0.0.1, and the map is any.
-use Rattle.std.specs.Prelude.{◌≡◌, ℕ, nat_eq, List, [], ◌∷◌, length, codes, None, if◌then◌else◌}
+use Rattle.std.specs.Prelude.{◌≡◌, ℕ, nat_eq, List, [], ◌∷◌, length, codes, Some, None, if◌then◌else◌}
 use Rattle.std.specs.Cmp.Lexicographic.{pointwise}
 use Rattle.ftp_command.specs.declared.command.Command.{Command}
 use Rattle.ftp_command.specs.declared.command.Command.TheVariants as command
@@ -8,8 +8,8 @@ use Rattle.ftp_command.specs.declared.fault.CommandFault.TheVariants as Faults
 use Rattle.ftp_operation.specs.Answer.{Octets, Broken as BrokenOff}
 use Rattle.ftp_operation.specs.declared.op.Op.{Op}
 use Rattle.ftp_operation.specs.declared.op.Op.TheVariants as Ops
-use Rattle.ftp_tree.specs.Tree.{Table, installed}
-use Rattle.ftp_direct.specs.Direct.{State, named}
+use Rattle.ftp_tree.specs.Tree.{Dir, Table, installed, node_at}
+use Rattle.ftp_direct.specs.Direct.{State, changed, named, part}
 use Rattle.ftp_client_machine.specs.Octets.{download_flow}
 use Rattle.ftp_client_machine.specs.Plan.{settings_of}
 use Rattle.ftp_world.specs.Outcome.{cut}
@@ -73,7 +73,7 @@ played (act ∷ acts) w = played acts (does act w)
 
 -- `guest` logs in, over a map
 abbrev pub beginning : Table → Beginning
-beginning table = record { user = codes "guest"; pass = codes "secret"; accounts = accounts; table = table; near_host = here; far_host = here }
+beginning table = record { user = codes "guest"; pass = codes "secret"; accounts = accounts []; table = table; near_host = here; far_host = here }
 
 -- a world behind acts
 abbrev pub session : Table → List Act → World
@@ -87,7 +87,7 @@ login_acts = moves ControlToClient ∷ moves ControlToServer ∷ moves ControlTo
 
 -- behind it the client may send operations
 abbrev pub SessionLogsIn : Type 0
-SessionLogsIn = (table : Table) → (session table login_acts).near.standing ≡ Stands.Entered
+SessionLogsIn = (table : Table) → node_at table [] ≡ Some Dir → (session table login_acts).near.standing ≡ Stands.Entered
 
 -- ---- breaks
 
@@ -100,8 +100,8 @@ near_down = record entered {
 
 -- the server's side of that download
 abbrev pub far_down : Table → Far
-far_down table = record (member table []) {
-  session = record (member table []).session { connection = Data.Transferring (Transfers.Download (97 ∷ 13 ∷ 10 ∷ [])) };
+far_down table = record (member table [] []) {
+  session = record (member table [] []).session { connection = Data.Transferring (Transfers.Download (97 ∷ 13 ∷ 10 ∷ [])) };
   owed = [];
 }
 
@@ -134,4 +134,4 @@ abbrev pub CutUpload : Type 0
 CutUpload =
     (state : State)
     → cut state (Ops.Put (codes "f") (120 ∷ 10 ∷ 121 ∷ []) text) 7 (120 ∷ 13 ∷ [])
-    ≡ (BrokenOff [] None, record state { table = installed state.table (named state (codes "f")) (120 ∷ []) 7 })
+    ≡ (BrokenOff [] None, changed state (installed (part state) (named state (codes "f")) (120 ∷ []) 7))
