@@ -10,12 +10,13 @@ use Rattle.ftp_operation.specs.declared.op.Op.{Op}
 use Rattle.ftp_operation.specs.declared.op.Op.TheVariants as Ops
 use Rattle.ftp_representation.specs.Representation.{same_kind, same_structure, same_mode}
 use Rattle.ftp_ends.proofs.Counts.{one_close}
-use Rattle.ftp_client_machine.specs.Bounds.{login_left, steps_left, operation_left, operations_behind, run_left, job_left, to_begin, upload_left, still_to_give, AddsAtMost}
+use Rattle.ftp_client_machine.specs.Bounds.{abort_left, login_left, steps_left, operation_left, operations_behind, run_left, job_left, to_begin, upload_left, still_to_give, AddsAtMost}
 use Rattle.ftp_client_machine.specs.Dialogue.{sends_if, last_job, placed, begins, goes_on, next_with, next_job, finishes_by, finishes, finishes_read}
 use Rattle.ftp_client_machine.specs.Octets.{flow_of}
-use Rattle.ftp_client_machine.specs.Plan.{asked_settings, how_of, offset_of, step_behind_opening as opened_step, alone_step, opening_of, from_mode, from_structure, from_kind, step_by, first_step, next_step, command_of}
+use Rattle.ftp_client_machine.specs.Plan.{count_of, asked_settings, how_of, offset_of, step_behind_opening as opened_step, alone_step, opening_of, from_mode, from_structure, from_kind, step_by, first_step, next_step, command_of}
 use Rattle.ftp_client_machine.specs.Tries.{OverBreaks, Run, rest_put, whole_put, is_size, after_size, after_try, next_of, next_in, run_at}
 use Rattle.ftp_client_machine.specs.View.{View, Job, Idle, Waiting, Doing, Transferring, Told, Flow, stands, dropped, tells, failed_job, failure_said, fails_by, strange}
+use Rattle.ftp_client_machine.specs.declared.client.Abort.TheVariants as Aborts
 use Rattle.ftp_client_machine.specs.declared.client.Failure.{Failure}
 use Rattle.ftp_client_machine.specs.declared.client.Failure.TheVariants as Failures
 use Rattle.ftp_client_machine.specs.declared.client.Standing.{Standing}
@@ -101,14 +102,14 @@ sends_if_begins : (command : Option (Command (List ℕ))) (v : View) → to_begi
 sends_if_begins None v = refl
 sends_if_begins (Some command) v = refl
 
-last_job_left : (run : Option Run) (op : Op (List ℕ)) (flow : Option Flow) → job_left run (last_job op flow) ≤ 1 + run_left run op
+last_job_left : (run : Option Run) (op : Op (List ℕ)) (flow : Option Flow) → job_left run (last_job op flow) ≤ 1 + (abort_left Aborts.Unsent (count_of op) + run_left run op)
 last_job_left run op None = omega arith
 last_job_left run op (Some flow) = omega arith
 
 sent_begins : (op : Op (List ℕ)) (step : Step) (job : Job) (v : View) → to_begin (sends_if (command_of v op step) (record v { job = job })) ≡ login_left v.standing + job_left v.run job
 sent_begins op step job v = sends_if_begins (command_of v op step) (record v { job = job })
 
-pub placed_begins : (op : Op (List ℕ)) (step : Step) (v : View) → to_begin (placed op step v) ≤ login_left v.standing + steps_left step + run_left v.run op
+pub placed_begins : (op : Op (List ℕ)) (step : Step) (v : View) → to_begin (placed op step v) ≤ login_left v.standing + steps_left step + (abort_left Aborts.Unsent (count_of op) + run_left v.run op)
 placed_begins op Steps.Kind v = omega (arith, sent_begins op Steps.Kind (Doing op Steps.Kind) v)
 placed_begins op Steps.Structure v = omega (arith, sent_begins op Steps.Structure (Doing op Steps.Structure) v)
 placed_begins op Steps.Mode v = omega (arith, sent_begins op Steps.Mode (Doing op Steps.Mode) v)
@@ -133,6 +134,7 @@ alone_le (Ops.Append path octets how) = omega arith
 alone_le (Ops.PutFrom path offset octets how) = omega arith
 alone_le (Ops.Get path how) = omega arith
 alone_le (Ops.GetFrom path offset how) = omega arith
+alone_le (Ops.Peek path count how) = omega arith
 alone_le (Ops.Size path how) = omega arith
 alone_le (Ops.Modified path) = omega arith
 alone_le (Ops.Facts path) = omega arith
@@ -192,16 +194,20 @@ pub goes_on_low : (op : Op (List ℕ)) (step : Step) (old v : View) → goes_ste
     → Low old (goes_on op step v)
 goes_on_low op step old v goes is stands runs =
     let less = next_less v.settings op step goes in
-    let here : job_left old.run old.job ≡ steps_left step + run_left old.run op = ap (job_left old.run) is in
+    let here : job_left old.run old.job ≡ steps_left step + (abort_left Aborts.Unsent (count_of op) + run_left old.run op) = ap (job_left old.run) is in
     let login : login_left v.standing ≡ login_left old.standing = ap login_left stands in
     let same_run : run_left v.run op ≡ run_left old.run op = ap (λ run. run_left run op) runs in
     falls 0 old (goes_on op step v) (omega (arith, placed_begins op (next_step v.settings op step) v, less, here, login, same_run))
+
+abort_le : (count : Option ℕ) → abort_left Aborts.Unsent count ≤ 1
+abort_le None = omega arith
+abort_le (Some count) = omega arith
 
 -- an operation begins of which more was left than all its steps
 pub begun_low : (op : Op (List ℕ)) (old v : View) → login_left v.standing ≤ login_left old.standing → operation_left + run_left v.run op ≤ job_left old.run old.job
     → Low old (begins op v)
 begun_low op old v login more =
-    falls 0 old (begins op v) (omega (arith, placed_begins op (first_step v.settings op) v, first_le v.settings op, login, more))
+    falls 0 old (begins op v) (omega (arith, placed_begins op (first_step v.settings op) v, first_le v.settings op, abort_le (count_of op), login, more))
 
 -- one that waited
 pub begins_low : (op : Op (List ℕ)) (old v : View) → old.job ≡ Waiting op → login_left v.standing ≤ login_left old.standing → v.run ≡ old.run → Low old (begins op v)

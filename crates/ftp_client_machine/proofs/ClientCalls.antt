@@ -1,5 +1,6 @@
 -- What a reply, an event of the data connection or an octet leaves a client to do.
 use Rattle.std.proofs.Common.{◌≡◌, ℕ, ◌+◌, ◌<◌, ◌≤◌, ◌⊎◌, inl, inr, List, [], ◌∷◌, ◌++◌, Bool, true, false, ◌&&◌, ◌==◌, Option, Some, None, refl, sym, ap, subst, append-nil, arith, length, length-append}
+use Rattle.std.specs.Prelude.{if◌then◌else◌}
 use Rattle.std.specs.List.{flat_map}
 use Rattle.std.proofs.lemmas.List.{length-drop}
 use Rattle.ftp_nvt.specs.Lines.{NvtEvent, line, too_long, owed}
@@ -14,15 +15,17 @@ use Rattle.ftp_endpoint.specs.declared.host.Host.{Host}
 use Rattle.ftp_reply.specs.Lines.{Text, joined}
 use Rattle.ftp_ends.specs.Ear.{Ear, Unfinished, ended_text, within_out, line_out, unit_says, ear_out, ear_step}
 use Rattle.ftp_ends.specs.Link.{same_host}
-use Rattle.ftp_client_machine.specs.Bounds.{login_left, transfer_left, run_left, job_left, to_begin, octets_left, upload_left, closes_left, still_to_give, AddsAtMost, HearingAddsAnAnswer, ReceivingAddsNone, EventsAdd, EventsAddAClose}
-use Rattle.ftp_client_machine.specs.Calls.{reply_limit, line_taken, event_taken, events_taken, unless_closing, listening_by, listening, no_port_by, listen_refused, connected, accepted, opened_by, data_opened, unopened_by, data_refused, ending_of, over_by, data_end, data_fault, heard_by, went, goes_by, gives_data, control_end}
-use Rattle.ftp_client_machine.specs.Dialogue.{begins, finishes, greeted, enters_with, enters, user_answered, pass_answered, set_accepted, dials, named, port_named, passive_named, step_done, intermediate, awaits_reply, step_answered, answer_in, judged, answers_by, answers_job, closes_once_given_by, closes_once_given, carries_on, with_reply, awaited, transfer_opened, marked_flow, noted, unless_open, before_opening, behind_opening, transfer_answered, job_answered, stand_answered, judged_reply, answered, closes, has_begun, is_given}
-use Rattle.ftp_client_machine.specs.Octets.{flow_octet}
-use Rattle.ftp_client_machine.specs.Plan.{asked_settings, settings_behind as set_by, is_extended}
+use Rattle.ftp_client_machine.specs.Bounds.{login_left, opening_left, abort_left, transfer_left, run_left, job_left, to_begin, octets_left, upload_left, closes_left, still_to_give, AddsAtMost, HearingAddsAnAnswer, ReceivingAddsNone, EventsAdd, EventsAddAClose}
+use Rattle.ftp_client_machine.specs.Calls.{heard_flow, with_flow, reply_limit, line_taken, event_taken, events_taken, unless_closing, listening_by, listening, no_port_by, listen_refused, connected, accepted, opened_by, data_opened, unopened_by, data_refused, ending_of, over_by, data_end, data_fault, heard_by, went, goes_by, gives_data, control_end}
+use Rattle.ftp_client_machine.specs.Dialogue.{is_unsent, is_to_abort, aborts, aborts_once_enough, abort_answered, begins, finishes, greeted, enters_with, enters, user_answered, pass_answered, set_accepted, dials, named, port_named, passive_named, step_done, intermediate, awaits_reply, step_answered, answer_in, judged, answers_by, answers_job, closes_once_given_by, closes_once_given, carries_on, with_reply, awaited, transfer_opened, marked_flow, noted, unless_open, before_opening, behind_opening, transfer_answered, job_answered, stand_answered, judged_reply, answered, closes, has_begun, is_given}
+use Rattle.ftp_client_machine.specs.Octets.{has_settled, flow_octet}
+use Rattle.ftp_client_machine.specs.Plan.{count_of, asked_settings, settings_behind as set_by, is_extended}
 use Rattle.ftp_client_machine.specs.Replies.{Verdict, Preliminary, Completion, Intermediate, Negative, Closing, Displaced, verdict_of}
 use Rattle.ftp_reply.specs.Reader.{Heard, GoesOn, Says, Faulty, line_heard, Between}
 use Rattle.ftp_reply.specs.Values.{passive_value, extended_value, mark_value}
 use Rattle.ftp_client_machine.specs.View.{View, Job, Idle, Waiting, Doing, Transferring, Told, Transfer, Flow, Sending, Receiving, stands, strange}
+use Rattle.ftp_client_machine.specs.declared.client.Abort.{Abort}
+use Rattle.ftp_client_machine.specs.declared.client.Abort.TheVariants as Aborts
 use Rattle.ftp_client_machine.specs.declared.client.Ending.{Ending}
 use Rattle.ftp_client_machine.specs.declared.client.Ending.TheVariants as Endings
 use Rattle.ftp_client_machine.specs.declared.client.Failure.TheVariants as Failures
@@ -133,19 +136,27 @@ step_low op step Displaced code texts v is = strange_low v
 
 -- ---- a transfer
 
-answers_by_low : (replied : Replied) (connection : DataConnection) (op : Op (List ℕ)) (flow : Flow) (v : View) → Low v (answers_by replied connection op flow v)
-answers_by_low (Replies.Final code) (Data.Over ending) op flow v = finishes_read_low (judged ending code op flow) v
-answers_by_low (Replies.Final code) Data.Free op flow v = same v
-answers_by_low (Replies.Final code) Data.ListenWanted op flow v = same v
-answers_by_low (Replies.Final code) (Data.Listening port) op flow v = same v
-answers_by_low (Replies.Final code) (Data.Connecting endpoint) op flow v = same v
-answers_by_low (Replies.Final code) (Data.Accepting port) op flow v = same v
-answers_by_low (Replies.Final code) Data.Open op flow v = same v
-answers_by_low Replies.Nothing connection op flow v = same v
-answers_by_low Replies.Begun connection op flow v = same v
+answers_by_low : (replied : Replied) (abort : Abort) (connection : DataConnection) (op : Op (List ℕ)) (flow : Flow) (v : View) → Low v (answers_by replied abort connection op flow v)
+answers_by_low (Replies.Final code) Aborts.Unsent (Data.Over ending) op flow v = finishes_read_low (judged ending Aborts.Unsent code op flow) v
+answers_by_low (Replies.Final code) Aborts.Unsent Data.Free op flow v = same v
+answers_by_low (Replies.Final code) Aborts.Unsent Data.ListenWanted op flow v = same v
+answers_by_low (Replies.Final code) Aborts.Unsent (Data.Listening port) op flow v = same v
+answers_by_low (Replies.Final code) Aborts.Unsent (Data.Connecting endpoint) op flow v = same v
+answers_by_low (Replies.Final code) Aborts.Unsent (Data.Accepting port) op flow v = same v
+answers_by_low (Replies.Final code) Aborts.Unsent Data.Open op flow v = same v
+answers_by_low (Replies.Final code) Aborts.Answered (Data.Over ending) op flow v = finishes_read_low (judged ending Aborts.Answered code op flow) v
+answers_by_low (Replies.Final code) Aborts.Answered Data.Free op flow v = same v
+answers_by_low (Replies.Final code) Aborts.Answered Data.ListenWanted op flow v = same v
+answers_by_low (Replies.Final code) Aborts.Answered (Data.Listening port) op flow v = same v
+answers_by_low (Replies.Final code) Aborts.Answered (Data.Connecting endpoint) op flow v = same v
+answers_by_low (Replies.Final code) Aborts.Answered (Data.Accepting port) op flow v = same v
+answers_by_low (Replies.Final code) Aborts.Answered Data.Open op flow v = same v
+answers_by_low (Replies.Final code) Aborts.Sent connection op flow v = same v
+answers_by_low Replies.Nothing abort connection op flow v = same v
+answers_by_low Replies.Begun abort connection op flow v = same v
 
 answers_job_low : (job : Job) (v : View) → Low v (answers_job job v)
-answers_job_low (Transferring op transfer) v = answers_by_low transfer.replied v.connection op transfer.flow v
+answers_job_low (Transferring op transfer) v = answers_by_low transfer.replied transfer.abort v.connection op transfer.flow v
 answers_job_low Idle v = same v
 answers_job_low (Waiting op) v = same v
 answers_job_low (Doing op step) v = same v
@@ -171,17 +182,57 @@ closes_once_low (Waiting op) v = same v
 closes_once_low (Doing op step) v = same v
 closes_once_low (Told answer) v = same v
 
+-- a Peek that is to abort has its ABOR still to begin
+to_abort_left : (begun : Bool) (abort : Abort) (count : Option ℕ) (flow : Flow) → (is_unsent abort && begun && has_settled count flow) ≡ true
+    → abort_left abort count ≡ 1
+to_abort_left true Aborts.Unsent (Some count) flow is = refl
+to_abort_left true Aborts.Unsent None flow is = absurd (cc)
+to_abort_left false Aborts.Unsent count flow is = absurd (cc)
+to_abort_left begun Aborts.Sent count flow is = absurd (cc)
+to_abort_left begun Aborts.Answered count flow is = absurd (cc)
+
+is_to_abort_left : (connection : DataConnection) (op : Op (List ℕ)) (transfer : Transfer) → is_to_abort connection op transfer ≡ true
+    → abort_left transfer.abort (count_of op) ≡ 1
+is_to_abort_left Data.Open op transfer is = to_abort_left (has_begun transfer.replied) transfer.abort (count_of op) transfer.flow is
+is_to_abort_left Data.Free op transfer is = absurd (cc)
+is_to_abort_left Data.ListenWanted op transfer is = absurd (cc)
+is_to_abort_left (Data.Listening port) op transfer is = absurd (cc)
+is_to_abort_left (Data.Connecting endpoint) op transfer is = absurd (cc)
+is_to_abort_left (Data.Accepting port) op transfer is = absurd (cc)
+is_to_abort_left (Data.Over ending) op transfer is = absurd (cc)
+
+aborts_low : (op : Op (List ℕ)) (transfer : Transfer) (v : View) → v.job ≡ Transferring op transfer → abort_left transfer.abort (count_of op) ≡ 1 → Low v (aborts op transfer v)
+aborts_low op transfer v is one =
+    let here : job_left v.run v.job ≡ transfer_left op transfer.replied transfer.abort + run_left v.run op = ap (job_left v.run) is in
+    falls 0 v (aborts op transfer v) (omega (arith, here, one))
+
+aborts_if_low : (b : Bool) (op : Op (List ℕ)) (transfer : Transfer) (v : View) → v.job ≡ Transferring op transfer → is_to_abort v.connection op transfer ≡ b
+    → Low v (if b then aborts op transfer v else v)
+aborts_if_low true op transfer v is to_abort = aborts_low op transfer v is (is_to_abort_left v.connection op transfer to_abort)
+aborts_if_low false op transfer v is to_abort = same v
+
+aborts_once_low : (job : Job) (v : View) → v.job ≡ job → Low v (aborts_once_enough job v)
+aborts_once_low (Transferring op transfer) v is = aborts_if_low (is_to_abort v.connection op transfer) op transfer v is refl
+aborts_once_low Idle v is = same v
+aborts_once_low (Waiting op) v is = same v
+aborts_once_low (Doing op step) v is = same v
+aborts_once_low (Told answer) v is = same v
+
 pub carries_on_low : (v : View) → Low v (carries_on v)
-carries_on_low v = both 0 v (closes_once_given v.job v) (carries_on v) (closes_once_low v.job v) (answers_job_low (closes_once_given v.job v).job (closes_once_given v.job v))
+carries_on_low v =
+    let closed = closes_once_given v.job v in
+    let aborted = aborts_once_enough closed.job closed in
+    both 0 v closed (carries_on v) (closes_once_low v.job v)
+    (both 0 closed aborted (carries_on v) (aborts_once_low closed.job closed refl) (answers_job_low aborted.job aborted))
 
 then_carries_on : (old v : View) → Low old v → Low old (carries_on v)
 then_carries_on old v one = both 0 old v (carries_on v) one (carries_on_low v)
 
 -- a transfer's replies change, in a view where no more is owed or stands
-reply_low : (replied : Replied) (op : Op (List ℕ)) (transfer : Transfer) (old w : View) → transfer_left replied ≡ 0 → old.job ≡ Transferring op transfer
+reply_low : (replied : Replied) (op : Op (List ℕ)) (transfer : Transfer) (old w : View) → opening_left replied ≡ 0 → old.job ≡ Transferring op transfer
     → w.standing ≡ old.standing → w.run ≡ old.run → w.owed ≡ old.owed → closes_left w ≤ closes_left old → Low old (with_reply replied op transfer w)
 reply_low replied op transfer old w none is standing runs owes closing =
-    let here : job_left old.run old.job ≡ transfer_left transfer.replied + run_left old.run op = ap (job_left old.run) is in
+    let here : job_left old.run old.job ≡ transfer_left op transfer.replied transfer.abort + run_left old.run op = ap (job_left old.run) is in
     let octets : upload_left old.job ≡ octets_left transfer.flow = ap upload_left is in
     let login : login_left w.standing ≡ login_left old.standing = ap login_left standing in
     let same_run : run_left w.run op ≡ run_left old.run op = ap (λ run. run_left run op) runs in
@@ -218,7 +269,7 @@ octets_marked (Some mark) (Receiving decoder before) = refl
 flow_low : (op : Op (List ℕ)) (transfer : Transfer) (flow : Flow) (v : View) → v.job ≡ Transferring op transfer → octets_left flow ≤ octets_left transfer.flow
     → Low v (record v { job = Transferring op (record transfer { flow = flow }) })
 flow_low op transfer flow v is fewer =
-    let here : job_left v.run v.job ≡ transfer_left transfer.replied + run_left v.run op = ap (job_left v.run) is in
+    let here : job_left v.run v.job ≡ transfer_left op transfer.replied transfer.abort + run_left v.run op = ap (job_left v.run) is in
     let octets : upload_left v.job ≡ octets_left transfer.flow = ap upload_left is in
     record { begins = omega (arith, here); gives = inr (omega (arith, octets, fewer)) }
 
@@ -261,11 +312,26 @@ behind_low Intermediate code text op transfer v is = strange_low v
 behind_low Closing code text op transfer v is = strange_low v
 behind_low Displaced code text op transfer v is = strange_low v
 
+abort_answered_low : (abort : Abort) (verdict : Verdict) (op : Op (List ℕ)) (transfer : Transfer) (v : View) → v.job ≡ Transferring op transfer
+    → Low v (abort_answered abort verdict op transfer v)
+abort_answered_low Aborts.Sent Completion op transfer v is =
+    let here : job_left v.run v.job ≡ transfer_left op transfer.replied transfer.abort + run_left v.run op = ap (job_left v.run) is in
+    let octets : upload_left v.job ≡ octets_left transfer.flow = ap upload_left is in
+    then_carries_on v (record v { job = Transferring op (record transfer { abort = Aborts.Answered }) })
+    (record { begins = omega (arith, here); gives = inr (omega (arith, octets)) })
+abort_answered_low Aborts.Sent Preliminary op transfer v is = strange_low v
+abort_answered_low Aborts.Sent Intermediate op transfer v is = strange_low v
+abort_answered_low Aborts.Sent Negative op transfer v is = strange_low v
+abort_answered_low Aborts.Sent Closing op transfer v is = strange_low v
+abort_answered_low Aborts.Sent Displaced op transfer v is = strange_low v
+abort_answered_low Aborts.Unsent verdict op transfer v is = strange_low v
+abort_answered_low Aborts.Answered verdict op transfer v is = strange_low v
+
 transfer_low : (replied : Replied) (verdict : Verdict) (code : ℕ) (text : Text) (op : Op (List ℕ)) (transfer : Transfer) (v : View) → v.job ≡ Transferring op transfer
     → Low v (transfer_answered replied verdict code text op transfer v)
 transfer_low Replies.Nothing verdict code text op transfer v is = before_low verdict code op transfer v is
 transfer_low Replies.Begun verdict code text op transfer v is = behind_low verdict code text op transfer v is
-transfer_low (Replies.Final before) verdict code text op transfer v is = strange_low v
+transfer_low (Replies.Final before) verdict code text op transfer v is = abort_answered_low transfer.abort verdict op transfer v is
 
 -- ---- a reply
 
@@ -388,9 +454,22 @@ octets_heard : (flow : Flow) (octet : ℕ) → octets_left (flow_octet flow octe
 octets_heard (Sending left mark) octet = refl
 octets_heard (Receiving decoder mark) octet = refl
 
+octets_heard_by : (abort : Abort) (flow : Flow) (octet : ℕ) → octets_left (heard_flow abort flow octet) ≡ octets_left flow
+octets_heard_by Aborts.Unsent flow octet = octets_heard flow octet
+octets_heard_by Aborts.Sent flow octet = refl
+octets_heard_by Aborts.Answered flow octet = refl
+
+with_flow_low : (op : Op (List ℕ)) (transfer : Transfer) (flow : Flow) (v : View) → v.job ≡ Transferring op transfer → octets_left flow ≡ octets_left transfer.flow
+    → Low v (with_flow op transfer flow v)
+with_flow_low op transfer flow v is octets =
+    let heard : Transfer = record transfer { flow = flow } in
+    let w : View = record v { job = Transferring op heard } in
+    both 0 v w (aborts_once_enough (Transferring op heard) w) (flow_low op transfer flow v is (omega (arith, octets)))
+    (aborts_once_low (Transferring op heard) w refl)
+
 heard_low : (job : Job) (octet : ℕ) (v : View) → v.job ≡ job → Low v (heard_by job octet v)
 heard_low (Transferring op transfer) octet v is =
-    flow_low op transfer (flow_octet transfer.flow octet) v is (omega (arith, octets_heard transfer.flow octet))
+    with_flow_low op transfer (heard_flow transfer.abort transfer.flow octet) v is (octets_heard_by transfer.abort transfer.flow octet)
 heard_low Idle octet v is = same v
 heard_low (Waiting op) octet v is = same v
 heard_low (Doing op step) octet v is = same v

@@ -59,7 +59,7 @@ went_pays count (Receiving decoder mark) few = omega (arith, few)
 goes_pays : (count : ℕ) (job : Job) (v : View) → v.job ≡ job → count ≤ upload_left job → Pays count v (goes_by count job v)
 goes_pays count (Transferring op transfer) v is few =
     let w : View = record v { job = Transferring op (record transfer { flow = went count transfer.flow }) } in
-    let here : job_left v.run v.job ≡ transfer_left transfer.replied + run_left v.run op = ap (job_left v.run) is in
+    let here : job_left v.run v.job ≡ transfer_left op transfer.replied transfer.abort + run_left v.run op = ap (job_left v.run) is in
     let octets : upload_left v.job ≡ octets_left transfer.flow = ap upload_left is in
     pays_then count v w (carries_on w) (record { begins = omega (arith, here); gives = inr (omega (arith, octets, went_pays count transfer.flow few)) }) (carries_on_low w)
 goes_pays count Idle v is few = none_pays count v few

@@ -7,7 +7,7 @@ use Rattle.ftp_client_machine.specs.Dialogue.{answered}
 use Rattle.ftp_facts.specs.Moment.{moment_value}
 use Rattle.ftp_reply.specs.Reader.{line_heard}
 use Rattle.ftp_reply.specs.Values.{passive_value, extended_value, quoted_value, path_value, mark_value}
-use Rattle.ftp_client_machine.specs.Rows.{ActiveDownload, ActiveReport, BrokenDownload, BrokenUpload, Endpoints, Judged, LogsIn, LongGreeting, MarkRead, Moment, NamesRead, NotOpened, OtherHosts, OtherOrders, OwnCode, PassiveDownload, PassiveUpload, PassivePort, Quoted, Renames, TwoCodes, Unasked, Unsendable, UploadBeginsAnew, UploadGivesUp, UploadInTypeA, UploadResumes}
+use Rattle.ftp_client_machine.specs.Rows.{ActiveDownload, ActiveReport, BrokenDownload, BrokenUpload, Endpoints, Judged, LogsIn, LongGreeting, MarkRead, Moment, NamesRead, NotOpened, OtherHosts, OtherOrders, OwnCode, PassiveDownload, PassiveUpload, PassivePort, PeekAborts, PeekEnds, PeekFails, PeekOrders, PeekUnaborted, Quoted, Renames, TwoCodes, Unasked, Unsendable, UploadBeginsAnew, UploadGivesUp, UploadInTypeA, UploadResumes}
 
 pub login : LogsIn
 unfolding answered
@@ -116,3 +116,23 @@ upload_gives_up = (refl, refl)
 pub upload_in_type_a : UploadInTypeA
 unfolding uploads answered
 upload_in_type_a = (refl, refl)
+
+pub peek_aborts : PeekAborts
+unfolding answered starts passive_value data_opened data_end data_fault path_on_literals
+peek_aborts = (refl, refl, refl, refl, refl, refl, refl)
+
+pub peek_orders : PeekOrders
+unfolding answered starts passive_value data_opened data_end data_fault path_on_literals
+peek_orders = (refl, refl, refl, refl, refl, refl, refl)
+
+pub peek_unaborted : PeekUnaborted
+unfolding answered starts passive_value data_opened data_end data_fault path_on_literals
+peek_unaborted = (refl, refl)
+
+pub peek_ends : PeekEnds
+unfolding answered starts passive_value data_opened data_end data_fault path_on_literals
+peek_ends = (refl, refl, refl)
+
+pub peek_fails : PeekFails
+unfolding answered starts passive_value data_opened data_end data_fault path_on_literals
+peek_fails = (refl, refl, refl, refl)

@@ -7,7 +7,7 @@ use Rattle.ftp_operation.specs.declared.op.Op.{Op}
 use Rattle.ftp_endpoint.specs.declared.endpoint.Endpoint.{Endpoint}
 use Rattle.ftp_reply.specs.Lines.{Text, joined}
 use Rattle.ftp_ends.specs.Link.{same_host}
-use Rattle.ftp_client_machine.specs.Dialogue.{next_job, finishes_by, finishes, finishes_read, sends_if, last_job, answer_in, awaited, marked_flow, placed, goes_on, greeted, enters_with, enters, user_answered, pass_answered, set_accepted, dials, named, port_named, passive_named, step_done, intermediate, awaits_reply, step_answered, judged, answers_by, answers_job, closes_once_given_by, closes_once_given, carries_on, with_reply, transfer_opened, noted, unless_open, before_opening, behind_opening, transfer_answered, job_answered, stand_answered, judged_reply, answered, closes, has_begun, is_given}
+use Rattle.ftp_client_machine.specs.Dialogue.{is_to_abort, aborts, aborts_once_enough, abort_answered, next_job, finishes_by, finishes, finishes_read, sends_if, last_job, answer_in, awaited, marked_flow, placed, goes_on, greeted, enters_with, enters, user_answered, pass_answered, set_accepted, dials, named, port_named, passive_named, step_done, intermediate, awaits_reply, step_answered, judged, answers_by, answers_job, closes_once_given_by, closes_once_given, carries_on, with_reply, transfer_opened, noted, unless_open, before_opening, behind_opening, transfer_answered, job_answered, stand_answered, judged_reply, answered, closes, has_begun, is_given}
 use Rattle.ftp_client_machine.specs.InFlight.{IsAtRest, AnsweredAtRest}
 use Rattle.ftp_client_machine.specs.Octets.{flow_of}
 use Rattle.ftp_client_machine.specs.Plan.{asked_settings, first_step, next_step, settings_behind, command_of, is_extended}
@@ -16,6 +16,8 @@ use Rattle.std.specs.Option.{option_map}
 use Rattle.ftp_client_machine.specs.Tries.{run_at}
 use Rattle.ftp_reply.specs.Values.{passive_value, extended_value, mark_value}
 use Rattle.ftp_client_machine.specs.View.{View, Job, Idle, Waiting, Doing, Transferring, Told, Transfer, Flow, dropped, fails_by, strange}
+use Rattle.ftp_client_machine.specs.declared.client.Abort.{Abort}
+use Rattle.ftp_client_machine.specs.declared.client.Abort.TheVariants as Aborts
 use Rattle.ftp_client_machine.specs.declared.client.Failure.{Failure}
 use Rattle.ftp_client_machine.specs.declared.client.Failure.TheVariants as Failures
 use Rattle.ftp_client_machine.specs.declared.client.DataConnection.{DataConnection}
@@ -174,19 +176,27 @@ step_rest op step Displaced code texts v r = strange_rest v r
 
 -- ---- a transfer
 
-answers_by_rest : (replied : Replied) (connection : DataConnection) (op : Op (List ℕ)) (flow : Flow) (v : View) → Rests v (answers_by replied connection op flow)
-answers_by_rest (Replies.Final code) (Data.Over ending) op flow v r = finishes_read_rest (judged ending code op flow) v r
-answers_by_rest (Replies.Final code) Data.Free op flow v r = r
-answers_by_rest (Replies.Final code) Data.ListenWanted op flow v r = r
-answers_by_rest (Replies.Final code) (Data.Listening port) op flow v r = r
-answers_by_rest (Replies.Final code) (Data.Connecting endpoint) op flow v r = r
-answers_by_rest (Replies.Final code) (Data.Accepting port) op flow v r = r
-answers_by_rest (Replies.Final code) Data.Open op flow v r = r
-answers_by_rest Replies.Nothing connection op flow v r = r
-answers_by_rest Replies.Begun connection op flow v r = r
+answers_by_rest : (replied : Replied) (abort : Abort) (connection : DataConnection) (op : Op (List ℕ)) (flow : Flow) (v : View) → Rests v (answers_by replied abort connection op flow)
+answers_by_rest (Replies.Final code) Aborts.Unsent (Data.Over ending) op flow v r = finishes_read_rest (judged ending Aborts.Unsent code op flow) v r
+answers_by_rest (Replies.Final code) Aborts.Unsent Data.Free op flow v r = r
+answers_by_rest (Replies.Final code) Aborts.Unsent Data.ListenWanted op flow v r = r
+answers_by_rest (Replies.Final code) Aborts.Unsent (Data.Listening port) op flow v r = r
+answers_by_rest (Replies.Final code) Aborts.Unsent (Data.Connecting endpoint) op flow v r = r
+answers_by_rest (Replies.Final code) Aborts.Unsent (Data.Accepting port) op flow v r = r
+answers_by_rest (Replies.Final code) Aborts.Unsent Data.Open op flow v r = r
+answers_by_rest (Replies.Final code) Aborts.Answered (Data.Over ending) op flow v r = finishes_read_rest (judged ending Aborts.Answered code op flow) v r
+answers_by_rest (Replies.Final code) Aborts.Answered Data.Free op flow v r = r
+answers_by_rest (Replies.Final code) Aborts.Answered Data.ListenWanted op flow v r = r
+answers_by_rest (Replies.Final code) Aborts.Answered (Data.Listening port) op flow v r = r
+answers_by_rest (Replies.Final code) Aborts.Answered (Data.Connecting endpoint) op flow v r = r
+answers_by_rest (Replies.Final code) Aborts.Answered (Data.Accepting port) op flow v r = r
+answers_by_rest (Replies.Final code) Aborts.Answered Data.Open op flow v r = r
+answers_by_rest (Replies.Final code) Aborts.Sent connection op flow v r = r
+answers_by_rest Replies.Nothing abort connection op flow v r = r
+answers_by_rest Replies.Begun abort connection op flow v r = r
 
 answers_job_rest : (job : Job) (v : View) → Rests v (answers_job job)
-answers_job_rest (Transferring op transfer) v r = answers_by_rest transfer.replied v.connection op transfer.flow v r
+answers_job_rest (Transferring op transfer) v r = answers_by_rest transfer.replied transfer.abort v.connection op transfer.flow v r
 answers_job_rest Idle v r = r
 answers_job_rest (Waiting op) v r = r
 answers_job_rest (Doing op step) v r = r
@@ -212,8 +222,21 @@ closes_once_rest (Waiting op) v r = r
 closes_once_rest (Doing op step) v r = r
 closes_once_rest (Told answer) v r = r
 
+aborts_rest : (op : Op (List ℕ)) (transfer : Transfer) (v : View) → Rests v (aborts op transfer)
+aborts_rest op transfer v r = record { ear = r.ear; gathered = r.gathered }
+
+aborts_once_rest : (job : Job) (v : View) → Rests v (aborts_once_enough job)
+aborts_once_rest (Transferring op transfer) v r = if_rest (is_to_abort v.connection op transfer) (aborts op transfer v) v (aborts_rest op transfer v r) r
+aborts_once_rest Idle v r = r
+aborts_once_rest (Waiting op) v r = r
+aborts_once_rest (Doing op step) v r = r
+aborts_once_rest (Told answer) v r = r
+
 carries_on_rest : (v : View) → Rests v carries_on
-carries_on_rest v r = answers_job_rest (closes_once_given v.job v).job (closes_once_given v.job v) (closes_once_rest v.job v r)
+carries_on_rest v r =
+    let closed = closes_once_given v.job v in
+    let aborted = aborts_once_enough closed.job closed in
+    answers_job_rest aborted.job aborted (aborts_once_rest closed.job closed (closes_once_rest v.job v r))
 
 with_reply_rest : (replied : Replied) (op : Op (List ℕ)) (transfer : Transfer) (v : View) → Rests v (with_reply replied op transfer)
 with_reply_rest replied op transfer v r = carries_on_rest (record v { job = Transferring op (record transfer { replied = replied }) }) (record { ear = r.ear; gathered = r.gathered })
@@ -254,11 +277,22 @@ behind_rest Intermediate code text op transfer v r = strange_rest v r
 behind_rest Closing code text op transfer v r = strange_rest v r
 behind_rest Displaced code text op transfer v r = strange_rest v r
 
+abort_answered_rest : (abort : Abort) (verdict : Verdict) (op : Op (List ℕ)) (transfer : Transfer) (v : View) → Rests v (abort_answered abort verdict op transfer)
+abort_answered_rest Aborts.Sent Completion op transfer v r =
+    carries_on_rest (record v { job = Transferring op (record transfer { abort = Aborts.Answered }) }) (record { ear = r.ear; gathered = r.gathered })
+abort_answered_rest Aborts.Sent Preliminary op transfer v r = strange_rest v r
+abort_answered_rest Aborts.Sent Intermediate op transfer v r = strange_rest v r
+abort_answered_rest Aborts.Sent Negative op transfer v r = strange_rest v r
+abort_answered_rest Aborts.Sent Closing op transfer v r = strange_rest v r
+abort_answered_rest Aborts.Sent Displaced op transfer v r = strange_rest v r
+abort_answered_rest Aborts.Unsent verdict op transfer v r = strange_rest v r
+abort_answered_rest Aborts.Answered verdict op transfer v r = strange_rest v r
+
 transfer_rest : (replied : Replied) (verdict : Verdict) (code : ℕ) (text : Text) (op : Op (List ℕ)) (transfer : Transfer) (v : View)
     → Rests v (transfer_answered replied verdict code text op transfer)
 transfer_rest Replies.Nothing verdict code text op transfer v r = before_rest verdict code op transfer v r
 transfer_rest Replies.Begun verdict code text op transfer v r = behind_rest verdict code text op transfer v r
-transfer_rest (Replies.Final before) verdict code text op transfer v r = strange_rest v r
+transfer_rest (Replies.Final before) verdict code text op transfer v r = abort_answered_rest transfer.abort verdict op transfer v r
 
 -- ---- a reply
 

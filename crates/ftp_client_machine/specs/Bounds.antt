@@ -5,8 +5,11 @@ use Rattle.ftp_endpoint.specs.declared.host.Host.{Host}
 use Rattle.ftp_client_machine.specs.Calls.{hears_octet, listening, listen_refused, data_opened, data_refused, data_end, data_fault, receives_octet, gives_control, gives_data, to_give, data_closed, control_end}
 use Rattle.ftp_client_machine.specs.Failing.{short, listening_short, data_opened_short, data_end_short}
 use Rattle.ftp_operation.specs.declared.op.Op.{Op}
+use Rattle.ftp_client_machine.specs.Plan.{count_of}
 use Rattle.ftp_client_machine.specs.Tries.{Run, is_size}
 use Rattle.ftp_client_machine.specs.View.{View, Job, Idle, Waiting, Doing, Transferring, Told, Flow, Sending, Receiving, stands}
+use Rattle.ftp_client_machine.specs.declared.client.Abort.{Abort}
+use Rattle.ftp_client_machine.specs.declared.client.Abort.TheVariants as Aborts
 use Rattle.ftp_client_machine.specs.declared.client.Replied.{Replied}
 use Rattle.ftp_client_machine.specs.declared.client.Replied.TheVariants as Replies
 use Rattle.ftp_client_machine.specs.declared.client.Standing.{Standing}
@@ -40,13 +43,22 @@ abbrev pub steps_left : Step → ℕ
 steps_left step = suc (length (steps_behind step))
 
 -- a transfer whose 1yz is awaited has still to begin
-abbrev pub transfer_left : Replied → ℕ
-transfer_left Replies.Nothing = 1
-transfer_left other = 0
+abbrev pub opening_left : Replied → ℕ
+opening_left Replies.Nothing = 1
+opening_left other = 0
 
--- an operation that is still to begin, with all its steps
+-- a Peek, which asks for so many octets, may still send its ABOR
+abbrev pub abort_left : Abort → Option ℕ → ℕ
+abort_left Aborts.Unsent (Some count) = 1
+abort_left abort count = 0
+
+-- of a transfer
+abbrev pub transfer_left : Op (List ℕ) → Replied → Abort → ℕ
+transfer_left op replied abort = opening_left replied + abort_left abort (count_of op)
+
+-- an operation that is still to begin, with all its steps and its ABOR
 abbrev pub operation_left : ℕ
-operation_left = suc (steps_left Steps.Kind)
+operation_left = steps_left Steps.Kind + 2
 
 -- how many operations of a run can follow this one: for each try that is left SIZE and the try; behind SIZE the try comes at once
 abbrev pub operations_behind : Run → Op (List ℕ) → ℕ
@@ -61,8 +73,8 @@ run_left (Some run) op = operation_left * operations_behind run op
 abbrev pub job_left : Option Run → Job → ℕ
 job_left run Idle = 0
 job_left run (Waiting op) = operation_left + run_left run op
-job_left run (Doing op step) = steps_left step + run_left run op
-job_left run (Transferring op transfer) = transfer_left transfer.replied + run_left run op
+job_left run (Doing op step) = steps_left step + (abort_left Aborts.Unsent (count_of op) + run_left run op)
+job_left run (Transferring op transfer) = transfer_left op transfer.replied transfer.abort + run_left run op
 job_left run (Told answer) = 0
 
 -- what is to begin of the login and of the operation

@@ -7,11 +7,13 @@ use Rattle.ftp_operation.specs.declared.op.Op.{Op}
 use Rattle.ftp_nvt.specs.Lines.{NvtEvent, line, too_long, owed}
 use Rattle.ftp_ends.specs.Ear.{ear}
 use Rattle.ftp_ends.specs.Link.{same_host}
-use Rattle.ftp_client_machine.specs.Dialogue.{begins, goes_on, finishes, answered, carries_on, has_begun}
+use Rattle.ftp_client_machine.specs.Dialogue.{begins, goes_on, finishes, answered, aborts_once_enough, carries_on, has_begun}
 use Rattle.ftp_client_machine.specs.Octets.{flow_octet}
 use Rattle.ftp_reply.specs.Reader.{Between, Heard, GoesOn, Says, Faulty, line_heard}
 use Rattle.ftp_client_machine.specs.Tries.{OverBreaks, Run, run_of, first_try}
 use Rattle.ftp_client_machine.specs.View.{View, Job, Idle, Waiting, Doing, Transferring, Told, Transfer, Flow, Sending, Receiving, tells, fails, failure_said, strange}
+use Rattle.ftp_client_machine.specs.declared.client.Abort.{Abort}
+use Rattle.ftp_client_machine.specs.declared.client.Abort.TheVariants as Aborts
 use Rattle.ftp_client_machine.specs.declared.client.Ending.{Ending}
 use Rattle.ftp_client_machine.specs.declared.client.Ending.TheVariants as Endings
 use Rattle.ftp_client_machine.specs.declared.client.Failure.TheVariants as Failures
@@ -207,9 +209,20 @@ data_closed v = record v { closing = false }
 
 -- ---- the octets of the data connection
 
--- one octet of a download
+-- one octet of a download; behind an ABOR it is dropped (own choice)
+abbrev pub heard_flow : Abort → Flow → ℕ → Flow
+heard_flow Aborts.Unsent flow octet = flow_octet flow octet
+heard_flow abort flow octet = flow
+
+-- with it a Peek may have enough
+abbrev pub with_flow : Op (List ℕ) → Transfer → Flow → View → View
+with_flow op transfer flow v =
+    let heard = record transfer { flow = flow } in
+    aborts_once_enough (Transferring op heard) (record v { job = Transferring op heard })
+
+-- of the transfer under way
 abbrev pub heard_by : Job → ℕ → View → View
-heard_by (Transferring op transfer) octet v = record v { job = Transferring op (record transfer { flow = flow_octet transfer.flow octet }) }
+heard_by (Transferring op transfer) octet v = with_flow op transfer (heard_flow transfer.abort transfer.flow octet) v
 heard_by job octet v = v
 
 -- one octet of the data connection

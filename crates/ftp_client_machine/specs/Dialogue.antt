@@ -11,16 +11,17 @@ use Rattle.ftp_operation.specs.declared.op.Op.{Op}
 use Rattle.ftp_operation.specs.declared.op.Op.TheVariants as Ops
 use Rattle.ftp_nvt.specs.Lines.{written_line}
 use Rattle.ftp_reply.specs.Lines.{Text, joined}
-use Rattle.ftp_ends.specs.Decoder.{is_whole, ended}
 use Rattle.ftp_ends.specs.Link.{same_host}
 use Rattle.ftp_facts.specs.Moment.{moment_value}
-use Rattle.ftp_client_machine.specs.Octets.{flow_of, content_answer, broken_answer}
+use Rattle.ftp_client_machine.specs.Octets.{flow_of, settled_of, has_enough, content_answer, cut_answer, whole_answer}
 use Rattle.ftp_client_machine.specs.Plan.{asked_settings, first_step, next_step, settings_behind, command_of, is_extended}
 use Rattle.ftp_client_machine.specs.Replies.{Verdict, Preliminary, Completion, Intermediate, Negative, Closing, Displaced, verdict_of}
 use Rattle.ftp_client_machine.specs.Tries.{Run, next_in, run_at}
 use Rattle.ftp_facts.specs.Value.{number_value}
 use Rattle.ftp_reply.specs.Values.{extended_value, facts_in, mark_value, passive_value, path_value}
 use Rattle.ftp_client_machine.specs.View.{View, Job, Waiting, Doing, Transferring, Transfer, Flow, Sending, Receiving, stands, dropped, tells, fails, strange}
+use Rattle.ftp_client_machine.specs.declared.client.Abort.{Abort}
+use Rattle.ftp_client_machine.specs.declared.client.Abort.TheVariants as Aborts
 use Rattle.ftp_client_machine.specs.declared.client.Ending.{Ending}
 use Rattle.ftp_client_machine.specs.declared.client.Ending.TheVariants as Endings
 use Rattle.ftp_client_machine.specs.declared.client.Failure.TheVariants as Failures
@@ -47,7 +48,7 @@ sends_if (Some command) v = sends command v
 -- with its own command an operation's transfer begins, where it has one
 abbrev pub last_job : Op (List ℕ) → Option Flow → Job
 last_job op None = Doing op Steps.Last
-last_job op (Some flow) = Transferring op (record { replied = Replies.Nothing; flow = flow })
+last_job op (Some flow) = Transferring op (record { replied = Replies.Nothing; abort = Aborts.Unsent; flow = flow })
 
 -- an operation at a step: its command is sent, or a port is wanted
 abbrev pub placed : Op (List ℕ) → Step → View → View
@@ -191,43 +192,46 @@ step_answered op step other code texts v = strange v
 
 -- ---- a transfer
 
--- a refusal's code as an answer: 425 tells that no link was opened, and nothing done; 426 that it broke
-abbrev pub refusal_answer : ℕ → Flow → Said
-refusal_answer code flow = if code == 425 then Unopened else (if code == 426 then broken_answer flow else Refused code)
-
--- after a clean end: an upload is done, and a download is whole, or counts as broken
-abbrev pub whole_answer : Op (List ℕ) → Flow → Option Said
-whole_answer op (Sending left mark) = Some Done
-whole_answer op (Receiving decoder mark) =
-    if is_whole decoder then content_answer op (ended decoder).content else Some (broken_answer (Receiving decoder mark))
-
 -- after a 2yz, by the link's end
 abbrev pub ended_answer : Ending → Op (List ℕ) → Flow → Option Said
 ended_answer Endings.Clean op flow = whole_answer op flow
 ended_answer Endings.Ours op flow = whole_answer op flow
-ended_answer Endings.Broken op flow = Some (broken_answer flow)
+ended_answer Endings.Broken op flow = cut_answer op flow
 ended_answer Endings.Foreign op flow = Some Foreign
+
+-- after 426; own choice: a Peek goes by its link's end
+abbrev pub broken_off_answer : Ending → Op (List ℕ) → Flow → Option Said
+broken_off_answer Endings.Clean (Ops.Peek path count how) flow = whole_answer (Ops.Peek path count how) flow
+broken_off_answer ending op flow = cut_answer op flow
+
+-- after a refusal: 425 tells that no link was opened, and nothing done; 426 that it broke
+abbrev pub refused_answer : Ending → ℕ → Op (List ℕ) → Flow → Option Said
+refused_answer ending code op flow =
+    if code == 425 then Some Unopened else (if code == 426 then broken_off_answer ending op flow else Some (Refused code))
 
 -- 4yz or 5yz (RFC 959, section 4.2.1)
 abbrev pub is_refusal : ℕ → Bool
 is_refusal code = nat_le 400 code
 
--- a transfer's answer, from its final reply and its link's end: another host first, then a refusal, whatever became of the link
-abbrev pub judged : Ending → ℕ → Op (List ℕ) → Flow → Option Said
-judged Endings.Foreign code op flow = Some Foreign
-judged ending code op flow = if is_refusal code then Some (refusal_answer code flow) else ended_answer ending op flow
+-- a transfer's answer, from its final reply and its link's end: another host first, then a Peek that sent its ABOR, whatever the
+-- final reply says, then a refusal, whatever became of the link
+abbrev pub judged : Ending → Abort → ℕ → Op (List ℕ) → Flow → Option Said
+judged Endings.Foreign abort code op flow = Some Foreign
+judged ending Aborts.Answered code op flow = content_answer op (settled_of flow)
+judged ending abort code op flow = if is_refusal code then refused_answer ending code op flow else ended_answer ending op flow
 
--- it is answered when its final reply and its link's end are both in
-abbrev pub answers_by : Replied → DataConnection → Op (List ℕ) → Flow → View → View
-answers_by (Replies.Final code) (Data.Over ending) op flow v = finishes_read (judged ending code op flow) v
-answers_by replied connection op flow v = v
+-- it is answered when its final reply and its link's end are both in, and the reply to its ABOR, where it sent one
+abbrev pub answers_by : Replied → Abort → DataConnection → Op (List ℕ) → Flow → View → View
+answers_by (Replies.Final code) Aborts.Unsent (Data.Over ending) op flow v = finishes_read (judged ending Aborts.Unsent code op flow) v
+answers_by (Replies.Final code) Aborts.Answered (Data.Over ending) op flow v = finishes_read (judged ending Aborts.Answered code op flow) v
+answers_by replied abort connection op flow v = v
 
 -- of the transfer under way
 abbrev pub answers_job : Job → View → View
-answers_job (Transferring op transfer) v = answers_by transfer.replied v.connection op transfer.flow v
+answers_job (Transferring op transfer) v = answers_by transfer.replied transfer.abort v.connection op transfer.flow v
 answers_job job v = v
 
--- the answer of a transfer stands as soon as both are in
+-- the answer of a transfer stands as soon as all are in
 abbrev pub answers_once_over : View → View
 answers_once_over v = answers_job v.job v
 
@@ -256,9 +260,28 @@ abbrev pub closes_once_given : Job → View → View
 closes_once_given (Transferring op transfer) v = closes_once_given_by (has_begun transfer.replied && is_given transfer.flow) v.connection v
 closes_once_given job v = v
 
--- what follows of where a transfer stands: the close of an upload, and the answer
+-- no ABOR was sent
+abbrev pub is_unsent : Abort → Bool
+is_unsent Aborts.Unsent = true
+is_unsent abort = false
+
+-- own choice: ABOR is sent once the transfer has begun, its link is open and a Peek has enough, be the final reply in or not
+abbrev pub is_to_abort : DataConnection → Op (List ℕ) → Transfer → Bool
+is_to_abort Data.Open op transfer = is_unsent transfer.abort && has_begun transfer.replied && has_enough op transfer.flow
+is_to_abort connection op transfer = false
+
+-- ABOR is sent (RFC 959, section 4.1.3)
+abbrev pub aborts : Op (List ℕ) → Transfer → View → View
+aborts op transfer v = sends Commands.Abor (record v { job = Transferring op (record transfer { abort = Aborts.Sent }) })
+
+-- of the transfer under way
+abbrev pub aborts_once_enough : Job → View → View
+aborts_once_enough (Transferring op transfer) v = if is_to_abort v.connection op transfer then aborts op transfer v else v
+aborts_once_enough job v = v
+
+-- what follows of where a transfer stands: the close of an upload, the ABOR of a Peek, and the answer
 abbrev pub carries_on : View → View
-carries_on v = answers_once_over (closes_once_given v.job v)
+carries_on v = let closed = closes_once_given v.job v in answers_once_over (aborts_once_enough closed.job closed)
 
 -- a transfer's replies change
 abbrev pub with_reply : Replied → Op (List ℕ) → Transfer → View → View
@@ -302,11 +325,16 @@ behind_opening Completion code text op transfer v = with_reply (Replies.Final co
 behind_opening Negative code text op transfer v = with_reply (Replies.Final code) op transfer (unless_open v.connection v)
 behind_opening other code text op transfer v = strange v
 
--- nobody waits for a reply behind the final one
+-- behind the final reply comes that to an ABOR, a 2yz; nobody waits for another
+abbrev pub abort_answered : Abort → Verdict → Op (List ℕ) → Transfer → View → View
+abort_answered Aborts.Sent Completion op transfer v = carries_on (record v { job = Transferring op (record transfer { abort = Aborts.Answered }) })
+abort_answered abort verdict op transfer v = strange v
+
+-- by the replies that came before
 abbrev pub transfer_answered : Replied → Verdict → ℕ → Text → Op (List ℕ) → Transfer → View → View
 transfer_answered Replies.Nothing verdict code text op transfer v = before_opening verdict code op transfer v
 transfer_answered Replies.Begun verdict code text op transfer v = behind_opening verdict code text op transfer v
-transfer_answered (Replies.Final before) verdict code text op transfer v = strange v
+transfer_answered (Replies.Final before) verdict code text op transfer v = abort_answered transfer.abort verdict op transfer v
 
 -- ---- a reply
 

@@ -1,17 +1,17 @@
 -- The octets of a client's transfer: the text of an upload, and what a download has brought (RFC 959, sections 3.1 to 3.5).
-use Rattle.std.specs.Prelude.{ℕ, ◌&&◌, Bool, true, false, List, [], ◌∷◌, Option, Some, None}
+use Rattle.std.specs.Prelude.{ℕ, ◌&&◌, Bool, true, false, nat_le, List, [], ◌∷◌, length, take, Option, Some, None, if◌then◌else◌}
 use Rattle.std.specs.Option.{option_map, option_or}
-use Rattle.ftp_operation.specs.Answer.{Said, Octets, Entries, Names, Broken}
+use Rattle.ftp_operation.specs.Answer.{Said, Done, Octets, Entries, Names, Broken}
 use Rattle.ftp_operation.specs.declared.op.How.{How}
 use Rattle.ftp_operation.specs.declared.op.Op.{Op}
 use Rattle.ftp_operation.specs.declared.op.Op.TheVariants as Ops
 use Rattle.ftp_framer.specs.Block.{marked_text}
 use Rattle.ftp_framer.specs.Wire.{wire}
 use Rattle.ftp_framer.specs.Said.{Said as WireSaid, says, marker}
-use Rattle.ftp_ends.specs.Decoder.{no_octets, octet_says, decoded_octet, broken}
+use Rattle.ftp_ends.specs.Decoder.{no_octets, octet_says, decoded_octet, is_whole, ended, broken}
 use Rattle.ftp_representation.specs.Representation.{form_of, has_markers}
 use Rattle.ftp_facts.specs.Listing.{entries_value, names_value}
-use Rattle.ftp_client_machine.specs.Plan.{settings_of, listing_settings}
+use Rattle.ftp_client_machine.specs.Plan.{settings_of, listing_settings, count_of}
 use Rattle.ftp_facts.specs.Value.{number_value}
 use Rattle.ftp_client_machine.specs.View.{Flow, Sending, Receiving}
 use Rattle.ftp_representation.specs.declared.representation.Representation.{Representation}
@@ -45,6 +45,7 @@ flow_of (Ops.Append path octets how) = Some (upload_flow how 0 octets)
 flow_of (Ops.PutFrom path offset octets how) = Some (upload_flow how offset octets)
 flow_of (Ops.Get path how) = Some (download_flow (settings_of how))
 flow_of (Ops.GetFrom path offset how) = Some (download_flow (settings_of how))
+flow_of (Ops.Peek path count how) = Some (download_flow (settings_of how))
 flow_of (Ops.List path how) = Some (download_flow (listing_settings how.representation.mode))
 flow_of (Ops.Names path how) = Some (download_flow (listing_settings how.representation.mode))
 flow_of other = None
@@ -60,15 +61,40 @@ abbrev pub flow_octet : Flow → ℕ → Flow
 flow_octet (Sending left mark) octet = Sending left mark
 flow_octet (Receiving decoder mark) octet = Receiving (decoded_octet decoder octet) (last_mark mark (octet_says decoder octet))
 
+-- the octets of a download that are settled
+abbrev pub settled_of : Flow → List ℕ
+settled_of (Sending left mark) = []
+settled_of (Receiving decoder mark) = decoder.content
+
+-- so many octets of a download are settled
+abbrev pub has_settled : Option ℕ → Flow → Bool
+has_settled None flow = false
+has_settled (Some count) flow = nat_le count (length (settled_of flow))
+
+-- a Peek has all octets that it asked for; no other operation has ever enough
+abbrev pub has_enough : Op (List ℕ) → Flow → Bool
+has_enough op flow = has_settled (count_of op) flow
+
 -- ---- what came of it
 
--- the content that a whole download says: octets, entries or names; none where a line of a listing says none
+-- the content that a download says: octets, entries or names; of a Peek the first octets; none where a line of a listing says none
 abbrev pub content_answer : Op (List ℕ) → List ℕ → Option Said
 content_answer (Ops.List path how) octets = option_map Entries (entries_value octets)
 content_answer (Ops.Names path how) octets = option_map Names (names_value octets)
+content_answer (Ops.Peek path count how) octets = Some (Octets (take count octets))
 content_answer op octets = Some (Octets octets)
 
 -- a break: the content that came of a download, and the last mark
 abbrev pub broken_answer : Flow → Said
 broken_answer (Sending left mark) = Broken [] mark
 broken_answer (Receiving decoder mark) = Broken (broken decoder).content mark
+
+-- a transfer that was cut: it broke; own choice: a Peek that has enough has its answer all the same
+abbrev pub cut_answer : Op (List ℕ) → Flow → Option Said
+cut_answer op flow = if has_enough op flow then content_answer op (settled_of flow) else Some (broken_answer flow)
+
+-- after a clean end: an upload is done, and a download is whole, or counts as cut
+abbrev pub whole_answer : Op (List ℕ) → Flow → Option Said
+whole_answer op (Sending left mark) = Some Done
+whole_answer op (Receiving decoder mark) =
+    if is_whole decoder then content_answer op (ended decoder).content else cut_answer op (Receiving decoder mark)

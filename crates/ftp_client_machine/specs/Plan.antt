@@ -29,6 +29,7 @@ how_of (Ops.Append path octets how) = Some how
 how_of (Ops.PutFrom path offset octets how) = Some how
 how_of (Ops.Get path how) = Some how
 how_of (Ops.GetFrom path offset how) = Some how
+how_of (Ops.Peek path count how) = Some how
 how_of (Ops.List path how) = Some how
 how_of (Ops.Names path how) = Some how
 how_of other = None
@@ -52,6 +53,7 @@ asked_settings (Ops.Append path octets how) = Some (settings_of how)
 asked_settings (Ops.PutFrom path offset octets how) = Some (settings_of how)
 asked_settings (Ops.Get path how) = Some (settings_of how)
 asked_settings (Ops.GetFrom path offset how) = Some (settings_of how)
+asked_settings (Ops.Peek path count how) = Some (settings_of how)
 asked_settings other = None
 
 -- the offset of a transfer, where it has one
@@ -59,6 +61,11 @@ abbrev pub offset_of : Op (List ℕ) → Option ℕ
 offset_of (Ops.PutFrom path offset octets how) = Some offset
 offset_of (Ops.GetFrom path offset how) = Some offset
 offset_of other = None
+
+-- how many first octets a Peek asks for
+abbrev pub count_of : Op (List ℕ) → Option ℕ
+count_of (Ops.Peek path count how) = Some count
+count_of other = None
 
 -- ---- the steps
 
@@ -174,6 +181,7 @@ own_command (Ops.Append path octets how) = Commands.Appe path
 own_command (Ops.PutFrom path offset octets how) = Commands.Stor path
 own_command (Ops.Get path how) = Commands.Retr path
 own_command (Ops.GetFrom path offset how) = Commands.Retr path
+own_command (Ops.Peek path count how) = Commands.Retr path
 own_command (Ops.Size path how) = Commands.Size path
 own_command (Ops.Modified path) = Commands.Mdtm path
 own_command (Ops.Facts path) = Commands.Mlst (optional path)

@@ -371,3 +371,72 @@ UploadBeginsAnew =
 -- own choice: in another type or structure it is bad, and nothing is sent
 abbrev pub UploadInTypeA : Type 0
 UploadInTypeA = (reported (tries (ten text) ∷ []) ≡ Some BadOperation) × (sent (tries (ten records) ∷ []) ≡ [])
+
+-- ---- a Peek (own choice; ABOR: RFC 959, section 4.1.3)
+
+-- the first octets of the file f, up to the open link
+abbrev pub peek : ℕ → List Happening
+peek count = asks (Ops.Peek (codes "f") count plain) ∷ set ∷ entering ∷ opened here ∷ []
+
+-- the file has ten octets
+abbrev pub ten_octets : Happening
+ten_octets = octets (codes "0123456789")
+
+-- the reply to ABOR
+abbrev pub aborted : Happening
+aborted = replied 226 (codes "Abort successful")
+
+-- the lines of a Peek, and with ABOR
+abbrev pub peek_lines : List (List ℕ)
+peek_lines = codes "TYPE I" ∷ codes "PASV" ∷ codes "RETR f" ∷ []
+
+-- behind them
+abbrev pub abort_lines : List (List ℕ)
+abort_lines = peek_lines ++ codes "ABOR" ∷ []
+
+-- ABOR is sent once the 150 is in and three octets are settled, the 226 in or not; before that, or over a link that has ended, none is
+abbrev pub PeekAborts : Type 0
+PeekAborts =
+    (sent (peek 3 ++ opening ∷ octets (codes "01") ∷ []) ≡ lines peek_lines)
+    × (sent (peek 3 ++ opening ∷ octets (codes "012") ∷ []) ≡ lines abort_lines)
+    × (sent (peek 3 ++ ten_octets ∷ []) ≡ lines peek_lines)
+    × (sent (peek 3 ++ ten_octets ∷ opening ∷ []) ≡ lines abort_lines)
+    × (sent (peek 3 ++ opening ∷ complete ∷ ten_octets ∷ []) ≡ lines abort_lines)
+    × (sent (peek 3 ++ ten_octets ∷ ended ∷ opening ∷ []) ≡ lines peek_lines)
+    × (sent (peek 0 ++ opening ∷ []) ≡ lines abort_lines)
+
+-- three octets of ten are reported
+abbrev pub TellsThree : List Happening → Type 0
+TellsThree events = reported (peek 3 ++ events) ≡ Some (Octets (codes "012"))
+
+-- in every order of the two replies and the link's end or break; 226, 426 or another final reply
+abbrev pub PeekOrders : Type 0
+PeekOrders =
+    TellsThree (opening ∷ ten_octets ∷ broken_off ∷ aborted ∷ ended ∷ [])
+    × TellsThree (opening ∷ ten_octets ∷ broken_off ∷ ended ∷ aborted ∷ [])
+    × TellsThree (opening ∷ ten_octets ∷ broken ∷ broken_off ∷ aborted ∷ [])
+    × TellsThree (opening ∷ ten_octets ∷ complete ∷ aborted ∷ ended ∷ [])
+    × TellsThree (opening ∷ ten_octets ∷ ended ∷ complete ∷ aborted ∷ [])
+    × TellsThree (opening ∷ complete ∷ ten_octets ∷ ended ∷ aborted ∷ [])
+    × TellsThree (opening ∷ octets (codes "012") ∷ replied 551 [] ∷ octets (codes "3") ∷ aborted ∷ broken ∷ [])
+
+-- where no ABOR was sent, the link's end or break behind three octets is enough
+abbrev pub PeekUnaborted : Type 0
+PeekUnaborted =
+    TellsThree (ten_octets ∷ ended ∷ opening ∷ complete ∷ [])
+    × TellsThree (octets (codes "0123") ∷ broken ∷ opening ∷ broken_off ∷ [])
+
+-- all where there are fewer; none where none are asked for
+abbrev pub PeekEnds : Type 0
+PeekEnds =
+    (reported (peek 99 ++ opening ∷ ten_octets ∷ ended ∷ complete ∷ []) ≡ Some (Octets (codes "0123456789")))
+    × (reported (peek 0 ++ opening ∷ broken_off ∷ aborted ∷ ended ∷ []) ≡ Some (Octets []))
+    × (reported (peek 3 ++ opening ∷ ten_octets ∷ broken_off ∷ ended ∷ []) ≡ None)
+
+-- as Get: a break before so many octets, a refusal; another reply to ABOR is strange; a number of 19 digits is bad
+abbrev pub PeekFails : Type 0
+PeekFails =
+    (reported (peek 3 ++ opening ∷ octets (codes "01") ∷ broken ∷ broken_off ∷ []) ≡ Some (Broken (codes "01") None))
+    × (reported (peek 3 ++ replied 550 [] ∷ []) ≡ Some (Refused 550))
+    × (reported (peek 3 ++ opening ∷ ten_octets ∷ broken_off ∷ replied 500 [] ∷ []) ≡ Some Strange)
+    × (reported (asks (Ops.Peek (codes "f") 1000000000000000000 plain) ∷ []) ≡ Some BadOperation)

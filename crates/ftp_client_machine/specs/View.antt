@@ -9,6 +9,7 @@ use Rattle.ftp_ends.specs.Ear.{Ear, quiet}
 use Rattle.ftp_representation.specs.Representation.{defaults}
 use Rattle.ftp_reply.specs.Reader.{Gathered, Between}
 use Rattle.ftp_client_machine.specs.Tries.{Run}
+use Rattle.ftp_client_machine.specs.declared.client.Abort.{Abort}
 use Rattle.ftp_client_machine.specs.declared.client.Failure.{Failure}
 use Rattle.ftp_client_machine.specs.declared.client.Failure.TheVariants as Failures
 use Rattle.ftp_client_machine.specs.declared.client.DataConnection.{DataConnection}
@@ -25,10 +26,10 @@ pub data Flow : Type 0 where
   Sending : (left : List ℕ) → (mark : Option ℕ) → Flow
   Receiving : (decoder : Decoder) → (mark : Option ℕ) → Flow
 
--- a transfer whose command was sent. (An operation that reads a first part of a file alone will carry here whether it sent its
--- ABOR and whether that was answered.)
+-- a transfer whose command was sent: which replies to it came, what became of its ABOR, and what goes over the data connection
 pub record Transfer : Type 0 where
   pub replied : Replied
+  pub abort : Abort
   pub flow : Flow
 
 -- the operation: none; one that was begun and waits for the end of the login; one of which this step is under way; one whose

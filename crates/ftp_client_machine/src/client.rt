@@ -94,3 +94,14 @@ pub enum Replied {
     /// The last, with its code.
     Final(u16),
 }
+
+/// Whether a transfer was given up by an ABOR, as a Peek that has its octets is.
+#[derive(Clone, Copy, Debug, PartialEq, Eq)]
+pub enum Abort {
+    /// None was sent.
+    Unsent,
+    /// Its reply is awaited.
+    Sent,
+    /// It was answered.
+    Answered,
+}

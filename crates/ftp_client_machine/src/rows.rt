@@ -1,5 +1,5 @@
 //! Worked rows of a client: functions that do nothing, whose contracts are rows of `specs/client/Rows`.
-ghost use Rattle.ftp_client_machine.specs.Rows.{ActiveDownload, ActiveReport, BrokenDownload, BrokenUpload, Endpoints, Judged, LogsIn, LongGreeting, MarkRead, Moment, NamesRead, NotOpened, OtherHosts, OtherOrders, OwnCode, PassiveDownload, PassiveUpload, PassivePort, Quoted, Renames, TwoCodes, Unasked, Unsendable, UploadBeginsAnew, UploadGivesUp, UploadInTypeA, UploadResumes};
+ghost use Rattle.ftp_client_machine.specs.Rows.{ActiveDownload, ActiveReport, BrokenDownload, BrokenUpload, Endpoints, Judged, LogsIn, LongGreeting, MarkRead, Moment, NamesRead, NotOpened, OtherHosts, OtherOrders, OwnCode, PassiveDownload, PassiveUpload, PassivePort, PeekAborts, PeekEnds, PeekFails, PeekOrders, PeekUnaborted, Quoted, Renames, TwoCodes, Unasked, Unsendable, UploadBeginsAnew, UploadGivesUp, UploadInTypeA, UploadResumes};
 
 /// The greeting is answered with USER, and a 331 with PASS.
 pub fn login()
@@ -134,4 +134,29 @@ pub fn upload_gives_up()
 /// An upload over breaks goes in type I and file structure.
 pub fn upload_in_type_a()
     ensures { UploadInTypeA }
+{}
+
+/// A Peek sends ABOR once its 150 is in, its link is open and its octets are settled.
+pub fn peek_aborts()
+    ensures { PeekAborts }
+{}
+
+/// It reports its octets in every order of the two replies and the end of its link.
+pub fn peek_orders()
+    ensures { PeekOrders }
+{}
+
+/// A link that is over before that ends it without an ABOR.
+pub fn peek_unaborted()
+    ensures { PeekUnaborted }
+{}
+
+/// A file with fewer octets is reported whole.
+pub fn peek_ends()
+    ensures { PeekEnds }
+{}
+
+/// With fewer octets it answers as Get.
+pub fn peek_fails()
+    ensures { PeekFails }
 {}
