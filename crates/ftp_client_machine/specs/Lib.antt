@@ -9,4 +9,5 @@ pub mod Calls
 pub mod InFlight
 pub mod Failing
 pub mod Bounds
+pub mod Held
 pub mod Rows

@@ -19,7 +19,8 @@ use Rattle.ftp_server_machine.specs.Calls.{start}
 use Rattle.ftp_server_machine.specs.Machine.{Reading, IsReading}
 use Rattle.ftp_server_machine.specs.View.{Accounts}
 use Rattle.ftp_world.specs.Agreement.{Order, Tries, Item, item_did, ItemHolds, IsReported, AreSingle, operations, Agrees, WorldAgrees, IsDirect, Leads, AreHonest}
-use Rattle.ftp_world.specs.Events.{Event, Deliver, Open, End, Next, Upload, IsQuiet, can_begin}
+use Rattle.ftp_world.specs.Events.{Event, Deliver, Open, End, Next, Upload, Happens, IsQuiet, can_begin}
+use Rattle.ftp_world.specs.Settling.{Falls, left_in}
 use Rattle.ftp_world.specs.World.{World, world, Mark}
 
 -- ---- how a session begins
@@ -130,6 +131,11 @@ Settles read w = (events : List Event) × (new : World) × AreSettling events ×
 -- so it is of every world that a session can come to
 abbrev pub SettlesAlways : Type 0
 SettlesAlways = Always (λ read b events begun w. Settles read w)
+
+-- each step of settling lowers the first number that it changes of those that say what is left, which is why settling ends
+abbrev pub SettlingFalls : Type 0
+SettlingFalls =
+    Always (λ read b events begun w. (event : Event) (new : World) → IsSettling event → Happens read event w true new → Falls (left_in new) (left_in w))
 
 -- the headline: on honest connections, once nothing is in flight, the reports and the map are those of the operations begun, run directly
 abbrev pub Headline : Type 0

@@ -3,6 +3,7 @@ pub mod World
 pub mod Serving
 pub mod Events
 pub mod Outcome
+pub mod Settling
 pub mod Agreement
 pub mod Claims
 pub mod Rows
