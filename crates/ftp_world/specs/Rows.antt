@@ -17,6 +17,7 @@ use Rattle.ftp_ends.specs.RowWords.{here}
 use Rattle.ftp_client_machine.specs.Rows.{entered, text}
 use Rattle.ftp_client_machine.specs.View.{View as Near, Transferring}
 use Rattle.ftp_client_machine.specs.declared.client.DataConnection.TheVariants as DataConnections
+use Rattle.ftp_client_machine.specs.declared.client.Abort.TheVariants as Aborts
 use Rattle.ftp_client_machine.specs.declared.client.Replied.TheVariants as Replies
 use Rattle.ftp_server_machine.specs.declared.session.DataConnection.TheVariants as Data
 use Rattle.ftp_server_machine.specs.declared.session.Transfer.TheVariants as Transfers
@@ -94,7 +95,7 @@ SessionLogsIn = (table : Table) → node_at table [] ≡ Some Dir → (session t
 -- the client behind the 150 of a download of `f` in ASCII, and the server, which has 61 0D 0A to give: the link is open
 abbrev pub near_down : Near
 near_down = record entered {
-  job = Transferring (Ops.Get (codes "f") text) (record { replied = Replies.Begun; flow = download_flow (settings_of text) });
+  job = Transferring (Ops.Get (codes "f") text) (record { replied = Replies.Begun; abort = Aborts.Unsent; flow = download_flow (settings_of text) });
   connection = DataConnections.Open;
 }
 
