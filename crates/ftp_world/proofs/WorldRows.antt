@@ -18,7 +18,7 @@ use Rattle.ftp_tree.specs.Tree.{Table, node_at}
 use Rattle.ftp_client_machine.specs.declared.client.Standing.{Standing}
 use Rattle.ftp_client_machine.specs.declared.client.Standing.TheVariants as Stands
 use Rattle.ftp_world.specs.World.{World}
-use Rattle.ftp_world.specs.Rows.{session, played, moves, reading, SessionLogsIn, DownloadBreaks, WholeDownload, CutUpload}
+use Rattle.ftp_world.specs.Rows.{session, played, moves, reading, PeekReports, SessionLogsIn, DownloadBreaks, WholeDownload, CutUpload}
 
 -- the client has PASS to give
 abbrev needed : Table → World
@@ -83,3 +83,7 @@ whole_download table = refl
 pub cut_upload : CutUpload
 unfolding settled
 cut_upload state = refl
+
+pub peek : PeekReports
+unfolding answered line_heard wants data_end data_fault obeyed hears_octet gives_control gives_data data_closed far_fault login_root
+peek table = (refl, refl, refl, refl)

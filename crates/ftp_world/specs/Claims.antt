@@ -57,15 +57,19 @@ is_sound_entry entry = list_all is_name entry.0 && is_sound_node entry.1
 abbrev pub is_path : Names → Bool
 is_path path = list_all is_name path && fits path
 
--- a login of the type; accounts of which no two have one user name and no root is below another; a map of names and moments within the
--- limits; hosts of one family
+-- where the direct run begins
+abbrev pub state_of : Beginning → State
+state_of b = direct_start b.table (login_root b.accounts b.user b.pass)
+
+-- a login of the type; accounts of which no two have one user name and no root is below another; a map of names and moments,
+-- within the limits where the login sees it; hosts of one family
 pub record IsFair (b : Beginning) : Type 0 where
   pub user : IsTrue (is_user b.user)
   pub pass : IsTrue (is_password b.pass)
   pub accounts : accounts_refusal b.accounts ≡ None
   pub roots : IsTrue (list_all (λ account. is_path account.root) b.accounts)
   pub tree : IsTree b.table
-  pub octets : octets_in b.table ≤ total_limit
+  pub octets : octets_in (part (state_of b)) ≤ total_limit
   pub entries : IsTrue (list_all is_sound_entry (fin.entries b.table))
   pub near_typed : IsTypedHost b.near_host
   pub far_typed : IsTypedHost b.far_host
@@ -74,10 +78,6 @@ pub record IsFair (b : Beginning) : Type 0 where
 -- the world of two ends as they begin, each the other's peer
 abbrev pub world_of : Beginning → World
 world_of b = world (client b.user b.pass b.near_host b.far_host) (start b.table b.accounts b.far_host b.near_host)
-
--- where the direct run begins
-abbrev pub state_of : Beginning → State
-state_of b = direct_start b.table (login_root b.accounts b.user b.pass)
 
 -- ---- the claims
 

@@ -1,10 +1,10 @@
 -- How an operation fared, and what that lets stand: whole, as run directly on the map; cut, as its link broke; not opened; or lost,
 -- as the control connection ended. No command, reply or connection stands here but the wire that was cut.
-use Rattle.std.specs.Prelude.{◌≡◌, ◌⊎◌, ℕ, ◌+◌, List, [], ◌∷◌, ◌++◌, length, take, drop, Option, Some, None, IsTrue}
+use Rattle.std.specs.Prelude.{◌≡◌, ◌⊎◌, ℕ, ◌+◌, ◌<◌, List, [], ◌∷◌, ◌++◌, length, take, drop, Option, Some, None, IsTrue}
 use Rattle.std.specs.Option.{is_some}
 use Rattle.ftp_operation.specs.Answer.{Said, Broken as BrokenOff, Unopened as NotOpened, Lost as LostOff}
 use Rattle.ftp_direct.specs.declared.refusal.Refusal.TheVariants as Refusals
-use Rattle.ftp_direct.specs.Direct.{State, answer, first_refusal, changed, file_of, named, named_or_here, part, skipped}
+use Rattle.ftp_direct.specs.Direct.{State, answer, first_refusal, named, named_or_here, part, changed, file_of, skipped}
 use Rattle.ftp_operation.specs.Operation.{can_be_sent}
 use Rattle.ftp_operation.specs.declared.op.How.{How}
 use Rattle.ftp_operation.specs.declared.op.Op.{Op}
@@ -53,11 +53,12 @@ upload_of state (Ops.PutFrom text offset octets how) =
     Some (record { path = named state text; kept = take (skipped state (named state text) how offset) (file_of state text); start = offset; octets = octets; how = how })
 upload_of state other = None
 
--- a download: octets in some settings, with the place from which markers count
+-- a download: octets in some settings, with the place from which markers count; of a Peek, how many of them it asks for
 pub record Fetched : Type 0 where
   pub settings : Representation
   pub start : ℕ
   pub octets : List ℕ
+  pub asked : Option ℕ
 
 -- the file that MLSD sends where all facts are in force (`ftp_server_machine`, `Listing`)
 abbrev pub listing_text : State → List ℕ → List ℕ
@@ -67,13 +68,18 @@ listing_text state text = lines_file (entry_lines all_facts (part state) (named_
 abbrev pub names_text : State → List ℕ → List ℕ
 names_text state text = lines_file (name_lines (part state) (named_or_here state text) text)
 
--- the download or the listing that an operation asks for, if it is one
+-- octets that all are asked for
+abbrev pub fetched : Representation → ℕ → List ℕ → Fetched
+fetched settings start octets = record { settings = settings; start = start; octets = octets; asked = None }
+
+-- the download or the listing that an operation asks for, if it is one; the server sends the whole file of a Peek
 abbrev pub download_of : State → Op (List ℕ) → Option Fetched
-download_of state (Ops.Get text how) = Some (record { settings = settings_of how; start = 0; octets = file_of state text })
+download_of state (Ops.Get text how) = Some (fetched (settings_of how) 0 (file_of state text))
 download_of state (Ops.GetFrom text offset how) =
-    Some (record { settings = settings_of how; start = offset; octets = drop (skipped state (named state text) how offset) (file_of state text) })
-download_of state (Ops.List text how) = Some (record { settings = listing_settings how.representation.mode; start = 0; octets = listing_text state text })
-download_of state (Ops.Names text how) = Some (record { settings = listing_settings how.representation.mode; start = 0; octets = names_text state text })
+    Some (fetched (settings_of how) offset (drop (skipped state (named state text) how offset) (file_of state text)))
+download_of state (Ops.Peek text count how) = Some (record (fetched (settings_of how) 0 (file_of state text)) { asked = Some count })
+download_of state (Ops.List text how) = Some (fetched (listing_settings how.representation.mode) 0 (listing_text state text))
+download_of state (Ops.Names text how) = Some (fetched (listing_settings how.representation.mode) 0 (names_text state text))
 download_of state other = None
 
 -- its one written text; the server sends own markers wherever the settings allow them
@@ -145,12 +151,17 @@ did (Lost part) state op moment = (LostOff, lost_state part state op moment)
 abbrev pub IsTaken : State → Op (List ℕ) → Type 0
 IsTaken state op = IsTrue (can_be_sent op) × ((first_refusal state op ≡ None) ⊎ (first_refusal state op ≡ Some Refusals.TooMuch))
 
+-- own choice: a Peek that has the octets that it asked for is not cut
+abbrev pub IsShort : Option ℕ → List ℕ → Type 0
+IsShort None octets = Unit {0}
+IsShort (Some count) octets = length octets < count
+
 -- the wire is a front of the one text, and what it leaves passes no limit
 abbrev pub IsCutOf : Option Stored → Option Fetched → State → List ℕ → Type 0
 IsCutOf (Some u) down state wire =
     IsFront wire (upload_text u.how u.start u.octets)
     × (octets_refusal (part state) u.path (length (u.kept ++ front (settings_of u.how) wire)) ≡ None)
-IsCutOf None (Some d) state wire = IsFront wire (download_text d)
+IsCutOf None (Some d) state wire = IsFront wire (download_text d) × IsShort d.asked (front d.settings wire)
 IsCutOf None None state wire = ⊥
 
 -- the octets of this wire are what the receiving end took of an operation's transfer

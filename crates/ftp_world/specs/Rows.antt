@@ -38,12 +38,13 @@ use Rattle.ftp_server_machine.specs.declared.heard.Heard.TheVariants.{Bad, Asks}
 abbrev pub or_else : List ℕ → List ℕ → Command (List ℕ) → Heard (List ℕ) → Heard (List ℕ)
 or_else line text command other = if pointwise nat_eq line text then Asks command else other
 
--- two lines say commands, and all others none
+-- three lines say commands, and all others none
 abbrev pub reading : Reading
 reading line =
     or_else line (codes "USER guest") (command.User (codes "guest"))
     (or_else line (codes "PASS secret") (command.Pass (codes "secret"))
-    (Bad Faults.Unknown))
+    (or_else line (codes "ABOR") command.Abor
+    (Bad Faults.Unknown)))
 
 -- all that is due is moved and taken; only so many octets are; a link opens; an end is told; the link breaks; an operation begins
 pub data Act : Type 0 where
@@ -136,3 +137,24 @@ CutUpload =
     (state : State)
     → cut state (Ops.Put (codes "f") (120 ∷ 10 ∷ 121 ∷ []) text) 7 (120 ∷ 13 ∷ [])
     ≡ (BrokenOff [] None, changed state (installed (part state) (named state (codes "f")) (120 ∷ []) 7))
+
+-- ---- a Peek
+
+-- the same client, which asks for one octet alone
+abbrev pub near_peek : Near
+near_peek = record near_down {
+  job = Transferring (Ops.Peek (codes "f") 1 text) (record { replied = Replies.Begun; abort = Aborts.Unsent; flow = download_flow (settings_of text) });
+}
+
+-- both ends; the client takes one octet, its ABOR goes out, 426 and 226 come, and the server's close is told
+abbrev pub peeks : List Act → Table → World
+peeks acts table = played (moves_some DataToClient 1 ∷ moves ControlToServer ∷ acts) (record (down table) { near = near_peek })
+
+-- one octet is reported, whichever comes first; a break after it changes nothing of that
+abbrev pub PeekReports : Type 0
+PeekReports =
+    (table : Table)
+    → ((peeks (moves ControlToClient ∷ tells DataToClient ∷ []) table).reports ≡ Octets (97 ∷ []) ∷ [])
+    × ((peeks (tells DataToClient ∷ moves ControlToClient ∷ []) table).reports ≡ Octets (97 ∷ []) ∷ [])
+    × ((peeks (cuts ∷ moves ControlToClient ∷ []) table).reports ≡ Octets (97 ∷ []) ∷ [])
+    × ((peeks (cuts ∷ moves ControlToClient ∷ []) table).far.session.table ≡ table)

@@ -1,11 +1,11 @@
 -- What a world has still to do before nothing is in flight, as five numbers: each delivery, opening and end that is possible lowers the
 -- first of them that it changes, and so settling ends.
-use Rattle.std.specs.Prelude.{ℕ, ◌+◌, ◌<◌, ◌≤◌, ◌≡◌, ◌⊎◌, length}
+use Rattle.std.specs.Prelude.{ℕ, ◌+◌, ◌<◌, ◌≡◌, ◌⊎◌, length}
 use Rattle.ftp_client_machine.specs.Bounds as near_left
 use Rattle.ftp_client_machine.specs.Calls as near
 use Rattle.ftp_server_machine.specs.Bounds as far_left
 use Rattle.ftp_server_machine.specs.Calls as far
-use Rattle.ftp_world.specs.World.{World, Control, Stands, LeftByNear, LeftByFar, Parted, Link, Gone, Opened, ClosedByNear, ClosedByFar}
+use Rattle.ftp_world.specs.World.{World, Control, Parted, Link, ClosedByNear, ClosedByFar}
 
 -- what is still to begin at the client; octets, closes and ends that are still to reach the server; what is still to begin at the server;
 -- what is still to reach the client; and the octets that stand in no queue yet

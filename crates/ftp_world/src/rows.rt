@@ -1,5 +1,5 @@
 //! Worked rows of a world of both ends: functions that do nothing, whose contracts are rows of `specs/world/Rows`.
-ghost use Rattle.ftp_world.specs.Rows.{DownloadBreaks, CutUpload, SessionLogsIn, WholeDownload};
+ghost use Rattle.ftp_world.specs.Rows.{PeekReports, DownloadBreaks, CutUpload, SessionLogsIn, WholeDownload};
 
 /// The greeting, USER, 331, PASS and 230 go from end to end, octet by octet.
 pub fn login()
@@ -19,4 +19,9 @@ pub fn broken_download()
 /// What an upload leaves that is cut behind a CR.
 pub fn cut_upload()
     ensures { CutUpload }
+{}
+
+/// A Peek of one octet: ABOR, 426, 226 and the server's close or a break.
+pub fn peek()
+    ensures { PeekReports }
 {}
