@@ -6,7 +6,7 @@ use Rattle.ftp_operation.specs.Answer.{Said}
 use Rattle.ftp_operation.specs.declared.op.Op.{Op}
 use Rattle.ftp_tree.specs.Tree.{Table}
 use Rattle.ftp_world.specs.Agreement.{Order, Single, Tries, Attempt, Item, item_did, state_after, state_before, operations, AreSingle, Allows, ItemHolds, ItemsHold}
-use Rattle.ftp_world.specs.Claims.{AreUnmarked, UnmarkedIsDirect}
+use Rattle.ftp_world.specs.Claims.{AreUnmarked, PeekIsDirect, UnmarkedIsDirect}
 use Rattle.ftp_world.specs.Outcome.{Outcome, Whole, Cut, Unopened, Lost, Nothing, All, Front}
 use Rattle.ftp_world.specs.World.{Mark}
 
@@ -80,3 +80,12 @@ unmarked_is_direct from begun marks reports table single unmarked told agrees =
       runs.reports_are,
       last_table from agrees.items begun reports table told agrees.map_is ∙ ap (λ state. state.table) runs.state,
     )
+
+-- ---- a Peek
+
+pub peek_is_direct : PeekIsDirect
+peek_is_direct state text count how moment index cutoff Whole marks hold = inr (inr (inl refl))
+peek_is_direct state text count how moment index cutoff (Cut wire) marks hold =
+    inr (inr (inr (record { wire = wire; marked = hold.allowed.1; few = hold.can_be.1.1 })))
+peek_is_direct state text count how moment index cutoff Unopened marks hold = inl refl
+peek_is_direct state text count how moment index cutoff (Lost part) marks hold = inr (inl refl)

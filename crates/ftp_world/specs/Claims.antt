@@ -2,26 +2,31 @@
 -- operations that were begun; where nothing is in flight each of them has its report, and another can be begun; and without
 -- breaks, refusals and an end of the control connection that is the direct run. Want of memory and failures of a device are no
 -- events here: the ends' clauses hold where neither count changed.
-use Rattle.std.specs.Prelude.{◌≡◌, ℕ, ◌≤◌, ◌&&◌, Bool, true, nat_le, List, [], ◌∷◌, length, Option, None, IsTrue}
+use Rattle.std.specs.Prelude.{◌≡◌, ◌⊎◌, ℕ, ◌<◌, ◌≤◌, ◌&&◌, Bool, true, nat_le, List, [], ◌∷◌, length, Option, None, IsTrue}
 use Rattle.ftp_endpoint.specs.declared.host.Host.{Host}
 use Rattle.ftp_endpoint.specs.declared.host.Host.TheVariants.{V4, V6}
 use Rattle.ftp_endpoint.specs.Written.{IsTypedHost}
 use Rattle.ftp_operation.specs.Account.{accounts_refusal, login_root, is_user, is_password}
-use Rattle.ftp_operation.specs.Answer.{Said, Done}
-use Rattle.ftp_direct.specs.Direct.{State, start as direct_start, answers, changed, named, part}
+use Rattle.ftp_operation.specs.Answer.{Said, Done, Unopened, Lost}
+use Rattle.ftp_direct.specs.Direct.{State, start as direct_start, answer, answers, changed, named, part}
 use Rattle.std.specs.List.{list_all}
 use Rattle.std.specs.FinMap as fin
 use Rattle.ftp_path.specs.Path.{fits, is_name, Names}
 use Rattle.ftp_tree.specs.Tree.{Node, Dir, File, Table, IsTree, octets_in, total_limit, installed}
+use Rattle.ftp_operation.specs.declared.op.How.{How}
+use Rattle.ftp_operation.specs.declared.op.Op.{Op}
+use Rattle.ftp_operation.specs.declared.op.Op.TheVariants as Ops
+use Rattle.ftp_client_machine.specs.Plan.{settings_of}
 use Rattle.ftp_client_machine.specs.Tries.{OverBreaks}
 use Rattle.ftp_client_machine.specs.View.{client}
 use Rattle.ftp_server_machine.specs.Calls.{start}
 use Rattle.ftp_server_machine.specs.Machine.{Reading, IsReading}
 use Rattle.ftp_server_machine.specs.View.{Accounts}
-use Rattle.ftp_world.specs.Agreement.{Order, Tries, Item, item_did, ItemHolds, IsReported, AreSingle, operations, Agrees, WorldAgrees, IsDirect, Leads, AreHonest}
+use Rattle.ftp_world.specs.Agreement.{IsAmong, AttemptHolds, Order, Tries, Item, item_did, ItemHolds, IsReported, AreSingle, operations, Agrees, WorldAgrees, IsDirect, Leads, AreHonest}
 use Rattle.ftp_world.specs.Events.{Event, Deliver, Open, End, Next, Upload, Happens, IsQuiet, can_begin}
+use Rattle.ftp_world.specs.Outcome.{Outcome, did, front}
 use Rattle.ftp_world.specs.Settling.{Falls, left_in}
-use Rattle.ftp_world.specs.World.{World, world, Mark}
+use Rattle.ftp_world.specs.World.{World, world, Mark, Broken}
 
 -- ---- how a session begins
 
@@ -154,6 +159,27 @@ DoneIsWhole =
     (state : State) (upload : OverBreaks) (moment index : ℕ) (marks : List Mark) (cutoff : Option ℕ) (item : Item)
     → ItemHolds state (Tries upload moment) marks cutoff index item → IsReported state (Tries upload moment) item Done
     → HasPutAll state upload moment item
+
+-- ---- a Peek
+
+-- its link broke before the octets that it asked for were settled
+pub record BrokeEarly (state : State) (text : List ℕ) (count : ℕ) (how : How) (marks : List Mark) : Type 0 where
+  pub wire : List ℕ
+  pub marked : IsAmong (Broken (length wire)) marks
+  pub few : length (front (settings_of how) wire) < count
+
+-- the direct answer, and the state that it leaves
+abbrev pub IsDirectAnswer : State → Op (List ℕ) → ℕ → Said × State → Type 0
+IsDirectAnswer state op moment done = done ≡ answer state op moment
+
+-- a Peek that is neither Unopened nor Lost has the direct answer, unless its link broke early
+abbrev pub PeekIsDirect : Type 0
+PeekIsDirect =
+    (state : State) (text : List ℕ) (count : ℕ) (how : How) (moment index : ℕ) (cutoff : Option ℕ) (outcome : Outcome) (marks : List Mark)
+    → AttemptHolds state cutoff index (record { op = Ops.Peek text count how; outcome = outcome; marks = marks })
+    → ((did outcome state (Ops.Peek text count how) moment).0 ≡ Unopened) ⊎ ((did outcome state (Ops.Peek text count how) moment).0 ≡ Lost)
+    ⊎ IsDirectAnswer state (Ops.Peek text count how) moment (did outcome state (Ops.Peek text count how) moment)
+    ⊎ BrokeEarly state text count how marks
 
 -- ---- the headline is agreement without marks
 

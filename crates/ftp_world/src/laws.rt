@@ -1,5 +1,5 @@
 //! Laws of what is claimed of a session: functions that do nothing, whose contracts are laws of `specs/`.
-ghost use Rattle.ftp_world.specs.Claims.{HeadlineFollows, UnmarkedIsDirect};
+ghost use Rattle.ftp_world.specs.Claims.{HeadlineFollows, PeekIsDirect, UnmarkedIsDirect};
 
 /// Without breaks, refusals and an end of the control connection, agreement is the direct run.
 pub fn unmarked_agreement_is_the_direct_run()
@@ -9,4 +9,9 @@ pub fn unmarked_agreement_is_the_direct_run()
 /// The headline follows from agreement after every event, and from what holds where nothing is in flight.
 pub fn headline_follows_from_agreement()
     ensures { HeadlineFollows }
+{}
+
+/// A Peek that is neither Unopened nor Lost has the direct answer, unless its link broke before its octets were settled.
+pub fn peek_is_direct()
+    ensures { PeekIsDirect }
 {}
