@@ -1,5 +1,6 @@
 //! A moment and its text.
-ghost use Rattle.std.specs.Prelude.{◌≡◌, ℕ, List, ◌+◌, ◌*◌, ◌<◌, ◌≤◌, Some, None, IfSome, IfNone, IfOk, IfErr, OnErr};
+ghost use Rattle.std.specs.Prelude.{◌≡◌, ℕ, List, ◌+◌, ◌*◌, ◌<◌, ◌≤◌, option_map, IfSome, IfNone, IfErr};
+ghost use Rattle.std.specs.Result.{result_ok};
 ghost use Rattle.ftp_facts.specs.Moment.{BeginsWithDate, BeginsWithTime, SaysMoment, WritesMoment, moment_digits, moment_value};
 
 use crate::FactFault;
@@ -30,8 +31,7 @@ impl Moment {
 /// Reads a moment: YYYYMMDDHHMMSS, perhaps followed by `.` and digits, which are dropped. A second of 60 is 59.
 /// What is no real date and time from 1970 on is `BadMoment` (RFC 3659, section 2.3).
 pub fn moment_of_text(text: &[u8]) -> Result<Moment, FactFault>
-    ensures says { IfOk result (λ moment. moment_value text.now ≡ Some moment.seconds) }
-    ensures silent { OnErr result (moment_value text.now ≡ None) }
+    ensures value { option_map (λ moment. moment.seconds) (result_ok result) ≡ moment_value text.now }
     ensures fault { IfErr result (λ fault. fault ≡ FactFault.BadMoment) }
 {
     match read_moment(text) {
