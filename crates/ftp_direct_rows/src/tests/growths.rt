@@ -1,8 +1,8 @@
 //! Each growth that `direct` asks for is refused in turn.
-use super::rows::{GUEST, IMAGE, Row, first_other, run};
+use super::rows::{GUEST, IMAGE, Row, first_other, path, run};
 use ftp_direct::Op;
 use ftp_refusing::Refusing;
-use ftp_tree::{MemTree, Path, Tree, is_path_text};
+use ftp_tree::{MemTree, Path, Tree};
 use std::alloc::Global;
 use std::test::Fail;
 
@@ -47,12 +47,8 @@ const SIZES: &'static [(Option<u64>, Option<u64>)] = &[
 
 /// How many octets the file at a path has, where one stands there.
 fn size(alloc: Global, tree: &MemTree<Heap<'_>>, text: &[u8]) -> Result<Option<u64>, Fail> {
-    if !is_path_text(text) {
-        return Ok(None);
-    }
     let root = Path::root(alloc);
-    let path = root.resolve(alloc, text).ok().ok_or("path")?;
-    Ok(tree.size(&root, &path))
+    Ok(tree.size(&root, &path(alloc, text)?))
 }
 
 /// Whether the files are as some of the operations leave them.

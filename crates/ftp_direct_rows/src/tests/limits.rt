@@ -1,7 +1,7 @@
 //! The limits of octets and of nodes, by single operations on one tree.
-use super::rows::{IMAGE, WHOLE, accounts, login, text};
+use super::rows::{ANONYMOUS, IMAGE, run_list, text};
 use super::said::number_of;
-use ftp_direct::{Op, direct};
+use ftp_direct::Op;
 use ftp_facts::{Moment, Text};
 use ftp_tree::MemTree;
 use std::alloc::{AllocError, Global};
@@ -9,10 +9,8 @@ use std::test::Fail;
 
 /// The code that refuses an operation, or the number that it answers; 0 for any other answer.
 fn code_of(alloc: Global, tree: &mut MemTree<Global>, op: Op<Text<Global>>) -> Result<u64, Fail> {
-    let accounts = accounts(alloc, WHOLE)?.ok_or("accounts")?;
-    let login = login(alloc, b"anonymous", b"")?.ok_or("login")?;
-    let moment = Moment::new(1000).ok_or("moment")?;
-    let answers = direct(&alloc, tree, &accounts, &login, &[(op, moment)])?;
+    let list = [(op, Moment::new(1000).ok_or("moment")?)];
+    let answers = run_list(alloc, alloc, tree, ANONYMOUS, list.as_slice())??;
     Ok(answers.as_slice().first().and_then(number_of).unwrap_or(0))
 }
 

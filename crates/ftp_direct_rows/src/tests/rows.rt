@@ -171,10 +171,21 @@ pub(crate) fn run<A: Allocator + Copy, T: Tree<A>>(
     user: User,
     rows: &[Row],
 ) -> Result<Result<Vec<Answer<A>, A>, AllocError>, Fail> {
+    let list = list_of(ample, rows)?;
+    run_list(ample, alloc, tree, user, list.as_slice())
+}
+
+/// The same of operations with texts of their own.
+pub(crate) fn run_list<A: Allocator + Copy, T: Tree<A>>(
+    ample: A,
+    alloc: A,
+    tree: &mut T,
+    user: User,
+    list: &[(Op<Text<A>>, Moment)],
+) -> Result<Result<Vec<Answer<A>, A>, AllocError>, Fail> {
     let accounts = accounts(ample, user.2)?.ok_or("accounts")?;
     let login = login(ample, user.0, user.1)?.ok_or("login")?;
-    let list = list_of(ample, rows)?;
-    Ok(direct(&alloc, tree, &accounts, &login, list.as_slice()))
+    Ok(direct(&alloc, tree, &accounts, &login, list))
 }
 
 /// The first row that is not answered as it says, on a tree, by a user.
