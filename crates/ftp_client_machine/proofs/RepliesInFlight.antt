@@ -16,7 +16,7 @@ use Rattle.ftp_machine.specs.Machine.{after, gives}
 use Rattle.ftp_ends.specs.Ear.{Ear, quiet, ear, ear_out, ear_step}
 use Rattle.ftp_client_machine.specs.Calls.{reply_limit, line_taken, events_taken, hears_octet, hears, may_hear}
 use Rattle.ftp_client_machine.specs.Dialogue.{answered}
-use Rattle.ftp_client_machine.specs.InFlight.{ClientHearsInPieces, OnlyHeard, IsCarried, octets_of, ReplyIsHeard, ClientDropsAnswer, CodeAndTexts, ClientHearsRow}
+use Rattle.ftp_client_machine.specs.InFlight.{ClientHearsInPieces, OnlyHeard, IsCarried, octets_of, ReplyIsHeard, FrontsAreAlike, ClientDropsAnswer, CodeAndTexts, ClientHearsRow}
 use Rattle.ftp_reply.specs.Reader.{Gathered, Between, Begun, GoesOn, Says, line_heard}
 use Rattle.ftp_reply.proofs.HeardLemmas.{begins_last, code_is_read, front_within, plain_is_inner}
 use Rattle.ftp_client_machine.specs.View.{View}
@@ -122,6 +122,45 @@ gathered_cut v (text ∷ texts) last new front back octet all is rest more cut =
           record { ear = behind.ear; gathered = behind.gathered; is = is_front ∙ behind.is }
     ]
 
+-- ---- what a front leaves, of whatever client
+
+-- of a client that is between two lines, and has gathered these
+record Leaves (old : Gathered) (front : List ℕ) : Type 0 where
+  ear : Ear
+  gathered : Gathered
+  is : (v : View) → v.ear ≡ quiet → v.gathered ≡ old → hears v front ≡ with_lines gathered (with_ear ear v)
+
+line_leaves : (old : Gathered) (text : Text) (front back : List ℕ) (octet : ℕ) → IsCarried text → front ++ octet ∷ back ≡ written_line text → Leaves old front
+line_leaves old text front back octet is cut =
+    let c : Closes reply_limit text = line_closes reply_limit text is.0 is.1 in
+    let said = front_says reply_limit quiet c.kept front (unended text) (front_of_front front back (unended text) octet 10 (cut ∙ written_is text)) c.keeps in
+    record {
+      ear = after (ear reply_limit) quiet front;
+      gathered = old;
+      is = λ v rest same.
+          silence v front (ap (λ s. gives (ear reply_limit) s front) rest ∙ said) ∙ ap (λ s. with_ear (after (ear reply_limit) s front) v) rest
+          ∙ ap (λ g. with_lines g (with_ear (after (ear reply_limit) quiet front) v)) same;
+    }
+
+front_leaves : (old : Gathered) (texts : List Text) (last : Text) (new : Gathered) (front back : List ℕ) (octet : ℕ) → AllByRecursion IsCarried texts → IsCarried last
+    → Gathers old texts new → front ++ octet ∷ back ≡ on_wire texts ++ written_line last → Leaves old front
+front_leaves old [] last new front back octet all is same cut = line_leaves old last front back octet is cut
+front_leaves old (text ∷ texts) last new front back octet all is more cut =
+    let joined : front ++ octet ∷ back ≡ written_line text ++ (on_wire texts ++ written_line last) =
+    cut ∙ append_assoc (written_line text) (on_wire texts) (written_line last) in
+    elim (seam front back (written_line text) (on_wire texts ++ written_line last) octet joined) [
+      | inl l ↦ line_leaves old text front l.0 octet all.0 l.1
+      | inr m ↦
+          let behind = front_leaves more.0 texts last new m.0 back octet all.1 is more.2 m.2 in
+          record {
+            ear = behind.ear;
+            gathered = behind.gathered;
+            is = λ v rest same.
+                let one : hears v (written_line text) ≡ with_lines more.0 v = goes_on v text more.0 all.0 rest (ap (λ g. line_heard g text) same ∙ more.1) in
+                ap (hears v) m.1 ∙ in_pieces v (written_line text) m.0 ∙ ap (λ u. hears u m.0) one ∙ behind.is (with_lines more.0 v) rest refl;
+          }
+    ]
+
 -- ---- the lines of a reply
 
 last_alone : (code : ℕ) (text : Text) → IsCode code → AreWithin (text ∷ []) → line_heard Between (last_line code text) ≡ Says code (text ∷ [])
@@ -221,6 +260,15 @@ reply_is_heard code texts v is rest =
           ∙ ap (λ s. answered code texts (with_lines s v)) (sym rest.gathered);
       may = λ fronts backs octet cut. ap may_hear (cuts fronts backs octet cut).is;
     }
+
+pub fronts_are_alike : FrontsAreAlike
+fronts_are_alike code texts front back octet is cut =
+    let g = is_gathered code texts is.code_is is.some is.within is.plain in
+    let carried : AllByRecursion IsCarried (g.begun ++ g.last ∷ []) = subst (AllByRecursion IsCarried) g.lines_are is.carried in
+    let wire : octets_of code texts ≡ on_wire g.begun ++ written_line g.last = ap on_wire g.lines_are ∙ wire_is g.begun g.last in
+    let l = front_leaves Between g.begun g.last g.gathered front back octet (all_front IsCarried g.begun (g.last ∷ []) carried)
+    (all_last IsCarried g.begun g.last carried) g.goes (cut ∙ wire) in
+    record { ear = l.ear; gathered = l.gathered; is = λ v rest. l.is v rest.ear rest.gathered }
 
 pub row_is_heard : ClientHearsRow
 row_is_heard [] v all rest = refl

@@ -6,6 +6,7 @@ use Rattle.ftp_operation.specs.Operation.{can_be_sent}
 use Rattle.ftp_operation.specs.declared.op.Op.{Op}
 use Rattle.ftp_nvt.specs.Lines.{NvtEvent, line, too_long, owed}
 use Rattle.ftp_ends.specs.Ear.{ear}
+pub use Rattle.ftp_ends.specs.Reply.{reply_limit}
 use Rattle.ftp_ends.specs.Link.{same_host}
 use Rattle.ftp_client_machine.specs.Dialogue.{begins, goes_on, finishes, answered, aborts_once_enough, carries_on, has_begun}
 use Rattle.ftp_client_machine.specs.Octets.{flow_octet}
@@ -78,10 +79,6 @@ abbrev pub reports : View → View
 reports v = reported_by v.job v
 
 -- ---- the control connection
-
--- own limit: a line of a reply has at most 4,096 octets, its end included
-abbrev pub reply_limit : ℕ
-reply_limit = 4096
 
 -- a line goes on with a reply, or ends it; own choice: one without a place, and one that is too long, are strange
 abbrev pub line_taken : Heard → View → View

@@ -8,11 +8,11 @@ use Rattle.ftp_nvt.specs.declared.telnet.TheConstants.{WONT, DONT}
 use Rattle.ftp_reply.specs.Lines.{Text, AreWithin}
 use Rattle.ftp_reply.specs.Reply.{IsCode, HasPlainLines, written}
 use Rattle.ftp_ends.specs.Ear.{Ear, quiet, line_len, answer_of}
-use Rattle.ftp_client_machine.specs.Calls.{reply_limit, hears, may_hear}
+use Rattle.ftp_client_machine.specs.Calls.{hears, may_hear}
 use Rattle.ftp_client_machine.specs.Dialogue.{answered}
 use Rattle.ftp_reply.specs.Reader.{Gathered, Between}
 use Rattle.ftp_client_machine.specs.View.{View}
-use Rattle.ftp_ends.specs.Reply.{reply_octets}
+pub use Rattle.ftp_ends.specs.Reply.{reply_octets, IsCarried, IsWritten}
 
 -- octets are heard alike in any pieces
 abbrev pub ClientHearsInPieces : Type 0
@@ -29,18 +29,6 @@ pub record IsAtRest (v : View) : Type 0 where
   pub ear : v.ear ≡ quiet
   pub gathered : v.gathered ≡ Between
 
--- a line that a control connection can carry to the client
-abbrev pub IsCarried : Text → Type 0
-IsCarried line = Lacks LF line × (line_len line + 2 ≤ reply_limit)
-
--- a reply that can be written: a code, and lines within the limits of which no inner one begins with three digits
-pub record IsWritten (code : ℕ) (texts : List Text) : Type 0 where
-  pub code_is : IsCode code
-  pub some : 0 < length texts
-  pub within : AreWithin texts
-  pub plain : HasPlainLines texts
-  pub carried : AllByRecursion IsCarried (written code texts)
-
 -- the octets that a server writes it as
 abbrev pub octets_of : ℕ → List Text → List ℕ
 octets_of code texts = reply_octets (record { code = code; lines = texts })
@@ -55,6 +43,17 @@ pub record HearsReply (code : ℕ) (texts : List Text) (v : View) : Type 0 where
 -- every reply that can be written, whatever else the client holds
 abbrev pub ReplyIsHeard : Type 0
 ReplyIsHeard = (code : ℕ) (texts : List Text) (v : View) → IsWritten code texts → IsAtRest v → HearsReply code texts v
+
+-- what a front of a reply leaves, of whatever client that is between two: one ear, and one row of lines that were gathered
+pub record FrontLeaves (front : List ℕ) : Type 0 where
+  pub ear : Ear
+  pub gathered : Gathered
+  pub is : (v : View) → IsAtRest v → hears v front ≡ record v { ear = ear; gathered = gathered }
+
+-- so it is of every front of every reply that can be written
+abbrev pub FrontsAreAlike : Type 0
+FrontsAreAlike =
+    (code : ℕ) (texts : List Text) (front back : List ℕ) (octet : ℕ) → IsWritten code texts → front ++ octet ∷ back ≡ octets_of code texts → FrontLeaves front
 
 -- an answer to a Telnet octet changes nothing
 abbrev pub ClientDropsAnswer : Type 0

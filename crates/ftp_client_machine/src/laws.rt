@@ -1,12 +1,13 @@
 //! What holds of the client's machine: functions that do nothing, whose contracts are laws.
 ghost use Rattle.ftp_client_machine.specs.Bounds.{EventsAddAClose, GivingPays, HearingAddsAnAnswer, ReceivingAddsNone, ShortAddsAClose};
-ghost use Rattle.ftp_client_machine.specs.InFlight.{ClientDropsAnswer, AnsweredAtRest, ClientHearsInPieces, ReplyIsHeard, ClientHearsRow};
+ghost use Rattle.ftp_client_machine.specs.InFlight.{ClientDropsAnswer, AnsweredAtRest, ClientHearsInPieces, FrontsAreAlike, ReplyIsHeard, ClientHearsRow};
 
 /// A reply and an answer to a Telnet octet are heard by the client as themselves and as nothing else, wherever they are cut; so is
 /// a row of replies, one after another.
 pub fn replies_in_flight()
     ensures pieces { ClientHearsInPieces }
     ensures reply { ReplyIsHeard }
+    ensures fronts { FrontsAreAlike }
     ensures answer { ClientDropsAnswer }
     ensures rest { AnsweredAtRest }
     ensures row { ClientHearsRow }

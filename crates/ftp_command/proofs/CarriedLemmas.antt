@@ -32,18 +32,18 @@ and_both a b one other = rw (one, other) refl
 
 -- ---- texts without LF and CR, up to a length
 
-abbrev is_plain : ℕ → Bool
+abbrev pub is_plain : ℕ → Bool
 is_plain c = not (c == 10) && not (c == 13)
 
 -- how many octets a CR takes more
 abbrev returns : Bool → ℕ
 returns is = cond is 1 0
 
-record Fits (most : ℕ) (text : List ℕ) : Type 0 where
-  plain : AllByRecursion (λ c. is_plain c ≡ true) text
-  short : length text ≤ most
+pub record Fits (most : ℕ) (text : List ℕ) : Type 0 where
+  pub plain : AllByRecursion (λ c. is_plain c ≡ true) text
+  pub short : length text ≤ most
 
-fits_both : (m n : ℕ) (xs ys : List ℕ) → Fits m xs → Fits n ys → Fits (m + n) (xs ++ ys)
+pub fits_both : (m n : ℕ) (xs ys : List ℕ) → Fits m xs → Fits n ys → Fits (m + n) (xs ++ ys)
 fits_both m n xs ys one other =
     record { plain = plain_both xs ys one.plain other.plain; short = omega (arith, length-append xs ys, one.short, other.short) }
   where
@@ -51,7 +51,7 @@ fits_both m n xs ys one other =
     plain_both [] ys one other = other
     plain_both (x ∷ xs) ys one other = (one.0, plain_both xs ys one.1 other)
 
-fits_with : (n c : ℕ) (text : List ℕ) → is_plain c ≡ true → Fits n text → Fits (n + 1) (c ∷ text)
+pub fits_with : (n c : ℕ) (text : List ℕ) → is_plain c ≡ true → Fits n text → Fits (n + 1) (c ∷ text)
 fits_with n c text is fits = record { plain = (is, fits.plain); short = omega (arith, fits.short) }
 
 line_fits : (most : ℕ) (text : List ℕ) → most ≤ 1022 → Fits most text → IsLine text
@@ -75,14 +75,14 @@ line_fits most text small fits =
 
 -- ---- numbers
 
-digit_plain : (c : ℕ) → 48 ≤ c → is_plain c ≡ true
+pub digit_plain : (c : ℕ) → 48 ≤ c → is_plain c ≡ true
 digit_plain c low = grind (arith, nat_tests)
 
-digits_plain : (digits : List ℕ) → AllDigits 10 digits → AllByRecursion (λ c. is_plain c ≡ true) digits
+pub digits_plain : (digits : List ℕ) → AllDigits 10 digits → AllByRecursion (λ c. is_plain c ≡ true) digits
 digits_plain [] all = tt
 digits_plain (c ∷ digits) all = (digit_plain c (digit_bounds c (is_digit c all.0)).0, digits_plain digits all.1)
 
-decimal_fits : (n : ℕ) → n < 10 ^ 18 → Fits 18 (decimal n)
+pub decimal_fits : (n : ℕ) → n < 10 ^ 18 → Fits 18 (decimal n)
 decimal_fits n small = let says = says_number n small in record { plain = digits_plain (decimal n) says.0.0.1; short = says.0.1 }
 
 octet_fits : (n : ℕ) → n < 256 → Fits 18 (decimal n)
@@ -103,7 +103,7 @@ four_fit s (a ∷ b ∷ []) plain len small = absurd (omega (arith, len))
 four_fit s (a ∷ b ∷ c ∷ []) plain len small = absurd (omega (arith, len))
 four_fit s (a ∷ b ∷ c ∷ d ∷ e ∷ octets) plain len small = absurd (omega (arith, len))
 
-six_fits : (host : Host) (port : ℕ) → IsV4 host → IsTypedHost host → port < 65536 → Fits 200 (six_of host port)
+pub six_fits : (host : Host) (port : ℕ) → IsV4 host → IsTypedHost host → port < 65536 → Fits 200 (six_of host port)
 six_fits (V4 octets) port v4 typed small =
     let low = fits_with 18 44 (decimal (port % 256)) refl (octet_fits (port % 256) (omega arith)) in
     let high = fits_with 37 44 (decimal (port / 256) ++ 44 ∷ decimal (port % 256)) refl (fits_both 18 19 (decimal (port / 256)) (44 ∷ decimal (port % 256)) (octet_fits (port / 256) (omega (arith, small))) low) in
@@ -176,11 +176,11 @@ name_plain c is =
     let first = both (not (c == 0)) (not (c == 10)) parts.0 in
     and_both (not (c == 10)) (not (c == 13)) first.1 parts.1
 
-all_plain : (p : ℕ → Bool) → ((c : ℕ) → p c ≡ true → is_plain c ≡ true) → (text : List ℕ) → list_all p text ≡ true → AllByRecursion (λ c. is_plain c ≡ true) text
+pub all_plain : (p : ℕ → Bool) → ((c : ℕ) → p c ≡ true → is_plain c ≡ true) → (text : List ℕ) → list_all p text ≡ true → AllByRecursion (λ c. is_plain c ≡ true) text
 all_plain p gives [] is = tt
 all_plain p gives (c ∷ text) is = let parts = both (p c) (list_all p text) is in (gives c parts.0, all_plain p gives text parts.1)
 
-path_fits : (text : List ℕ) → IsPathText text → Fits 900 text
+pub path_fits : (text : List ℕ) → IsPathText text → Fits 900 text
 path_fits text is = record { plain = all_plain is_path_octet octet_plain text (path_plain text is); short = path_short text is }
 
 password_fits : (text : List ℕ) → IsPassword text → Fits 255 text

@@ -3,6 +3,7 @@ pub mod Deciding
 pub mod EndpointsDecided
 pub mod LinesDecided
 pub mod ReadingLemmas
+pub mod RepliesWritten
 pub mod RowNumbers
 pub mod ServerBounds
 pub mod ServerRows

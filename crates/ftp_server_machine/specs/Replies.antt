@@ -1,12 +1,13 @@
 -- The replies to commands: their codes, lines and octets (RFC 959, section 4.2; RFC 2389, section 3.2; RFC 2640, section 3.2;
 -- RFC 3659, section 7).
-use Rattle.std.specs.Prelude.{ℕ, List, [], ◌∷◌, ◌++◌, Option, Some, None, codes, decimal, if◌then◌else◌}
-use Rattle.ftp_endpoint.specs.Written.{six_text}
+use Rattle.std.specs.Prelude.{◌≡◌, ℕ, ◌<◌, ◌^◌, List, [], ◌∷◌, ◌++◌, Option, Some, None, codes, decimal, if◌then◌else◌}
+use Rattle.ftp_endpoint.specs.Written.{IsTypedEndpoint, IsV4, six_text}
 use Rattle.ftp_endpoint.specs.declared.endpoint.Endpoint.{Endpoint}
 use Rattle.ftp_reply.specs.Values.{doubled}
-use Rattle.ftp_path.specs.Path.{text_of as path_text, Names}
+use Rattle.ftp_path.specs.Path.{IsPathText, text_of as path_text, Names}
+use Rattle.ftp_facts.specs.Moment.{moment_digits}
 use Rattle.ftp_direct.specs.Direct.{entry_at}
-pub use Rattle.ftp_ends.specs.Reply.{Reply, reply_of, reply_octets}
+pub use Rattle.ftp_ends.specs.Reply.{Reply, IsWritten, reply_of, reply_octets}
 use Rattle.ftp_server_machine.specs.Texts.{code_of, text_of}
 use Rattle.ftp_server_machine.specs.View.{Session, seen}
 use Rattle.ftp_server_machine.specs.Entries.{listed_line, features_text, chosen_text, is_any_chosen}
@@ -93,3 +94,22 @@ Turn = Session × ReplyKind Names
 -- a fixed reply to a command that changes nothing
 abbrev pub tells : Text → Session → Turn
 tells text s = (s, Replies.Fixed text)
+
+-- ---- every reply can be written
+
+-- what a reply tells is within its limits: paths are path texts, numbers have at most 18 digits, PASV's endpoint is one of IPv4
+abbrev pub IsTold : Session → ReplyKind Names → Type 0
+IsTold s Replies.Here = IsPathText (path_text s.cwd)
+IsTold s (Replies.Made path) = IsPathText (path_text path)
+IsTold s (Replies.Restarting offset) = offset < 10 ^ 18
+IsTold s (Replies.Passive endpoint) = IsV4 endpoint.host × IsTypedEndpoint endpoint
+IsTold s (Replies.Extended port) = port < 65536
+IsTold s (Replies.Size count) = count < 10 ^ 18
+IsTold s (Replies.Stamp digits) = (moment : ℕ) × (digits ≡ moment_digits moment)
+IsTold s (Replies.Entry path) = IsPathText (path_text path)
+IsTold s other = Unit {0}
+
+-- then the reply can be written, and is read again as itself
+abbrev pub RepliesAreWritten : Type 0
+RepliesAreWritten =
+    (s : Session) (kind : ReplyKind Names) (reply : Reply) → IsTold s kind → reply_said s kind ≡ Some reply → IsWritten reply.code reply.lines

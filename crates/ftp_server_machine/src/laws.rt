@@ -2,6 +2,7 @@
 ghost use Rattle.ftp_server_machine.specs.Bounds.{ServerLowers};
 ghost use Rattle.ftp_server_machine.specs.Failing.{NeverFailsWithoutLogin};
 ghost use Rattle.ftp_server_machine.specs.InFlight.{ServerDropsAnswer, ServerHearsCommand, ServerHearsPieces, ServerHearsEachLine, LineLeavesEar, ServerHearsRow, StatedIsLine};
+ghost use Rattle.ftp_server_machine.specs.Replies.{RepliesAreWritten};
 ghost use Rattle.ftp_server_machine.specs.Machine.{OneReading, ReadingExists, ReadsStated};
 
 /// Lines are read, in one way, and the line of a command as that command.
@@ -21,6 +22,11 @@ pub fn commands_in_flight()
     ensures answer { ServerDropsAnswer }
     ensures ear { LineLeavesEar }
     ensures row { ServerHearsRow }
+{}
+
+/// Each reply that is said can be written, and is read again as itself.
+pub fn replies_are_written()
+    ensures { RepliesAreWritten }
 {}
 
 /// A command that is answered 530 is never answered 451.

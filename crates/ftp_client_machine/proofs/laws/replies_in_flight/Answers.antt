@@ -1,4 +1,4 @@
-use Rattle.ftp_client_machine.proofs.RepliesInFlight.{in_pieces, reply_is_heard, answer_is_dropped_here, row_is_heard}
+use Rattle.ftp_client_machine.proofs.RepliesInFlight.{in_pieces, reply_is_heard, fronts_are_alike, answer_is_dropped_here, row_is_heard}
 use Rattle.ftp_client_machine.proofs.RestLemmas.{answered_at_rest}
 use Rattle.ftp_client_machine.proofs.laws.replies_in_flight.Goals as goal
 
@@ -7,6 +7,9 @@ returns-clause-pieces c = in_pieces
 
 pub returns-clause-reply : goal.returns-clause-reply
 returns-clause-reply c = reply_is_heard
+
+pub returns-clause-fronts : goal.returns-clause-fronts
+returns-clause-fronts c = fronts_are_alike
 
 pub returns-clause-answer : goal.returns-clause-answer
 returns-clause-answer c = answer_is_dropped_here
