@@ -2,7 +2,8 @@
 -- these numbers, and needs no clause of its own for it.
 use Rattle.std.specs.Prelude.{◌≡◌, ℕ, suc, ◌+◌, ◌-◌, ◌*◌, ◌<◌, ◌≤◌, ◌⊎◌, true, List, [], ◌∷◌, length, Option, Some, None, if◌then◌else◌}
 use Rattle.ftp_endpoint.specs.declared.host.Host.{Host}
-use Rattle.ftp_client_machine.specs.Calls.{hears_octet, listening, listen_refused, data_opened, data_refused, data_end, data_fault, receives_octet, gives_control, gives_data, to_give, data_closed, control_end}
+use Rattle.ftp_client_machine.specs.Calls.{hears_octet, listening, listen_refused, data_opened, data_refused, data_end, data_fault}
+use Rattle.ftp_client_machine.specs.Calls.{receives_octet, gives_control, gives_data, to_give, data_closed, control_end}
 use Rattle.ftp_client_machine.specs.Failing.{short, listening_short, data_opened_short, data_end_short}
 use Rattle.ftp_operation.specs.declared.op.Op.{Op}
 use Rattle.ftp_client_machine.specs.Plan.{count_of}

@@ -12,7 +12,8 @@ use Rattle.ftp_client_machine.specs.Dialogue.{begins, goes_on, finishes, answere
 use Rattle.ftp_client_machine.specs.Octets.{flow_octet}
 use Rattle.ftp_reply.specs.Reader.{Between, Heard, GoesOn, Says, Faulty, line_heard}
 use Rattle.ftp_client_machine.specs.Tries.{OverBreaks, Run, run_of, first_try}
-use Rattle.ftp_client_machine.specs.View.{View, Job, Idle, Waiting, Doing, Transferring, Told, Transfer, Flow, Sending, Receiving, tells, fails, failure_said, strange}
+use Rattle.ftp_client_machine.specs.View.{View, Job, Idle, Waiting, Doing, Transferring, Told, Transfer}
+use Rattle.ftp_client_machine.specs.View.{Flow, Sending, Receiving, tells, fails, failure_said, strange}
 use Rattle.ftp_client_machine.specs.declared.client.Abort.{Abort}
 use Rattle.ftp_client_machine.specs.declared.client.Abort.TheVariants as Aborts
 use Rattle.ftp_client_machine.specs.declared.client.Ending.{Ending}

@@ -7,7 +7,8 @@ use Rattle.ftp_operation.specs.Account.{is_user, is_password}
 use Rattle.ftp_operation.specs.declared.op.Op.{Op}
 use Rattle.ftp_reply.specs.Lines.{Text}
 use Rattle.ftp_reply.specs.Reader.{Gathered, Between, Begun}
-use Rattle.ftp_client_machine.specs.Calls.{starts, uploads, is_busy, reports, hears_octet, may_hear, gives_control, control_end, listening, listen_refused, data_opened, data_refused, data_end, data_fault, data_closed, receives_octet, may_receive, gives_data}
+use Rattle.ftp_client_machine.specs.Calls.{starts, uploads, is_busy, reports, hears_octet, may_hear, gives_control, control_end, listening}
+use Rattle.ftp_client_machine.specs.Calls.{listen_refused, data_opened, data_refused, data_end, data_fault, data_closed, receives_octet, may_receive, gives_data}
 use Rattle.ftp_client_machine.specs.Failing.{short, starts_short, uploads_short, listening_short, data_opened_short, data_end_short}
 use Rattle.ftp_client_machine.specs.Tries.{OverBreaks}
 use Rattle.ftp_client_machine.specs.View.{View, client}

@@ -13,7 +13,8 @@ use Rattle.ftp_representation.specs.declared.representation.Mode.TheVariants as 
 use Rattle.ftp_representation.specs.declared.representation.Kind.TheVariants as Kinds
 use Rattle.ftp_representation.specs.declared.representation.Structure.TheVariants as Structures
 use Rattle.ftp_ends.specs.RowWords.{here, elsewhere, lines}
-use Rattle.ftp_client_machine.specs.Calls.{starts, uploads, report_of, hears, listening, listen_refused, data_opened, data_refused, data_end, data_fault, receives, gives_data, to_give, wants}
+use Rattle.ftp_client_machine.specs.Calls.{starts, uploads, report_of, hears, listening, listen_refused, data_opened}
+use Rattle.ftp_client_machine.specs.Calls.{data_refused, data_end, data_fault, receives, gives_data, to_give, wants}
 use Rattle.ftp_client_machine.specs.Dialogue.{answered}
 use Rattle.ftp_facts.specs.Listing.{names_value}
 use Rattle.ftp_reply.specs.declared.fault.ReplyFault.TheVariants.{Failed}

@@ -1,3 +1,4 @@
 pub mod AgreementLemmas
 pub mod HonestLemmas
 pub mod WorldRows
+pub mod TriesLemmas

@@ -1,6 +1,6 @@
 -- What a world's reports and its server's map are, after every event: those of what was begun, each operation with an
 -- outcome that the marks and the cutoff allow. Without marks and without a cutoff that is the direct run.
-use Rattle.std.specs.Prelude.{◌≡◌, ◌⊎◌, ℕ, suc, ◌<◌, ◌≤◌, Bool, true, List, [], ◌∷◌, ◌++◌, length, flat_map, Option, Some, None, if◌then◌else◌}
+use Rattle.std.specs.Prelude.{◌≡◌, ◌⊎◌, ℕ, suc, ◌+◌, ◌<◌, ◌≤◌, Bool, true, List, [], ◌∷◌, ◌++◌, length, flat_map, Option, Some, None, if◌then◌else◌}
 use Rattle.std.specs.List.{Contains}
 use Rattle.ftp_operation.specs.Answer.{Said}
 use Rattle.ftp_direct.specs.Direct.{State, answers}
@@ -9,7 +9,7 @@ use Rattle.ftp_tree.specs.Tree.{Table}
 use Rattle.ftp_server_machine.specs.Machine.{Reading}
 use Rattle.std.specs.Option.{is_some}
 use Rattle.ftp_client_machine.specs.Plan.{how_of}
-use Rattle.ftp_client_machine.specs.Tries.{OverBreaks, Run, run_of, first_try, next_in, run_at}
+use Rattle.ftp_client_machine.specs.Tries.{OverBreaks, Run, run_of, first_try, is_size, next_in, run_at}
 use Rattle.ftp_world.specs.Events.{Event, Refuse, Break, EndControl, Next, Upload, Happens}
 use Rattle.ftp_world.specs.Outcome.{Outcome, Whole, Cut, Unopened, Lost, Part, Nothing, All, Front, did, CanBe}
 use Rattle.ftp_world.specs.World.{World, Mark, Refused, Broken}
@@ -81,6 +81,11 @@ IsItemOf state (Single op moment) item = (item.moment ≡ moment) × (item.first
 IsItemOf state (Tries upload moment) item =
     (item.moment ≡ moment) × (item.first.op ≡ first_try upload)
     × GoesOn moment (run_of upload) item.first.op (attempt_did moment state item.first) item.more
+
+-- how many of some attempts are a Put or a PutFrom
+abbrev pub tries_in : List Attempt → ℕ
+tries_in [] = 0
+tries_in (attempt ∷ attempts) = (if is_size attempt.op then 0 else 1) + tries_in attempts
 
 -- where it has its report, they are the whole run
 abbrev pub IsWholeItemOf : State → Order → Item → Type 0

@@ -17,12 +17,13 @@ use Rattle.ftp_operation.specs.declared.op.How.{How}
 use Rattle.ftp_operation.specs.declared.op.Op.{Op}
 use Rattle.ftp_operation.specs.declared.op.Op.TheVariants as Ops
 use Rattle.ftp_client_machine.specs.Plan.{settings_of}
-use Rattle.ftp_client_machine.specs.Tries.{OverBreaks}
+use Rattle.ftp_client_machine.specs.Tries.{OverBreaks, most_tries}
 use Rattle.ftp_client_machine.specs.View.{client}
 use Rattle.ftp_server_machine.specs.Calls.{start}
 use Rattle.ftp_server_machine.specs.Machine.{Reading, IsReading}
 use Rattle.ftp_server_machine.specs.View.{Accounts}
-use Rattle.ftp_world.specs.Agreement.{IsAmong, AttemptHolds, Order, Tries, Item, item_did, ItemHolds, IsReported, AreSingle, operations, Agrees, WorldAgrees, IsDirect, Leads, AreHonest}
+use Rattle.ftp_world.specs.Agreement.{IsAmong, AttemptHolds, Order, Tries, tries_in, Item, IsItemOf, item_did, ItemHolds}
+use Rattle.ftp_world.specs.Agreement.{IsReported, AreSingle, operations, Agrees, WorldAgrees, IsDirect, Leads, AreHonest}
 use Rattle.ftp_world.specs.Events.{Event, Deliver, Open, End, Next, Upload, Happens, IsQuiet, can_begin}
 use Rattle.ftp_world.specs.Outcome.{Outcome, did, front}
 use Rattle.ftp_world.specs.Settling.{Falls, left_in}
@@ -159,6 +160,12 @@ DoneIsWhole =
     (state : State) (upload : OverBreaks) (moment index : ℕ) (marks : List Mark) (cutoff : Option ℕ) (item : Item)
     → ItemHolds state (Tries upload moment) marks cutoff index item → IsReported state (Tries upload moment) item Done
     → HasPutAll state upload moment item
+
+-- it never tries more often than it may
+abbrev pub TriesAreFew : Type 0
+TriesAreFew =
+    (state : State) (upload : OverBreaks) (moment : ℕ) (item : Item) → IsItemOf state (Tries upload moment) item
+    → tries_in (item.first ∷ item.more) ≤ most_tries
 
 -- ---- a Peek
 

@@ -1,5 +1,6 @@
 -- The events of a world: when each is possible, and what it does, as a function of the counts of octets that really move.
-use Rattle.std.specs.Prelude.{◌≡◌, ℕ, ◌+◌, ◌-◌, ◌<◌, ◌≤◌, ◌==◌, ◌&&◌, ◌||◌, Bool, true, false, not, nat_lt, min, List, [], ◌∷◌, ◌++◌, length, take, drop, Some, IsTrue}
+use Rattle.std.specs.Prelude.{◌≡◌, ℕ, ◌+◌, ◌-◌, ◌<◌, ◌≤◌, ◌==◌, ◌&&◌, ◌||◌, Bool, true, false}
+use Rattle.std.specs.Prelude.{not, nat_lt, min, List, [], ◌∷◌, ◌++◌, length, take, drop, Some, IsTrue}
 use Rattle.ftp_operation.specs.declared.op.Op.{Op}
 use Rattle.ftp_ends.specs.Link.{is_wanted, is_connecting}
 use Rattle.ftp_client_machine.specs.Calls as near
@@ -9,7 +10,8 @@ use Rattle.ftp_server_machine.specs.Calls as far
 use Rattle.ftp_server_machine.specs.Machine as machine
 use Rattle.ftp_server_machine.specs.Machine.{Reading}
 use Rattle.ftp_world.specs.Serving.{after_event}
-use Rattle.ftp_world.specs.World.{World, Control, LeftByNear, LeftByFar, Parted, Link, Gone, Opened, ClosedByNear, ClosedByFar, Refused, Broken, with_mark, gone, parted}
+use Rattle.ftp_world.specs.World.{World, Control, LeftByNear, LeftByFar, Parted, Link, Gone, Opened}
+use Rattle.ftp_world.specs.World.{ClosedByNear, ClosedByFar, Refused, Broken, with_mark, gone, parted}
 
 -- the four queues: to the server and to the client, over the control connection and over the data link
 pub data Queue : Type 0 where

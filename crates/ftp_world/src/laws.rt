@@ -1,5 +1,5 @@
 //! Laws of what is claimed of a session: functions that do nothing, whose contracts are laws of `specs/`.
-ghost use Rattle.ftp_world.specs.Claims.{HeadlineFollows, PeekIsDirect, UnmarkedIsDirect};
+ghost use Rattle.ftp_world.specs.Claims.{HeadlineFollows, PeekIsDirect, TriesAreFew, UnmarkedIsDirect};
 
 /// Without breaks, refusals and an end of the control connection, agreement is the direct run.
 pub fn unmarked_agreement_is_the_direct_run()
@@ -14,4 +14,9 @@ pub fn headline_follows_from_agreement()
 /// A Peek that is neither Unopened nor Lost has the direct answer, unless its link broke before its octets were settled.
 pub fn peek_is_direct()
     ensures { PeekIsDirect }
+{}
+
+/// Whatever an upload over breaks meets, it makes at most sixteen tries.
+pub fn tries_are_few()
+    ensures { TriesAreFew }
 {}
