@@ -18,16 +18,19 @@ pub record EarHearsLine (limit : ℕ) (text : List ℕ) : Type 0 where
   pub whole : gives (ear limit) quiet (written_line text) ≡ line text ∷ []
   pub rest : after (ear limit) quiet (written_line text) ≡ quiet
 
+-- so it is of every line without LF that keeps the limit
 abbrev pub EarHearsEachLine : Type 0
 EarHearsEachLine = (limit : ℕ) (text : List ℕ) → Lacks LF text → line_len text + 2 ≤ limit → EarHearsLine limit text
 
--- the answer to a Telnet octet, which the other end is owed: nothing is said of it, and nothing is owed to it
+-- the answer to a Telnet octet, which the other end is owed (RFC 854)
 abbrev pub answer_of : ℕ → ℕ → List ℕ
 answer_of verb octet = IAC ∷ verb ∷ octet ∷ []
 
+-- such an answer, heard between two lines: nothing is said of it, however much of it came, and the ear is between two lines again
 pub record EarHearsAnswer (limit verb octet : ℕ) : Type 0 where
   pub front : (n : ℕ) → gives (ear limit) quiet (take n (answer_of verb octet)) ≡ []
   pub rest : after (ear limit) quiet (answer_of verb octet) ≡ quiet
 
+-- so it is of both answers, WONT and DONT
 abbrev pub EarDropsAnswer : Type 0
 EarDropsAnswer = (limit octet : ℕ) → EarHearsAnswer limit WONT octet × EarHearsAnswer limit DONT octet

@@ -1,6 +1,6 @@
 -- Each reply that is said can be written, and is read again as itself.
-use Rattle.std.proofs.Common.{append-nil, All, ◌≡◌, ℕ, ◌+◌, ◌*◌, ◌/◌, ◌%◌, ◌<◌, ◌≤◌, ◌^◌, List, [], ◌∷◌, ◌++◌, Bool, true, false, not, ◌&&◌, ◌==◌, Option, Some, None, refl, ap, sym, subst, ◌∙◌, arith, length}
-use Rattle.std.specs.Prelude.{codes, decimal, nat_le, sum_by, count_by, option_map, unwrap_or, if◌then◌else◌}
+use Rattle.std.proofs.Common.{append-nil, All, ◌≡◌, ℕ, ◌+◌, ◌*◌, ◌/◌, ◌%◌, ◌<◌, ◌≤◌, ◌^◌, List, [], ◌∷◌, ◌++◌, Bool, true, false, not, ◌&&◌, ◌==◌, Option, Some, None, refl, sym, subst, ◌∙◌, arith, length}
+use Rattle.std.specs.Prelude.{codes, decimal, nat_le, sum_by, option_map, unwrap_or, if◌then◌else◌}
 use Rattle.std.proofs.lemmas.Bool.Decides.{nat_tests}
 use Rattle.std.specs.List.{list_all, AllByRecursion}
 use Rattle.std.proofs.lemmas.List.Elements.{All-nil, All-cons}
@@ -14,7 +14,7 @@ use Rattle.ftp_facts.specs.Listed.{Listed}
 use Rattle.ftp_facts.proofs.NumberLemmas.{is_at_most}
 use Rattle.ftp_facts.specs.Moment.{two_digits, four_digits, date_digits, time_digits, day_digits, second_digits, moment_digits}
 use Rattle.ftp_reply.specs.Lines.{AreWithin}
-use Rattle.ftp_reply.specs.Reply.{IsCode, begins_with_digits, code_text, last_line, opening_line, written}
+use Rattle.ftp_reply.specs.Reply.{begins_with_digits, code_text, last_line, written}
 use Rattle.ftp_reply.specs.Values.{doubled, doubled_octet}
 use Rattle.ftp_path.specs.Path.{IsPathText, text_of as path_text, Names}
 use Rattle.ftp_command.proofs.CarriedLemmas.{Fits, is_plain, fits_both, fits_with, digit_plain, decimal_fits, six_fits, path_fits, all_plain}
@@ -24,11 +24,10 @@ use Rattle.ftp_tree.specs.Tree.{Node, Dir, File, node_at}
 use Rattle.ftp_operation.specs.Operation.{is_number}
 use Rattle.ftp_direct.specs.Direct.{entry_at, listed, perm_of, size_fact}
 use Rattle.ftp_server_machine.specs.View.{Session, seen}
-use Rattle.ftp_server_machine.specs.Replies.{RepliesAreWritten, IsTold, reply_said, quoted, here_text, made_text, passive_text, extended_text, entry_reply, chosen_reply, features_reply}
+use Rattle.ftp_server_machine.specs.Replies.{RepliesAreWritten, quoted, here_text, made_text, passive_text, extended_text, entry_reply, chosen_reply, features_reply}
 use Rattle.ftp_server_machine.specs.Entries.{listed_line, if_chosen, chosen_text, fact_text, features_text, feature_text, is_any_chosen}
 use Rattle.ftp_server_machine.specs.declared.reply.Text.{Text}
 use Rattle.ftp_server_machine.specs.declared.reply.Text.TheVariants as Texts
-use Rattle.ftp_server_machine.specs.declared.reply.ReplyKind.{ReplyKind}
 use Rattle.ftp_server_machine.specs.declared.reply.ReplyKind.TheVariants as Replies
 use Rattle.ftp_server_machine.specs.declared.session.Facts.{Facts}
 

@@ -14,7 +14,7 @@ use Rattle.ftp_path.specs.Path.{resolved, fits, parent, text_of, is_within, Name
 use Rattle.ftp_tree.specs.Tree.{source_refusal, target_refusal, rename_refusal, octets_at, node_at, children, under, Table, Dir, File}
 use Rattle.ftp_server_machine.specs.View.{Transfer, Session, View, direct_of, how_in_force, seen}
 use Rattle.ftp_server_machine.specs.Replies.{reply_octets, reply_of}
-use Rattle.ftp_server_machine.specs.Login.{enters}
+use Rattle.ftp_server_machine.specs.Login.{admits}
 use Rattle.ftp_server_machine.specs.Transfer.{transfer_starts, file_wire, misplaced, path_or_here, place_of, sent_from, stor_at}
 use Rattle.ftp_server_machine.specs.Listing.{listing_wire, list_lines, list_lines_at, child_line, node_line, right_in, month_word}
 use Rattle.ftp_facts.specs.Calendar.{year_and_place, month_and_place}
@@ -22,7 +22,7 @@ use Rattle.ftp_facts.specs.Moment.{four_digits}
 use Rattle.ftp_server_machine.specs.Machine.{obeyed, completed, turned, owes, with_session}
 use Rattle.ftp_server_machine.specs.Calls.{gives_control, listening, listen_refused, data_opened, data_refused, gives_data, to_give, wants}
 use Rattle.ftp_ends.specs.RowWords.{here, elsewhere}
-use Rattle.ftp_server_machine.specs.Rows.{RowEvent, after_events, server, member, entered, at, of, five, asks, opened, refused, LoginAnswered, OpenLogin, RootMissing, RootIsTop, MadeBelowRoot, WrongPassword, OrderOfDecisions, BeforeLogin, FeaturesTold, Utf8Chosen, FactsChosen, OnlyExtended, Reinitialized, QuitHeard, ByFamily, ForeignEndpoint, RefusedOpening, RefusedListen, ForeignOpener, RenameDone, LateRename, DownloadSent, RestartSent, LateRestart, RestartInAscii, RestartInPair, RestartInRecords, ListingSent, EarlyAbort, WaitingLine}
+use Rattle.ftp_server_machine.specs.Rows.{RowEvent, after_events, server, member, logged_in, at, of, five, asks, opened, refused, LoginAnswered, OpenLogin, RootMissing, RootIsTop, MadeBelowRoot, WrongPassword, OrderOfDecisions, BeforeLogin, FeaturesTold, Utf8Chosen, FactsChosen, OnlyExtended, Reinitialized, QuitHeard, ByFamily, ForeignEndpoint, RefusedOpening, RefusedListen, ForeignOpener, RenameDone, LateRename, DownloadSent, RestartSent, LateRestart, RestartInAscii, RestartInPair, RestartInRecords, ListingSent, EarlyAbort, WaitingLine}
 use Rattle.ftp_server_machine.specs.declared.session.Pending.TheVariants as Pendings
 use Rattle.ftp_server_machine.specs.declared.session.DataConnection.TheVariants as Data
 use Rattle.ftp_server_machine.specs.declared.session.Transfer.TheVariants as Transfers
@@ -38,7 +38,7 @@ open_login table root dir = rw dir refl
 
 -- a login to an account with this root, by whether that is a directory
 abbrev pub entering : Bool → Names → View → View
-entering is_there root v = completed (turned (enters is_there root v.session) v)
+entering is_there root v = completed (turned (admits is_there root v.session) v)
 
 pub missing_root : RootMissing
 unfolding obeyed login_root
@@ -268,7 +268,7 @@ not_stored v place = completed (turned (stor_at place (of (codes "f")) v.session
 pub restart_in_pair : RestartInPair
 unfolding obeyed fits text_of resolved
 restart_in_pair table root moment f =
-    let e : View = entered table root in
+    let e : View = logged_in table root in
     let v : View = taken (rested e 2 (codes "2")) in
     let again : View → View = λ w. taken (rested w 2 (codes "2")) in
     let w : View = again (not_fetched v None None) in

@@ -45,6 +45,7 @@ start table accounts here peer = record {
 abbrev pub control_step : ℕ → View → View
 control_step count v = record v { owed = drop count v.owed }
 
+-- the call: this step, and then the line that waits
 unfoldable pub gives_control : ℕ → View → View
 gives_control count v = later (control_step count v)
 
@@ -52,6 +53,7 @@ gives_control count v = later (control_step count v)
 abbrev pub clock_step : ℕ → View → View
 clock_step moment v = record v { footing = record v.footing { moment = moment } }
 
+-- the call: this step, and then the line that waits
 unfoldable pub clocked : ℕ → View → View
 clocked moment v = later (clock_step moment v)
 
@@ -73,6 +75,7 @@ listening_turn connection footing port s = (s, Replies.Nothing)
 abbrev pub listening_step : ℕ → View → View
 listening_step port v = turned (listening_turn (connection_of v.session) v.footing port v.session) v
 
+-- the call: this step, and then the line that waits
 unfoldable pub listening : ℕ → View → View
 listening port v = later (listening_step port v)
 
@@ -85,6 +88,7 @@ unheard connection v = v
 abbrev pub no_port_step : View → View
 no_port_step v = unheard (connection_of v.session) v
 
+-- the call: this step, and then the line that waits
 unfoldable pub listen_refused : View → View
 listen_refused v = later (no_port_step v)
 
@@ -112,6 +116,7 @@ opens connection is_peer v = v
 abbrev pub opened_step : Host → View → View
 opened_step host v = completed (opens (connection_of v.session) (same_host host v.footing.peer) v)
 
+-- the call: this step, and then the line that waits
 unfoldable pub data_opened : Host → View → View
 data_opened host v = later (opened_step host v)
 
@@ -125,6 +130,7 @@ refuses connection v = v
 abbrev pub refused_step : View → View
 refused_step v = refuses (connection_of v.session) v
 
+-- the call: this step, and then the line that waits
 unfoldable pub data_refused : View → View
 data_refused v = later (refused_step v)
 
@@ -211,6 +217,7 @@ takes_given connection count v = v
 abbrev pub given_step : ℕ → View → View
 given_step count v = completed (takes_given (connection_of v.session) count v)
 
+-- the call: this step, and then the line that waits
 unfoldable pub gives_data : ℕ → View → View
 gives_data count v = later (given_step count v)
 
@@ -226,6 +233,7 @@ ends connection v = v
 abbrev pub end_step : View → View
 end_step v = ends (connection_of v.session) v
 
+-- the call: this step, and then the line that waits
 unfoldable pub data_end : View → View
 data_end v = later (end_step v)
 
@@ -239,6 +247,7 @@ breaks connection v = v
 abbrev pub break_step : View → View
 break_step v = breaks (connection_of v.session) v
 
+-- the call: this step, and then the line that waits
 unfoldable pub data_fault : View → View
 data_fault v = later (break_step v)
 
@@ -246,6 +255,7 @@ data_fault v = later (break_step v)
 abbrev pub close_step : View → View
 close_step v = with_session (record v.session { closing = false }) v
 
+-- the call: this step, and then the line that waits
 unfoldable pub data_closed : View → View
 data_closed v = later (close_step v)
 

@@ -24,7 +24,7 @@ listed_line facts entry =
     (if_chosen facts.modify (option_map moment_digits entry.modify)) (if_chosen facts.perm entry.perm))
     ++ space ∷ entry.name
 
--- the names of facts, each with what stands behind it
+-- the name of a fact and a semicolon, where it is in force
 abbrev pub fact_text : List ℕ → Bool → List ℕ
 fact_text name true = name ++ semicolon ∷ []
 fact_text name false = []
@@ -52,7 +52,7 @@ features_text facts =
 
 -- ---- OPTS MLST: facts, each with a semicolon; those that are not known are passed over (RFC 3659, section 7.9)
 
--- the octet behind each fact of OPTS MLST
+-- the octet that ends each fact of OPTS MLST
 abbrev pub is_semicolon : ℕ → Bool
 is_semicolon octet = octet == semicolon
 

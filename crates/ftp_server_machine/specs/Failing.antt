@@ -108,7 +108,7 @@ is_taking connection = false
 abbrev pub NoRoom : View → View → Type 0
 NoRoom v w = (is_taking v.session.connection ≡ true) × Late (faulted v) w
 
--- an octet of an upload had no room, behind the first things that it says, each of which was taken
+-- an octet of an upload had no room, after the first things that it says were taken
 abbrev pub UploadFails : DataConnection Transfer → ℕ → View → View → Type 0
 UploadFails (Data.Transferring (Transfers.Upload path keep d)) octet v w =
     (taken : List Said) × (rest : List Said) × (octet_says d octet ≡ taken ++ rest)

@@ -1,19 +1,18 @@
 -- How many octets a server holds, beside the map, the accounts and what came of an upload (own choice of the limits). Of a download and of
 -- a listing the view has all that is still to be given, which is the map's; here is what of it a server may hold at once.
-use Rattle.std.specs.Prelude.{◌≡◌, ℕ, ◌+◌, ◌≤◌, Bool, true, List, length, Option, Some, None}
+use Rattle.std.specs.Prelude.{◌≡◌, ℕ, ◌+◌, ◌≤◌, true, List, length, Option, Some}
 use Rattle.std.specs.List.{list_all}
 use Rattle.ftp_endpoint.specs.declared.host.Host.{Host}
 use Rattle.ftp_command.specs.Line.{line_of}
 use Rattle.ftp_path.specs.Path.{Names, fits, text_of}
 use Rattle.ftp_representation.specs.declared.marker.TheConstants.{MARKER_LIMIT}
 use Rattle.ftp_tree.specs.Tree.{Table}
-use Rattle.ftp_ends.specs.Ear.{Ear}
 use Rattle.ftp_server_machine.specs.View.{Accounts, Session, Transfer, View, line_limit}
 use Rattle.ftp_server_machine.specs.Calls.{start}
 use Rattle.ftp_server_machine.specs.Machine.{Reading, IsReading}
 use Rattle.ftp_server_machine.specs.Play.{Cue, left_by}
 use Rattle.ftp_server_machine.specs.declared.heard.Heard.{Heard}
-use Rattle.ftp_server_machine.specs.declared.heard.Heard.TheVariants.{TooLong, Bad, Asks}
+use Rattle.ftp_server_machine.specs.declared.heard.Heard.TheVariants.{Asks}
 use Rattle.ftp_server_machine.specs.declared.session.Access.{Access}
 use Rattle.ftp_server_machine.specs.declared.session.Access.TheVariants.{Nobody, AwaitsPass, Known}
 use Rattle.ftp_server_machine.specs.declared.session.Pending.{Pending}

@@ -20,13 +20,13 @@ abbrev pub logged_out : Session → Session
 logged_out s = record s { access = Nobody; root = []; cwd = [] }
 
 -- a login is 230, and the root of its account is the current directory
-abbrev pub enters : Bool → Names → Session → Turn
-enters true root s = tells Texts.LoggedIn (record s { access = Known; root = root; cwd = [] })
-enters false root s = tells Texts.LoginRefused (logged_out s)
+abbrev pub admits : Bool → Names → Session → Turn
+admits true root s = tells Texts.LoggedIn (record s { access = Known; root = root; cwd = [] })
+admits false root s = tells Texts.LoginRefused (logged_out s)
 
 -- it is 530 where the root of its account is no directory (own choice)
 abbrev pub logs_in : Names → Session → Turn
-logs_in root s = enters (is_directory (node_at s.table root)) root s
+logs_in root s = admits (is_directory (node_at s.table root)) root s
 
 -- an account of this name that needs no password
 abbrev pub is_open : List ℕ → Account → Bool
@@ -37,13 +37,13 @@ abbrev pub open_root : Accounts → List ℕ → Option Names
 open_root accounts name = option_map (λ account. account.root) (find (is_open name) accounts)
 
 -- any name that needs a password, or that no account has, is asked for one (own choice)
-abbrev pub named : Option Names → List ℕ → Session → Turn
-named (Some root) name s = logs_in root s
-named None name s = tells Texts.PasswordNeeded (record (logged_out s) { access = AwaitsPass name })
+abbrev pub user_named : Option Names → List ℕ → Session → Turn
+user_named (Some root) name s = logs_in root s
+user_named None name s = tells Texts.PasswordNeeded (record (logged_out s) { access = AwaitsPass name })
 
 -- USER ends the login in force
 abbrev pub user : Accounts → List ℕ → Session → Turn
-user accounts name s = named (open_root accounts name) name s
+user accounts name s = user_named (open_root accounts name) name s
 
 -- 230 or 530; either way the USER that waited is used up
 abbrev pub checked : Option Names → Session → Turn

@@ -31,7 +31,7 @@ use Rattle.ftp_server_machine.specs.declared.session.DataConnection.TheVariants 
 abbrev pub with_session : Session → View → View
 with_session session v = record v { session = session }
 
--- control octets are owed behind those that were
+-- control octets are owed, after those that were
 abbrev pub owes : List ℕ → View → View
 owes octets v = record v { owed = v.owed ++ octets }
 
@@ -97,7 +97,7 @@ Ending = Session × Text
 abbrev pub is_over : Names → ℕ → Decoder → Session → Bool
 is_over path keep d s = is_some (octets_refusal (seen s) path (keep + length d.content))
 
--- the file is in the map: the octets kept, and behind them those that came, at this moment
+-- the file is in the map: the octets kept and then those that came, at this moment
 abbrev pub put_in : (moment : ℕ) → Names → ℕ → List ℕ → Session → Session
 put_in moment path keep octets s = with_seen (installed (seen s) path (take keep (octets_or_none (seen s) path) ++ octets) moment) s
 
@@ -215,7 +215,7 @@ is_running Lives.Running = true
 is_running Lives.Quit = false
 is_running Lives.Cut = false
 
--- a control octet may be taken: none behind a line that waits, or behind QUIT, and only where there is room
+-- a control octet may be taken: none while a line waits or after QUIT, and only where there is room
 abbrev pub may_hear : View → Bool
 may_hear v = is_running v.session.life && is_none v.waiting && has_room v
 

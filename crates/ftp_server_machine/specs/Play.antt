@@ -1,6 +1,6 @@
 -- A list of calls of a server, what each of them gives, and what an account's root keeps apart (own choices). The octet calls move as
 -- many octets as they may, so that what they give is a function of the view.
-use Rattle.std.specs.Prelude.{◌≡◌, ℕ, suc, Bool, true, false, min, List, [], ◌∷◌, length, take, if◌then◌else◌}
+use Rattle.std.specs.Prelude.{◌≡◌, ℕ, suc, true, false, min, List, [], ◌∷◌, length, take, if◌then◌else◌}
 use Rattle.std.specs.FinMap as fin
 use Rattle.ftp_endpoint.specs.declared.host.Host.{Host}
 use Rattle.ftp_path.specs.Path.{Names, is_within}

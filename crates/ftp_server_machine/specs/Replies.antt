@@ -55,7 +55,7 @@ features_reply facts = record {
       ∷ (codes " MLST " ++ features_text facts) ∷ codes " REST STREAM" ∷ codes " SIZE" ∷ codes " UTF8" ∷ codes "End" ∷ [];
 }
 
--- the text of 200 to OPTS MLST: behind SP the facts that are now in force (RFC 3659, section 7.9)
+-- the text of 200 to OPTS MLST: after an SP the facts that are now in force (RFC 3659, section 7.9)
 abbrev pub chosen_reply : Facts → List ℕ
 chosen_reply facts = codes "MLST OPTS" ++ (if is_any_chosen facts then 32 ∷ chosen_text facts else [])
 

@@ -63,7 +63,7 @@ at host = record { host = host; port = 1930 }
 abbrev pub accounts : Names → Accounts
 accounts root = record { user = codes "guest"; pass = Some (codes "secret"); root = root } ∷ record { user = codes "anonymous"; pass = None; root = root } ∷ []
 
--- a server of a map, whatever it holds, behind events
+-- a server of a map, whatever it holds, after events
 abbrev pub server : Table → Names → List RowEvent → View
 server table root events = after_events events (start table (accounts root) here here)
 
@@ -72,14 +72,14 @@ abbrev pub said_to_member : List (List ℕ) → List ℕ
 said_to_member texts = lines (codes "220 Ready" ∷ codes "230 Logged in" ∷ texts)
 
 -- it as that somebody finds it
-abbrev pub entered : Table → Names → View
-entered table root =
+abbrev pub logged_in : Table → Names → View
+logged_in table root =
     let v = start table (accounts root) here here in
     record v { session = record v.session { access = Known; root = root }; owed = said_to_member [] }
 
--- the same behind events
+-- the same after events
 abbrev pub member : Table → Names → List RowEvent → View
-member table root events = after_events events (entered table root)
+member table root events = after_events events (logged_in table root)
 
 -- the path of a name in the root
 abbrev pub of : List ℕ → Names
@@ -98,7 +98,7 @@ LoginAnswered =
 abbrev pub OpenLogin : Type 0
 OpenLogin =
     (table : Table) (root : Names) → node_at table root ≡ Some Dir
-    → server table root (asks (command.User (codes "anonymous")) ∷ []) ≡ entered table root
+    → server table root (asks (command.User (codes "anonymous")) ∷ []) ≡ logged_in table root
 
 -- 530: the root of the account is no directory
 abbrev pub RootMissing : Type 0
@@ -139,7 +139,7 @@ FeaturesTold =
     ≡ lines (codes "220 Ready" ∷ codes "211-Features" ∷ codes " EPRT" ∷ codes " EPSV" ∷ codes " MDTM" ∷ codes " MLST Type*;Size*;Modify*;Perm*;"
     ∷ codes " REST STREAM" ∷ codes " SIZE" ∷ codes " UTF8" ∷ codes "211 End" ∷ [])
 
--- OPTS UTF8 ON, its words without case; with another word behind UTF8, or none, it is refused
+-- OPTS UTF8 ON, its words without case; with another word after UTF8, or none, it is refused
 abbrev pub Utf8Chosen : Type 0
 Utf8Chosen =
     (table : Table) (root : Names)
@@ -147,7 +147,7 @@ Utf8Chosen =
     ∷ asks (command.Opts (codes "UTF8")) ∷ [])).owed
     ≡ lines (codes "220 Ready" ∷ codes "200 UTF8 set" ∷ codes "200 UTF8 set" ∷ codes "501 Bad argument" ∷ codes "501 Bad argument" ∷ [])
 
--- OPTS MLST: facts in the server's order, those that are not known passed over; none of them is in force behind it (RFC 3659, section
+-- OPTS MLST: facts in the server's order, those that are not known passed over; the second puts none in force (RFC 3659, section
 -- 7.9)
 abbrev pub FactsChosen : Type 0
 FactsChosen =
@@ -168,7 +168,7 @@ abbrev pub Reinitialized : Type 0
 Reinitialized =
     (table : Table) (root : Names) → (member table root (asks command.Rein ∷ asks command.Pwd ∷ [])).owed ≡ said_to_member (codes "220 Ready" ∷ codes "530 Not logged in" ∷ [])
 
--- QUIT: nothing is heard behind it, and the connection is closed once the reply is out
+-- QUIT: nothing is heard after it, and the connection is closed once the reply is out
 abbrev pub QuitHeard : Type 0
 QuitHeard =
     (table : Table) (root : Names)
@@ -197,7 +197,7 @@ abbrev pub RefusedListen : Type 0
 RefusedListen =
     (table : Table) (root : Names) → (member table root (asks command.Pasv ∷ no_port ∷ [])).owed ≡ said_to_member (codes "425 No data connection" ∷ [])
 
--- 425: a listing whose opening is refused behind the 150, and one without an endpoint
+-- 425: a listing whose opening is refused after the 150, and one without an endpoint
 abbrev pub RefusedOpening : Type 0
 RefusedOpening =
     (table : Table) (root : Names) → node_at (under table root) [] ≡ Some Dir
@@ -205,7 +205,7 @@ RefusedOpening =
     ≡ said_to_member (codes "227 Entering Passive Mode (127,0,0,1,7,138)" ∷ codes "150 Opening data connection" ∷ codes "425 No data connection"
     ∷ codes "425 No data connection" ∷ [])
 
--- 425: another host opens the port behind the 150; its link is to be closed
+-- 425: another host opens the port after the 150; its data connection is to be closed
 abbrev pub ForeignOpener : Type 0
 ForeignOpener =
     (table : Table) (root : Names) → node_at (under table root) [] ≡ Some Dir
@@ -239,7 +239,7 @@ RenameDone =
     (v.owed ≡ said_to_member (codes "350 Ready for the new name" ∷ codes "250 Done" ∷ []))
     × (v.session.table ≡ with_part table root (moved (under table root) (of (codes "d")) (of (codes "e"))))
 
--- RNTO counts right behind an RNFR
+-- RNTO counts right after an RNFR
 abbrev pub LateRename : Type 0
 LateRename =
     (table : Table) (root : Names) → node_at (under table root) (of (codes "d")) ≡ Some Dir
@@ -337,7 +337,7 @@ TooMuchRefused =
     × (v.session.table ≡ table)
 
 -- 451: a fault of the wire ends an upload before its end; the server closes the data connection early, which is a break to its client,
--- and takes no octet behind the fault
+-- and takes no octet after the fault
 abbrev pub FaultyUpload : Type 0
 FaultyUpload =
     (table : Table) (root : Names) → node_at (under table root) (of (codes "f")) ≡ Some (File [] 0)
@@ -347,7 +347,7 @@ FaultyUpload =
     × (wants v ≡ Want.CloseData)
     × (may_receive v ≡ false)
 
--- 110: a marker in block mode is answered by the octets that are held behind those kept, here of an APPE
+-- 110: a marker in block mode is answered by the octets that are held, with those kept, here of an APPE
 abbrev pub MarkerAnswered : Type 0
 MarkerAnswered =
     (table : Table) (root : Names) → node_at (under table root) (of (codes "f")) ≡ Some (File (codes "abc") 0) → room_at (under table root) (of (codes "f")) ≡ 1000
@@ -365,7 +365,7 @@ EarlyAbort =
     (v.owed ≡ said_to_member (codes "200 Endpoint taken" ∷ codes "150 Opening data connection" ∷ codes "425 No data connection" ∷ codes "226 Abort done" ∷ []))
     × (wants v ≡ Want.Nothing)
 
--- another line waits, and is acted on behind the last reply
+-- another line waits, and is acted on after the last reply
 abbrev pub WaitingLine : Type 0
 WaitingLine =
     (table : Table) (root : Names) → node_at (under table root) [] ≡ Some Dir

@@ -115,7 +115,7 @@ mlsd text s =
 abbrev pub refused_to_hold : Session → Names → Option Refusal
 refused_to_hold s path = refused_room (limited path (room_refusal (seen s) path))
 
--- STOR, behind the octets before a place
+-- STOR, after the octets before a place
 abbrev pub stor_at : Option ℕ → Names → Session → Turn
 stor_at place path s =
     transfer_starts (or_refused (refused_name (misplaced place)) (refused_to_hold s path))
@@ -125,7 +125,7 @@ stor_at place path s =
 abbrev pub stor : Pending Names → List ℕ → Session → Turn
 stor pending text s = stor_at (place_of pending (path_of s text) s) (path_of s text) s
 
--- APPE: behind all octets of the file there
+-- APPE: after all octets of the file there
 abbrev pub appe_at : Names → Session → Turn
 appe_at path s = transfer_starts (refused_to_hold s path) (Transfers.Upload path (length (octets_or_none (seen s) path)) (no_octets s.settings)) s
 

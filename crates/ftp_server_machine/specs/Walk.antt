@@ -70,7 +70,7 @@ refused_source s from = refused_there (limited from (or_else (source_refusal (se
 abbrev pub rnfr : List ℕ → Session → Turn
 rnfr text s = unless (refused_source s (path_of s text)) s (tells Texts.NewName (record s { pending = Pendings.Rename (path_of s text) }))
 
--- RNTO, the second half, right behind it
+-- RNTO, the second half, right after it
 abbrev pub renames : Names → Names → Session → Turn
 renames from to s =
     unless (refused_name (limited to (rename_refusal (seen s) from to))) s (tells Texts.Done (with_seen (moved (seen s) from to) s))
