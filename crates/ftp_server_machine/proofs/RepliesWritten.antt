@@ -1,11 +1,11 @@
 -- Each reply that is said can be written, and is read again as itself.
-use Rattle.std.proofs.Common.{append-nil, All, ◌≡◌, ℕ, ◌+◌, ◌*◌, ◌/◌, ◌%◌, ◌<◌, ◌≤◌, ◌^◌, List, [], ◌∷◌, ◌++◌, Bool, true, false, not, ◌&&◌, ◌==◌, Option, Some, None, refl, sym, subst, ◌∙◌, arith, length}
+use Rattle.std.proofs.Common.{append-nil, All, ◌≡◌, ℕ, ◌+◌, ◌*◌, ◌/◌, ◌%◌, ◌<◌, ◌≤◌, ◌^◌, List, [], ◌∷◌, ◌++◌, Bool, true, false, not, ◌&&◌, ◌==◌, Option, Some, None, refl, sym, subst, ◌∙◌, arith, length, length-append}
 use Rattle.std.specs.Prelude.{codes, decimal, nat_le, sum_by, option_map, unwrap_or, if◌then◌else◌}
 use Rattle.std.proofs.lemmas.Bool.Decides.{nat_tests}
-use Rattle.std.specs.List.{list_all, AllByRecursion}
+use Rattle.std.specs.List.{flat_map, list_all, AllByRecursion}
 use Rattle.std.proofs.lemmas.List.Elements.{All-nil, All-cons}
 use Rattle.std.proofs.lemmas.List.Sums.{count_by-le-length}
-use Rattle.ftp_nvt.specs.Lines.{Lacks}
+use Rattle.ftp_nvt.specs.Lines.{Lacks, written_octet, written_line}
 use Rattle.ftp_endpoint.specs.declared.endpoint.Endpoint.{Endpoint}
 use Rattle.ftp_endpoint.specs.Written.{six_text}
 use Rattle.ftp_facts.specs.Calendar.{year_and_place, month_and_place}
@@ -14,7 +14,7 @@ use Rattle.ftp_facts.specs.Listed.{Listed}
 use Rattle.ftp_facts.proofs.NumberLemmas.{is_at_most}
 use Rattle.ftp_facts.specs.Moment.{two_digits, four_digits, date_digits, time_digits, day_digits, second_digits, moment_digits}
 use Rattle.ftp_reply.specs.Lines.{AreWithin}
-use Rattle.ftp_reply.specs.Reply.{begins_with_digits, code_text, last_line, written}
+use Rattle.ftp_reply.specs.Reply.{begins_with_digits, code_text, last_line, opening_line, written}
 use Rattle.ftp_reply.specs.Values.{doubled, doubled_octet}
 use Rattle.ftp_path.specs.Path.{IsPathText, text_of as path_text, Names}
 use Rattle.ftp_command.proofs.CarriedLemmas.{Fits, is_plain, fits_both, fits_with, digit_plain, decimal_fits, six_fits, path_fits, all_plain}
@@ -24,10 +24,11 @@ use Rattle.ftp_tree.specs.Tree.{Node, Dir, File, node_at}
 use Rattle.ftp_operation.specs.Operation.{is_number}
 use Rattle.ftp_direct.specs.Direct.{entry_at, listed, perm_of, size_fact}
 use Rattle.ftp_server_machine.specs.View.{Session, seen}
-use Rattle.ftp_server_machine.specs.Replies.{RepliesAreWritten, quoted, here_text, made_text, passive_text, extended_text, entry_reply, chosen_reply, features_reply}
+use Rattle.ftp_server_machine.specs.Replies.{RepliesAreWritten, RepliesHaveRoom, IsTold, reply_said, octets_if_any, quoted, here_text, made_text, passive_text, extended_text, entry_reply, chosen_reply, features_reply}
 use Rattle.ftp_server_machine.specs.Entries.{listed_line, if_chosen, chosen_text, fact_text, features_text, feature_text, is_any_chosen}
 use Rattle.ftp_server_machine.specs.declared.reply.Text.{Text}
 use Rattle.ftp_server_machine.specs.declared.reply.Text.TheVariants as Texts
+use Rattle.ftp_server_machine.specs.declared.reply.ReplyKind.{ReplyKind}
 use Rattle.ftp_server_machine.specs.declared.reply.ReplyKind.TheVariants as Replies
 use Rattle.ftp_server_machine.specs.declared.session.Facts.{Facts}
 
@@ -74,10 +75,47 @@ one_line code most text low high small fits = record {
   carried = (carried (3 + (most + 1)) (last_line code text) (omega (arith, small)) (behind_code code 32 most text refl fits), tt);
 }
 
-fixed : (code : ℕ) (text : List ℕ) → 100 ≤ code → code ≤ 599 → list_all is_plain text ≡ true → length text ≤ 100 → IsWritten code (text ∷ [])
-fixed code text low high plain short = one_line code 100 text low high (omega arith) (closed 100 text plain short)
+-- ---- the octets of replies
 
-fixed_written : (text : Text) → IsWritten (code_of text) (text_of text ∷ [])
+octet_short : (c : ℕ) → length (written_octet c) ≤ 2
+octet_short c = by_octet (c == 255) (c == 13)
+  where
+    by_octet : (command return : Bool) → length (if command then 255 ∷ 255 ∷ [] else (if return then 13 ∷ 0 ∷ [] else c ∷ [])) ≤ 2
+    by_octet true return = omega arith
+    by_octet false true = omega arith
+    by_octet false false = omega arith
+
+text_short : (text : List ℕ) → length (flat_map written_octet text) ≤ 2 * length text
+text_short [] = omega arith
+text_short (c ∷ text) = omega (arith, length-append (written_octet c) (flat_map written_octet text), octet_short c, text_short text)
+
+line_short : (text : List ℕ) → length (written_line text) ≤ 2 * length text + 2
+line_short text = omega (arith, length-append (flat_map written_octet text) (13 ∷ 10 ∷ []), text_short text)
+
+-- so many octets in lines, and so many lines
+abbrev octets_in : List (List ℕ) → ℕ
+octets_in [] = 0
+octets_in (line ∷ lines) = 2 * length line + 2 + octets_in lines
+
+lines_short : (lines : List (List ℕ)) → length (flat_map written_line lines) ≤ octets_in lines
+lines_short [] = omega arith
+lines_short (line ∷ lines) = omega (arith, length-append (written_line line) (flat_map written_line lines), line_short line, lines_short lines)
+
+-- a reply that can be written, and whose octets have room
+record Stated (code : ℕ) (texts : List (List ℕ)) : Type 0 where
+  readable : IsWritten code texts
+  room : length (flat_map written_line (written code texts)) ≤ 4096
+
+stated_line : (code most : ℕ) (text : List ℕ) → 100 ≤ code → code ≤ 599 → most ≤ 1900 → Fits most text → Stated code (text ∷ [])
+stated_line code most text low high small fits = record {
+  readable = one_line code most text low high small fits;
+  room = omega (arith, lines_short (last_line code text ∷ []), fits.short, small);
+}
+
+fixed : (code : ℕ) (text : List ℕ) → 100 ≤ code → code ≤ 599 → list_all is_plain text ≡ true → length text ≤ 100 → Stated code (text ∷ [])
+fixed code text low high plain short = stated_line code 100 text low high (omega arith) (closed 100 text plain short)
+
+fixed_written : (text : Text) → Stated (code_of text) (text_of text ∷ [])
 fixed_written Texts.Ready = fixed 220 (codes "Ready") (omega arith) (omega arith) refl (omega arith)
 fixed_written Texts.Unknown = fixed 500 (codes "Unknown command") (omega arith) (omega arith) refl (omega arith)
 fixed_written Texts.LineTooLong = fixed 500 (codes "Line too long") (omega arith) (omega arith) refl (omega arith)
@@ -239,6 +277,12 @@ features_written facts =
         let second : All P (codes " EPSV" ∷ codes " MDTM" ∷ mlst ∷ rest) = All-cons P (codes " EPSV") (codes " MDTM" ∷ mlst ∷ rest) refl third in
         All-cons P (codes " EPRT") (codes " EPSV" ∷ codes " MDTM" ∷ mlst ∷ rest) refl second
 
+features_stated : (facts : Facts) → Stated 211 (features_reply facts).lines
+features_stated facts = record {
+  readable = features_written facts;
+  room = omega (arith, lines_short (written 211 (features_reply facts).lines), length-append (codes " MLST ") (features_text facts), (features_fit facts).short);
+}
+
 -- ---- an entry
 
 two_fit : (n : ℕ) → Fits 2 (two_digits n)
@@ -364,44 +408,64 @@ entry_written s path is =
     padded_is true text line = carried 1202 (32 ∷ 32 ∷ text) (omega arith) (fits_with 1201 32 (32 ∷ text) refl line)
     padded_is false text line = carried 1201 (32 ∷ text) (omega arith) line
 
+entry_stated : (s : Session) (path : Names) → IsPathText (path_text path) → Stated 250 (entry_reply s path).lines
+entry_stated s path is =
+    let text : List ℕ = listed_line s.facts (entry_at (seen s) path (path_text path)) in
+    record { readable = entry_written s path is; room = by_padded (begins_with_digits (32 ∷ text)) text (entry_line s path is).short }
+  where
+    by_padded : (is : Bool) (text : List ℕ) → length text ≤ 1200
+        → length (flat_map written_line (opening_line 250 (codes "Listing") ∷ (if is then 32 ∷ 32 ∷ text else 32 ∷ text) ∷ last_line 250 (codes "End") ∷ [])) ≤ 4096
+    by_padded true text short = omega (arith, lines_short (opening_line 250 (codes "Listing") ∷ (32 ∷ 32 ∷ text) ∷ last_line 250 (codes "End") ∷ []), short)
+    by_padded false text short = omega (arith, lines_short (opening_line 250 (codes "Listing") ∷ (32 ∷ text) ∷ last_line 250 (codes "End") ∷ []), short)
+
 -- ---- all replies
 
 -- of one reply
 abbrev Written : Reply → Type 0
-Written reply = IsWritten reply.code reply.lines
+Written reply = Stated reply.code reply.lines
 
 only : (one reply : Reply) → Some one ≡ Some reply → Written one → Written reply
 only one reply is written = let same : one ≡ reply = cc in subst Written same written
 
-pub replies_are_written : RepliesAreWritten
-replies_are_written s Replies.Nothing reply told is = absurd (cc)
-replies_are_written s (Replies.Fixed text) reply told is = only _ reply is (fixed_written text)
-replies_are_written s Replies.Here reply told is =
-    only _ reply is (one_line 257 1830 (here_text s.cwd) (omega arith) (omega arith) (omega arith)
+all_stated : (s : Session) (kind : ReplyKind Names) (reply : Reply) → IsTold s kind → reply_said s kind ≡ Some reply → Written reply
+all_stated s Replies.Nothing reply told is = absurd (cc)
+all_stated s (Replies.Fixed text) reply told is = only _ reply is (fixed_written text)
+all_stated s Replies.Here reply told is =
+    only _ reply is (stated_line 257 1830 (here_text s.cwd) (omega arith) (omega arith) (omega arith)
     (wider 1827 1830 (here_text s.cwd) (omega arith)
     (fits_both 1802 25 (quoted s.cwd) (codes " is the current directory") (quoted_fits s.cwd told) (closed 25 (codes " is the current directory") refl (omega arith)))))
-replies_are_written s (Replies.Made path) reply told is =
-    only _ reply is (one_line 257 1830 (made_text path) (omega arith) (omega arith) (omega arith)
+all_stated s (Replies.Made path) reply told is =
+    only _ reply is (stated_line 257 1830 (made_text path) (omega arith) (omega arith) (omega arith)
     (wider 1810 1830 (made_text path) (omega arith)
     (fits_both 1802 8 (quoted path) (codes " created") (quoted_fits path told) (closed 8 (codes " created") refl (omega arith)))))
-replies_are_written s (Replies.Restarting offset) reply told is =
-    only _ reply is (one_line 350 32 (codes "Restarting at " ++ decimal offset) (omega arith) (omega arith) (omega arith)
+all_stated s (Replies.Restarting offset) reply told is =
+    only _ reply is (stated_line 350 32 (codes "Restarting at " ++ decimal offset) (omega arith) (omega arith) (omega arith)
     (fits_both 14 18 (codes "Restarting at ") (decimal offset) (closed 14 (codes "Restarting at ") refl (omega arith)) (decimal_fits offset told)))
-replies_are_written s (Replies.Passive endpoint) reply told is =
+all_stated s (Replies.Passive endpoint) reply told is =
     let six = six_fits endpoint.host endpoint.port told.0 told.1.0 told.1.1 in
-    only _ reply is (one_line 227 300 (passive_text endpoint) (omega arith) (omega arith) (omega arith)
+    only _ reply is (stated_line 227 300 (passive_text endpoint) (omega arith) (omega arith) (omega arith)
     (wider 225 300 (passive_text endpoint) (omega arith)
     (fits_both 24 201 (codes "Entering Passive Mode (") (six_text endpoint ++ codes ")") (closed 24 (codes "Entering Passive Mode (") refl (omega arith))
     (fits_both 200 1 (six_text endpoint) (codes ")") six (closed 1 (codes ")") refl (omega arith))))))
-replies_are_written s (Replies.Extended port) reply told is =
-    only _ reply is (one_line 229 100 (extended_text port) (omega arith) (omega arith) (omega arith)
+all_stated s (Replies.Extended port) reply told is =
+    only _ reply is (stated_line 229 100 (extended_text port) (omega arith) (omega arith) (omega arith)
     (wider 60 100 (extended_text port) (omega arith)
     (fits_both 40 20 (codes "Entering Extended Passive Mode (|||") (decimal port ++ codes "|)") (closed 40 (codes "Entering Extended Passive Mode (|||") refl (omega arith))
     (fits_both 18 2 (decimal port) (codes "|)") (decimal_fits port (omega (arith, told))) (closed 2 (codes "|)") refl (omega arith))))))
-replies_are_written s (Replies.Size count) reply told is = only _ reply is (one_line 213 18 (decimal count) (omega arith) (omega arith) (omega arith) (decimal_fits count told))
-replies_are_written s (Replies.Stamp digits) reply told is =
+all_stated s (Replies.Size count) reply told is = only _ reply is (stated_line 213 18 (decimal count) (omega arith) (omega arith) (omega arith) (decimal_fits count told))
+all_stated s (Replies.Stamp digits) reply told is =
     let F : List ℕ → Type 0 = λ l. Fits 14 l in
-    only _ reply is (one_line 213 14 digits (omega arith) (omega arith) (omega arith) (subst F (sym told.1) (moment_fits told.0)))
-replies_are_written s (Replies.Entry path) reply told is = only _ reply is (entry_written s path told)
-replies_are_written s Replies.Features reply told is = only _ reply is (features_written s.facts)
-replies_are_written s Replies.Chosen reply told is = only _ reply is (one_line 200 60 (chosen_reply s.facts) (omega arith) (omega arith) (omega arith) (chosen_is s.facts))
+    only _ reply is (stated_line 213 14 digits (omega arith) (omega arith) (omega arith) (subst F (sym told.1) (moment_fits told.0)))
+all_stated s (Replies.Entry path) reply told is = only _ reply is (entry_stated s path told)
+all_stated s Replies.Features reply told is = only _ reply is (features_stated s.facts)
+all_stated s Replies.Chosen reply told is = only _ reply is (stated_line 200 60 (chosen_reply s.facts) (omega arith) (omega arith) (omega arith) (chosen_is s.facts))
+
+pub replies_are_written : RepliesAreWritten
+replies_are_written s kind reply told is = (all_stated s kind reply told is).readable
+
+pub replies_have_room : RepliesHaveRoom
+replies_have_room s kind told = by_reply (reply_said s kind) refl
+  where
+    by_reply : (said : Option Reply) → reply_said s kind ≡ said → length (octets_if_any said) ≤ 4096
+    by_reply None is = omega arith
+    by_reply (Some reply) is = (all_stated s kind reply told is).room

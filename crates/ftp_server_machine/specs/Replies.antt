@@ -1,6 +1,6 @@
 -- The replies to commands: their codes, lines and octets (RFC 959, section 4.2; RFC 2389, section 3.2; RFC 2640, section 3.2;
 -- RFC 3659, section 7).
-use Rattle.std.specs.Prelude.{◌≡◌, ℕ, ◌<◌, ◌^◌, List, [], ◌∷◌, ◌++◌, Option, Some, None, codes, decimal, if◌then◌else◌}
+use Rattle.std.specs.Prelude.{◌≡◌, ℕ, ◌<◌, ◌≤◌, ◌^◌, length, List, [], ◌∷◌, ◌++◌, Option, Some, None, codes, decimal, if◌then◌else◌}
 use Rattle.ftp_endpoint.specs.Written.{IsTypedEndpoint, IsV4, six_text}
 use Rattle.ftp_endpoint.specs.declared.endpoint.Endpoint.{Endpoint}
 use Rattle.ftp_reply.specs.Values.{doubled}
@@ -113,3 +113,7 @@ IsTold s other = Unit {0}
 abbrev pub RepliesAreWritten : Type 0
 RepliesAreWritten =
     (s : Session) (kind : ReplyKind Names) (reply : Reply) → IsTold s kind → reply_said s kind ≡ Some reply → IsWritten reply.code reply.lines
+
+-- and its octets fit into the room that is free before an octet is heard
+abbrev pub RepliesHaveRoom : Type 0
+RepliesHaveRoom = (s : Session) (kind : ReplyKind Names) → IsTold s kind → length (said_octets s kind) ≤ 4096

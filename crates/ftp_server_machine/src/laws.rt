@@ -2,7 +2,7 @@
 ghost use Rattle.ftp_server_machine.specs.Bounds.{ServerLowers};
 ghost use Rattle.ftp_server_machine.specs.Failing.{NeverFailsWithoutLogin};
 ghost use Rattle.ftp_server_machine.specs.InFlight.{ServerDropsAnswer, ServerHearsCommand, ServerHearsPieces, ServerHearsEachLine, LineLeavesEar, ServerHearsRow, StatedIsLine};
-ghost use Rattle.ftp_server_machine.specs.Replies.{RepliesAreWritten};
+ghost use Rattle.ftp_server_machine.specs.Replies.{RepliesAreWritten, RepliesHaveRoom};
 ghost use Rattle.ftp_server_machine.specs.Machine.{OneReading, ReadingExists, ReadsStated};
 
 /// Lines are read, in one way, and the line of a command as that command.
@@ -24,9 +24,10 @@ pub fn commands_in_flight()
     ensures row { ServerHearsRow }
 {}
 
-/// Each reply that is said can be written, and is read again as itself.
+/// Each reply that is said can be written, is read again as itself, and has at most 4,096 octets.
 pub fn replies_are_written()
-    ensures { RepliesAreWritten }
+    ensures written { RepliesAreWritten }
+    ensures room { RepliesHaveRoom }
 {}
 
 /// A command that is answered 530 is never answered 451.
