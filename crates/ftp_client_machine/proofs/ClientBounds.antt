@@ -15,7 +15,7 @@ use Rattle.ftp_client_machine.specs.Dialogue.{sends_if, last_job, placed, begins
 use Rattle.ftp_client_machine.specs.Octets.{flow_of}
 use Rattle.ftp_client_machine.specs.Plan.{count_of, asked_settings, how_of, offset_of, step_behind_opening as opened_step, alone_step, opening_of, from_mode, from_structure, from_kind, step_by, first_step, next_step, command_of}
 use Rattle.ftp_client_machine.specs.Tries.{OverBreaks, Run, rest_put, whole_put, is_size, after_size, after_try, next_of, next_in, run_at}
-use Rattle.ftp_client_machine.specs.View.{View, Job, Idle, Waiting, Doing, Transferring, Told, Flow, stands, dropped, tells, failed_job, failure_said, fails_by, strange}
+use Rattle.ftp_client_machine.specs.View.{View, Job, Idle, Waiting, Doing, Transferring, Told, Flow, stands, dropped, done_with, failed_job, failure_said, fails_by, strange}
 use Rattle.ftp_client_machine.specs.declared.client.Abort.TheVariants as Aborts
 use Rattle.ftp_client_machine.specs.declared.client.Failure.{Failure}
 use Rattle.ftp_client_machine.specs.declared.client.Failure.TheVariants as Failures
@@ -63,7 +63,7 @@ if_low false u v w one other = other
 
 -- ---- the end of an operation
 
-pub tells_low : (answer : Said) (v : View) → Low v (tells answer (dropped v))
+pub tells_low : (answer : Said) (v : View) → Low v (done_with answer (dropped v))
 tells_low answer v = record { begins = omega arith; gives = inr (omega (arith, one_close v.closing (stands v.connection))) }
 
 failed_job_left : (answer : Said) (job : Job) → job_left None (failed_job answer job) ≡ 0

@@ -17,7 +17,7 @@ use Rattle.ftp_ends.specs.Ear.{Ear, Unfinished, ended_text, within_out, line_out
 use Rattle.ftp_ends.specs.Link.{same_host}
 use Rattle.ftp_client_machine.specs.Bounds.{login_left, opening_left, abort_left, transfer_left, run_left, job_left, to_begin, octets_left, upload_left, closes_left, still_to_give, AddsAtMost, HearingAddsAnAnswer, ReceivingAddsNone, EventsAdd, EventsAddAClose}
 use Rattle.ftp_client_machine.specs.Calls.{heard_flow, with_flow, reply_limit, line_taken, event_taken, events_taken, unless_closing, listening_by, listening, no_port_by, listen_refused, connected, accepted, opened_by, data_opened, unopened_by, data_refused, ending_of, over_by, data_end, data_fault, heard_by, went, goes_by, gives_data, control_end}
-use Rattle.ftp_client_machine.specs.Dialogue.{is_unsent, is_to_abort, aborts, aborts_once_enough, abort_answered, begins, finishes, greeted, enters_with, enters, user_answered, pass_answered, set_accepted, dials, named, port_named, passive_named, step_done, intermediate, awaits_reply, step_answered, answer_in, judged, answers_by, answers_job, closes_once_given_by, closes_once_given, carries_on, with_reply, awaited, transfer_opened, marked_flow, noted, unless_open, before_opening, behind_opening, transfer_answered, job_answered, stand_answered, judged_reply, answered, closes, has_begun, is_given}
+use Rattle.ftp_client_machine.specs.Dialogue.{is_unsent, is_to_abort, sends_abort, aborts_once_enough, abort_answered, begins, finishes, greeted, enters_with, login_ends, user_answered, pass_answered, set_accepted, dials, endpoint_named, port_named, passive_named, step_done, intermediate, awaits_reply, step_answered, answer_in, judged, answers_by, answers_job, closes_once_given_by, closes_once_given, carries_on, with_reply, awaited, transfer_opened, marked_flow, noted, unless_open, before_opening, behind_opening, transfer_answered, job_answered, stand_answered, judged_reply, answered, closes, has_begun, is_given}
 use Rattle.ftp_client_machine.specs.Octets.{has_settled, flow_octet}
 use Rattle.ftp_client_machine.specs.Plan.{count_of, asked_settings, settings_behind as set_by, is_extended}
 use Rattle.ftp_client_machine.specs.Replies.{Verdict, Preliminary, Completion, Intermediate, Negative, Closing, Displaced, verdict_of}
@@ -61,7 +61,7 @@ enters_with_low (Doing op step) v is = record { begins = omega arith; gives = in
 enters_with_low (Transferring op transfer) v is = record { begins = omega arith; gives = inr (omega arith) }
 enters_with_low (Told answer) v is = record { begins = omega arith; gives = inr (omega arith) }
 
-enters_low : (v : View) → Low v (enters v)
+enters_low : (v : View) → Low v (login_ends v)
 enters_low v = enters_with_low v.job v refl
 
 user_low : (verdict : Verdict) (v : View) → v.standing ≡ Stands.User → Low v (user_answered verdict v)
@@ -85,7 +85,7 @@ pass_low Displaced v = strange_low v
 dials_low : (op : Op (List ℕ)) (endpoint : Endpoint) (v : View) → v.job ≡ Doing op Steps.Passive → Low v (dials op endpoint v)
 dials_low op endpoint v is = goes_on_low op Steps.Passive v (record v { connection = Data.Connecting endpoint }) refl is refl refl
 
-named_low : (endpoint : Option Endpoint) (op : Op (List ℕ)) (v : View) → v.job ≡ Doing op Steps.Passive → Low v (named endpoint op v)
+named_low : (endpoint : Option Endpoint) (op : Op (List ℕ)) (v : View) → v.job ≡ Doing op Steps.Passive → Low v (endpoint_named endpoint op v)
 named_low None op v is = strange_low v
 named_low (Some endpoint) op v is =
     if_low (same_host endpoint.host v.peer) v (dials op endpoint v) (finishes Foreign v) (dials_low op endpoint v is) (finishes_low Foreign v)
@@ -201,14 +201,14 @@ is_to_abort_left (Data.Connecting endpoint) op transfer is = absurd (cc)
 is_to_abort_left (Data.Accepting port) op transfer is = absurd (cc)
 is_to_abort_left (Data.Over ending) op transfer is = absurd (cc)
 
-aborts_low : (op : Op (List ℕ)) (transfer : Transfer) (v : View) → v.job ≡ Transferring op transfer → abort_left transfer.abort (count_of op) ≡ 1 → Low v (aborts op transfer v)
-aborts_low op transfer v is one =
+sends_abort_low : (op : Op (List ℕ)) (transfer : Transfer) (v : View) → v.job ≡ Transferring op transfer → abort_left transfer.abort (count_of op) ≡ 1 → Low v (sends_abort op transfer v)
+sends_abort_low op transfer v is one =
     let here : job_left v.run v.job ≡ transfer_left op transfer.replied transfer.abort + run_left v.run op = ap (job_left v.run) is in
-    falls 0 v (aborts op transfer v) (omega (arith, here, one))
+    falls 0 v (sends_abort op transfer v) (omega (arith, here, one))
 
 aborts_if_low : (b : Bool) (op : Op (List ℕ)) (transfer : Transfer) (v : View) → v.job ≡ Transferring op transfer → is_to_abort v.connection op transfer ≡ b
-    → Low v (if b then aborts op transfer v else v)
-aborts_if_low true op transfer v is to_abort = aborts_low op transfer v is (is_to_abort_left v.connection op transfer to_abort)
+    → Low v (if b then sends_abort op transfer v else v)
+aborts_if_low true op transfer v is to_abort = sends_abort_low op transfer v is (is_to_abort_left v.connection op transfer to_abort)
 aborts_if_low false op transfer v is to_abort = same v
 
 aborts_once_low : (job : Job) (v : View) → v.job ≡ job → Low v (aborts_once_enough job v)

@@ -3,7 +3,7 @@ use Rattle.std.proofs.Common.{◌≡◌, ℕ, ◌+◌, ◌<◌, ◌≤◌, ◌�
 use Rattle.std.specs.Prelude.{if◌then◌else◌}
 use Rattle.std.proofs.lemmas.List.{length-drop}
 use Rattle.ftp_client_machine.specs.Bounds.{login_left, transfer_left, run_left, job_left, to_begin, octets_left, upload_left, closes_left, still_to_give, AddsAtMost, Pays, GivingPays, ShortAddsAClose}
-use Rattle.ftp_client_machine.specs.Calls.{transfer_over, left_in, given_of, to_give, went, goes_by, gives_data}
+use Rattle.ftp_client_machine.specs.Calls.{transfer_over, left_of, given_of, to_give, went, goes_by, gives_data}
 use Rattle.ftp_client_machine.specs.Dialogue.{has_begun, carries_on}
 use Rattle.ftp_client_machine.specs.Failing.{short, port_short, opened_short, over_short}
 use Rattle.ftp_client_machine.specs.View.{View, Job, Idle, Waiting, Doing, Transferring, Told, Flow, Sending, Receiving}
@@ -30,7 +30,7 @@ none_pays : (count : ℕ) (v : View) → count ≤ 0 → Pays count v v
 none_pays count v none = record { begins = omega arith; gives = inr (omega (arith, none)) }
 
 -- what may go out is of the upload
-given_if : (begun : Bool) (flow : Flow) → length (if begun then left_in flow else []) ≤ octets_left flow
+given_if : (begun : Bool) (flow : Flow) → length (if begun then left_of flow else []) ≤ octets_left flow
 given_if true (Sending left mark) = omega arith
 given_if true (Receiving decoder mark) = omega arith
 given_if false flow = omega arith

@@ -7,7 +7,7 @@ use Rattle.ftp_operation.specs.declared.op.Op.{Op}
 use Rattle.ftp_endpoint.specs.declared.endpoint.Endpoint.{Endpoint}
 use Rattle.ftp_reply.specs.Lines.{Text, joined}
 use Rattle.ftp_ends.specs.Link.{same_host}
-use Rattle.ftp_client_machine.specs.Dialogue.{is_to_abort, aborts, aborts_once_enough, abort_answered, next_job, finishes_by, finishes, finishes_read, sends_if, last_job, answer_in, awaited, marked_flow, placed, goes_on, greeted, enters_with, enters, user_answered, pass_answered, set_accepted, dials, named, port_named, passive_named, step_done, intermediate, awaits_reply, step_answered, judged, answers_by, answers_job, closes_once_given_by, closes_once_given, carries_on, with_reply, transfer_opened, noted, unless_open, before_opening, behind_opening, transfer_answered, job_answered, stand_answered, judged_reply, answered, closes, has_begun, is_given}
+use Rattle.ftp_client_machine.specs.Dialogue.{is_to_abort, sends_abort, aborts_once_enough, abort_answered, next_job, finishes_by, finishes, finishes_read, sends_if, last_job, answer_in, awaited, marked_flow, placed, goes_on, greeted, enters_with, login_ends, user_answered, pass_answered, set_accepted, dials, endpoint_named, port_named, passive_named, step_done, intermediate, awaits_reply, step_answered, judged, answers_by, answers_job, closes_once_given_by, closes_once_given, carries_on, with_reply, transfer_opened, noted, unless_open, before_opening, behind_opening, transfer_answered, job_answered, stand_answered, judged_reply, answered, closes, has_begun, is_given}
 use Rattle.ftp_client_machine.specs.InFlight.{IsAtRest, AnsweredAtRest}
 use Rattle.ftp_client_machine.specs.Octets.{flow_of}
 use Rattle.ftp_client_machine.specs.Plan.{asked_settings, first_step, next_step, settings_behind, command_of, is_extended}
@@ -102,7 +102,7 @@ enters_with_rest (Doing op step) v r = r
 enters_with_rest (Transferring op transfer) v r = r
 enters_with_rest (Told answer) v r = r
 
-enters_rest : (v : View) → Rests v enters
+enters_rest : (v : View) → Rests v login_ends
 enters_rest v r = enters_with_rest v.job (record v { standing = Stands.Entered }) (record { ear = r.ear; gathered = r.gathered })
 
 user_rest : (verdict : Verdict) (v : View) → Rests v (user_answered verdict)
@@ -129,7 +129,7 @@ set_rest op step v r = goes_on_rest op step (record v { settings = settings_behi
 dials_rest : (op : Op (List ℕ)) (endpoint : Endpoint) (v : View) → Rests v (dials op endpoint)
 dials_rest op endpoint v r = goes_on_rest op Steps.Passive (record v { connection = Data.Connecting endpoint }) (record { ear = r.ear; gathered = r.gathered })
 
-named_rest : (endpoint : Option Endpoint) (op : Op (List ℕ)) (v : View) → Rests v (named endpoint op)
+named_rest : (endpoint : Option Endpoint) (op : Op (List ℕ)) (v : View) → Rests v (endpoint_named endpoint op)
 named_rest None op v r = strange_rest v r
 named_rest (Some endpoint) op v r =
     if_rest (same_host endpoint.host v.peer) (dials op endpoint v) (finishes Foreign v) (dials_rest op endpoint v r) (finishes_rest Foreign v r)
@@ -222,11 +222,11 @@ closes_once_rest (Waiting op) v r = r
 closes_once_rest (Doing op step) v r = r
 closes_once_rest (Told answer) v r = r
 
-aborts_rest : (op : Op (List ℕ)) (transfer : Transfer) (v : View) → Rests v (aborts op transfer)
-aborts_rest op transfer v r = record { ear = r.ear; gathered = r.gathered }
+sends_abort_rest : (op : Op (List ℕ)) (transfer : Transfer) (v : View) → Rests v (sends_abort op transfer)
+sends_abort_rest op transfer v r = record { ear = r.ear; gathered = r.gathered }
 
 aborts_once_rest : (job : Job) (v : View) → Rests v (aborts_once_enough job)
-aborts_once_rest (Transferring op transfer) v r = if_rest (is_to_abort v.connection op transfer) (aborts op transfer v) v (aborts_rest op transfer v r) r
+aborts_once_rest (Transferring op transfer) v r = if_rest (is_to_abort v.connection op transfer) (sends_abort op transfer v) v (sends_abort_rest op transfer v r) r
 aborts_once_rest Idle v r = r
 aborts_once_rest (Waiting op) v r = r
 aborts_once_rest (Doing op step) v r = r

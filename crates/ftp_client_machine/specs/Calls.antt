@@ -13,7 +13,7 @@ use Rattle.ftp_client_machine.specs.Octets.{flow_octet}
 use Rattle.ftp_reply.specs.Reader.{Between, Heard, GoesOn, Says, Faulty, line_heard}
 use Rattle.ftp_client_machine.specs.Tries.{OverBreaks, Run, run_of, first_try}
 use Rattle.ftp_client_machine.specs.View.{View, Job, Idle, Waiting, Doing, Transferring, Told, Transfer}
-use Rattle.ftp_client_machine.specs.View.{Flow, Sending, Receiving, tells, fails, failure_said, strange}
+use Rattle.ftp_client_machine.specs.View.{Flow, Sending, Receiving, done_with, fails, failure_said, strange}
 use Rattle.ftp_client_machine.specs.declared.client.Abort.{Abort}
 use Rattle.ftp_client_machine.specs.declared.client.Abort.TheVariants as Aborts
 use Rattle.ftp_client_machine.specs.declared.client.Ending.{Ending}
@@ -41,13 +41,13 @@ is_busy v = is_busy_job v.job
 -- an operation that can be sent waits for the end of the login, or begins; after a failure each is answered with it
 abbrev pub started_by : Standing → Op (List ℕ) → View → View
 started_by Stands.Entered op v = begins op v
-started_by (Stands.Failed failure) op v = tells (failure_said failure) v
+started_by (Stands.Failed failure) op v = done_with (failure_said failure) v
 started_by other op v = record v { job = Waiting op }
 
 -- own choice: one that can't be sent is answered at once, and nothing is sent; a failure that stands comes before that
 abbrev pub unsendable_by : Standing → View → View
-unsendable_by (Stands.Failed failure) v = tells (failure_said failure) v
-unsendable_by other v = tells BadOperation v
+unsendable_by (Stands.Failed failure) v = done_with (failure_said failure) v
+unsendable_by other v = done_with BadOperation v
 
 -- an operation is begun, alone or as the first of a run
 abbrev pub begun : Option Run → Op (List ℕ) → View → View
@@ -251,14 +251,14 @@ abbrev pub may_receive : View → Bool
 may_receive v = downloads (transfer_under_way v)
 
 -- the octets of an upload that are still to give: only after the 1yz, while its link is open
-abbrev pub left_in : Flow → List ℕ
-left_in (Sending left mark) = left
-left_in (Receiving decoder mark) = []
+abbrev pub left_of : Flow → List ℕ
+left_of (Sending left mark) = left
+left_of (Receiving decoder mark) = []
 
 -- of a transfer that has begun
 abbrev pub given_of : Option Transfer → List ℕ
 given_of None = []
-given_of (Some transfer) = if has_begun transfer.replied then left_in transfer.flow else []
+given_of (Some transfer) = if has_begun transfer.replied then left_of transfer.flow else []
 
 -- the octets that the open link is still to carry
 abbrev pub to_give : View → List ℕ

@@ -19,7 +19,7 @@ use Rattle.ftp_client_machine.specs.Replies.{Verdict, Preliminary, Completion, I
 use Rattle.ftp_client_machine.specs.Tries.{Run, next_in, run_at}
 use Rattle.ftp_facts.specs.Value.{number_value}
 use Rattle.ftp_reply.specs.Values.{extended_value, facts_in, mark_value, passive_value, path_value}
-use Rattle.ftp_client_machine.specs.View.{View, Job, Waiting, Doing, Transferring, Transfer, Flow, Sending, Receiving, stands, dropped, tells, fails, strange}
+use Rattle.ftp_client_machine.specs.View.{View, Job, Waiting, Doing, Transferring, Transfer, Flow, Sending, Receiving, stands, dropped, done_with, fails, strange}
 use Rattle.ftp_client_machine.specs.declared.client.Abort.{Abort}
 use Rattle.ftp_client_machine.specs.declared.client.Abort.TheVariants as Aborts
 use Rattle.ftp_client_machine.specs.declared.client.Ending.{Ending}
@@ -79,7 +79,7 @@ next_job run other answer = None
 
 -- no link of it is needed; the run goes on with its next operation, or the answer is told
 abbrev pub finishes_by : Option (Op (List ℕ)) → Said → View → View
-finishes_by None answer v = tells answer (dropped v)
+finishes_by None answer v = done_with answer (dropped v)
 finishes_by (Some op) answer v = begins op (record (dropped v) { run = option_map (run_at op) v.run })
 
 -- an operation is answered
@@ -105,20 +105,20 @@ enters_with (Waiting op) v = begins op v
 enters_with other v = v
 
 -- operations are sent from now on
-abbrev pub enters : View → View
-enters v = enters_with v.job (record v { standing = Stands.Entered })
+abbrev pub login_ends : View → View
+login_ends v = enters_with v.job (record v { standing = Stands.Entered })
 
 -- PASS is sent where USER is answered that it is needed
 abbrev pub user_answered : Verdict → View → View
 user_answered Intermediate v = sends (Commands.Pass v.pass) (record v { standing = Stands.Pass })
-user_answered Completion v = enters v
-user_answered Negative v = enters v
+user_answered Completion v = login_ends v
+user_answered Negative v = login_ends v
 user_answered other v = strange v
 
 -- what PASS is answered with ends the login, a refusal too
 abbrev pub pass_answered : Verdict → View → View
-pass_answered Completion v = enters v
-pass_answered Negative v = enters v
+pass_answered Completion v = login_ends v
+pass_answered Negative v = login_ends v
 pass_answered other v = strange v
 
 -- ---- an answer at a step
@@ -142,9 +142,9 @@ abbrev pub dials : Op (List ℕ) → Endpoint → View → View
 dials op endpoint v = goes_on op Steps.Passive (record v { connection = Data.Connecting endpoint })
 
 -- the endpoint of a 227 has to be on the server's host: own choice, no other is contacted
-abbrev pub named : Option Endpoint → Op (List ℕ) → View → View
-named None op v = strange v
-named (Some endpoint) op v = if same_host endpoint.host v.peer then dials op endpoint v else finishes Foreign v
+abbrev pub endpoint_named : Option Endpoint → Op (List ℕ) → View → View
+endpoint_named None op v = strange v
+endpoint_named (Some endpoint) op v = if same_host endpoint.host v.peer then dials op endpoint v else finishes Foreign v
 
 -- a 229 means the host of the control connection (RFC 2428, section 3)
 abbrev pub port_named : Option ℕ → Op (List ℕ) → View → View
@@ -154,7 +154,7 @@ port_named (Some port) op v = dials op (record { host = v.peer; port = port }) v
 -- what EPSV or PASV was answered with, by which of them was sent
 abbrev pub passive_named : Bool → Op (List ℕ) → Text → View → View
 passive_named true op text v = port_named (extended_value text) op v
-passive_named false op text v = named (passive_value text) op v
+passive_named false op text v = endpoint_named (passive_value text) op v
 
 -- a 2yz at a step: a row a step
 abbrev pub step_done : Op (List ℕ) → Step → List Text → View → View
@@ -271,12 +271,12 @@ is_to_abort Data.Open op transfer = is_unsent transfer.abort && has_begun transf
 is_to_abort connection op transfer = false
 
 -- ABOR is sent (RFC 959, section 4.1.3)
-abbrev pub aborts : Op (List ℕ) → Transfer → View → View
-aborts op transfer v = sends Commands.Abor (record v { job = Transferring op (record transfer { abort = Aborts.Sent }) })
+abbrev pub sends_abort : Op (List ℕ) → Transfer → View → View
+sends_abort op transfer v = sends Commands.Abor (record v { job = Transferring op (record transfer { abort = Aborts.Sent }) })
 
 -- of the transfer under way
 abbrev pub aborts_once_enough : Job → View → View
-aborts_once_enough (Transferring op transfer) v = if is_to_abort v.connection op transfer then aborts op transfer v else v
+aborts_once_enough (Transferring op transfer) v = if is_to_abort v.connection op transfer then sends_abort op transfer v else v
 aborts_once_enough job v = v
 
 -- what follows of where a transfer stands: the close of an upload, the ABOR of a Peek, and the answer

@@ -40,7 +40,7 @@ client_limit = 24576
 -- a call of a client, octet by octet; `Failing`: the same with a growth refused
 pub data Call : Type 0 where
   Start : (op : Op (List ℕ)) → Call
-  Upload : (upload : OverBreaks) → Call
+  BeginUpload : (upload : OverBreaks) → Call
   Hear DataHear : (octet : ℕ) → Call
   ControlOut DataOut : (count : ℕ) → Call
   Listening : (port : ℕ) → Call
@@ -51,7 +51,7 @@ pub data Call : Type 0 where
 -- a growth was refused in it
 abbrev pub failed_call : Call → View → View
 failed_call (Start op) v = if is_busy v then v else starts_short op v
-failed_call (Upload upload) v = if is_busy v then v else uploads_short upload v
+failed_call (BeginUpload upload) v = if is_busy v then v else uploads_short upload v
 failed_call (Listening port) v = listening_short port v
 failed_call (DataOpened host) v = data_opened_short v
 failed_call DataEnd v = data_end_short v
@@ -62,7 +62,7 @@ failed_call other v = v
 -- the view behind a call; what is refused, and an octet that may not be taken, changes nothing
 abbrev pub called : Call → View → View
 called (Start op) v = if is_busy v then v else starts op v
-called (Upload upload) v = if is_busy v then v else uploads upload v
+called (BeginUpload upload) v = if is_busy v then v else uploads upload v
 called (Hear octet) v = if may_hear v then hears_octet v octet else v
 called (DataHear octet) v = if may_receive v then receives_octet v octet else v
 called (ControlOut count) v = gives_control count v

@@ -70,24 +70,24 @@ abbrev pub login_events : List Happening
 login_events = replied 220 (codes "Ready") ∷ replied 331 (codes "Password needed") ∷ replied 230 (codes "Logged in") ∷ []
 
 -- a client that is logged in, with nothing owed
-abbrev pub entered : View
-entered = record (after_all login_events guest) { owed = [] }
+abbrev pub logged_in : View
+logged_in = record (after_all login_events guest) { owed = [] }
 
 -- what a client that is logged in owes behind some events
 abbrev pub sent : List Happening → List ℕ
-sent events = (after_all events entered).owed
+sent events = (after_all events logged_in).owed
 
 -- what it wants of the connections
 abbrev pub wanted : List Happening → Wants
-wanted events = wants (after_all events entered)
+wanted events = wants (after_all events logged_in)
 
 -- what its data connection is still to carry
 abbrev pub gives : List Happening → List ℕ
-gives events = to_give (after_all events entered)
+gives events = to_give (after_all events logged_in)
 
 -- what it has to report
 abbrev pub reported : List Happening → Option Said
-reported events = report_of (after_all events entered)
+reported events = report_of (after_all events logged_in)
 
 -- ---- the login (RFC 959, section 5.4)
 
@@ -174,7 +174,7 @@ Moment = reported (asks (Ops.Modified (codes "f")) ∷ replied 213 (codes "20000
 -- a reply that nobody waits for is strange, and every later operation answers so
 abbrev pub Unasked : Type 0
 Unasked =
-    ((after_all (replied 226 [] ∷ []) entered).standing ≡ Stands.Failed Failures.Strange)
+    ((after_all (replied 226 [] ∷ []) logged_in).standing ≡ Stands.Failed Failures.Strange)
     × (reported (replied 226 [] ∷ asks Ops.Up ∷ []) ≡ Some Strange)
 
 -- a rename, 350 and 250
@@ -328,8 +328,8 @@ abbrev pub first_put : List Happening
 first_put = tries (ten plain) ∷ set ∷ entering ∷ opened here ∷ opening ∷ []
 
 -- a break, and the 426
-abbrev pub breaks : List Happening
-breaks = broken ∷ broken_off ∷ []
+abbrev pub breaks_off : List Happening
+breaks_off = broken ∷ broken_off ∷ []
 
 -- the server has so many octets; PutFrom, up to its 150
 abbrev pub goes_on_at : List ℕ → List Happening
@@ -337,7 +337,7 @@ goes_on_at count = replied 213 count ∷ entering ∷ opened here ∷ replied 35
 
 -- broken after four octets: Put, SIZE, PutFrom at 4 of the other six, and one report
 abbrev pub resumed : List Happening
-resumed = first_put ++ given 4 ∷ breaks ++ goes_on_at (codes "4")
+resumed = first_put ++ given 4 ∷ breaks_off ++ goes_on_at (codes "4")
 
 -- the commands, the octets and the report
 abbrev pub UploadResumes : Type 0
@@ -350,8 +350,8 @@ UploadResumes =
 -- it was broken so many times before its first octet
 abbrev pub broken_times : ℕ → List Happening
 broken_times zero = []
-broken_times (suc zero) = first_put ++ breaks
-broken_times (suc (suc n)) = broken_times (suc n) ++ goes_on_at (codes "0") ++ breaks
+broken_times (suc zero) = first_put ++ breaks_off
+broken_times (suc (suc n)) = broken_times (suc n) ++ goes_on_at (codes "0") ++ breaks_off
 
 -- after fifteen breaks SIZE is asked once more, and the sixteenth is the report
 abbrev pub UploadGivesUp : Type 0
@@ -362,12 +362,12 @@ UploadGivesUp =
 -- anew where there is no file or it is longer, the same again where nothing was opened, and an end after any other answer
 abbrev pub UploadBeginsAnew : Type 0
 UploadBeginsAnew =
-    (sent (first_put ++ breaks ++ replied 550 [] ∷ entering ∷ opened here ∷ [])
+    (sent (first_put ++ breaks_off ++ replied 550 [] ∷ entering ∷ opened here ∷ [])
     ≡ lines (codes "TYPE I" ∷ codes "PASV" ∷ codes "STOR f" ∷ codes "SIZE f" ∷ codes "PASV" ∷ codes "STOR f" ∷ []))
-    × (gives (first_put ++ breaks ++ replied 213 (codes "11") ∷ entering ∷ opened here ∷ opening ∷ []) ≡ codes "abcdefghij")
+    × (gives (first_put ++ breaks_off ++ replied 213 (codes "11") ∷ entering ∷ opened here ∷ opening ∷ []) ≡ codes "abcdefghij")
     × (sent (tries (ten plain) ∷ set ∷ entering ∷ refused ∷ []) ≡ lines (codes "TYPE I" ∷ codes "PASV" ∷ codes "PASV" ∷ []))
     × (reported (first_put ++ replied 552 [] ∷ broken ∷ []) ≡ Some (Refused 552))
-    × (reported (first_put ++ breaks ++ replied 530 [] ∷ []) ≡ Some (Refused 530))
+    × (reported (first_put ++ breaks_off ++ replied 530 [] ∷ []) ≡ Some (Refused 530))
 
 -- own choice: in another type or structure it is bad, and nothing is sent
 abbrev pub UploadInTypeA : Type 0
@@ -384,8 +384,8 @@ abbrev pub ten_octets : Happening
 ten_octets = octets (codes "0123456789")
 
 -- the reply to ABOR
-abbrev pub aborted : Happening
-aborted = replied 226 (codes "Abort successful")
+abbrev pub abort_done : Happening
+abort_done = replied 226 (codes "Abort successful")
 
 -- the lines of a Peek, and with ABOR
 abbrev pub peek_lines : List (List ℕ)
@@ -413,13 +413,13 @@ TellsThree events = reported (peek 3 ++ events) ≡ Some (Octets (codes "012"))
 -- in every order of the two replies and the link's end or break; 226, 426 or another final reply
 abbrev pub PeekOrders : Type 0
 PeekOrders =
-    TellsThree (opening ∷ ten_octets ∷ broken_off ∷ aborted ∷ ended ∷ [])
-    × TellsThree (opening ∷ ten_octets ∷ broken_off ∷ ended ∷ aborted ∷ [])
-    × TellsThree (opening ∷ ten_octets ∷ broken ∷ broken_off ∷ aborted ∷ [])
-    × TellsThree (opening ∷ ten_octets ∷ complete ∷ aborted ∷ ended ∷ [])
-    × TellsThree (opening ∷ ten_octets ∷ ended ∷ complete ∷ aborted ∷ [])
-    × TellsThree (opening ∷ complete ∷ ten_octets ∷ ended ∷ aborted ∷ [])
-    × TellsThree (opening ∷ octets (codes "012") ∷ replied 551 [] ∷ octets (codes "3") ∷ aborted ∷ broken ∷ [])
+    TellsThree (opening ∷ ten_octets ∷ broken_off ∷ abort_done ∷ ended ∷ [])
+    × TellsThree (opening ∷ ten_octets ∷ broken_off ∷ ended ∷ abort_done ∷ [])
+    × TellsThree (opening ∷ ten_octets ∷ broken ∷ broken_off ∷ abort_done ∷ [])
+    × TellsThree (opening ∷ ten_octets ∷ complete ∷ abort_done ∷ ended ∷ [])
+    × TellsThree (opening ∷ ten_octets ∷ ended ∷ complete ∷ abort_done ∷ [])
+    × TellsThree (opening ∷ complete ∷ ten_octets ∷ ended ∷ abort_done ∷ [])
+    × TellsThree (opening ∷ octets (codes "012") ∷ replied 551 [] ∷ octets (codes "3") ∷ abort_done ∷ broken ∷ [])
 
 -- where no ABOR was sent, the link's end or break behind three octets is enough
 abbrev pub PeekUnaborted : Type 0
@@ -431,7 +431,7 @@ PeekUnaborted =
 abbrev pub PeekEnds : Type 0
 PeekEnds =
     (reported (peek 99 ++ opening ∷ ten_octets ∷ ended ∷ complete ∷ []) ≡ Some (Octets (codes "0123456789")))
-    × (reported (peek 0 ++ opening ∷ broken_off ∷ aborted ∷ ended ∷ []) ≡ Some (Octets []))
+    × (reported (peek 0 ++ opening ∷ broken_off ∷ abort_done ∷ ended ∷ []) ≡ Some (Octets []))
     × (reported (peek 3 ++ opening ∷ ten_octets ∷ broken_off ∷ ended ∷ []) ≡ None)
 
 -- as Get: a break before so many octets, a refusal; another reply to ABOR is strange; a number of 19 digits is bad

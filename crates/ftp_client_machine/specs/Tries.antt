@@ -1,6 +1,6 @@
 -- An upload that goes on over breaks, as a run of operations, each chosen by the answer of the one before (own choice: RFC 959, section
 -- 3.5, leaves the recovery of a transfer to the user). No command and no reply stands here.
-use Rattle.std.specs.Prelude.{ℕ, ◌-◌, ◌==◌, Bool, true, false, nat_le, List, [], length, drop, Option, Some, None, if◌then◌else◌}
+use Rattle.std.specs.Prelude.{ℕ, ◌-◌, ◌==◌, ◌&&◌, Bool, true, false, nat_le, List, [], length, drop, Option, Some, None, if◌then◌else◌}
 use Rattle.ftp_operation.specs.Answer.{Said, Number, Refused, Broken, Unopened}
 use Rattle.ftp_operation.specs.declared.op.How.{How}
 use Rattle.ftp_operation.specs.declared.op.Op.{Op}
@@ -26,7 +26,7 @@ most_tries = 16
 
 -- type I and file structure: the octets of the file are those of the transfer, and SIZE counts them (RFC 3659, section 4)
 abbrev pub counts_as_file : Representation → Bool
-counts_as_file settings = if same_kind settings.kind Kinds.Image then same_structure settings.structure Structures.File else false
+counts_as_file settings = same_kind settings.kind Kinds.Image && same_structure settings.structure Structures.File
 
 -- all octets from the start
 abbrev pub whole_put : OverBreaks → Op (List ℕ)

@@ -93,8 +93,8 @@ abbrev pub dropped : View → View
 dropped v = record v { connection = Data.Free; closing = v.closing || stands v.connection }
 
 -- all is done that was begun, and the answer stands until it is taken
-abbrev pub tells : Said → View → View
-tells answer v = record v { job = Told answer; run = None }
+abbrev pub done_with : Said → View → View
+done_with answer v = record v { job = Told answer; run = None }
 
 -- the answer of every operation after a failure
 abbrev pub failure_said : Failure → Said

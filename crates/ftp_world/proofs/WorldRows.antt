@@ -18,7 +18,7 @@ use Rattle.ftp_tree.specs.Tree.{Table, node_at}
 use Rattle.ftp_client_machine.specs.declared.client.Standing.{Standing}
 use Rattle.ftp_client_machine.specs.declared.client.Standing.TheVariants as Stands
 use Rattle.ftp_world.specs.World.{World}
-use Rattle.ftp_world.specs.Rows.{session, played, moves, reading, PeekReports, SessionLogsIn, DownloadBreaks, WholeDownload, CutUpload}
+use Rattle.ftp_world.specs.Rows.{session, acted, moves, reading, PeekReports, SessionLogsIn, DownloadBreaks, WholeDownload, CutUpload}
 
 -- the client has PASS to give
 abbrev needed : Table → World
@@ -63,7 +63,7 @@ hears_pass table =
 
 -- the 230 goes to the client
 abbrev ended : World → Standing
-ended w = (played (moves ControlToClient ∷ []) (after_event w)).near.standing
+ended w = (acted (moves ControlToClient ∷ []) (after_event w)).near.standing
 
 ends : (table : Table) → ended (passed table true) ≡ Stands.Entered
 unfolding answered line_heard wants obeyed hears_octet gives_control login_root

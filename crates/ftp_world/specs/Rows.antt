@@ -14,7 +14,7 @@ use Rattle.ftp_client_machine.specs.Octets.{download_flow}
 use Rattle.ftp_client_machine.specs.Plan.{settings_of}
 use Rattle.ftp_world.specs.Outcome.{cut}
 use Rattle.ftp_ends.specs.RowWords.{here}
-use Rattle.ftp_client_machine.specs.Rows.{entered, text}
+use Rattle.ftp_client_machine.specs.Rows.{logged_in, text}
 use Rattle.ftp_client_machine.specs.View.{View as Near, Transferring}
 use Rattle.ftp_client_machine.specs.declared.client.DataConnection.TheVariants as DataConnections
 use Rattle.ftp_client_machine.specs.declared.client.Abort.TheVariants as Aborts
@@ -69,9 +69,9 @@ does cuts w = after_event (link_breaks w)
 does (asks op) w = after_event (operation_begins op 7 w)
 
 -- acts, one after another
-abbrev pub played : List Act → World → World
-played [] w = w
-played (act ∷ acts) w = played acts (does act w)
+abbrev pub acted : List Act → World → World
+acted [] w = w
+acted (act ∷ acts) w = acted acts (does act w)
 
 -- `guest` logs in, over a map
 abbrev pub beginning : Table → Beginning
@@ -79,7 +79,7 @@ beginning table = record { user = codes "guest"; pass = codes "secret"; accounts
 
 -- a world behind acts
 abbrev pub session : Table → List Act → World
-session table acts = played acts (world_of (beginning table))
+session table acts = acted acts (world_of (beginning table))
 
 -- ---- rows
 
@@ -95,7 +95,7 @@ SessionLogsIn = (table : Table) → node_at table [] ≡ Some Dir → (session t
 
 -- the client behind the 150 of a download of `f` in ASCII, and the server, which has 61 0D 0A to give: the link is open
 abbrev pub near_down : Near
-near_down = record entered {
+near_down = record logged_in {
   job = Transferring (Ops.Get (codes "f") text) (record { replied = Replies.Begun; abort = Aborts.Unsent; flow = download_flow (settings_of text) });
   connection = DataConnections.Open;
 }
@@ -113,7 +113,7 @@ down table = record (world near_down (far_down table)) { link = Opened; marks = 
 
 -- the link breaks when the client has taken 61 0D: it reports 61, as an unpaired CR is dropped
 abbrev pub broken_download : Table → World
-broken_download table = played (moves_some DataToClient 2 ∷ cuts ∷ moves ControlToClient ∷ []) (down table)
+broken_download table = acted (moves_some DataToClient 2 ∷ cuts ∷ moves ControlToClient ∷ []) (down table)
 
 -- the report says that it broke, the mark says where, and the map stays
 abbrev pub DownloadBreaks : Type 0
@@ -125,7 +125,7 @@ DownloadBreaks =
 
 -- all octets move, the end is told, and the 226 comes
 abbrev pub whole_download : Table → World
-whole_download table = played (moves DataToClient ∷ tells DataToClient ∷ moves ControlToClient ∷ []) (down table)
+whole_download table = acted (moves DataToClient ∷ tells DataToClient ∷ moves ControlToClient ∷ []) (down table)
 
 -- the report has the file: 61 0A
 abbrev pub WholeDownload : Type 0
@@ -148,7 +148,7 @@ near_peek = record near_down {
 
 -- both ends; the client takes one octet, its ABOR goes out, 426 and 226 come, and the server's close is told
 abbrev pub peeks : List Act → Table → World
-peeks acts table = played (moves_some DataToClient 1 ∷ moves ControlToServer ∷ acts) (record (down table) { near = near_peek })
+peeks acts table = acted (moves_some DataToClient 1 ∷ moves ControlToServer ∷ acts) (record (down table) { near = near_peek })
 
 -- one octet is reported, whichever comes first; a break after it changes nothing of that
 abbrev pub PeekReports : Type 0
