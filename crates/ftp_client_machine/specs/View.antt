@@ -33,7 +33,7 @@ pub record Transfer : Type 0 where
   pub flow : Flow
 
 -- the operation: none; one that was begun and waits for the end of the login; one of which this step is under way; one whose
--- transfer's command was sent; or the answer of one that is done, until it is taken.
+-- transfer's command was sent; or the answer of one that is done, until it is taken
 pub data Job : Type 0 where
   Idle : Job
   Waiting : (op : Op (List ℕ)) → Job
