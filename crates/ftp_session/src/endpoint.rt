@@ -1,0 +1,132 @@
+// PORT, EPRT, PASV and EPSV (RFC 959, section 4.1.2; RFC 2428).
+ghost use Rattle.std.specs.Prelude.{◌≡◌};
+ghost use Rattle.ftp_ends.specs.Link.{is_v6, same_host};
+ghost use Rattle.ftp_server_machine.specs.Endpoint.{asks, disconnected, epsv, forgotten, is_standing, is_taken, pasv, port};
+ghost use Rattle.ftp_server_machine.specs.View.{Footing};
+
+use crate::session::{Moves, Session};
+use ftp_command::Passive;
+use ftp_endpoint::{Endpoint, Host};
+use ftp_path::Path;
+use ftp_server_machine::{Asked, DataConnection, ReplyKind, Text, Way};
+use ftp_tree::Tree;
+use std::alloc::Allocator;
+
+/// The lowest port of a client's endpoint (RFC 2577, section 3).
+const LOWEST_PORT: u16 = 1024;
+
+impl<A: Allocator + Clone, T: Tree<A>, J: Moves> Session<A, T, J> {
+    ghost use Rattle.ftp_session.specs.Session.{connection_of, session_of};
+
+    /// Whether the data connection is open, or a port is listened at.
+    fn is_standing(&self) -> bool
+        ensures { result ≡ is_standing (connection_of J.view self.now.connection) }
+    {
+        match &self.connection {
+            DataConnection::Free | DataConnection::Asked(_) | DataConnection::Active(_) => false,
+            DataConnection::Passive | DataConnection::Ready | DataConnection::Transferring(_) =>
+                true,
+            DataConnection::Opening(_, way) => matches!(way, Way::Accept),
+        }
+    }
+
+    /// The endpoint is forgotten, and what stands of it is to be closed.
+    pub fn forget(&mut self)
+        ensures { session_of T.table J.view self.new ≡ forgotten (session_of T.table J.view self.old) }
+    {
+        self.closing = self.closing || self.is_standing();
+        self.connection = DataConnection::Free;
+    }
+
+    /// PORT and EPRT.
+    pub fn port(&mut self, peer: Host, endpoint: Endpoint) -> ReplyKind<Path<A>>
+        ensures { (footing : Footing) → footing.peer ≡ peer → (session_of T.table J.view self.new, result) ≡ port footing endpoint (session_of T.table J.view self.old) }
+    {
+        if self.only_extended {
+            return ReplyKind::Fixed(Text::BadSequence);
+        }
+        self.forget();
+        if !is_taken(peer, endpoint) {
+            return ReplyKind::Fixed(Text::BadParameter);
+        }
+        self.connection = DataConnection::Active(endpoint);
+        ReplyKind::Fixed(Text::EndpointTaken)
+    }
+
+    /// A port is asked for.
+    fn ask(&mut self, asked: Asked) -> ReplyKind<Path<A>>
+        ensures { (session_of T.table J.view self.new, result) ≡ asks asked (session_of T.table J.view self.old) }
+    {
+        self.forget();
+        self.connection = DataConnection::Asked(asked);
+        ReplyKind::Nothing
+    }
+
+    /// PASV.
+    pub fn pasv(&mut self, here: Host) -> ReplyKind<Path<A>>
+        ensures { (footing : Footing) → footing.here ≡ here → (session_of T.table J.view self.new, result) ≡ pasv footing (session_of T.table J.view self.old) }
+    {
+        if self.only_extended {
+            return ReplyKind::Fixed(Text::BadSequence);
+        }
+        if is_v6(here) {
+            return ReplyKind::Fixed(Text::NoConnection);
+        }
+        self.ask(Asked::Pasv)
+    }
+
+    /// EPSV.
+    pub fn epsv(&mut self, here: Host, family: Passive) -> ReplyKind<Path<A>>
+        ensures { (footing : Footing) → footing.here ≡ here → (session_of T.table J.view self.new, result) ≡ epsv footing family (session_of T.table J.view self.old) }
+    {
+        match family {
+            Passive::Any => self.ask(Asked::Epsv),
+            Passive::Ipv4 => {
+                if is_v6(here) {
+                    return ReplyKind::Fixed(Text::OnlyIpv6);
+                }
+                self.ask(Asked::Epsv)
+            }
+            Passive::Ipv6 => {
+                if !is_v6(here) {
+                    return ReplyKind::Fixed(Text::OnlyIpv4);
+                }
+                self.ask(Asked::Epsv)
+            }
+            Passive::Only => {
+                self.only_extended = true;
+                ReplyKind::Fixed(Text::OnlyExtended)
+            }
+        }
+    }
+}
+
+/// Whether an endpoint is on the client's own host, and on no port below 1024.
+fn is_taken(peer: Host, endpoint: Endpoint) -> bool
+    ensures { result ≡ is_taken peer endpoint }
+{
+    is_same_host(endpoint.host, peer) && endpoint.port >= LOWEST_PORT
+}
+
+/// Whether two hosts are one.
+pub fn is_same_host(one: Host, other: Host) -> bool
+    ensures { result ≡ same_host one other }
+{
+    match one {
+        Host::V4(a) => match other {
+            Host::V4(b) => a == b,
+            Host::V6(_) => false,
+        },
+        Host::V6(a) => match other {
+            Host::V4(_) => false,
+            Host::V6(b) => a == b,
+        },
+    }
+}
+
+/// Whether a host is one of IPv6.
+fn is_v6(host: Host) -> bool
+    ensures { result ≡ is_v6 host }
+{
+    matches!(host, Host::V6(_))
+}

@@ -1,0 +1,53 @@
+// TYPE, STRU, MODE and OPTS (RFC 959, section 4.1.2; RFC 2389, section 4).
+ghost use Rattle.std.specs.Prelude.{◌≡◌};
+ghost use Rattle.ftp_server_machine.specs.Setting.{opts, set_kind, set_mode, set_structure};
+
+use crate::options::{is_utf8_on, option_facts};
+use crate::session::{Moves, Session};
+use ftp_path::Path;
+use ftp_representation::{Kind, Mode, Structure};
+use ftp_server_machine::{ReplyKind, Text};
+use ftp_tree::Tree;
+use std::alloc::Allocator;
+
+impl<A: Allocator + Clone, T: Tree<A>, J: Moves> Session<A, T, J> {
+    ghost use Rattle.ftp_session.specs.Session.{session_of};
+
+    /// TYPE.
+    pub fn set_kind(&mut self, kind: Kind) -> ReplyKind<Path<A>>
+        ensures { (session_of T.table J.view self.new, result) ≡ set_kind kind (session_of T.table J.view self.old) }
+    {
+        self.settings.kind = kind;
+        ReplyKind::Fixed(Text::TypeSet)
+    }
+
+    /// STRU.
+    pub fn set_structure(&mut self, structure: Structure) -> ReplyKind<Path<A>>
+        ensures { (session_of T.table J.view self.new, result) ≡ set_structure structure (session_of T.table J.view self.old) }
+    {
+        self.settings.structure = structure;
+        ReplyKind::Fixed(Text::StructureSet)
+    }
+
+    /// MODE.
+    pub fn set_mode(&mut self, mode: Mode) -> ReplyKind<Path<A>>
+        ensures { (session_of T.table J.view self.new, result) ≡ set_mode mode (session_of T.table J.view self.old) }
+    {
+        self.settings.mode = mode;
+        ReplyKind::Fixed(Text::ModeSet)
+    }
+
+    /// OPTS.
+    pub fn opts(&mut self, text: &[u8]) -> ReplyKind<Path<A>>
+        ensures { (session_of T.table J.view self.new, result) ≡ opts text.now (session_of T.table J.view self.old) }
+    {
+        if is_utf8_on(text) {
+            return ReplyKind::Fixed(Text::Utf8Set);
+        }
+        let Some(facts) = option_facts(text) else {
+            return ReplyKind::Fixed(Text::BadArgument);
+        };
+        self.facts = facts;
+        ReplyKind::Chosen
+    }
+}
