@@ -1,0 +1,2 @@
+//! Rows of the server.
+mod replies;
