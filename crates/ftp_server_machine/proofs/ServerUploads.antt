@@ -1,24 +1,24 @@
 -- The worked rows of uploads, computed.
 use Rattle.std.proofs.Common.{◌≡◌, ℕ, ◌+◌, List, [], ◌∷◌, ◌++◌, Option, Some, None, Bool, true, false, refl, ap, ◌∙◌}
-use Rattle.std.specs.Prelude.{codes, decimal, length, nat_le, if◌then◌else◌}
+use Rattle.std.specs.Prelude.{codes, decimal, length, take, nat_le, if◌then◌else◌}
 use Rattle.ftp_command.specs.declared.command.Command.TheVariants as command
 use Rattle.ftp_representation.specs.declared.representation.Kind.TheVariants as Kinds
 use Rattle.ftp_representation.specs.declared.representation.Mode.TheVariants as Modes
 use Rattle.ftp_direct.specs.declared.refusal.Refusal.{Refusal}
 use Rattle.ftp_direct.specs.Direct.{or_refused, refused_name}
 use Rattle.ftp_path.specs.Path.{resolved, fits, text_of, Names}
-use Rattle.ftp_tree.specs.Tree.{Table, File, node_at, octets_at, octets_or_none, room_refusal, room_at, under}
+use Rattle.ftp_tree.specs.Tree.{Table, File, node_at, octets_at, octets_or_none, room_refusal, room_at, installed, under}
 use Rattle.ftp_representation.specs.declared.representation.Structure.TheVariants as Structures
 use Rattle.ftp_representation.specs.Representation.{defaults}
 use Rattle.ftp_ends.specs.Decoder.{Decoder, no_octets, decoder_of, ended}
 use Rattle.ftp_ends.specs.Ear.{quiet}
-use Rattle.ftp_server_machine.specs.View.{Footing, Session, Transfer, View, all_facts, seen}
+use Rattle.ftp_server_machine.specs.View.{Footing, Session, Transfer, View, all_facts, seen, with_seen}
 use Rattle.ftp_server_machine.specs.Replies.{reply_octets, reply_of, fixed_reply}
 use Rattle.ftp_server_machine.specs.Transfer.{refused_to_hold}
 use Rattle.ftp_server_machine.specs.Machine.{obeyed, Ending, is_over, put_in, owes, with_session}
 use Rattle.ftp_server_machine.specs.Calls.{listening, data_opened, receives, receives_octet, data_end, data_fault, may_receive, wants}
 use Rattle.ftp_ends.specs.RowWords.{here}
-use Rattle.ftp_server_machine.specs.Rows.{RowEvent, accounts, after_events, said_to_member, member, at, of, asks, opened, octets, port, ended as ends, broken as breaks, UploadInstalled, BrokenUploadKept, TooMuchRefused, MarkerAnswered, AbortAnswered, FaultyUpload}
+use Rattle.ftp_server_machine.specs.Rows.{RowEvent, accounts, after_events, said_to_member, member, at, of, asks, opened, octets, port, ended as ends, broken as breaks, UploadInstalled, BrokenUploadKept, TooMuchRefused, MarkerAnswered, AbortAnswered, AbortPastRoom, EarlyEnd, FaultyUpload}
 use Rattle.ftp_server_machine.specs.declared.reply.Text.{Text}
 use Rattle.ftp_server_machine.specs.declared.reply.Text.TheVariants as Texts
 use Rattle.ftp_representation.specs.declared.representation.Representation.{Representation}
@@ -309,6 +309,50 @@ marker table root f room =
     ∙ ap (λ w. (receives w (16 ∷ 0 ∷ 1 ∷ 77 ∷ [])).owed) (block_comes (standing root) (table, root) block_said false over)
     ∙ marker_comes (standing root) (table, root) block_said
     ∙ ap (λ n. block_said ++ reply_octets (reply_of 110 (codes "MARK M = " ++ n))) of_4
+
+-- ---- ABOR past the room
+
+aborts_past : (footing : Footing) (place : Place) (said : List ℕ)
+    → after_events (asks command.Abor ∷ []) (uploading footing place defaults said (Data.Transferring Transfers.OverLimit))
+    ≡ owes (reply_octets (fixed_reply Texts.AbortDone)) (left footing said (after place defaults true, Texts.TooMuch))
+aborts_past footing place said = refl
+
+pub abort_past_room : AbortPastRoom
+abort_past_room table root f room =
+    let rest : List RowEvent = asks command.Abor ∷ [] in
+    let is = ap (λ w. after_events (octets (codes "abc") ∷ rest) w) (begun table root f)
+    ∙ ap (λ w. after_events rest (receives_octet (receives_octet w 98) 99)) (a_comes (standing root) (table, root) active_said false (fits_room (table, root) 2 (ascii (97 ∷ [])) room refl refl))
+    ∙ ap (λ w. after_events rest (receives_octet w 99)) (b_comes (standing root) (table, root) active_said false (fits_room (table, root) 2 (ascii (97 ∷ 98 ∷ [])) room refl refl))
+    ∙ ap (λ w. after_events rest w) (c_comes (standing root) (table, root) active_said true (past_room (table, root) room))
+    ∙ aborts_past (standing root) (table, root) active_said in
+    (ap (λ w. w.owed) is, ap (λ w. w.session.table) is)
+
+-- ---- an end before the end of file
+
+-- so many octets of a file that stands there are kept
+abbrev kept_of : Footing → Place → List ℕ → Bool → Ending
+kept_of footing place old over =
+    let s = after place block_settings false in
+    if over then (s, Texts.TooMuch) else (with_seen (installed (part_at place) f_path (take 3 old ++ codes "d") footing.moment) s, Texts.Broken)
+
+ends_early : (footing : Footing) (place : Place) (said : List ℕ) (over : Bool) → is_over f_path 3 (blocks (0 ∷ 0 ∷ 1 ∷ 100 ∷ [])) (after place block_settings false) ≡ over
+    → data_end (uploading footing place block_settings said (appending (blocks (0 ∷ 0 ∷ 1 ∷ 100 ∷ [])) false))
+    ≡ left footing said (kept_of footing place (octets_or_none (part_at place) f_path) over)
+unfolding data_end
+ends_early footing place said over is = ap (λ b. left footing said (kept_of footing place (octets_or_none (part_at place) f_path) b)) is
+
+abc_octets : (table : Table) → node_at table f_path ≡ Some (File (codes "abc") 0) → octets_or_none table f_path ≡ codes "abc"
+unfolding octets_at
+abc_octets table f = rw f refl
+
+pub early_end : EarlyEnd
+early_end table root f room =
+    let over : is_over f_path 3 (blocks (0 ∷ 0 ∷ 1 ∷ 100 ∷ [])) (after (table, root) block_settings false) ≡ false = rw room refl in
+    let is = ap (λ w. data_end (receives w (0 ∷ 0 ∷ 1 ∷ 100 ∷ []))) (begun_append table root f)
+    ∙ ap (λ w. data_end w) (block_comes (standing root) (table, root) block_said false over)
+    ∙ ends_early (standing root) (table, root) block_said false over
+    ∙ ap (λ o. left (standing root) block_said (kept_of (standing root) (table, root) o false)) (abc_octets (under table root) f) in
+    (ap (λ w. w.owed) is, ap (λ w. w.session.table) is)
 
 -- ---- a fault of the wire
 

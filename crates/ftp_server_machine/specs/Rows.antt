@@ -336,6 +336,24 @@ TooMuchRefused =
     (v.owed ≡ said_to_member (codes "200 Endpoint taken" ∷ codes "150 Opening data connection" ∷ codes "552 Too much" ∷ []))
     × (v.session.table ≡ table)
 
+-- ABOR past the room: 552, and then its own reply
+abbrev pub AbortPastRoom : Type 0
+AbortPastRoom =
+    (table : Table) (root : Names) → node_at (under table root) (of (codes "f")) ≡ Some (File [] 0) → room_at (under table root) (of (codes "f")) ≡ 2
+    → let v = member table root (asks (command.Port (at here)) ∷ asks (command.Stor (codes "f")) ∷ opened here ∷ octets (codes "abc") ∷ asks command.Abor ∷ []) in
+    (v.owed ≡ said_to_member (codes "200 Endpoint taken" ∷ codes "150 Opening data connection" ∷ codes "552 Too much" ∷ codes "226 Abort done" ∷ []))
+    × (v.session.table ≡ table)
+
+-- in block mode an end of the connection before the end of file counts as a break: what was settled is kept
+abbrev pub EarlyEnd : Type 0
+EarlyEnd =
+    (table : Table) (root : Names) → node_at (under table root) (of (codes "f")) ≡ Some (File (codes "abc") 0) → room_at (under table root) (of (codes "f")) ≡ 1000
+    → let v = member table root (asks (command.Repr Kinds.Image) ∷ asks (command.Mode Modes.Block) ∷ asks (command.Port (at here)) ∷ asks (command.Appe (codes "f"))
+    ∷ opened here ∷ octets (0 ∷ 0 ∷ 1 ∷ 100 ∷ []) ∷ ended ∷ []) in
+    (v.owed ≡ said_to_member (codes "200 Type set" ∷ codes "200 Mode set" ∷ codes "200 Endpoint taken" ∷ codes "150 Opening data connection"
+    ∷ codes "426 Transfer broken" ∷ []))
+    × (v.session.table ≡ with_part table root (installed (under table root) (of (codes "f")) (codes "abcd") 0))
+
 -- 451: a fault of the wire ends an upload before its end; the server closes the data connection early, which is a break to its client,
 -- and takes no octet after the fault
 abbrev pub FaultyUpload : Type 0

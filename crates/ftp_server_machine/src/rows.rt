@@ -1,5 +1,5 @@
 //! Worked rows of a server: functions that do nothing, whose contracts are rows of `specs/Rows`.
-ghost use Rattle.ftp_server_machine.specs.Rows.{AbortAnswered, BeforeLogin, BrokenUploadKept, ByFamily, DownloadSent, EarlyAbort, FactsChosen, FaultyUpload, FeaturesTold, ForeignEndpoint, ForeignOpener, LateRename, LateRestart, ListingSent, LoginAnswered, MadeBelowRoot, MarkerAnswered, OnlyExtended, OpenLogin, OrderOfDecisions, QuitHeard, RefusedListen, RefusedOpening, Reinitialized, RenameDone, RestartInAscii, RestartInPair, RestartInRecords, RestartSent, RootIsTop, RootMissing, TooMuchRefused, UploadInstalled, Utf8Chosen, WaitingLine, WrongPassword};
+ghost use Rattle.ftp_server_machine.specs.Rows.{AbortAnswered, AbortPastRoom, BeforeLogin, BrokenUploadKept, ByFamily, DownloadSent, EarlyAbort, EarlyEnd, FactsChosen, FaultyUpload, FeaturesTold, ForeignEndpoint, ForeignOpener, LateRename, LateRestart, ListingSent, LoginAnswered, MadeBelowRoot, MarkerAnswered, OnlyExtended, OpenLogin, OrderOfDecisions, QuitHeard, RefusedListen, RefusedOpening, Reinitialized, RenameDone, RestartInAscii, RestartInPair, RestartInRecords, RestartSent, RootIsTop, RootMissing, TooMuchRefused, UploadInstalled, Utf8Chosen, WaitingLine, WrongPassword};
 
 /// A login with a password.
 pub fn login()
@@ -154,6 +154,16 @@ pub fn broken_upload()
 /// An upload past the room for it.
 pub fn too_much()
     ensures { TooMuchRefused }
+{}
+
+/// ABOR of an upload past the room for it.
+pub fn abort_past_room()
+    ensures { AbortPastRoom }
+{}
+
+/// An end of the connection before the end of file.
+pub fn early_end()
+    ensures { EarlyEnd }
 {}
 
 /// A fault of the wire in an upload.
