@@ -8,7 +8,8 @@ use Rattle.std.proofs.lemmas.Bool.Decides.{nat_tests}
 use Rattle.std.proofs.lemmas.List.Sums.{sum_by-cons}
 use Rattle.ftp_command.proofs.PathLemmas.{path_plain, path_short}
 use Rattle.ftp_path.specs.Path.{IsPathText, is_path_octet}
-use Rattle.ftp_command.specs.Argument.{IsPassword, is_name_octet}
+use Rattle.ftp_command.specs.Argument.{IsPassword}
+use Rattle.ftp_login.specs.Login.{is_login_octet}
 use Rattle.ftp_command.specs.Line.{spaced, line_of, is_no_feed, IsWords, IsLine, IsStated, IsTyped}
 use Rattle.ftp_command.specs.declared.command.Command.{Command}
 use Rattle.ftp_command.specs.declared.command.Command.TheVariants as command
@@ -170,7 +171,7 @@ extended_fits endpoint typed =
 octet_plain : (c : ℕ) → is_path_octet c ≡ true → is_plain c ≡ true
 octet_plain c is = grind (arith, nat_tests)
 
-name_plain : (c : ℕ) → is_name_octet c ≡ true → is_plain c ≡ true
+name_plain : (c : ℕ) → is_login_octet c ≡ true → is_plain c ≡ true
 name_plain c is =
     let parts = both (not (c == 0) && not (c == 10)) (not (c == 13)) is in
     let first = both (not (c == 0)) (not (c == 10)) parts.0 in
@@ -184,7 +185,7 @@ pub path_fits : (text : List ℕ) → IsPathText text → Fits 900 text
 path_fits text is = record { plain = all_plain is_path_octet octet_plain text (path_plain text is); short = path_short text is }
 
 password_fits : (text : List ℕ) → IsPassword text → Fits 255 text
-password_fits text is = record { plain = all_plain is_name_octet name_plain text is.1; short = is.0 }
+password_fits text is = record { plain = all_plain is_login_octet name_plain text is.1; short = is.0 }
 
 spaced_fits : (n : ℕ) (text : List ℕ) → Fits n text → Fits (n + 1) (spaced text)
 spaced_fits n [] fits = record { plain = tt; short = omega arith }

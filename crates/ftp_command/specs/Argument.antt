@@ -2,6 +2,7 @@
 use Rattle.std.specs.Prelude.{◌≡◌, ◌≢◌, ◌⊎◌, ◌≤◌, ℕ, zero, suc, Bool, false, not, ◌==◌, ◌&&◌, if◌then◌else◌, List, [], ◌∷◌, length, drop, IsTrue, Option, Some, None, codes}
 use Rattle.std.specs.Char.{is_ascii_alphabetic, to_ascii_lowercase}
 use Rattle.std.specs.List.{list_all, prefix_len, before_first, after_first}
+use Rattle.ftp_login.specs.Login.{is_login_octet, login_limit}
 use Rattle.ftp_representation.specs.declared.representation.Kind.{Kind}
 use Rattle.ftp_representation.specs.declared.representation.Kind.TheVariants.{Ascii, Image}
 use Rattle.ftp_representation.specs.declared.representation.Mode.{Mode}
@@ -34,13 +35,9 @@ abbrev pub trimmed : List ℕ → List ℕ
 trimmed [] = []
 trimmed (c ∷ cs) = if list_all is_space (c ∷ cs) then [] else c ∷ trimmed cs
 
--- an octet of a user name or a password: no CR, LF or NUL
-abbrev pub is_name_octet : ℕ → Bool
-is_name_octet c = not (c == 0) && not (c == 10) && not (c == 13)
-
 -- a password: 0 to 255 octets
 abbrev pub IsPassword : List ℕ → Type 0
-IsPassword text = (length text ≤ 255) × IsTrue (list_all is_name_octet text)
+IsPassword text = (length text ≤ login_limit) × IsTrue (list_all is_login_octet text)
 
 -- a user name: 1 to 255 octets
 abbrev pub IsName : List ℕ → Type 0

@@ -1,7 +1,9 @@
 // The parts of a line, and the texts that arguments are.
 ghost use Rattle.std.specs.Prelude.{◌≡◌, ◌↔◌, ◌≤◌, IsTrue, length, take, not};
 ghost use Rattle.std.specs.List.{list_all, position_or_len, prefix_len};
-ghost use Rattle.ftp_command.specs.Argument.{IsBlank, IsName, IsPassword, argument, begins_with, behind_word, hyphen, is_name_octet, is_space, trimmed, without_options, word};
+ghost use Rattle.ftp_command.specs.Argument.{IsBlank, IsName, IsPassword, argument, begins_with, behind_word, hyphen, is_space, trimmed, without_options, word};
+
+use ftp_login::{LOGIN_LIMIT, are_login_octets};
 
 /// Cuts a line at its first SP: the word, and the argument, which is empty where there is no SP.
 pub(crate) fn split_line(line: &[u8]) -> (&[u8], &[u8])
@@ -81,13 +83,7 @@ fn trimmed_len(text: &[u8]) -> usize
 pub(crate) fn is_password(text: &[u8]) -> bool
     ensures { IsTrue result ↔ IsPassword text.now }
 {
-    text.len() <= 255 && are_name_octets(text)
-}
-
-fn are_name_octets(text: &[u8]) -> bool
-    ensures { result ≡ list_all is_name_octet text.now }
-{
-    text.iter().all(|c| *c != 0 && *c != b'\n' && *c != b'\r')
+    text.len() <= LOGIN_LIMIT && are_login_octets(text)
 }
 
 /// Whether a text is a user name: 1 to 255 octets, none of them CR, LF or NUL.

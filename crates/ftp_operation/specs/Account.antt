@@ -3,6 +3,7 @@ use Rattle.std.specs.Prelude.{ℕ, ◌&&◌, ◌||◌, ◌==◌, Bool, true, not
 use Rattle.std.specs.List.{find, list_all, list_any}
 use Rattle.std.specs.Option.{option_map}
 use Rattle.std.specs.Cmp.Lexicographic.{pointwise}
+pub use Rattle.ftp_login.specs.Login.{is_user, is_password}
 use Rattle.ftp_path.specs.Path.{Names, is_within}
 use Rattle.ftp_operation.specs.declared.account.Account.{Account as Held}
 use Rattle.ftp_operation.specs.declared.account.AccountsFault.{AccountsFault}
@@ -11,17 +12,6 @@ use Rattle.ftp_operation.specs.declared.account.AccountsFault.TheVariants.{SameU
 -- an account: a user name, the password that it needs, if it needs one, and its root: the path that is `/` to its user
 abbrev pub Account : Type 0
 Account = Held (List ℕ) Names
-
--- an octet of a user name or a password: neither CR nor LF nor NUL
-abbrev pub is_login_octet : ℕ → Bool
-is_login_octet octet = not (octet == 13) && not (octet == 10) && not (octet == 0)
-
--- a user name: 1 to 255 such octets; a password: at most 255 (own choice)
-abbrev pub is_user : List ℕ → Bool
-is_user user = nat_le 1 (length user) && nat_le (length user) 255 && list_all is_login_octet user
-
-abbrev pub is_password : List ℕ → Bool
-is_password pass = nat_le (length pass) 255 && list_all is_login_octet pass
 
 -- an account has this user name
 abbrev pub has_user : List ℕ → Account → Bool

@@ -2,9 +2,10 @@
 ghost use Rattle.std.specs.Prelude.{◌≡◌, ◌&&◌, ◌↔◌, None, Some, IfOk, IfErr, IfSome, IsSome, IsTrue, drop};
 ghost use Rattle.std.specs.List.{list_all, list_any};
 ghost use Rattle.std.specs.Option.{option_map};
-ghost use Rattle.ftp_operation.specs.Account.{accounts_refusal, are_apart, are_distinct, has_nested, has_user, is_below, is_login_octet, is_password, is_user, knows, login_root, passes};
+ghost use Rattle.ftp_operation.specs.Account.{accounts_refusal, are_apart, are_distinct, has_nested, has_user, is_below, is_password, is_user, knows, login_root, passes};
 
 use ftp_facts::Text;
+use ftp_login::{is_password, is_user};
 use ftp_path::Path;
 use ftp_path::key::is_within;
 use std::alloc::Allocator;
@@ -55,30 +56,6 @@ impl<A: Allocator> Login<A> {
     {
         self.pass.as_slice()
     }
-}
-
-fn is_user(user: &[u8]) -> bool
-    ensures { result ≡ is_user user.now }
-{
-    1 <= user.len() && user.len() <= 255 && are_login_octets(user)
-}
-
-fn is_password(pass: &[u8]) -> bool
-    ensures { result ≡ is_password pass.now }
-{
-    pass.len() <= 255 && are_login_octets(pass)
-}
-
-fn are_login_octets(octets: &[u8]) -> bool
-    ensures { result ≡ list_all is_login_octet octets.now }
-{
-    octets.iter().all(|octet| is_login_octet(*octet))
-}
-
-fn is_login_octet(octet: u8) -> bool
-    ensures { result ≡ is_login_octet octet }
-{
-    octet != b'\r' && octet != b'\n' && octet != 0
 }
 
 /// Accounts of which no two have one user name, and no root is below another.

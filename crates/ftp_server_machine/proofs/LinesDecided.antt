@@ -4,7 +4,8 @@ use Rattle.std.specs.Prelude.{codes}
 use Rattle.std.specs.Char.{to_ascii_lowercase, is_ascii_alphabetic}
 use Rattle.std.specs.List.{list_all}
 use Rattle.std.specs.Str.Parse.{digits_value}
-use Rattle.ftp_command.specs.Argument.{IsBlank, is_space, IsName, IsPassword, is_name_octet, SaysPathOrNone, SaysTextOrNone, SaysPassive, IsOtherFamily, SaysLocal, SaysKind, SaysEbcdic, IsOtherKind, SaysStructure, SaysMode, SaysLongest, SaysSizes, argument, trimmed, without_options, word}
+use Rattle.ftp_login.specs.Login.{is_login_octet}
+use Rattle.ftp_command.specs.Argument.{IsBlank, is_space, IsName, IsPassword, SaysPathOrNone, SaysTextOrNone, SaysPassive, IsOtherFamily, SaysLocal, SaysKind, SaysEbcdic, IsOtherKind, SaysStructure, SaysMode, SaysLongest, SaysSizes, argument, trimmed, without_options, word}
 use Rattle.ftp_command.specs.Command.{verb_of, Argues, IsNotDone, IsOtherParameter, IsOtherNetwork}
 use Rattle.ftp_command.specs.Verb.{letters, old_letters, SameLetters, Names}
 use Rattle.ftp_command.specs.declared.command.Command.{Command}
@@ -40,7 +41,7 @@ path : (a : List ℕ) → Decided (IsPathText a)
 path a = is_true (is_path_text a)
 
 password : (a : List ℕ) → Decided (IsPassword a)
-password a = and_then (at_most (length a) 255) (is_true (list_all is_name_octet a))
+password a = and_then (at_most (length a) 255) (is_true (list_all is_login_octet a))
 
 name : (a : List ℕ) → Decided (IsName a)
 name a = and_then (at_most 1 (length a)) (password a)
