@@ -1,7 +1,7 @@
 -- Rows in order: where a path stands among them, and what a change there makes of them.
 use Rattle.std.proofs.Common.{ℕ, zero, suc, ◌+◌, ◌<◌, ◌≤◌, ◌≡◌, Bool, true, false, not, ◌&&◌, ◌||◌, cond, Option, Some, None, inl, inr, List, [], ◌∷◌, ◌++◌, length, take, drop, get_or, set, refl, sym, ap, ◌∙◌, subst, arith}
 use Rattle.std.specs.Prelude.{map}
-use Rattle.std.specs.List.{insert, remove, take-map, drop-map}
+use Rattle.std.specs.List.{filter, insert, remove, take-map, drop-map}
 use Rattle.std.specs.Ordering.{eq_by_cmp, is_eq, is_lt, ordering_reverse}
 use Rattle.std.specs.declared.cmp.Ordering.{Ordering}
 use Rattle.std.specs.declared.cmp.Ordering.TheVariants.{Less, Equal, Greater}
@@ -14,10 +14,11 @@ use Rattle.std.specs.Prelude.{min}
 use lib.Dec.{T}
 use Rattle.std.proofs.lemmas.Bool.{and_parts, cases_lt, true≢false}
 use Rattle.std.proofs.lemmas.List.{map-append, map-set, length-map, length-take, length-append, take_more, take_at, take-append-drop, append_assoc, drop-drop, drop_all}
+use Rattle.std.proofs.lemmas.List.Elements.{filter-append}
 use Rattle.std.proofs.lemmas.List.Sums.{sum_by_more_le, AllPass-from_list_all}
 use Rattle.ftp_tree.specs.Tree.{Node, Dir, length_of}
 use Rattle.ftp_path.specs.Path.{fits, Names, path_cmp, is_within, moved_path}
-use Rattle.ftp_tree.specs.Store.{Rows, row, rows, kept_node, octets_of_rows, is_in_order, StandsAt, HasGap, all_moves_fit, moved_name, moved_rows, put_all}
+use Rattle.ftp_tree.specs.Store.{Rows, row, rows, rows_within, kept_node, octets_of_rows, is_in_order, StandsAt, HasGap, all_moves_fit, moved_name, moved_rows, put_all}
 use Rattle.ftp_tree.specs.declared.entry.Kept.{Kept}
 use Rattle.ftp_tree.specs.declared.entry.Entry.{Entry}
 
@@ -323,3 +324,23 @@ module _ {A : Type 0} where
       let long = rows-length es in
       let moved = length-moved_rows ms (rows es) (omega arith) in
       ap put_all (drop_all (length es) (moved_rows ms (rows es)) (omega arith))
+
+-- ---- one more entry
+
+one-within : (root : Names) (e : Names × Node) → length (filter (λ entry. is_within root entry.0) (e ∷ [])) ≡ cond (is_within root e.0) 1 0
+one-within root e = elim (is_within root e.0) as (λ b. length (cond b (e ∷ []) []) ≡ cond b 1 0) [ true ↦ refl | false ↦ refl ]
+
+module _ {A : Type 0} where
+  pub count-more : (root : Names) (es : List (Entry A)) (i : ℕ) (e : Entry A) → i < length es → e ≡ get_or es i e
+      → length (rows_within root (rows (take (i + 1) es))) ≡ length (rows_within root (rows (take i es))) + cond (is_within root e.path) 1 0
+  count-more root es i e lt there =
+      ap (λ l. length (rows_within root (rows l))) (take_more es i e lt ∙ ap (λ x. take i es ++ x ∷ []) (sym there))
+      ∙ ap (λ l. length (rows_within root l)) (map-append row (take i es) (e ∷ []))
+      ∙ ap length (filter-append (λ entry. is_within root entry.0) (rows (take i es)) (row e ∷ []))
+      ∙ length-append (rows_within root (rows (take i es))) (filter (λ entry. is_within root entry.0) (row e ∷ []))
+      ∙ ap (λ n. length (rows_within root (rows (take i es))) + n) (one-within root (row e))
+
+  pub drop-row : (es : List (Entry A)) (i : ℕ) (e : Entry A) → i < length es → e ≡ get_or es i e → rows (drop i es) ≡ row e ∷ rows (drop (i + 1) es)
+  drop-row [] i e lt there = absurd (omega arith)
+  drop-row (x ∷ es) zero e lt there = ap (λ y. row y ∷ rows es) (sym there)
+  drop-row (x ∷ es) (suc i) e lt there = let more : suc i + 1 ≡ suc (i + 1) = omega arith in drop-row es i e (omega arith) there ∙ ap (λ n. row e ∷ rows (drop n (x ∷ es))) (sym more)

@@ -3,6 +3,7 @@ pub mod CountLemmas
 pub mod EntryLemmas
 pub mod KeepLaws
 pub mod LawLemmas
+pub mod PageLemmas
 pub mod PartLemmas
 pub mod PlaceLemmas
 pub mod StoreLemmas

@@ -1,4 +1,5 @@
 pub mod Change
 pub mod Laws
+pub mod Pages
 pub mod Store
 pub mod Tree

@@ -119,6 +119,6 @@ put_all (entry ∷ entries) = put path_cmp entry.0 entry.1 (put_all entries)
 
 -- ---- what stands at a path, as it is lent
 
-abbrev pub standing_node : Standing → Node
+abbrev pub standing_node : {A : Type 0} → Standing A → Node
 standing_node standing.Dir = Dir
 standing_node (standing.File octets moment) = File octets.now moment.seconds

@@ -1,8 +1,9 @@
 // The octets of a file that is not installed yet.
-ghost use Rattle.std.specs.Prelude.{◌≡◌, ◌≤◌, ◌++◌, [], None, IfErr, IfOk, OnErr, OnOk, length, take, unwrap_or};
+ghost use Rattle.std.specs.Prelude.{◌≡◌, ◌≤◌, ◌<◌, ◌++◌, [], None, IfErr, IfOk, OnErr, OnOk, drop, length, take, unwrap_or};
 ghost use Rattle.ftp_tree.specs.Tree.{front_refusal, octets_or_none, under};
 
 use crate::fault::TreeFault;
+use crate::pages::{self, Page};
 use crate::tree::Tree;
 use ftp_path::Path;
 use std::alloc::{AllocError, Allocator};
@@ -12,7 +13,8 @@ use std::mem;
 /// The octets of a file, as they are gathered before it is installed.
 #[derive(Debug, Drop)]
 pub struct Content<A: Allocator> {
-    octets: Vec<u8, A>,
+    pages: Vec<Page<A>, A>,
+    len: u64,
 }
 
 impl<A: Allocator> Model for Content<A> {
@@ -20,7 +22,13 @@ impl<A: Allocator> Model for Content<A> {
 
     ghost Value = { List ℕ };
 
-    ghost view = { λ content. content.octets.items };
+    ghost use Rattle.std.specs.Prelude.{◌≡◌, length};
+    ghost use Rattle.std.specs.List.{concat};
+    ghost use Rattle.ftp_tree.specs.Pages.{IsPaged, page_octets};
+
+    ghost view = { λ content. concat (page_octets content.pages.items) };
+
+    ghost invariant = { λ content. IsPaged (page_octets content.pages.items) × (content.len ≡ length (concat (page_octets content.pages.items))) };
 }
 
 impl<A: Allocator> Content<A> {
@@ -29,10 +37,37 @@ impl<A: Allocator> Content<A> {
         ensures { result ≡ [] }
     {
         Content {
-            octets: Vec::new(alloc),
+            pages: Vec::new(alloc),
+            len: 0,
         }
     }
 
+    /// How many octets it has.
+    pub fn len(&self) -> u64
+        ensures { result ≡ length self.now }
+    {
+        self.len
+    }
+
+    /// Takes its octets out.
+    pub(crate) fn take(&mut self, alloc: A) -> Content<A>
+        ensures taken { result ≡ self.old }
+        ensures left { self.new ≡ [] }
+    {
+        mem::replace(self, Content::new(alloc))
+    }
+
+    /// Some of its octets from a place on, at most `max` of them and at most to the end of a page. Lends them.
+    pub(crate) fn piece(&self, at: u64, max: usize) -> &[u8]
+        ensures octets { result.now ≡ take (length result.now) (drop at self.now) }
+        ensures most { length result.now ≤ max }
+        ensures some { 0 < max → at < length self.now → 0 < length result.now }
+    {
+        pages::piece(self.pages.as_slice(), at, max)
+    }
+}
+
+impl<A: Allocator + Clone> Content<A> {
     /// The first octets of the file at a path below a root.
     ///
     /// Refused: `Absent`, `WrongKind` of a directory, `BadOffset` where the file has fewer, then `Memory`.
@@ -66,29 +101,12 @@ impl<A: Allocator> Content<A> {
         ensures ok { OnOk result (self.new ≡ self.old ++ octets.now) }
         ensures err { OnErr result (self.new ≡ self.old) }
     {
-        self.octets.extend_from_slice(octets)
-    }
-
-    /// How many octets it has.
-    pub fn len(&self) -> u64
-        ensures { result ≡ length self.now }
-    {
-        self.octets.len() as u64
-    }
-
-    /// Takes its octets out.
-    pub(crate) fn take(&mut self, alloc: A) -> Content<A>
-        ensures taken { result ≡ self.old }
-        ensures left { self.new ≡ [] }
-    {
-        mem::replace(self, Content::new(alloc))
-    }
-
-    /// Lends its octets.
-    pub(crate) fn octets(&self) -> &[u8]
-        ensures { result.now ≡ self.now }
-    {
-        self.octets.as_slice()
+        let Some(len) = self.len.checked_add(octets.len() as u64) else {
+            return Err(AllocError);
+        };
+        pages::push_all(&mut self.pages, self.len, octets)?;
+        self.len = len;
+        Ok(())
     }
 }
 

@@ -50,9 +50,9 @@ impl<A: Allocator> Kept<A> {
 
 /// What stands at a path, lent.
 #[derive(Clone, Copy)]
-pub(crate) enum Standing<'a> {
+pub(crate) enum Standing<'a, A: Allocator> {
     Dir,
-    File(&'a [u8], Moment),
+    File(&'a Content<A>, Moment),
 }
 
 /// Where a path stands among entries, or else where it would go.
@@ -78,7 +78,7 @@ pub(crate) fn search<A: Allocator>(entries: &[Entry<A>], key: &[u8]) -> Result<u
 }
 
 /// What stands at a path, if an entry has it.
-pub(crate) fn find<'a, A: Allocator>(entries: &'a [Entry<A>], key: &[u8]) -> Option<Standing<'a>>
+pub(crate) fn find<'a, A: Allocator>(entries: &'a [Entry<A>], key: &[u8]) -> Option<Standing<'a, A>>
     requires joined { IsJoined key.now }
     requires sorted { IsTrue (is_sorted path_cmp (rows entries.now)) }
     ensures { option_map standing_node result ≡ found path_cmp (names_of key.now) (rows entries.now) }
@@ -88,7 +88,7 @@ pub(crate) fn find<'a, A: Allocator>(entries: &'a [Entry<A>], key: &[u8]) -> Opt
     };
     match &entries[at].node {
         Kept::Dir => Some(Standing::Dir),
-        Kept::File { content, moment } => Some(Standing::File(content.octets(), *moment)),
+        Kept::File { content, moment } => Some(Standing::File(content, *moment)),
     }
 }
 

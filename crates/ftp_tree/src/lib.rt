@@ -7,6 +7,7 @@ mod entry;
 mod fault;
 pub mod laws;
 mod memory;
+mod pages;
 mod place;
 mod tree;
 

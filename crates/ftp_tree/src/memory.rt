@@ -66,7 +66,7 @@ impl<A: Allocator + Copy> Tree<A> for MemTree<A> {
     #[tactic(auto, unfolding(crate::specs::Tree::size_at, crate::specs::Tree::octets_at))]
     fn size<B: Allocator, C: Allocator>(&self, root: &Path<B>, path: &Path<C>) -> Option<u64> {
         match self.standing(root, path) {
-            Some(Standing::File(octets, _)) => Some(octets.len() as u64),
+            Some(Standing::File(content, _)) => Some(content.len()),
             Some(Standing::Dir) | None => None,
         }
     }
@@ -79,6 +79,7 @@ impl<A: Allocator + Copy> Tree<A> for MemTree<A> {
         }
     }
 
+    #[tactic(auto, unfolding(crate::specs::Tree::octets_or_none, crate::specs::Tree::octets_at))]
     fn piece<B: Allocator, C: Allocator>(
         &self,
         root: &Path<B>,
@@ -86,7 +87,10 @@ impl<A: Allocator + Copy> Tree<A> for MemTree<A> {
         at: u64,
         max: usize,
     ) -> &[u8] {
-        piece_of(self.octets(root, path), at, max)
+        match self.standing(root, path) {
+            Some(Standing::File(content, _)) => content.piece(at, max),
+            Some(Standing::Dir) | None => b"".as_slice(),
+        }
     }
 
     fn nth_name<B: Allocator, C: Allocator>(
@@ -286,7 +290,7 @@ impl<A: Allocator + Copy> MemTree<A> {
     }
 
     /// What stands at the place whose names a text joins.
-    fn at(&self, key: &[u8]) -> Option<Standing<'_>>
+    fn at(&self, key: &[u8]) -> Option<Standing<'_, A>>
         requires { IsJoined key.now }
         ensures { option_map standing_node result ≡ node_at self.now (names_of key.now) }
     {
@@ -302,7 +306,7 @@ impl<A: Allocator + Copy> MemTree<A> {
         &self,
         root: &Path<B>,
         path: &Path<C>,
-    ) -> Option<Standing<'_>>
+    ) -> Option<Standing<'_, A>>
         ensures { option_map standing_node result ≡ node_at (under self.now root.now) path.now }
     {
         self.at(Joined::of(root, path).key())
@@ -313,21 +317,21 @@ impl<A: Allocator + Copy> MemTree<A> {
         &self,
         root: &Path<B>,
         path: &Path<C>,
-    ) -> Option<Standing<'_>>
+    ) -> Option<Standing<'_, A>>
         ensures node { option_map standing_node result ≡ node_at (under self.now root.now) (parent path.now) }
         ensures fits { fits path.now ≡ true }
     {
         self.at(Joined::above(root, path).key())
     }
 
-    /// The octets of the file there, and none where no file stands.
+    /// How many octets the file there has, and none where no file stands.
     #[tactic(auto, unfolding(crate::specs::Tree::octets_or_none, crate::specs::Tree::octets_at))]
-    fn octets<B: Allocator, C: Allocator>(&self, root: &Path<B>, path: &Path<C>) -> &[u8]
-        ensures { result.now ≡ octets_or_none (under self.now root.now) path.now }
+    fn len_at<B: Allocator, C: Allocator>(&self, root: &Path<B>, path: &Path<C>) -> u64
+        ensures { result ≡ length (octets_or_none (under self.now root.now) path.now) }
     {
         match self.standing(root, path) {
-            Some(Standing::File(octets, _)) => octets,
-            Some(Standing::Dir) | None => b"".as_slice(),
+            Some(Standing::File(content, _)) => content.len(),
+            Some(Standing::Dir) | None => 0,
         }
     }
 
@@ -343,7 +347,11 @@ impl<A: Allocator + Copy> MemTree<A> {
         ensures { result ≡ fin.len (under self.now root.now) }
     {
         let count = entry::count_within(self.entries.as_slice(), root.key());
-        if root.key().is_empty() { count as u128 + 1 } else { count as u128 }
+        if root.key().is_empty() {
+            count as u128 + 1
+        } else {
+            count as u128
+        }
     }
 
     /// The most octets that a file may have there.
@@ -351,7 +359,7 @@ impl<A: Allocator + Copy> MemTree<A> {
     fn room_at<B: Allocator, C: Allocator>(&self, root: &Path<B>, path: &Path<C>) -> u64
         ensures { result ≡ room_at (under self.now root.now) path.now }
     {
-        let freed = self.octets(root, path).len() as u128;
+        let freed = self.len_at(root, path) as u128;
         let others = self.octets_below(root).saturating_sub(freed);
         FILE_LIMIT.min(TOTAL_LIMIT.saturating_sub(others) as u64)
     }
@@ -518,8 +526,12 @@ impl<A: Allocator + Copy> MemTree<A> {
     {
         let old = Joined::of(root, from);
         let new = Joined::of(root, to);
-        let mut moves =
-            entry::moved_names(self.alloc, self.entries.as_slice(), old.key(), new.key())?;
+        let mut moves = entry::moved_names(
+            self.alloc,
+            self.entries.as_slice(),
+            old.key(),
+            new.key(),
+        )?;
         let mut moved = Vec::with_capacity(self.alloc, self.entries.len())?;
         entry::move_into(&mut self.entries, &mut moves, &mut moved);
         self.entries = moved;
@@ -528,7 +540,7 @@ impl<A: Allocator + Copy> MemTree<A> {
 }
 
 /// Why what stands there is no directory.
-fn directory_refusal(standing: Option<Standing<'_>>) -> Option<TreeFault>
+fn directory_refusal<A: Allocator>(standing: Option<Standing<'_, A>>) -> Option<TreeFault>
     ensures { result ≡ directory_refusal (option_map standing_node standing.entry) }
 {
     match standing {
@@ -536,17 +548,4 @@ fn directory_refusal(standing: Option<Standing<'_>>) -> Option<TreeFault>
         Some(Standing::Dir) => None,
         Some(Standing::File(..)) => Some(TreeFault::WrongKind),
     }
-}
-
-/// At most so many octets from a place on.
-fn piece_of(octets: &[u8], at: u64, max: usize) -> &[u8]
-    ensures octets { result.now ≡ take (length result.now) (drop at octets.now) }
-    ensures most { length result.now ≤ max }
-    ensures some { 0 < max → at < length octets.now → 0 < length result.now }
-{
-    if at >= octets.len() as u64 {
-        return b"".as_slice();
-    }
-    let rest = &octets[at as usize..];
-    &rest[..max.min(rest.len())]
 }

@@ -40,18 +40,33 @@ pub trait Tree<A: Allocator>: Drop {
 
     /// Some octets of the file at a path from a place on, at most `max` of them: none only at its end, or where `max` is 0,
     /// or where no file stands.
-    fn piece<B: Allocator, C: Allocator>(&self, root: &Path<B>, path: &Path<C>, at: u64, max: usize) -> &[u8]
+    fn piece<B: Allocator, C: Allocator>(
+        &self,
+        root: &Path<B>,
+        path: &Path<C>,
+        at: u64,
+        max: usize,
+    ) -> &[u8]
         ensures octets { result.now ≡ take (length result.now) (drop at (octets_or_none (under (table self.now) root.now) path.now)) }
         ensures most { length result.now ≤ max }
         ensures some { 0 < max → at < length (octets_or_none (under (table self.now) root.now) path.now) → 0 < length result.now };
 
     /// The name that comes at a place, counted from 0, among those in a directory in the order of their octets.
-    fn nth_name<B: Allocator, C: Allocator>(&self, root: &Path<B>, path: &Path<C>, place: usize) -> Option<Name<'_>>
+    fn nth_name<B: Allocator, C: Allocator>(
+        &self,
+        root: &Path<B>,
+        path: &Path<C>,
+        place: usize,
+    ) -> Option<Name<'_>>
         ensures { option_map (λ name. name.octets.now) result ≡ slice_get (children (under (table self.now) root.now) path.now) place };
 
     /// The most octets that `install` takes at a path, or why it takes none: `WrongKind` where a directory stands there or a
     /// file above, `Absent` where nothing stands above, `Full` where 16,384 nodes stand beside the root.
-    fn room<B: Allocator, C: Allocator>(&self, root: &Path<B>, path: &Path<C>) -> Result<u64, TreeFault>
+    fn room<B: Allocator, C: Allocator>(
+        &self,
+        root: &Path<B>,
+        path: &Path<C>,
+    ) -> Result<u64, TreeFault>
         ensures room { IfOk result (λ count. (room_refusal (under (table self.now) root.now) path.now ≡ None) × (count ≡ room_at (under (table self.now) root.now) path.now)) }
         ensures refused { IfErr result (λ fault. room_refusal (under (table self.now) root.now) path.now ≡ Some fault) };
 
@@ -63,21 +78,33 @@ pub trait Tree<A: Allocator>: Drop {
     ///
     /// Refused: `Exists` where something stands there, `Absent` where nothing stands above, `WrongKind` where a file does,
     /// `Full` where 16,384 nodes stand beside the root.
-    fn make_dir<B: Allocator, C: Allocator>(&mut self, root: &Path<B>, path: &Path<C>) -> Result<(), TreeFault>
+    fn make_dir<B: Allocator, C: Allocator>(
+        &mut self,
+        root: &Path<B>,
+        path: &Path<C>,
+    ) -> Result<(), TreeFault>
         ensures done { OnOk result (let part = under (table self.old) root.now in IsDone (make_refusal part path.now) (with_part (table self.old) root.now (made part path.now)) (table self.new) (failures self.old) (failures self.new)) }
         ensures refused { IfErr result (λ fault. IsRefused (make_refusal (under (table self.old) root.now) path.now) fault (table self.old) (table self.new) (failures self.old) (failures self.new)) };
 
     /// Removes a directory.
     ///
     /// Refused: `Absent`, `WrongKind` of a file, `NotEmpty`, `Busy` of the root.
-    fn remove_dir<B: Allocator, C: Allocator>(&mut self, root: &Path<B>, path: &Path<C>) -> Result<(), TreeFault>
+    fn remove_dir<B: Allocator, C: Allocator>(
+        &mut self,
+        root: &Path<B>,
+        path: &Path<C>,
+    ) -> Result<(), TreeFault>
         ensures done { OnOk result (let part = under (table self.old) root.now in IsDone (remove_refusal part path.now) (with_part (table self.old) root.now (removed part path.now)) (table self.new) (failures self.old) (failures self.new)) }
         ensures refused { IfErr result (λ fault. IsRefused (remove_refusal (under (table self.old) root.now) path.now) fault (table self.old) (table self.new) (failures self.old) (failures self.new)) };
 
     /// Deletes a file.
     ///
     /// Refused: `Absent`, `WrongKind` of a directory.
-    fn delete<B: Allocator, C: Allocator>(&mut self, root: &Path<B>, path: &Path<C>) -> Result<(), TreeFault>
+    fn delete<B: Allocator, C: Allocator>(
+        &mut self,
+        root: &Path<B>,
+        path: &Path<C>,
+    ) -> Result<(), TreeFault>
         ensures done { OnOk result (let part = under (table self.old) root.now in IsDone (delete_refusal part path.now) (with_part (table self.old) root.now (removed part path.now)) (table self.new) (failures self.old) (failures self.new)) }
         ensures refused { IfErr result (λ fault. IsRefused (delete_refusal (under (table self.old) root.now) path.now) fault (table self.old) (table self.new) (failures self.old) (failures self.new)) };
 

@@ -3,7 +3,7 @@ use super::steps::{Row, Step, all_answer, has, only_if, place, put};
 use ftp_facts::Moment;
 use ftp_path::Path;
 use ftp_tree::{Content, MemTree, Tree, TreeFault};
-use std::alloc::Global;
+use std::alloc::{AllocError, Global};
 
 type Memory = MemTree<Global>;
 
@@ -51,6 +51,83 @@ fn a_file_is_read_by_pieces(rt: HostRuntime) {
     assert!(&rt; is_put(rt.alloc(), &mut tree, b"hello", 9) == Ok(true));
     assert!(&rt; pieces_of(rt.alloc(), &tree) == Ok(true));
     assert!(&rt; is_put(rt.alloc(), &mut tree, b"bye", 10) == Ok(true));
+}
+
+/// Lengths of files beside the 4,096 octets of a page, and a number of octets that is asked for at a time.
+const STEPS: &[(usize, usize)] = &[
+    (0, 1),
+    (0, 5_000),
+    (4_095, 1),
+    (4_095, 5_000),
+    (4_096, 1),
+    (4_096, 5_000),
+    (4_097, 1),
+    (4_097, 5_000),
+];
+
+/// So many octets, each another than those beside it.
+fn varied(alloc: Global, count: usize) -> Result<Vec<u8, Global>, AllocError> {
+    let mut octets = Vec::new(alloc);
+    for place in 0..count {
+        octets.push((place % 251) as u8)?;
+    }
+    Ok(octets)
+}
+
+/// Whether octets are read whole, so many asked for at a time.
+fn is_read_by(
+    tree: &Memory,
+    root: &Path<Global>,
+    path: &Path<Global>,
+    octets: &[u8],
+    step: usize,
+) -> bool {
+    let mut at = 0usize;
+    for _ in 0..=octets.len() {
+        let piece = tree.piece(root, path, at as u64, step);
+        let end = at.saturating_add(piece.len());
+        if octets.get(at..end) != Some(piece) {
+            return false;
+        }
+        at = end;
+    }
+    at == octets.len()
+}
+
+fn is_paged(alloc: Global, tree: &mut Memory, row: &(usize, usize)) -> Result<bool, TreeFault> {
+    let path = place(alloc, b"f")?;
+    let root = Path::root(alloc);
+    let Ok(octets) = varied(alloc, row.0) else {
+        return Err(TreeFault::Memory);
+    };
+    put(alloc, tree, &root, &path, octets.as_slice(), 3)?;
+    Ok(is_read_by(tree, &root, &path, octets.as_slice(), row.1))
+}
+
+fn are_paged(alloc: Global, tree: &mut Memory) -> bool {
+    for row in STEPS {
+        if is_paged(alloc, tree, row) != Ok(true) {
+            return false;
+        }
+    }
+    true
+}
+
+/// Whether a page is lent whole, and one octet behind it.
+fn is_lent_by_pages(alloc: Global, tree: &Memory) -> Result<bool, TreeFault> {
+    let path = place(alloc, b"f")?;
+    let root = Path::root(alloc);
+    Ok(
+        tree.piece(&root, &path, 0, 5_000).len() == 4_096
+            && tree.piece(&root, &path, 4_096, 5_000).len() == 1,
+    )
+}
+
+#[test]
+fn a_file_of_4097_octets_has_two_pages(rt: HostRuntime) {
+    let mut tree = MemTree::new(rt.alloc());
+    assert!(&rt; are_paged(rt.alloc(), &mut tree));
+    assert!(&rt; is_lent_by_pages(rt.alloc(), &tree) == Ok(true));
 }
 
 /// Whether so many first octets of `/f` are had, and read again where they are put.

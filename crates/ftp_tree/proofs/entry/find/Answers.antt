@@ -16,6 +16,5 @@ returns-in-Dir g c =
 
 pub returns-in-File : goal.returns-in-File
 returns-in-File g c =
-    ap (λ octets. Some (File octets c.in-File.moment.seconds)) c.octets.ensures
-    ∙ sym (find-entry c.args.entries.now (names_of c.args.key.now) c.in-Ok.at c.index-entries-at.result c.in-Ok.ensures.there c.in-Ok.ensures.within
+    sym (find-entry c.args.entries.now (names_of c.args.key.now) c.in-Ok.at c.index-entries-at.result c.in-Ok.ensures.there c.in-Ok.ensures.within
     ∙ ap (λ node. Some (kept_node node)) c.in-File.is)
