@@ -32,13 +32,13 @@ parent-shorter : (name : List ℕ) (names : Names) → length (parent (name ∷ 
 unfolding parent
 parent-shorter name names = omega (arith, length-take (length (name ∷ names) - 1) (name ∷ names))
 
-is-dir : (node : Option Node) → directory_refusal node ≡ None → node ≡ Some Dir
+pub is-dir : (node : Option Node) → directory_refusal node ≡ None → node ≡ Some Dir
 is-dir None none = cc
 is-dir (Some Dir) none = refl
 is-dir (Some (File octets moment)) none = cc
 
 -- a node that comes below a directory, and in the place of no directory unless it is one
-IsTree-insert : (table : Table) (path : Names) (node : Node) → IsTree table → node_at table (parent path) ≡ Some Dir → (node_at table path ≡ Some Dir → node ≡ Dir) → IsTree (fin.insert table path node)
+pub IsTree-insert : (table : Table) (path : Names) (node : Node) → IsTree table → node_at table (parent path) ≡ Some Dir → (node_at table path ≡ Some Dir → node ≡ Dir) → IsTree (fin.insert table path node)
 IsTree-insert table path node tree above keeps =
     record {
       root = at-insert table path node [] ∙ put [] tree.root;
@@ -60,7 +60,7 @@ IsTree-insert table path node tree above keeps =
         ] refl
 
 -- a node that is not the root and has nothing below it goes
-IsTree-remove : (table : Table) (path : Names) → IsTree table → (path ≡ [] → ⊥) → ((other : Names) → IsSome (node_at table other) → (other ≡ [] → ⊥) → parent other ≡ path → ⊥) → IsTree (fin.remove table path)
+pub IsTree-remove : (table : Table) (path : Names) → IsTree table → (path ≡ [] → ⊥) → ((other : Names) → IsSome (node_at table other) → (other ≡ [] → ⊥) → parent other ≡ path → ⊥) → IsTree (fin.remove table path)
 IsTree-remove table path tree not_root none_below =
     record {
       root = at-remove table path [] ∙ cond-false (eq_by_cmp path_cmp [] path) None (node_at table []) (false-where _ (λ equal. not_root (sym (same [] path equal)))) ∙ tree.root;
@@ -84,11 +84,11 @@ IsTree-remove table path tree not_root none_below =
         (false-where _ (λ equal. none_below (name ∷ names) there (λ e. cc) (same (parent (name ∷ names)) path equal)))
         ∙ tree.parents (name ∷ names) there
 
-at-root_alone : (path : Names) → node_at root_alone path ≡ cond (eq_by_cmp path_cmp path []) (Some Dir) None
+pub at-root_alone : (path : Names) → node_at root_alone path ≡ cond (eq_by_cmp path_cmp path []) (Some Dir) None
 unfolding node_at root_alone
 at-root_alone path = fin.get-insert path_total fin.empty [] Dir path ∙ ap (cond (eq_by_cmp path_cmp path []) (Some Dir)) (fin.get-empty path_cmp path)
 
-root-tree : IsTree root_alone
+pub root-tree : IsTree root_alone
 root-tree =
     record {
       root = ap (λ table. node_at table []) (sym table_of-none) ∙ node_at-root [] refl;

@@ -16,7 +16,7 @@ use Rattle.ftp_path.specs.Path.{parent, Names, path_cmp, is_within, only_name, n
 use Rattle.ftp_tree.specs.Store.{Rows}
 use Rattle.ftp_tree.specs.Tree.{Node, Table, node_at, children, under, moved, IsTree, whenever, directory_refusal, source_refusal, target_refusal, rename_refusal}
 use Rattle.ftp_tree.specs.declared.fault.TreeFault.TheVariants.{Exists, WrongKind}
-use Rattle.ftp_tree.specs.Laws.{UnderStandsBelow, RenameMovesAll, ChildrenStand, NamesRise}
+use Rattle.ftp_tree.specs.Laws.{MovesAll, UnderStandsBelow, RenameMovesAll, ChildrenStand, NamesRise}
 use Rattle.ftp_tree.proofs.EntryLemmas.{path_total, path_same, less-from, true-from}
 use Rattle.ftp_path.proofs.KeyLemmas.{within-parts, within-append}
 use Rattle.ftp_tree.proofs.TableLemmas.{both-none, not-held}
@@ -27,7 +27,7 @@ pub cmp-front : (front a b : Names) → path_cmp (front ++ a) (front ++ b) ≡ p
 cmp-front [] a b = refl
 cmp-front (name ∷ front) a b = ap (λ r. ordering_then r (path_cmp (front ++ a) (front ++ b))) (tied_itself (lists_total nat_cmp_total) name) ∙ cmp-front front a b
 
-equal-from : (r : Ordering) → is_eq r ≡ true → r ≡ Equal
+pub equal-from : (r : Ordering) → is_eq r ≡ true → r ≡ Equal
 equal-from Less e = absurd (true≢false (sym e))
 equal-from Equal e = refl
 equal-from Greater e = absurd (true≢false (sym e))
@@ -40,7 +40,7 @@ false-where true never = absurd (never refl)
 false-where false never = refl
 
 -- paths of which one is within another path, and one is not, differ
-apart : (above a b : Names) → is_within above a ≡ false → is_within above b ≡ true → eq_by_cmp path_cmp a b ≡ false
+pub apart : (above a b : Names) → is_within above a ≡ false → is_within above b ≡ true → eq_by_cmp path_cmp a b ≡ false
 apart above a b out inside = false-where _ (λ equal. true≢false (sym inside ∙ ap (is_within above) (sym (same a b equal)) ∙ out))
 
 pub apart-back : (above a b : Names) → is_within above a ≡ true → is_within above b ≡ false → eq_by_cmp path_cmp a b ≡ false
@@ -188,16 +188,20 @@ free-to table to tree none path some =
     true≢false (sym (stands-above table tree (length (drop (length to) path)) to (drop (length to) path) (omega arith)
     (ap (λ p. is_some (node_at table p)) (sym (within-parts to path inside)) ∙ some)) ∙ none))
 
+pub moves-where : (table : Table) (from to : Names) → IsTree table → is_some (node_at table to) ≡ false → is_within from to ≡ false → MovesAll table (moved table from to) from to
+moves-where table from to tree absent beside =
+    let es = fin.entries table in
+    let free = each-found (λ p. is_within to p ≡ false) es (λ p found. free-to table to tree absent p (ap is_some (sym (get-node table p)) ∙ found)) in
+    record {
+      comes = λ rest. get-moved table from to (to ++ rest) ∙ comes from to beside rest es free ∙ get-node table (from ++ rest);
+      goes = λ path inside outside. get-moved table from to path ∙ goes from to beside path inside outside es;
+      stays = λ path out_from out_to. get-moved table from to path ∙ stays from to beside path out_from out_to es ∙ get-node table path;
+    }
+
 pub rename-moves : RenameMovesAll
 rename-moves table from to tree none =
     let parts = target-parts table from to none in
-    let es = fin.entries table in
-    let free = each-found (λ p. is_within to p ≡ false) es (λ p found. free-to table to tree parts.0 p (ap is_some (sym (get-node table p)) ∙ found)) in
-    record {
-      comes = λ rest. get-moved table from to (to ++ rest) ∙ comes from to parts.1 rest es free ∙ get-node table (from ++ rest);
-      goes = λ path inside outside. get-moved table from to path ∙ goes from to parts.1 path inside outside es;
-      stays = λ path out_from out_to. get-moved table from to path ∙ stays from to parts.1 path out_from out_to es ∙ get-node table path;
-    }
+    moves-where table from to tree parts.0 parts.1
 
 -- ---- children
 

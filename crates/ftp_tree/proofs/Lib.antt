@@ -1,11 +1,14 @@
+pub mod BranchLemmas
 pub mod ContentLemmas
 pub mod CountLemmas
 pub mod EntryLemmas
 pub mod KeepLaws
 pub mod LawLemmas
+pub mod LeafLemmas
+pub mod MoveLemmas
+pub mod NameLemmas
 pub mod PageLemmas
 pub mod PartLemmas
 pub mod PlaceLemmas
-pub mod StoreLemmas
 pub mod TableLemmas
 pub mod UnderLemmas

@@ -1,7 +1,7 @@
 -- Octets in pages: what is put into the last page, what a cut leaves, and where an octet stands.
-use Rattle.std.proofs.Common.{ℕ, zero, suc, ◌+◌, ◌*◌, ◌-◌, ◌<◌, ◌≤◌, ◌≡◌, List, [], ◌∷◌, ◌++◌, length, take, drop, get_or, set, min, refl, sym, ap, ◌∙◌, arith, append_assoc, length-append, Vec}
+use Rattle.std.proofs.Common.{ℕ, zero, suc, ◌+◌, ◌*◌, ◌<◌, ◌≤◌, ◌≡◌, List, [], ◌∷◌, ◌++◌, length, take, drop, get_or, set, min, sym, ap, ◌∙◌, arith, append_assoc, length-append, Vec}
 use Rattle.std.specs.List.{concat}
-use Rattle.std.proofs.lemmas.List.{append-nil, take-append-le, drop-append-le, length-take, length-drop, take_all, take-take}
+use Rattle.std.proofs.lemmas.List.{append-nil, take-append-le, drop-append-le, length-take, take_all}
 use Rattle.std.proofs.Math.Seq.{take-append-add, drop-append-add}
 use Rattle.ftp_tree.specs.Pages.{IsPaged, HasRoom, page_octets}
 

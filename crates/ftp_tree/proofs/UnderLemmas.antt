@@ -1,29 +1,28 @@
 -- The part below a root, as the rows that are kept have it, and what a change of it makes of the whole.
-use Rattle.std.proofs.Common.{ℕ, suc, ◌+◌, ◌<◌, ◌≤◌, ◌≡◌, Bool, true, false, not, ◌&&◌, ◌||◌, cond, Option, Some, None, is_some, nat_le, nat_eq, List, [], ◌∷◌, ◌++◌, length, drop, refl, sym, ap, ◌∙◌, subst, arith, append_assoc}
+use Rattle.std.proofs.Common.{ℕ, suc, ◌+◌, ◌<◌, ◌≡◌, Bool, true, false, not, ◌&&◌, ◌||◌, cond, Some, None, nat_eq, List, [], ◌∷◌, ◌++◌, length, drop, refl, sym, ap, ◌∙◌, arith, append_assoc}
 use Rattle.std.specs.Prelude.{map}
-use Rattle.std.specs.List.{filter, filter_map, list_all, sum_by, cons_option}
+use Rattle.std.specs.List.{filter_map, list_all, cons_option}
 use Rattle.std.specs.Ordering.{eq_by_cmp, is_lt}
 use Rattle.std.specs.Cmp.Lexicographic.{pointwise}
 use Rattle.std.specs.FinMap as fin
 use Rattle.std.specs.FinMap.{is_sorted}
 use Rattle.std.specs.FinMap.Entries.{find, put, below_all, by_order}
-use Rattle.std.specs.declared.cmp.Ordering.TheVariants.{Less}
 use Rattle.std.proofs.lemmas.Bool.{and_parts, and_from, cond-true, cond-false, true≢false}
 use Rattle.std.proofs.lemmas.List.{length-append, length-map, drop-drop}
 use Rattle.std.proofs.lemmas.List.Sums.{sum_by-cons}
 use Rattle.ftp_path.specs.Path.{fits, joined, Names, path_cmp, is_within, only_name, name_in, moved_path}
-use Rattle.ftp_tree.specs.Tree.{Node, Dir, File, Table, node_at, under, with_part, children, octets_in, length_of, moves_fit, made, removed, installed, moved}
-use Rattle.ftp_tree.specs.Store.{Rows, IsStore, is_in_order, octets_of_rows, table_of, rows_within, all_moves_fit, put_all}
+use Rattle.ftp_tree.specs.Tree.{Node, Dir, Table, node_at, under, with_part, children, octets_in, length_of, moves_fit, moved}
+use Rattle.ftp_tree.specs.Store.{Rows, is_in_order, octets_of_rows, table_of, rows_within, all_moves_fit}
 use Rattle.ftp_path.proofs.KeyLemmas.{within-parts, within-append}
-use Rattle.ftp_tree.proofs.EntryLemmas.{true-from, T-from, less-from}
+use Rattle.ftp_tree.proofs.EntryLemmas.{true-from, less-from}
 use Rattle.ftp_tree.proofs.LawLemmas.{false-where, same, cmp-front, apart-back, eq-fronts, get-moved, get-node, under-stands}
 use Rattle.ftp_tree.proofs.KeepLaws.{at-insert, at-remove}
-use Rattle.ftp_tree.proofs.TableLemmas.{entries-table, entries-all}
+use Rattle.ftp_tree.proofs.TableLemmas.{entries-table, entries-all, put_all}
 use Rattle.ftp_tree.proofs.PartLemmas.{as-part}
 
 -- ---- paths behind a root
 
-and-assoc : (a b c : Bool) → (a && (b && c)) ≡ ((a && b) && c)
+pub and-assoc : (a b c : Bool) → (a && (b && c)) ≡ ((a && b) && c)
 and-assoc true b c = refl
 and-assoc false b c = refl
 
@@ -59,7 +58,7 @@ name_in-outside root path other out = cond-false (is_within (root ++ path) other
 
 -- ---- the rows of a part
 
-pub part_rows : Names → Rows → Rows
+unfoldable pub part_rows : Names → Rows → Rows
 part_rows root es = map (λ e. (drop (length root) e.0, e.1)) (rows_within root es)
 
 below-part : (root x : Names) (es : Rows) → is_within root x ≡ true → below_all path_cmp x es ≡ true → below_all path_cmp (drop (length root) x) (part_rows root es) ≡ true

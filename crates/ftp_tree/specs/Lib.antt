@@ -1,3 +1,5 @@
+pub mod Branch
+pub mod BranchFalls
 pub mod Change
 pub mod Laws
 pub mod Pages

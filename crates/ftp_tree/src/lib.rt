@@ -3,10 +3,10 @@
 #![tactic(auto)]
 
 mod content;
-mod entry;
 mod fault;
 pub mod laws;
 mod memory;
+mod node;
 mod pages;
 mod place;
 mod tree;

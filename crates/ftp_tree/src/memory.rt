@@ -1,15 +1,15 @@
-// A tree in memory: its entries in the order of their paths, and the root, which is none of them.
+// A tree in memory, from its root.
 ghost use Rattle.std.specs.Prelude.{◌≡◌, ◌≤◌, ◌<◌, ◌⊎◌, [], None, OnErr, OnOk, drop, length, take, true};
 ghost use Rattle.std.specs.FinMap as fin;
 ghost use Rattle.std.specs.Option.{option_map};
-ghost use Rattle.ftp_path.specs.Kept.{IsJoined, names_of};
+ghost use Rattle.ftp_path.specs.Kept.{names_of};
 ghost use Rattle.ftp_path.specs.Path.{fits, parent};
-ghost use Rattle.ftp_tree.specs.Store.{standing_node};
+ghost use Rattle.ftp_tree.specs.Store.{IsPlace, standing_node};
 ghost use Rattle.ftp_tree.specs.Tree.{delete_refusal, directory_refusal, install_refusal, installed, made, make_refusal, moved, moves_fit, node_at, nodes_refusal, octets_in, octets_or_none, or_else, place_refusal, remove_refusal, removed, rename_refusal, room_at, room_refusal, root_alone, source_refusal, target_refusal, under, with_part};
 
 use crate::content::Content;
-use crate::entry::{self, Entry, Kept, Standing};
 use crate::fault::TreeFault;
+use crate::node::{Count, Node, Standing};
 use crate::place::Joined;
 use crate::tree::{NodeKind, Tree};
 use ftp_facts::Moment;
@@ -18,8 +18,11 @@ use ftp_path::{Name, Path};
 use std::alloc::{AllocError, Allocator};
 use std::marker::Model;
 
+/// The most octets of a canonical text (own choice).
+const TEXT_LIMIT: usize = 900;
+
 /// The most nodes below an account's root (own choice).
-const NODE_LIMIT: u128 = 16_384;
+const NODE_LIMIT: u64 = 16_384;
 
 /// The most octets of a file (own choice).
 const FILE_LIMIT: u64 = 67_108_864;
@@ -30,7 +33,7 @@ const TOTAL_LIMIT: u128 = 67_108_864;
 /// A tree that is kept in memory. It has no device, so its count of device failures stays at 0.
 #[derive(Drop)]
 pub struct MemTree<A: Allocator + Copy> {
-    entries: Vec<Entry<A>, A>,
+    root: Node<A>,
     alloc: A,
 }
 
@@ -42,11 +45,11 @@ impl<A: Allocator + Copy> Model for MemTree<A> {
 
     ghost coded = { table_code };
 
-    ghost use Rattle.ftp_tree.specs.Store.{IsStore, rows, table_of};
+    ghost use Rattle.ftp_tree.specs.Tree.{IsTree};
 
-    ghost view = { λ tree. table_of (rows tree.entries.items) };
+    ghost view = { λ tree. tree.root };
 
-    ghost invariant = { λ tree. IsStore (rows tree.entries.items) };
+    ghost invariant = { λ tree. IsTree tree.root };
 }
 
 impl<A: Allocator + Copy> Tree<A> for MemTree<A> {
@@ -100,7 +103,10 @@ impl<A: Allocator + Copy> Tree<A> for MemTree<A> {
         place: usize,
     ) -> Option<Name<'_>> {
         let above = Joined::of(root, path);
-        entry::nth_name(self.entries.as_slice(), above.key(), place)
+        let Some(node) = self.root.find(above.key()) else {
+            return None;
+        };
+        node.nth_name(place)
     }
 
     fn room<B: Allocator, C: Allocator>(
@@ -194,7 +200,7 @@ impl<A: Allocator + Copy> MemTree<A> {
         ensures { result ≡ root_alone }
     {
         MemTree {
-            entries: Vec::new(alloc),
+            root: Node::dir(alloc),
             alloc,
         }
     }
@@ -291,14 +297,13 @@ impl<A: Allocator + Copy> MemTree<A> {
 
     /// What stands at the place whose names a text joins.
     fn at(&self, key: &[u8]) -> Option<Standing<'_, A>>
-        requires { IsJoined key.now }
+        requires { IsPlace key.now }
         ensures { option_map standing_node result ≡ node_at self.now (names_of key.now) }
     {
-        let entries = self.entries.as_slice();
-        if key.is_empty() {
-            return Some(Standing::Dir);
-        }
-        entry::find(entries, key)
+        let Some(node) = self.root.find(key) else {
+            return None;
+        };
+        Some(node.standing())
     }
 
     /// What stands at a path below a root.
@@ -335,23 +340,15 @@ impl<A: Allocator + Copy> MemTree<A> {
         }
     }
 
-    /// The octets of all files at or below a root.
-    fn octets_below<B: Allocator>(&self, root: &Path<B>) -> u128
-        ensures { result ≡ octets_in (under self.now root.now) }
+    /// How many nodes stand at or below a root, and how many octets their files have.
+    fn count_below<B: Allocator>(&self, root: &Path<B>) -> Count
+        ensures nodes { result.nodes ≡ fin.len (under self.now root.now) }
+        ensures octets { result.octets ≡ octets_in (under self.now root.now) }
     {
-        entry::octets_within(self.entries.as_slice(), root.key())
-    }
-
-    /// How many nodes stand at or below a root.
-    fn nodes_below<B: Allocator>(&self, root: &Path<B>) -> u128
-        ensures { result ≡ fin.len (under self.now root.now) }
-    {
-        let count = entry::count_within(self.entries.as_slice(), root.key());
-        if root.key().is_empty() {
-            count as u128 + 1
-        } else {
-            count as u128
-        }
+        let Some(node) = self.root.find(root.key()) else {
+            return Count::NONE;
+        };
+        node.count()
     }
 
     /// The most octets that a file may have there.
@@ -360,7 +357,7 @@ impl<A: Allocator + Copy> MemTree<A> {
         ensures { result ≡ room_at (under self.now root.now) path.now }
     {
         let freed = self.len_at(root, path) as u128;
-        let others = self.octets_below(root).saturating_sub(freed);
+        let others = self.count_below(root).octets.saturating_sub(freed);
         FILE_LIMIT.min(TOTAL_LIMIT.saturating_sub(others) as u64)
     }
 
@@ -382,7 +379,7 @@ impl<A: Allocator + Copy> MemTree<A> {
     fn nodes_refusal<B: Allocator>(&self, root: &Path<B>) -> Option<TreeFault>
         ensures { result ≡ nodes_refusal (under self.now root.now) }
     {
-        if self.nodes_below(root) > NODE_LIMIT {
+        if self.count_below(root).nodes > NODE_LIMIT {
             return Some(TreeFault::Full);
         }
         None
@@ -414,7 +411,6 @@ impl<A: Allocator + Copy> MemTree<A> {
         from: &Path<C>,
         to: &Path<D>,
     ) -> Option<TreeFault>
-        requires { source_refusal (under self.now root.now) from.now ≡ None }
         ensures { result ≡ target_refusal (under self.now root.now) from.now to.now }
     {
         if self.standing(root, to).is_some() {
@@ -439,11 +435,13 @@ impl<A: Allocator + Copy> MemTree<A> {
         from: &Path<C>,
         to: &Path<D>,
     ) -> bool
-        requires { source_refusal (under self.now root.now) from.now ≡ None }
         ensures { result ≡ moves_fit (under self.now root.now) from.now to.now }
     {
         let above = Joined::of(root, from);
-        entry::moves_fit(self.entries.as_slice(), above.key(), to.key())
+        let Some(node) = self.root.find(above.key()) else {
+            return true;
+        };
+        node.fits(TEXT_LIMIT - to.key().len())
     }
 
     /// The same, why no file can be put at a path.
@@ -473,7 +471,8 @@ impl<A: Allocator + Copy> MemTree<A> {
         ensures err { OnErr result (self.new ≡ self.old) }
     {
         let place = Joined::of(root, path);
-        let Ok(_) = entry::put(&mut self.entries, self.alloc, place.key(), Kept::Dir) else {
+        let node = Node::dir(self.alloc);
+        let Ok(_) = self.root.put(self.alloc, place.key(), node) else {
             return Err(AllocError);
         };
         Ok(())
@@ -492,12 +491,9 @@ impl<A: Allocator + Copy> MemTree<A> {
         ensures err { OnErr result ((self.new ≡ self.old) × (content.new ≡ content.old)) }
     {
         let octets = content.take(self.alloc);
-        let node = Kept::File {
-            content: octets,
-            moment,
-        };
+        let node = Node::file(octets, moment);
         let place = Joined::of(root, path);
-        if let Err(node) = entry::put(&mut self.entries, self.alloc, place.key(), node) {
+        if let Err(node) = self.root.put(self.alloc, place.key(), node) {
             *content = node.into_content(self.alloc);
             return Err(AllocError);
         }
@@ -510,7 +506,7 @@ impl<A: Allocator + Copy> MemTree<A> {
         ensures { self.new ≡ with_part self.old root.now (removed (under self.old root.now) path.now) }
     {
         let place = Joined::of(root, path);
-        entry::remove(&mut self.entries, place.key());
+        let _gone = self.root.take_out(place.key());
     }
 
     /// Moves what stands at a path, with all below it, where no refusal applies: all memory is had first.
@@ -526,15 +522,13 @@ impl<A: Allocator + Copy> MemTree<A> {
     {
         let old = Joined::of(root, from);
         let new = Joined::of(root, to);
-        let mut moves = entry::moved_names(
-            self.alloc,
-            self.entries.as_slice(),
-            old.key(),
-            new.key(),
-        )?;
-        let mut moved = Vec::with_capacity(self.alloc, self.entries.len())?;
-        entry::move_into(&mut self.entries, &mut moves, &mut moved);
-        self.entries = moved;
+        let Ok(_) = self.root.put(self.alloc, new.key(), Node::dir(self.alloc)) else {
+            return Err(AllocError);
+        };
+        // What is taken out is part of this count, so it fits again where it is put.
+        let _all = self.root.count();
+        let node = self.root.take_out(old.key()).unwrap();
+        self.root.put(self.alloc, new.key(), node).unwrap();
         Ok(())
     }
 }

@@ -1,4 +1,4 @@
-use Rattle.std.proofs.Common.{◌≡◌, ◌<◌, ◌≤◌, ◌+◌, ◌-◌, ◌∙◌, [], ◌++◌, suc, sym, ap, take, get_or, length, min, arith, Vec, ℕ, List}
+use Rattle.std.proofs.Common.{◌≡◌, ◌<◌, ◌≤◌, ◌+◌, ◌-◌, ◌∙◌, [], ◌++◌, sym, take, get_or, length, arith, Vec, ℕ, List}
 use Rattle.std.proofs.lemmas.List.{append-nil, length-take}
 use Rattle.ftp_tree.specs.Pages.{IsPaged, HasRoom, page_octets}
 use Rattle.ftp_tree.proofs.PageLemmas.{IsFilled, room-at, some-room, filled}

@@ -1,4 +1,4 @@
-use Rattle.std.proofs.Common.{◌≡◌, ◌<◌, ◌-◌, suc, length, arith}
+use Rattle.std.proofs.Common.{◌≡◌, ◌-◌, suc, length, arith}
 use Rattle.std.proofs.lemmas.Bool.{ltb-true, lt-ltb}
 use Rattle.ftp_tree.proofs.PageLemmas.{room-at, at-room}
 use Rattle.ftp_tree.proofs.pages.has_room.Goals as goal

@@ -1,6 +1,6 @@
 use Rattle.std.proofs.Common.{◌≡◌, ◌<◌, ◌≤◌, ◌+◌, ◌*◌, ◌-◌, ◌/◌, ◌%◌, ◌∙◌, sym, ap, take, drop, length, arith}
 use Rattle.std.specs.List.{concat}
-use Rattle.std.proofs.lemmas.List.{take_rest, length-take, length-drop}
+use Rattle.std.proofs.lemmas.List.{take_rest, length-take}
 use Rattle.ftp_tree.specs.Pages.{page_octets}
 use Rattle.ftp_tree.proofs.PageLemmas.{paged-le, past-page, piece-front}
 use Rattle.ftp_tree.proofs.pages.piece.Goals as goal

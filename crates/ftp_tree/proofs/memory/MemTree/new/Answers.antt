@@ -1,10 +1,7 @@
-use Rattle.std.proofs.Common.{sym, ap, subst, ◌∙◌}
-use Rattle.ftp_tree.specs.Store.{IsStore, table_of, rows}
-use Rattle.ftp_tree.proofs.TableLemmas.{IsStore-none, table_of-none}
+use Rattle.std.proofs.Common.{sym, subst}
+use Rattle.ftp_tree.specs.Tree.{IsTree}
+use Rattle.ftp_tree.proofs.KeepLaws.{root-tree}
 use Rattle.ftp_tree.proofs.memory.MemTree.new.Goals as goal
 
 pub invariant_of-result : goal.invariant_of-result
-invariant_of-result g c = subst (λ entries. IsStore (rows entries)) (sym c.new.ensures.items) IsStore-none
-
-pub returns : goal.returns
-returns g c = ap (λ entries. table_of (rows entries)) c.new.ensures.items ∙ table_of-none
+invariant_of-result g c = subst IsTree (sym c.dir.ensures) root-tree

@@ -1,16 +1,20 @@
-use Rattle.std.proofs.Common.{ap, ◌∙◌}
-use Rattle.ftp_tree.specs.Store.{rows}
-use Rattle.ftp_tree.specs.Tree.{make_refusal, made, under, with_part}
-use Rattle.ftp_tree.proofs.StoreLemmas.{made-at}
+use Rattle.std.proofs.Common.{[], ap, ◌∙◌, is_some}
+use Rattle.ftp_path.specs.Kept.{names_of}
+use Rattle.ftp_tree.specs.Tree.{make_refusal, made, node_at, under, with_part}
+use Rattle.ftp_tree.proofs.KeepLaws.{root-tree}
+use Rattle.ftp_tree.proofs.LeafLemmas.{made-at}
 use Rattle.ftp_tree.proofs.memory.MemTree.put_dir.Goals as goal
+
+pub put-requires-clause-stands : goal.put-requires-clause-stands
+put-requires-clause-stands g c = ap (λ table. is_some (node_at table [])) c.dir-node.ensures ∙ ap is_some root-tree.root
 
 pub invariant_of-self-2 : goal.invariant_of-self-2
 invariant_of-self-2 g c =
-    (made-at (rows c.self.inside.entries.items) _ c.args.root.now c.args.path.now _ c.self.invariant
-    (ap (λ table. make_refusal (under table c.args.root.now) c.args.path.now) c.self.view_is ∙ c.requires) (c.key.ensures.names ∙ c.of-place.ensures) c.in-Ok.ensures.ok).store
+    (made-at c.self.inside.root _ c.args.root.now c.args.path.now _ c.self.invariant (ap (λ table. make_refusal (under table c.args.root.now) c.args.path.now) c.self.view_is ∙ c.requires)
+    (c.key.ensures.names ∙ c.of-place.ensures) (c.in-Ok.ensures.ok ∙ ap (with_part c.self.inside.root (names_of c.key.result.now)) c.dir-node.ensures)).tree
 
 pub returns-clause-ok : goal.returns-clause-ok
 returns-clause-ok g c =
-    (made-at (rows c.self.inside.entries.items) _ c.args.root.now c.args.path.now _ c.self.invariant
-    (ap (λ table. make_refusal (under table c.args.root.now) c.args.path.now) c.self.view_is ∙ c.requires) (c.key.ensures.names ∙ c.of-place.ensures) c.in-Ok.ensures.ok).is
+    (made-at c.self.inside.root _ c.args.root.now c.args.path.now _ c.self.invariant (ap (λ table. make_refusal (under table c.args.root.now) c.args.path.now) c.self.view_is ∙ c.requires)
+    (c.key.ensures.names ∙ c.of-place.ensures) (c.in-Ok.ensures.ok ∙ ap (with_part c.self.inside.root (names_of c.key.result.now)) c.dir-node.ensures)).is
     ∙ ap (λ table. with_part table c.args.root.now (made (under table c.args.root.now) c.args.path.now)) c.self.view_is

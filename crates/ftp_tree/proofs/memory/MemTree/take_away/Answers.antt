@@ -1,18 +1,23 @@
 use Rattle.std.proofs.Common.{◌≡◌, ◌⊎◌, None, subst, sym, ap, ◌∙◌}
-use Rattle.ftp_tree.specs.Store.{rows}
 use Rattle.ftp_tree.specs.Tree.{delete_refusal, remove_refusal, removed, under, with_part}
-use Rattle.ftp_tree.proofs.StoreLemmas.{removed-at}
+use Rattle.ftp_tree.proofs.LeafLemmas.{loose-from, removed-at}
+use Rattle.ftp_tree.proofs.PlaceLemmas.{some-key}
 use Rattle.ftp_tree.proofs.memory.MemTree.take_away.Goals as goal
+
+pub take_out-gone-requires-clause-some : goal.take_out-gone-requires-clause-some
+take_out-gone-requires-clause-some g c =
+    let free = subst (λ table. (delete_refusal (under table c.args.root.now) c.args.path.now ≡ None) ⊎ (remove_refusal (under table c.args.root.now) c.args.path.now ≡ None)) (sym c.self.view_is) c.requires in
+    some-key c.key.result.now c.key.ensures.place (λ none. (loose-from c.self.inside.root c.args.root.now c.args.path.now c.self.invariant free).some (sym (c.key.ensures.names ∙ c.of-place.ensures) ∙ none))
 
 pub invariant_of-self : goal.invariant_of-self
 invariant_of-self g c =
-    (removed-at (rows c.self.inside.entries.items) _ c.args.root.now c.args.path.now _ c.self.invariant
+    (removed-at c.self.inside.root _ c.args.root.now c.args.path.now _ c.self.invariant
     (subst (λ table. (delete_refusal (under table c.args.root.now) c.args.path.now ≡ None) ⊎ (remove_refusal (under table c.args.root.now) c.args.path.now ≡ None)) (sym c.self.view_is) c.requires)
-    (c.key.ensures.names ∙ c.of-place.ensures) c.remove.ensures).store
+    (c.key.ensures.names ∙ c.of-place.ensures) c.take_out-gone.ensures.left).tree
 
 pub returns : goal.returns
 returns g c =
-    (removed-at (rows c.self.inside.entries.items) _ c.args.root.now c.args.path.now _ c.self.invariant
+    (removed-at c.self.inside.root _ c.args.root.now c.args.path.now _ c.self.invariant
     (subst (λ table. (delete_refusal (under table c.args.root.now) c.args.path.now ≡ None) ⊎ (remove_refusal (under table c.args.root.now) c.args.path.now ≡ None)) (sym c.self.view_is) c.requires)
-    (c.key.ensures.names ∙ c.of-place.ensures) c.remove.ensures).is
+    (c.key.ensures.names ∙ c.of-place.ensures) c.take_out-gone.ensures.left).is
     ∙ ap (λ table. with_part table c.args.root.now (removed (under table c.args.root.now) c.args.path.now)) c.self.view_is
