@@ -140,7 +140,7 @@ fn has_room<A: Allocator>(room: u64, kept: u64, octets: &Text<A>) -> bool
 }
 
 /// The first octets of the file at a path, to be installed again.
-fn front<A: Allocator, T: Tree<A>>(
+fn front<A: Allocator + Clone, T: Tree<A>>(
     alloc: A,
     tree: &T,
     root: &Path<A>,
