@@ -1,6 +1,6 @@
-ghost use Rattle.std.specs.Prelude.{◌≡◌, ◌<◌, ◌≤◌, ◌++◌, ℕ, List, [], length, drop, Some, None, true, false, IsTrue};
+ghost use Rattle.std.specs.Prelude.{◌≡◌, ◌<◌, ◌≤◌, ◌++◌, ℕ, List, [], length, drop, None, true, false, IsTrue, IfSome};
 ghost use Rattle.ftp_repr.specs.Items.{given_signs};
-ghost use Rattle.ftp_repr.specs.Sending.{sender_form, has_sent_end, still_to_send};
+ghost use Rattle.ftp_repr.specs.Sending.{sender_form, has_sent_end, still_to_send, StandsFor, is_end};
 ghost use Rattle.ftp_repr.specs.declared.item.Item.TheVariants.{EndFile};
 
 use crate::item::Item;
@@ -32,6 +32,13 @@ impl Sender {
         }
     }
 
+    /// Whether the end of file was given: nothing follows it.
+    pub fn is_over(&self) -> bool
+        ensures { result ≡ has_sent_end self.now }
+    {
+        self.ended
+    }
+
     /// The next item of the file, and how many octets of the piece it stands for.
     ///
     /// `piece` has the next octets of the file, any number of them, and `last` says that none follow it. Octets are
@@ -50,6 +57,12 @@ impl Sender {
         ensures some { 0 < length piece.now → 0 < result.0 }
         ensures ends { IsTrue last → piece.now ≡ [] → has_sent_end self.new ≡ true }
         ensures full { given_signs result.1 ≡ [] → result.1 ≡ None }
+
+        // What an item stands for, and that only the end of file changes the sender, once.
+        ensures part { IfSome result.1 (λ item. StandsFor (sender_form self.old) piece.now result.0 item) }
+        ensures same { is_end result.1 ≡ false → self.new ≡ self.old }
+        ensures end { is_end result.1 ≡ true → has_sent_end self.new ≡ true }
+        ensures over { has_sent_end self.old ≡ true → result.1 ≡ None }
     {
         if self.ended {
             return (piece.len(), None);
