@@ -1,11 +1,12 @@
 -- What a deframer made of a piece.
-use Rattle.std.specs.Prelude.{◌≡◌, ℕ, ◌+◌, ◌<◌, ◌≤◌, ◌⊎◌, List, [], ◌∷◌, ◌++◌, length, take}
+use Rattle.std.specs.Prelude.{◌≡◌, ℕ, ◌+◌, ◌-◌, ◌<◌, ◌≤◌, ◌⊎◌, List, [], ◌∷◌, ◌++◌, length, take}
 use Rattle.ftp_machine.specs.Machine.{after, gives}
 use Rattle.ftp_repr.specs.Signs.{end_record, end_file}
 use Rattle.ftp_mode.specs.declared.fault.FrameFault.{FrameFault}
 use Rattle.ftp_mode.specs.declared.step.Part.{Part}
 use Rattle.ftp_mode.specs.declared.step.Part.TheVariants.{Need, Data, EndRecord, EndFile, Marker}
 use Rattle.ftp_mode.specs.declared.step.Step.{Step}
+use Rattle.ftp_mode.specs.declared.step.FaultAt.{FaultAt}
 use Rattle.ftp_mode.specs.declared.deframer.State.{State}
 use Rattle.ftp_mode.specs.declared.deframer.State.TheVariants.{Plain, Outside, Escaped, Head, High, Low, Inside, Marking, Ended, Failed}
 use Rattle.ftp_mode.specs.declared.deframer.Owed.{Owed}
@@ -55,25 +56,29 @@ owed_said File = says end_file ∷ []
 abbrev pub owed : Deframer → List Said
 owed f = owed_said f.owed
 
--- the octets that were taken give the part, and what is owed behind it; nothing, only where the piece was taken whole and
--- nothing is owed; and but for ends that are owed, only where no fault was met
+-- the last of n octets say this, each one thing and the last perhaps more behind it; those before them say nothing
+pub record SaysLast (from : Reading) (piece : List ℕ) (n : ℕ) (said : List Said) : Type 0 where
+  pub fits : length said ≤ n
+  pub each : (i : ℕ) → i < length said → gives reader from (take (n - length said + i) piece) ≡ take i said
+
+-- the octets that were taken give the part, the last of them one by one, and what is owed behind it; nothing, only where the piece
+-- was taken whole and nothing is owed; and but for ends that are owed, only where no fault was met
 pub record Hears (old : Deframer) (piece : List ℕ) (step : Step) (new : Deframer) : Type 0 where
   pub within : step.taken ≤ length piece
   pub state : reading new ≡ after reader (reading old) (take step.taken piece)
   pub says : part_said step.part (last_marker new) ++ owed new ≡ owed old ++ gives reader (reading old) (take step.taken piece)
   pub some : (0 < length (part_said step.part (last_marker new))) ⊎ ((step.part ≡ Need) × (step.taken ≡ length piece) × (owed new ≡ []))
+  pub by_last : (step.taken ≡ 0) ⊎ SaysLast (reading old) piece step.taken (part_said step.part (last_marker new))
   pub fine : owed old ≡ [] → IsGoing (reading new)
 
--- the first octets give nothing, and the last of them stands in no text; of none, it was so before
-pub record FailsAt (old : Deframer) (piece : List ℕ) (count : ℕ) (fault : FrameFault) (new : Deframer) : Type 0 where
-  pub within : count ≤ length piece
-  pub state : reading new ≡ after reader (reading old) (take count piece)
-  pub fails : reading new ≡ failed fault
-  pub quiet : owed old ++ gives reader (reading old) (take count piece) ≡ []
+-- the octets that were taken give nothing, and the last of them is the first that stands in no text; of none, it was so before
+pub record Fails (old : Deframer) (piece : List ℕ) (met : FaultAt) (new : Deframer) : Type 0 where
+  pub within : met.taken ≤ length piece
+  pub state : reading new ≡ after reader (reading old) (take met.taken piece)
+  pub fails : reading new ≡ failed met.fault
+  pub first : 0 < met.taken → IsGoing (after reader (reading old) (take (met.taken - 1) piece))
+  pub quiet : owed old ++ gives reader (reading old) (take met.taken piece) ≡ []
   pub owes : owed new ≡ []
-
-abbrev pub Fails : Deframer → List ℕ → FrameFault → Deframer → Type 0
-Fails old piece fault new = (count : ℕ) × FailsAt old piece count fault new
 
 -- what a bite gave: its octets, or the marker that they end
 abbrev pub gave_said : Gave → List ℕ → List ℕ → List Said
@@ -86,12 +91,14 @@ pub record Moves (before now : Reading) (w : List ℕ) (said : List Said) : Type
   pub state : now ≡ after reader before w
   pub says : said ≡ gives reader before w
 
--- a few octets in front of a piece, one at least
+-- a few octets in front of a piece, one at least; ends come with one
 pub record Bites (old : Deframer) (piece : List ℕ) (bite : Bite) (new : Deframer) : Type 0 where
   pub some : 0 < bite.taken
   pub within : bite.taken ≤ length piece
   pub moves : Moves (reading old) (reading new) (take bite.taken piece)
       (gave_said bite.gave (take bite.taken piece) (last_marker new) ++ owed new)
+  pub by_last : SaysLast (reading old) piece bite.taken (gave_said bite.gave (take bite.taken piece) (last_marker new))
+  pub alone : bite.gave ≡ GaveNothing → (bite.taken ≡ 1) ⊎ (owed new ≡ [])
   pub fine : IsGoing (reading new)
 
 -- one octet

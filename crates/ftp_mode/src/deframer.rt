@@ -1,11 +1,11 @@
-ghost use Rattle.std.specs.Prelude.{◌≡◌, ◌≢◌, ◌+◌, ◌<◌, ◌≤◌, ◌⊎◌, ◌++◌, ℕ, List, [], ◌∷◌, ◌-◌, ◌^◌, ◌↔◌, min, length, take, drop, IfOk, IfErr, OnOk, OnErr, IsOk, IsTrue, IsFalse, IfSome, IfNone, slice_index};
+ghost use Rattle.std.specs.Prelude.{◌≡◌, ◌≢◌, ◌+◌, ◌<◌, ◌≤◌, ◌⊎◌, ◌++◌, ℕ, List, [], ◌∷◌, ◌-◌, ◌^◌, ◌↔◌, min, length, take, drop, IfOk, IfErr, OnOk, OnErr, IsOk, IsTrue, IsFalse, true, IfSome, IfNone, slice_index};
 ghost use Rattle.ftp_framer.specs.Block.{ends_of};
 ghost use Rattle.ftp_framer.specs.Count.{count_on};
 ghost use Rattle.ftp_mode.specs.Reading.{Reading, start, at_end, broken_state, going, failed, after_block, is_complete};
 ghost use Rattle.ftp_mode.specs.Deframing.{reading, owed, last_marker, part_said, gave_said, Hears, Fails, Bites, Reads, Refuses, IsControl};
 
 use crate::fault::FrameFault;
-use crate::step::{Part, Step};
+use crate::step::{FaultAt, Part, Step};
 use arrayvec::ArrayVec;
 use ftp_framer::Mode;
 use ftp_framer::descriptor::{END_OF_FILE, END_OF_RECORD, RESTART_MARKER, SUSPECTED_ERRORS};
@@ -97,24 +97,27 @@ impl Deframer {
     ///
     /// `piece` has the next octets of the data connection, any number of them; `taken` counts those used. A part may
     /// come with none taken: an end that stood behind another. Data is lent from `piece`; octets behind the end of
-    /// file are taken and say nothing. Faults name their place, in wire octets from 0. After one, each call answers
-    /// it again.
-    pub fn feed<'a>(&mut self, piece: &'a [u8]) -> Result<Step<'a>, FrameFault>
+    /// file are taken and say nothing. Faults name their place, in wire octets from 0, and come with the octets taken
+    /// up to the wrong one. After one, each call answers it again and takes nothing.
+    pub fn feed<'a>(&mut self, piece: &'a [u8]) -> Result<Step<'a>, FaultAt>
         ensures ok { IfOk result (λ step. Hears self.old piece.now step self.new) }
-        ensures err { IfErr result (λ fault. Fails self.old piece.now fault self.new) }
+        ensures err { IfErr result (λ met. Fails self.old piece.now met self.new) }
     {
         if let Some(part) = self.owed_part() {
             return Ok(Step { taken: 0, part });
         }
         if let State::Failed(fault) = self.state {
-            return Err(fault);
+            return Err(FaultAt { taken: 0, fault });
         }
         let mut at = 0;
         while at < piece.len() {
             let (_, rest) = piece.split_at(at);
             let bite = match self.bite(rest) {
                 Ok(bite) => bite,
-                Err(fault) => return Err(fault),
+                Err(fault) => return Err(FaultAt {
+                    taken: at + 1,
+                    fault,
+                }),
             };
             let (octets, _) = rest.split_at(bite.taken);
             at += bite.taken;
@@ -158,6 +161,16 @@ impl Deframer {
         }
     }
 
+    /// Whether a file that ends here is whole: the end of file came, or the end of the connection is it.
+    pub fn is_complete(&self) -> bool
+        ensures { is_complete (reading self.now) ↔ (result ≡ true) }
+    {
+        match self.state {
+            State::Plain | State::Ended => true,
+            _ => false,
+        }
+    }
+
     /// The connection broke: no octet follows. What was read stays to be given.
     pub fn broken(&mut self)
         ensures state { reading self.new ≡ broken_state (reading self.old) }
@@ -169,10 +182,10 @@ impl Deframer {
         }
     }
 
-    /// Takes the first end that is owed.
-    fn owed_part<'a>(&mut self) -> Option<Part<'a>>
+    /// Takes the first end that was read and not yet given, as the next `feed` would.
+    pub fn owed_part<'a>(&mut self) -> Option<Part<'a>>
         ensures some { IfSome result (λ part. (text : List ℕ) → part_said part text ++ owed self.new ≡ owed self.old) }
-        ensures full { IfSome result (λ part. (text : List ℕ) → 0 < length (part_said part text)) }
+        ensures one { IfSome result (λ part. (text : List ℕ) → length (part_said part text) ≡ 1) }
         ensures none { IfNone result (owed self.old ≡ []) }
         ensures state { reading self.new ≡ reading self.old }
         ensures marker { last_marker self.new ≡ last_marker self.old }

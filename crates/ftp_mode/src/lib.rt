@@ -10,4 +10,4 @@ mod step;
 pub use deframer::Deframer;
 pub use fault::FrameFault;
 pub use ftp_framer::{Framer, Mode, Written};
-pub use step::{Part, Step};
+pub use step::{FaultAt, Part, Step};

@@ -69,7 +69,7 @@ impl<A: Allocator> Receiving<A> {
             let (_, rest) = piece.split_at(at);
             let step = match self.deframer.feed(rest) {
                 Ok(step) => step,
-                Err(fault) => return Ok(Heard::Faulty(fault)),
+                Err(met) => return Ok(Heard::Faulty(met.fault)),
             };
             at += step.taken;
             self.receive(step.part)?;

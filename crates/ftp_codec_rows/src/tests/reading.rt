@@ -2,7 +2,7 @@ use super::wires::{
     ASCII_BLOCK, ASCII_RECORD_BLOCK, ASCII_STREAM, FILE_BLOCK, How, RECORD_BLOCK, RECORD_STREAM,
     reads_as,
 };
-use ftp_mode::{Deframer, FrameFault, Mode, Part, Step};
+use ftp_mode::{Deframer, FaultAt, FrameFault, Mode, Part, Step};
 use ftp_repr::Structure;
 use std::alloc::Global;
 use std::test::Fail;
@@ -202,11 +202,13 @@ fn a_marker_is_lent(rt: HostRuntime) {
 #[test]
 fn a_fault_stays(rt: HostRuntime) {
     let mut deframer = Deframer::new(Mode::Stream, Structure::Record);
-    let fault = Err(FrameFault::BadEscape(1));
-    assert_eq!(&rt; deframer.feed(&[0xFF, 0x04, 0x61]), fault);
-    assert_eq!(&rt; deframer.feed(&[0x61]), fault);
+    let fault = FrameFault::BadEscape(1);
+    let met = Err(FaultAt { taken: 2, fault });
+    assert_eq!(&rt; deframer.feed(&[0xFF, 0x04, 0x61]), met);
+    let again = Err(FaultAt { taken: 0, fault });
+    assert_eq!(&rt; deframer.feed(&[0x61]), again);
     deframer.broken();
-    assert_eq!(&rt; deframer.end(), Err(FrameFault::BadEscape(1)));
+    assert_eq!(&rt; deframer.end(), Err(fault));
 }
 
 #[test]
@@ -225,7 +227,8 @@ fn a_break_leaves_what_was_read(rt: HostRuntime) {
         part: Part::EndRecord,
     });
     assert_eq!(&rt; deframer.feed(&[]), ended);
-    assert_eq!(&rt; deframer.feed(&[]), Err(FrameFault::EndedEarly));
+    let fault = FrameFault::EndedEarly;
+    assert_eq!(&rt; deframer.feed(&[]), Err(FaultAt { taken: 0, fault }));
 }
 
 #[test]

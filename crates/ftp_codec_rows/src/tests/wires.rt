@@ -155,7 +155,7 @@ fn read(
     for _ in 0..500_000 {
         let (front, _) = rest.split_at(piece.min(rest.len()));
         match deframer.feed(front) {
-            Err(fault) => return Ok(Some(fault)),
+            Err(met) => return Ok(Some(met.fault)),
             Ok(step) => {
                 if rest.is_empty() && step.part == Part::Need {
                     break;

@@ -4,8 +4,11 @@ use Rattle.ftp_mode.specs.declared.deframer.Gave.{Gave}
 use Rattle.ftp_mode.specs.declared.deframer.Gave.TheVariants.{Nothing, Octets}
 use Rattle.ftp_framer.specs.Said.{Said, octets_said}
 use Rattle.ftp_framer.specs.Count.{count_on}
-use Rattle.ftp_mode.specs.Deframing.{reading, owed, owed_said, last_marker, gave_said, Moves}
-use Rattle.ftp_mode.proofs.BiteLemmas.{plain_moves, ended_moves, going_by}
+use Rattle.ftp_mode.specs.Deframing.{reading, owed, owed_said, last_marker, gave_said, Moves, SaysLast, reading_of}
+use Rattle.ftp_machine.specs.Machine.{gives}
+use Rattle.ftp_mode.specs.Reading.{reader, plain}
+use Rattle.ftp_mode.proofs.ReaderRuns.{run_gives, plain_runs}
+use Rattle.ftp_mode.proofs.BiteLemmas.{plain_moves, ended_moves, going_by, run_last, none_last}
 use Rattle.ftp_mode.proofs.deframer.Deframer.all.Goals as goal
 
 pub returns : goal.returns
@@ -27,6 +30,14 @@ returns c =
         | inr h ↦ going_by old.state new.state new.place (last_marker new) (inr (inr h.0)) c.moved.ensures.state
       ];
       some = c.requires.some;
+      by_last = elim c.requires.place [
+        | inl h ↦ (let G : Gave → Type 0 = λ g. SaysLast (reading old) piece n (gave_said g front (last_marker new)) in
+            subst G (sym h.1) (run_last (reading old) piece n (omega arith) (λ i less.
+            ap (λ s. gives reader (reading_of s old.place (last_marker old)) (take i piece)) h.0 ∙ run_gives plain old.place (take i piece) (plain_runs (take i piece)))))
+        | inr h ↦ (let G : Gave → Type 0 = λ g. SaysLast (reading old) piece n (gave_said g front (last_marker new)) in
+            subst G (sym h.1) (none_last (reading old) piece n))
+      ];
+      alone = λ gave. inr none;
       within = omega arith;
       moves = elim c.requires.place [
         | inl h ↦ (let R : List Said → Type 0 = λ l. P Octets l in

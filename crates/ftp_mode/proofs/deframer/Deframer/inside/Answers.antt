@@ -5,7 +5,7 @@ use Rattle.ftp_framer.specs.Block.{ends_of}
 use Rattle.ftp_framer.specs.Count.{count_on}
 use Rattle.ftp_mode.specs.Deframing.{reading, reading_of, owed, owed_said, last_marker, Moves}
 use Rattle.ftp_mode.specs.declared.deframer.State.TheVariants.{Inside}
-use Rattle.ftp_mode.proofs.BiteLemmas.{short_moves, full_moves, closed_going}
+use Rattle.ftp_mode.proofs.BiteLemmas.{short_moves, full_moves, closed_going, run_last, inside_gives}
 use Rattle.ftp_mode.proofs.deframer.Deframer.inside.Goals as goal
 
 pub returns-then-piece-left : goal.returns-then-piece-left
@@ -26,6 +26,9 @@ returns-then-piece-left c =
     record {
       fine = tt;
       some = c.requires.some;
+      by_last = run_last (reading old) piece n (omega arith) (λ i few.
+          inside_gives old.state old.place c.args.descriptor c.args.before_last (last_marker old) piece i c.requires.place (omega (arith, few, more, less)));
+      alone = λ gave. absurd (cc);
       within = omega arith;
       moves = subst Q said (short_moves old.state old.place mid.place c.args.descriptor c.args.before_last rest (last_marker old) (last_marker mid) front
           (omega (arith, c.requires.some, len)) c.requires.place (omega (arith, more, less, len)) (omega (arith, more, len)) place);
@@ -46,6 +49,9 @@ returns c =
     record {
       fine = closed_going (reading new) _ _ c.close.ensures.state;
       some = omega arith;
+      by_last = run_last (reading old) piece n c.if-piece-left.false (λ i few.
+          inside_gives old.state old.place c.args.descriptor c.args.before_last (last_marker old) piece i c.requires.place (omega (arith, few, more)));
+      alone = λ gave. absurd (cc);
       within = c.if-piece-left.false;
       moves = subst Q said (full_moves old.state (reading new) old.place c.moved-2.new.self.place c.args.descriptor c.args.before_last (last_marker old) front
           c.requires.place (omega (arith, more, len)) c.close.ensures.state place);

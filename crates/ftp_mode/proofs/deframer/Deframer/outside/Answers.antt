@@ -3,7 +3,7 @@ use Rattle.std.proofs.lemmas.List.{length-take-le}
 use Rattle.ftp_framer.specs.Said.{Said, octets_said}
 use Rattle.ftp_framer.specs.Count.{count_on}
 use Rattle.ftp_mode.specs.Deframing.{reading, owed, owed_said, last_marker, Moves}
-use Rattle.ftp_mode.proofs.BiteLemmas.{outside_moves, going_by}
+use Rattle.ftp_mode.proofs.BiteLemmas.{outside_moves, going_by, run_last, outside_gives}
 use Rattle.ftp_mode.proofs.deframer.Deframer.outside.Goals as goal
 
 pub returns-then-run-gt0 : goal.returns-then-run-gt0
@@ -22,6 +22,9 @@ returns-then-run-gt0 c =
     record {
       fine = going_by old.state new.state new.place (last_marker new) (inl c.requires.place) c.moved.ensures.state;
       some = c.if-run-gt0.true;
+      by_last = run_last (reading old) piece c.first_ff-run.result run.within (λ i less.
+          outside_gives old.state old.place (last_marker old) piece c.first_ff-run.result i c.requires.place less run.others);
+      alone = λ gave. absurd (cc);
       within = run.within;
       moves = subst Q said (outside_moves old.state new.state old.place new.place (last_marker old) (last_marker new) front some c.requires.place c.moved.ensures.state place run.others);
     }

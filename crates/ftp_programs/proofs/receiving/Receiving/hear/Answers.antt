@@ -22,8 +22,8 @@ returns-in-Err g c = record {
       let new = record old { deframer = c.feed.new.self } in
       let fails = c.in-Err.ensures.err in
       let whole = append_assoc wire front rest ∙ ap (λ l. wire ++ (front ++ l)) c.split_at.ensures.back ∙ ap (λ l. wire ++ l) (take-append-drop c.loop-step.at piece) in
-      subst (λ w. FaultyAfter r w written false c.in-Err.fault new) whole
-      (hear_fault r (wire ++ front) written rest false old new c.in-Err.fault fails.0 (c.loop-step.invariant.hears r wire written stands) fails.1 refl);
+      subst (λ w. FaultyAfter r w written false c.in-Err.met.fault new) whole
+      (hear_fault r (wire ++ front) written rest false old new c.in-Err.met (c.loop-step.invariant.hears r wire written stands) fails refl);
 }
 
 pub returns-in-Need : goal.returns-in-Need
