@@ -4,3 +4,4 @@ pub mod ClientGiving
 pub mod ClientRows
 pub mod RepliesInFlight
 pub mod RestLemmas
+pub mod SentLemmas

@@ -6,6 +6,7 @@ pub mod Plan
 pub mod Octets
 pub mod Dialogue
 pub mod Calls
+pub mod Sent
 pub mod InFlight
 pub mod Failing
 pub mod Bounds

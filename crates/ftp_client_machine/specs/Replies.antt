@@ -7,9 +7,11 @@ pub data Verdict : Type 0 where
   Preliminary Completion Intermediate Negative : Verdict
   Closing Displaced : Verdict
 
+-- the verdict of a first digit: 4, 5 and every other one refuse (own choice of the others)
 abbrev pub verdict_by : ℕ → Verdict
 verdict_by digit =
     if digit == 1 then Preliminary else (if digit == 2 then Completion else (if digit == 3 then Intermediate else Negative))
 
+-- the verdict of a code: the two by themselves, every other by its first digit
 abbrev pub verdict_of : ℕ → Verdict
 verdict_of code = if code == 421 then Closing else (if code == 332 then Displaced else verdict_by (code / 100))

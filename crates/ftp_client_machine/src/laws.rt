@@ -1,5 +1,6 @@
 //! What holds of the client's machine: functions that do nothing, whose contracts are laws.
 ghost use Rattle.ftp_client_machine.specs.Bounds.{EventsAddAClose, GivingPays, HearingAddsAnAnswer, ReceivingAddsNone, ShortAddsAClose};
+ghost use Rattle.ftp_client_machine.specs.Sent.{LoginsHaveLines, StepsHaveLines};
 ghost use Rattle.ftp_client_machine.specs.InFlight.{ClientDropsAnswer, AnsweredAtRest, ClientHearsInPieces, FrontsAreAlike, ReplyIsHeard, ClientHearsRow};
 
 /// A reply and an answer to a Telnet octet are heard by the client as themselves and as nothing else, wherever they are cut; so is
@@ -20,4 +21,10 @@ pub fn comes_to_rest()
     ensures events { EventsAddAClose }
     ensures giving { GivingPays }
     ensures want { ShortAddsAClose }
+{}
+
+/// Each command of an operation that can be sent, and of a login, has a line.
+pub fn commands_have_lines()
+    ensures steps { StepsHaveLines }
+    ensures login { LoginsHaveLines }
 {}
