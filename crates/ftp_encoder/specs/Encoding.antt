@@ -1,8 +1,8 @@
 -- What an encoder has still to give.
-use Rattle.std.specs.Prelude.{◌≡◌, ◌<◌, ◌⊎◌, ℕ, ◌+◌, List, [], ◌∷◌, ◌++◌, length, Bool, true, false, Option, Some, None, if◌then◌else◌}
+use Rattle.std.specs.Prelude.{◌≡◌, ◌<◌, ◌⊎◌, ℕ, ◌+◌, ◌==◌, ◌&&◌, List, [], ◌∷◌, ◌++◌, length, Bool, true, false, Option, Some, None, if◌then◌else◌}
 use Rattle.ftp_repr.specs.Signs.{Sign, octet}
 use Rattle.ftp_repr.specs.Sending.{has_sent_end, still_to_send}
-use Rattle.ftp_framer.specs.Framing.{still_to_write}
+use Rattle.ftp_framer.specs.Framing.{owed_octets, still_to_write}
 use Rattle.ftp_encoder.specs.declared.encoder.Encoder.{Encoder}
 
 -- the second octet of two, or none
@@ -16,12 +16,15 @@ still_to_give e file = still_to_write e.framer (half_signs e.half ++ still_to_se
 
 -- the end of the file is out
 abbrev pub is_done : Encoder → Bool
-is_done e = has_sent_end e.sender
+is_done e = has_sent_end e.sender && (length (owed_octets e.framer) == 0)
 
 -- what is to be done beside octets of the file: a second octet, and the end of the file
 abbrev pub left_to_do : Encoder → ℕ
-left_to_do e = length (half_signs e.half) + (if is_done e then 0 else 1)
+left_to_do e = length (half_signs e.half) + (if has_sent_end e.sender then 0 else 1)
 
 -- something is to be done, with so many octets of the file at hand: of the last ones the end of the file too
 abbrev pub HasMore : Encoder → ℕ → Bool → Type 0
-HasMore e octets last = (0 < length (half_signs e.half)) ⊎ ((0 < octets) ⊎ ((last ≡ true) × (is_done e ≡ false)))
+HasMore e octets last =
+    (0 < octets)
+    ⊎ (((has_sent_end e.sender ≡ true) × (0 < length (owed_octets e.framer)))
+    ⊎ ((has_sent_end e.sender ≡ false) × ((0 < length (half_signs e.half)) ⊎ (last ≡ true))))

@@ -1,13 +1,16 @@
 // The encoder: a sender and a framer behind it.
-ghost use Rattle.std.specs.Prelude.{◌≡◌, ◌+◌, ◌*◌, ◌<◌, ◌≤◌, ◌⊎◌, ◌^◌, ◌↔◌, ◌++◌, ℕ, List, [], length, take, drop, map, Some, None, true, false, IsTrue, if◌then◌else◌};
+ghost use Rattle.std.specs.Prelude.{◌≡◌, ◌≢◌, ◌+◌, ◌*◌, ◌<◌, ◌≤◌, ◌⊎◌, ◌^◌, ◌↔◌, ◌++◌, ℕ, List, [], length, take, drop, map, Some, None, true, false, IsTrue, if◌then◌else◌};
 ghost use Rattle.ftp_repr.specs.Signs.{octet as sign};
 ghost use Rattle.ftp_repr.specs.Sending.{has_sent_end, sender_form, still_to_send};
 ghost use Rattle.ftp_representation.specs.Representation.{form_of, has_markers};
 ghost use Rattle.ftp_framer.specs.Block.{marked_text};
-ghost use Rattle.ftp_framer.specs.Framing.{owed_octets};
+ghost use Rattle.ftp_framer.specs.Framing.{owed_octets, writing};
+ghost use Rattle.ftp_framer.specs.Writing.{manner};
+ghost use Rattle.ftp_framer.specs.declared.framer.Manner.TheVariants.{Closed, Copies};
+ghost use Rattle.ftp_representation.specs.declared.representation.Structure.TheVariants.{File};
 ghost use Rattle.ftp_framer.specs.Wire.{wire};
 
-use ftp_framer::Framer;
+use ftp_framer::{Framer, Manner};
 use ftp_repr::{Item, Sender};
 use ftp_representation::Representation;
 
@@ -27,7 +30,9 @@ pub struct Encoder {
     framer: Framer,
     /// The second octet of CR LF or CR NUL, where the first is out and the second had no room.
     half: Option<u8>,
-    ghost done: { has_sent_end sender ≡ true → (half ≡ None) × (owed_octets framer ≡ []) },
+    ghost over: { has_sent_end sender ≡ true → (half ≡ None) × (manner (writing framer) ≡ Closed) },
+    ghost going: { has_sent_end sender ≡ false → manner (writing framer) ≢ Closed },
+    ghost copies: { manner (writing framer) ≡ Copies → (sender_form sender).structure ≡ File },
 }
 
 impl Encoder {
@@ -68,7 +73,23 @@ impl Encoder {
         ensures value { result ≡ is_done self.now }
         ensures none { IsTrue result → (file : List ℕ) → still_to_give self.now file ≡ [] }
     {
-        self.sender.is_over()
+        self.sender.is_over() && self.framer.owed_len() == 0
+    }
+
+    /// Whether nothing is still to be given. `at_end` says that no octet of the file is still to come.
+    ///
+    /// A file that ends with nothing behind its octets, as in stream mode with file structure, may be out before its end was put.
+    pub fn is_out(&self, at_end: bool) -> bool
+        ensures { (file : List ℕ) → (IsTrue at_end ↔ (file ≡ [])) → IsTrue result ↔ (still_to_give self.now file ≡ []) }
+    {
+        if self.framer.owed_len() > 0 {
+            return false;
+        }
+        match self.framer.manner() {
+            Manner::Closed => true,
+            Manner::Copies => at_end && self.half.is_none(),
+            Manner::Escapes | Manner::Blocks => false,
+        }
     }
 
     /// Writes as much of the file as there is room for.
@@ -102,7 +123,10 @@ impl Encoder {
     fn has_more(&self, octets: usize, last: bool) -> bool
         ensures { IsTrue result ↔ HasMore self.now octets last }
     {
-        self.half.is_some() || octets > 0 || (last && !self.is_done())
+        if self.sender.is_over() {
+            return octets > 0 || self.framer.owed_len() > 0;
+        }
+        self.half.is_some() || octets > 0 || last
     }
 
     /// Writes the next item, or what had no room of the one before.
@@ -113,6 +137,12 @@ impl Encoder {
         ensures some { 0 < length room.old → HasMore self.old (length piece.now) last →
             left_to_do self.new < left_to_do self.old + (2 * result.taken + result.made) }
     {
+        if self.sender.is_over() {
+            return Encoded {
+                taken: piece.len(),
+                made: self.put_end(self.sender, room),
+            };
+        }
         if let Some(octet) = self.half {
             return self.put_half(octet, room);
         }
@@ -142,17 +172,29 @@ impl Encoder {
                     made: written.made,
                 }
             }
-            (_, Some(Item::EndFile)) => {
-                let written = self.framer.put(Item::EndFile, room);
-                if written.taken == 1 {
-                    self.sender = sender;
-                }
-                Encoded {
-                    taken: 0,
-                    made: written.made,
-                }
-            }
+            (_, Some(Item::EndFile)) => Encoded {
+                taken: 0,
+                made: self.put_end(sender, room),
+            },
         }
+    }
+
+    /// Writes the end of the file, behind which the sender is this one, or what of it had no room.
+    fn put_end(&mut self, over: Sender, room: &mut [u8]) -> usize
+        requires over { (has_sent_end over ≡ true) × (sender_form over ≡ sender_form self.old.sender) }
+        requires none { self.old.half ≡ None }
+        ensures within { result ≤ length room.old }
+        ensures text { (file : List ℕ) → still_to_send self.old.sender file ≡ still_to_send self.old.sender [] →
+            still_to_give self.old file ≡ take result room.new ++ still_to_give self.new file }
+        ensures some { 0 < length room.old → (has_sent_end self.old.sender ≡ true → 0 < length (owed_octets self.old.framer)) →
+            left_to_do self.new < left_to_do self.old + result }
+        ensures less { left_to_do self.new ≤ left_to_do self.old }
+    {
+        let written = self.framer.put(Item::EndFile, room);
+        if self.framer.manner() == Manner::Closed {
+            self.sender = over;
+        }
+        written.made
     }
 
     /// Writes a second octet.
@@ -175,7 +217,7 @@ impl Encoder {
 
     /// Writes CR LF or CR NUL, which stands for one octet of the file. That one is taken with the first of the two.
     fn put_pair(&mut self, pair: &[u8], room: &mut [u8]) -> Encoded
-        requires going { (self.old.half ≡ None) × (is_done self.old ≡ false) }
+        requires going { (self.old.half ≡ None) × (has_sent_end self.old.sender ≡ false) }
         requires two { length pair.now ≡ 2 }
         ensures within { (result.taken ≤ 1) × (result.made ≤ length room.old) }
         ensures text { (piece more : List ℕ) → still_to_send self.old.sender (piece ++ more) ≡ map sign pair.now ++ still_to_send self.old.sender (drop 1 piece ++ more)

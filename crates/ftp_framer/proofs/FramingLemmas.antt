@@ -1,16 +1,17 @@
 -- What leaves a framer, and what it takes.
 use Rattle.std.proofs.Common.{◌≡◌, ◌+◌, ◌<◌, ◌≤◌, ℕ, List, [], ◌∷◌, ◌++◌, length, take, drop, map, set, get_or, true, refl, ap, sym, ◌∙◌, append_assoc, length-append}
-use Rattle.std.specs.Prelude.{if◌then◌else◌, ◌==◌, false}
+use Rattle.std.specs.Prelude.{if◌then◌else◌, ◌==◌, Bool, false}
 use Rattle.std.specs.List.{AllByRecursion}
 use Rattle.std.proofs.lemmas.List.{take_more_set, drop_more, drop-map, length-take-le}
-use Rattle.ftp_machine.specs.Machine.{gives}
-use Rattle.ftp_repr.specs.Signs.{Sign, octet}
+use Rattle.ftp_machine.specs.Machine.{after, gives}
+use Rattle.ftp_repr.specs.Signs.{Sign, octet, end_record}
 use Rattle.ftp_framer.specs.declared.framer.Stage.{Stage}
 use Rattle.ftp_framer.specs.declared.framer.Stage.TheVariants.{Copying, Free, Held, Filling, AtRecord, Leaving, Last, Closed}
 use Rattle.std.proofs.lemmas.Bool.{false≢true}
 use Rattle.ftp_framer.specs.declared.framer.Framer.{Framer}
-use Rattle.ftp_framer.specs.Writing.{copying, free, writer, write_step, write_out}
-use Rattle.ftp_framer.specs.Framing.{writing, owed_block, owed_octets, still_to_write, is_open, IsClear, Takes, Waits, AreRun}
+use Rattle.ftp_framer.specs.Writing.{Writing, Counting, copying, free, held, filling, at_record, closed, is_due, marked, counted_on, manner, writer, write_step, write_out}
+use Rattle.ftp_framer.specs.declared.framer.Manner.TheVariants.{Blocks}
+use Rattle.ftp_framer.specs.Framing.{writing, owed_block, owed_octets, still_to_write, is_open, IsClear, Takes, Waits, AreRun, TakesRun}
 
 -- an octet goes into the room
 pub copy_step : (room text : List ℕ) (made next : ℕ) (v : ℕ) → made < length room → next < length text → v ≡ get_or text next 0
@@ -90,3 +91,46 @@ pub free_run : (xs : List ℕ) → AllByRecursion (λ c. (c == 255) ≡ false) x
 free_run [] all more = refl
 free_run (c ∷ xs) all more =
     ap (λ b. (if b then 255 ∷ 255 ∷ [] else c ∷ []) ++ gives writer free (map octet xs ++ more)) all.0 ∙ ap (λ l. c ∷ l) (free_run xs all.1 more)
+
+-- ---- no octet and no end of record changes the manner
+
+filled_manner : (xs : List ℕ) (n : Counting) (c : ℕ) (due full : Bool)
+    → manner (if due then filling (c ∷ []) (counted_on (marked n)) else (if full then filling (c ∷ []) (counted_on n) else filling (xs ++ c ∷ []) (counted_on n))) ≡ Blocks
+filled_manner xs n c true full = refl
+filled_manner xs n c false true = refl
+filled_manner xs n c false false = refl
+
+pub octet_manner : (w : Writing) (c : ℕ) → manner (write_step w (octet c)) ≡ manner w
+octet_manner copying c = refl
+octet_manner free c = refl
+octet_manner held c = refl
+octet_manner (filling xs n) c = filled_manner xs n c (is_due n) (length xs == 8192)
+octet_manner (at_record xs n) c = filled_manner [] n c (is_due n) (length {A = ℕ} [] == 8192)
+octet_manner closed c = refl
+
+pub record_manner : (w : Writing) → manner (write_step w end_record) ≡ manner w
+record_manner copying = refl
+record_manner free = refl
+record_manner held = refl
+record_manner (filling xs n) = refl
+record_manner (at_record xs n) = refl
+record_manner closed = refl
+
+pub takes_octet : (f g : Framer) (c : ℕ) → Takes f (octet c) g → manner (writing g) ≡ manner (writing f)
+takes_octet f g c takes = ap manner takes.state ∙ octet_manner (writing f) c
+
+pub waits_octet : (f g : Framer) (c : ℕ) → Waits f (octet c) g → manner (writing g) ≡ manner (writing f)
+waits_octet f g c waits = sym (octet_manner (writing g) c) ∙ ap manner waits.state ∙ octet_manner (writing f) c
+
+pub takes_record : (f g : Framer) → Takes f end_record g → manner (writing g) ≡ manner (writing f)
+takes_record f g takes = ap manner takes.state ∙ record_manner (writing f)
+
+pub waits_record : (f g : Framer) → Waits f end_record g → manner (writing g) ≡ manner (writing f)
+waits_record f g waits = sym (record_manner (writing g)) ∙ ap manner waits.state ∙ record_manner (writing f)
+
+run_manner : (w : Writing) (xs : List ℕ) → manner (after writer w (map octet xs)) ≡ manner w
+run_manner w [] = refl
+run_manner w (c ∷ xs) = run_manner (write_step w (octet c)) xs ∙ octet_manner w c
+
+pub takes_run : (f g : Framer) (xs : List ℕ) → TakesRun f xs g → manner (writing g) ≡ manner (writing f)
+takes_run f g xs takes = ap manner takes.state ∙ run_manner (writing f) xs

@@ -5,12 +5,14 @@ use Rattle.ftp_repr.specs.Signs.{Sign, octet, end_record, end_file}
 use Rattle.ftp_representation.specs.declared.representation.Structure.{Structure}
 use Rattle.ftp_representation.specs.declared.representation.Structure.TheVariants.{File, Record}
 use Rattle.ftp_representation.specs.declared.representation.Mode.{Mode}
-use Rattle.ftp_representation.specs.declared.representation.Mode.TheVariants.{Stream, Block as Blocks}
+use Rattle.ftp_representation.specs.declared.representation.Mode.TheVariants.{Stream, Block as InBlocks}
 use Rattle.ftp_framer.specs.Stream.{escaped_octet}
 use Rattle.ftp_framer.specs.Block.{block_text, marker_text}
 use Rattle.ftp_framer.specs.Count.{count_on, next}
 use Rattle.ftp_framer.specs.declared.descriptor.TheConstants.{GOES_ON, END_OF_RECORD, END_OF_FILE, END_OF_BOTH}
 use Rattle.ftp_framer.specs.declared.escape.TheConstants.{ESCAPE, RECORD_CODE, FILE_CODE, BOTH_CODE}
+use Rattle.ftp_framer.specs.declared.framer.Manner.{Manner}
+use Rattle.ftp_framer.specs.declared.framer.Manner.TheVariants.{Copies, Escapes, Blocks, Closed}
 use Rattle.ftp_framer.specs.declared.framer.TheConstants.{BLOCK_LIMIT, MARKED}
 
 -- own markers: never with records, none asked for, or the octets of the file are counted, and the last marker or
@@ -108,6 +110,15 @@ write_out (at_record xs n) end_record = block_text END_OF_RECORD xs
 write_out (at_record xs n) end_file = block_text END_OF_BOTH xs
 write_out closed x = []
 
+-- how octets are written: as they are, with escape octets, in blocks, or not any more
+abbrev pub manner : Writing → Manner
+manner copying = Copies
+manner free = Escapes
+manner held = Escapes
+manner (filling xs n) = Blocks
+manner (at_record xs n) = Blocks
+manner closed = Closed
+
 abbrev pub writer : Machine Writing Sign ℕ
 writer = record { step = write_step; out = write_out }
 
@@ -115,8 +126,8 @@ writer = record { step = write_step; out = write_out }
 abbrev pub blank : Mode → Structure → Writing
 blank Stream File = copying
 blank Stream Record = free
-blank Blocks File = filling [] unmarked
-blank Blocks Record = filling [] never
+blank InBlocks File = filling [] unmarked
+blank InBlocks Record = filling [] never
 
 abbrev pub count_from : ℕ → Counting → Counting
 count_from start never = never

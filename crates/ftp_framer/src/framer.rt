@@ -2,7 +2,7 @@ ghost use Rattle.std.specs.Prelude.{◌≡◌, ◌≢◌, ◌+◌, ◌/◌, ◌%
 ghost use Rattle.ftp_repr.specs.Signs.{Sign, octet as sign, end_record, end_file};
 ghost use Rattle.ftp_repr.specs.Items.{signs, given_signs};
 ghost use Rattle.ftp_framer.specs.Block.{block_text, marker_text};
-ghost use Rattle.ftp_framer.specs.Writing.{blank, with_marks, is_due, due_text, marked, counted_on, counted_far, IsCount, IsFar, writer, write_step, closed};
+ghost use Rattle.ftp_framer.specs.Writing.{blank, with_marks, is_due, due_text, marked, counted_on, counted_far, IsCount, IsFar, writer, write_step, closed, manner};
 ghost use Rattle.ftp_framer.specs.Framing.{writing, counting, owed_block, owed_octets, still_to_write, is_open, IsClear, Takes, Waits, AreRun, Fills, TakesRun};
 
 use crate::descriptor::{END_OF_BOTH, END_OF_FILE, END_OF_RECORD, GOES_ON, RESTART_MARKER};
@@ -78,6 +78,19 @@ enum Marks {
     Counted(u64, u64),
 }
 
+/// How a framer writes octets.
+#[derive(Clone, Copy, Debug, PartialEq, Eq)]
+pub enum Manner {
+    /// As they are, and nothing for an end: stream mode with file structure.
+    Copies,
+    /// With escape octets: stream mode with records.
+    Escapes,
+    /// In blocks.
+    Blocks,
+    /// Not at all: the end of file was taken.
+    Closed,
+}
+
 /// File octets between two own markers.
 const MARKED: u64 = 65_536;
 
@@ -135,6 +148,11 @@ impl Framer {
 
         // The end of file is taken once all is out.
         ensures out { item.entry ≡ Item.EndFile → result.taken ≡ 1 → owed_octets self.new ≡ [] }
+
+        // Nothing but the end of file closes it.
+        ensures goes_on { (item.entry ≡ Item.EndFile) ⊎ (manner (writing self.new) ≡ manner (writing self.old)) }
+        ensures closes { (manner (writing self.new) ≡ Manner.Closed) ⊎ (manner (writing self.new) ≡ manner (writing self.old)) }
+        ensures closed { item.entry ≡ Item.EndFile → result.taken ≡ 1 → manner (writing self.new) ≡ Manner.Closed }
     {
         let first = self.pour(room, 0);
         if !self.is_clear() {
@@ -173,6 +191,37 @@ impl Framer {
             Marks::Never => Marks::Never,
             Marks::Unmarked | Marks::Counted(_, _) => Marks::Counted(start, start),
         };
+    }
+
+    /// How octets are written from now on.
+    pub fn manner(&self) -> Manner
+        ensures { result ≡ manner (writing self.now) }
+    {
+        match self.stage {
+            Stage::Copying => Manner::Copies,
+            Stage::Free | Stage::Held => Manner::Escapes,
+            Stage::Filling | Stage::AtRecord | Stage::Leaving(_, _) => Manner::Blocks,
+            Stage::Last(_, _) | Stage::Closed => Manner::Closed,
+        }
+    }
+
+    /// How many octets are decided and not yet out.
+    pub fn owed_len(&self) -> usize
+        ensures { result ≡ length (owed_octets self.now) }
+    {
+        match self.stage {
+            Stage::Leaving(_, place) => self.len_from(place) + self.owed.len(),
+            Stage::Last(_, place) => self.len_from(place) + self.owed.len(),
+            _ => self.owed.len(),
+        }
+    }
+
+    /// How many octets of the written block stand from a place on.
+    fn len_from(&self, place: usize) -> usize
+        ensures len { (d : ℕ) → result ≡ length (drop place (block_text d self.now.block.items)) }
+        ensures few { result ≤ BLOCK_LIMIT + HEADER }
+    {
+        (self.block.len() + HEADER).saturating_sub(place)
     }
 
     fn is_open(&self) -> bool
@@ -557,6 +606,7 @@ impl Framer {
         ensures within { (result.taken ≤ length piece.now) × (at ≤ result.made) × (result.made ≤ length room.old) }
         ensures text { (more : List Sign) → take at room.old ++ still_to_write self.old (map sign piece.now ++ more)
             ≡ take result.made room.new ++ still_to_write self.new (drop result.taken (map sign piece.now) ++ more) }
+        ensures manner { manner (writing self.new) ≡ manner (writing self.old) }
         ensures some { at < length room.old → 0 < length piece.now → at < result.taken + result.made }
     {
         let first = self.put_some(piece, room, at);
@@ -579,6 +629,7 @@ impl Framer {
         ensures within { (result.taken ≤ length piece.now) × (at ≤ result.made) × (result.made ≤ length room.old) }
         ensures text { (more : List Sign) → take at room.old ++ still_to_write self.old (map sign piece.now ++ more)
             ≡ take result.made room.new ++ still_to_write self.new (drop result.taken (map sign piece.now) ++ more) }
+        ensures manner { manner (writing self.new) ≡ manner (writing self.old) }
         ensures some { at < length room.old → 0 < length piece.now → at < result.taken + result.made }
     {
         let fills = self.fill_len(piece);
@@ -639,6 +690,7 @@ impl Framer {
         ensures within { (result.taken ≤ length piece.now) × (at ≤ result.made) × (result.made ≤ length room.old) }
         ensures text { (more : List Sign) → take at room.old ++ still_to_write self.old (map sign piece.now ++ more)
             ≡ take result.made room.new ++ still_to_write self.new (drop result.taken (map sign piece.now) ++ more) }
+        ensures manner { manner (writing self.new) ≡ manner (writing self.old) }
         ensures some { at < length room.old → 0 < length piece.now → at < result.taken + result.made }
     {
         if piece.is_empty() {

@@ -7,5 +7,5 @@ pub mod escape;
 mod framer;
 pub mod laws;
 
-pub use framer::{Framer, Written};
+pub use framer::{Framer, Manner, Written};
 pub use ftp_representation::Mode;
