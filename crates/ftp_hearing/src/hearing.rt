@@ -1,0 +1,62 @@
+// The reader of the control connection of a client.
+ghost use Rattle.std.specs.Prelude.{◌≡◌, IfOk};
+ghost use Rattle.ftp_nvt.specs.Fold.{quiet};
+ghost use Rattle.ftp_reply.specs.Reader.{Between};
+ghost use Rattle.ftp_ends.specs.Reply.{reply_limit};
+
+use crate::line::{Heard, take_line};
+use ftp_nvt::{Ear, Event};
+use ftp_reply::Reader;
+use std::alloc::{AllocError, Allocator};
+use std::marker::Model;
+
+/// The most octets of a reply line, its end included (own choice).
+pub const REPLY_LIMIT: usize = 4096;
+
+/// The unfinished line and the unfinished reply that a client hears. Contracts see it as both.
+#[derive(Drop)]
+pub struct Hearing<A: Allocator> {
+    alloc: A,
+    ear: Ear<A>,
+    reader: Reader<A>,
+}
+
+impl<A: Allocator> Model for Hearing<A> {
+    ghost use Rattle.ftp_nvt.specs.Fold.{ear_of};
+    ghost use Rattle.ftp_hearing.specs.Hearing.{Held, CanBeHeld, gathered_in};
+
+    ghost Value = { Held };
+
+    ghost view = { λ hearing. record { ear = ear_of hearing.ear; gathered = gathered_in hearing.reader } };
+
+    ghost invariant = { λ hearing. CanBeHeld hearing.ear hearing.reader };
+}
+
+impl<A: Allocator + Clone> Hearing<A> {
+    ghost use Rattle.ftp_hearing.specs.Comes.{Comes};
+
+    /// Nothing was heard. All memory for lines is taken now.
+    pub fn new(alloc: A) -> Result<Hearing<A>, AllocError>
+        ensures ear { IfOk result (λ hearing. hearing.ear ≡ quiet) }
+        ensures gathered { IfOk result (λ hearing. hearing.gathered ≡ Between) }
+    {
+        let Ok(ear) = Ear::new(alloc.clone()?, REPLY_LIMIT) else {
+            return Err(AllocError);
+        };
+        let reader = Reader::new(alloc.clone()?);
+        Ok(Hearing { alloc, ear, reader })
+    }
+
+    /// Takes an octet of the control connection.
+    pub fn octet(&mut self, octet: u8) -> Result<Heard<A>, AllocError>
+        ensures { IfOk result (λ heard. Comes self.old octet heard self.new) }
+    {
+        let heard = self.ear.feed(&[octet]);
+        match heard.event {
+            Event::More => Ok(Heard::Nothing),
+            Event::Owed(answer) => Ok(Heard::Owed(answer)),
+            Event::TooLong => Ok(Heard::Misplaced),
+            Event::Line => take_line(&mut self.reader, self.ear.line(), &self.alloc),
+        }
+    }
+}
