@@ -8,3 +8,5 @@ pub mod RowNumbers
 pub mod ServerBounds
 pub mod ServerRows
 pub mod ServerUploads
+pub mod PathTexts
+pub mod TurnLemmas

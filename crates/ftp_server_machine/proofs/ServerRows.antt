@@ -8,21 +8,24 @@ use Rattle.ftp_representation.specs.Representation.{defaults}
 use Rattle.ftp_command.specs.declared.command.Passive.TheVariants as Families
 use Rattle.ftp_operation.specs.Account.{login_root}
 use Rattle.ftp_direct.specs.declared.refusal.Refusal.{Refusal}
-use Rattle.ftp_direct.specs.Direct.{is_directory, refusal, refused_file, file_of, place_in, or_refused, refused_there}
+use Rattle.ftp_direct.specs.Direct.{entries_in, entry_at, listed as listed_entry, is_directory, names_for, refusal, refused_file, file_of, place_in, or_refused, refused_there}
 use Rattle.ftp_operation.specs.declared.op.Op.TheVariants as Ops
 use Rattle.ftp_path.specs.Path.{resolved, fits, parent, text_of, is_within, Names}
-use Rattle.ftp_tree.specs.Tree.{source_refusal, target_refusal, rename_refusal, octets_at, node_at, children, under, Table, Dir, File}
-use Rattle.ftp_server_machine.specs.View.{Transfer, Session, View, direct_of, how_in_force, seen}
+use Rattle.ftp_tree.specs.Tree.{Node, source_refusal, target_refusal, rename_refusal, octets_at, node_at, children, under, Table, Dir, File}
+use Rattle.ftp_server_machine.specs.View.{Transfer, Session, View, all_facts, direct_of, how_in_force, seen}
 use Rattle.ftp_server_machine.specs.Replies.{reply_octets, reply_of}
+use Rattle.ftp_server_machine.specs.Entries.{listed_line}
+use Rattle.ftp_server_machine.specs.Walk.{unless}
+use Rattle.ftp_server_machine.specs.declared.reply.ReplyKind.TheVariants as Replies
 use Rattle.ftp_server_machine.specs.Login.{admits}
 use Rattle.ftp_server_machine.specs.Transfer.{transfer_starts, file_wire, misplaced, path_or_here, place_of, sent_from, stor_at}
-use Rattle.ftp_server_machine.specs.Listing.{listing_wire, list_lines, list_lines_at, child_line, node_line, right_in, month_word}
+use Rattle.ftp_server_machine.specs.Listing.{entry_lines, listing_wire, list_lines, name_lines, list_lines_at, child_line, node_line, right_in, month_word}
 use Rattle.ftp_facts.specs.Calendar.{year_and_place, month_and_place}
 use Rattle.ftp_facts.specs.Moment.{four_digits}
 use Rattle.ftp_server_machine.specs.Machine.{obeyed, completed, turned, owes, with_session}
 use Rattle.ftp_server_machine.specs.Calls.{gives_control, listening, listen_refused, data_opened, data_refused, gives_data, to_give, wants}
 use Rattle.ftp_ends.specs.RowWords.{here, elsewhere}
-use Rattle.ftp_server_machine.specs.Rows.{RowEvent, after_events, server, member, logged_in, at, of, five, asks, opened, refused, LoginAnswered, OpenLogin, RootMissing, RootIsTop, MadeBelowRoot, WrongPassword, OrderOfDecisions, BeforeLogin, FeaturesTold, Utf8Chosen, FactsChosen, OnlyExtended, Reinitialized, QuitHeard, ByFamily, ForeignEndpoint, RefusedOpening, RefusedListen, ForeignOpener, RenameDone, LateRename, DownloadSent, RestartSent, LateRestart, RestartInAscii, RestartInPair, RestartInRecords, ListingSent, EarlyAbort, WaitingLine}
+use Rattle.ftp_server_machine.specs.Rows.{RowEvent, after_events, server, member, logged_in, at, of, five, asks, opened, refused, LoginAnswered, OpenLogin, RootMissing, RootIsTop, MadeBelowRoot, WrongPassword, OrderOfDecisions, BeforeLogin, FeaturesTold, Utf8Chosen, FactsChosen, FeaturesBehindOptions, EntryTold, RecordsSent, NamesSent, EntriesSent, OnlyExtended, Reinitialized, QuitHeard, ByFamily, ForeignEndpoint, RefusedOpening, RefusedListen, ForeignOpener, RenameDone, LateRename, DownloadSent, RestartSent, LateRestart, RestartInAscii, RestartInPair, RestartInRecords, ListingSent, EarlyAbort, WaitingLine}
 use Rattle.ftp_server_machine.specs.declared.session.Pending.TheVariants as Pendings
 use Rattle.ftp_server_machine.specs.declared.session.DataConnection.TheVariants as Data
 use Rattle.ftp_server_machine.specs.declared.session.Transfer.TheVariants as Transfers
@@ -73,6 +76,10 @@ utf8 table root = refl
 pub facts : FactsChosen
 unfolding obeyed
 facts table root = refl
+
+pub features_behind_options : FeaturesBehindOptions
+unfolding obeyed
+features_behind_options table root = refl
 
 pub only_extended : OnlyExtended
 unfolding obeyed
@@ -228,6 +235,17 @@ restart table root moment f =
     ∙ ap (λ c. fetched v (Some 5) c (file_of (direct_of v.session) (codes "f"))) (file_code v.session digits moment refl f)
     ∙ ap (λ o. fetched v (Some 5) None o) (file_octets v.session digits moment refl f)
 
+-- two lines
+abbrev two : List ℕ
+two = 97 ∷ 10 ∷ 98 ∷ 10 ∷ []
+
+pub records : RecordsSent
+unfolding obeyed fits text_of resolved data_opened
+records table root moment f =
+    let v : View = member table root (asks (command.Stru Structures.Record) ∷ asks (command.Port (at here)) ∷ []) in
+    ap (λ c. fetched v (Some 0) c (file_of (direct_of v.session) (codes "f"))) (file_code v.session two moment refl f)
+    ∙ ap (λ o. fetched v (Some 0) None o) (file_octets v.session two moment refl f)
+
 pub late_restart : LateRestart
 unfolding obeyed fits text_of resolved data_opened
 late_restart table root moment f =
@@ -314,3 +332,61 @@ listing table root d kids x =
     ap (λ c. sent c (list_lines (under table root) (of (codes "d")))) (dir_code v.session d refl)
     ∙ ap (λ texts. sent None texts) (x_lines (under table root) d kids x)
     ∙ ap (λ n. sent None (x_line n (decimal 1) ∷ [])) of_3 ∙ ap (λ n. sent None (x_line (codes "3") n ∷ [])) of_1
+
+-- ---- NLST and MLSD
+
+x_names : (table : Table) → node_at table (of (codes "d")) ≡ Some Dir → children table (of (codes "d")) ≡ codes "x" ∷ []
+    → node_at table (codes "d" ∷ codes "x" ∷ []) ≡ Some (File (codes "abc") 946684800)
+    → name_lines table (of (codes "d")) (codes "d") ≡ codes "d/x" ∷ []
+unfolding names_for fits text_of
+x_names table d kids x = rw d (rw kids (rw x refl))
+
+pub names : NamesSent
+unfolding obeyed fits text_of resolved data_opened
+names table root d kids x =
+    let v : View = member table root (asks (command.Port (at here)) ∷ []) in
+    let sent : Option Refusal → List (List ℕ) → List ℕ = λ c texts. to_give (after_events (opened here ∷ []) (started v (Transfers.Listing (listing_wire v.session.settings.mode texts)) c)) in
+    ap (λ c. sent c (name_lines (under table root) (of (codes "d")) (codes "d"))) (dir_code v.session d refl)
+    ∙ ap (λ texts. sent None texts) (x_names (under table root) d kids x)
+
+-- MLSD lists a directory alone
+directory_code : (s : Session) → node_at (seen s) (of (codes "d")) ≡ Some Dir → s.cwd ≡ [] → refusal (direct_of s) (Ops.List (codes "d") (how_in_force s.settings)) ≡ None
+unfolding fits text_of resolved
+directory_code s d home = rw home (rw d refl)
+
+x_entries : (table : Table) → children table (of (codes "d")) ≡ codes "x" ∷ [] → node_at table (codes "d" ∷ codes "x" ∷ []) ≡ Some Dir
+    → entry_lines all_facts table (of (codes "d")) ≡ codes "Type=dir;Perm=cdeflmp; x" ∷ []
+unfolding entries_in entry_at fits text_of
+x_entries table kids x = rw kids (rw x refl)
+
+pub entries : EntriesSent
+unfolding obeyed fits text_of resolved data_opened
+entries table root d kids x =
+    let v : View = member table root (asks (command.Port (at here)) ∷ []) in
+    let sent : Option Refusal → List (List ℕ) → List ℕ = λ c texts. to_give (after_events (opened here ∷ []) (started v (Transfers.Listing (listing_wire v.session.settings.mode texts)) c)) in
+    ap (λ c. sent c (entry_lines all_facts (under table root) (of (codes "d")))) (directory_code v.session d refl)
+    ∙ ap (λ texts. sent None texts) (x_entries (under table root) kids x)
+
+-- ---- MLST
+
+-- something stands there
+there_code : (s : Session) → node_at (seen s) (of (codes "d")) ≡ Some Dir → s.cwd ≡ [] → refusal (direct_of s) (Ops.Facts (codes "d")) ≡ None
+unfolding fits text_of resolved
+there_code s d home = rw home (rw d refl)
+
+-- what is told, by whether it is refused, and by what stands there
+abbrev entry_told : View → Option Refusal → View
+entry_told v code = completed (turned (unless code v.session (v.session, Replies.Entry (of (codes "d")))) v)
+
+abbrev node_told : View → Option Node → List ℕ
+node_told v node =
+    v.owed ++ reply_octets (record {
+      code = 250;
+      lines = codes "Listing" ∷ (32 ∷ listed_line all_facts (listed_entry (codes "/d") (of (codes "d")) (unwrap_or node Dir))) ∷ codes "End" ∷ [];
+    })
+
+pub entry : EntryTold
+unfolding obeyed fits text_of resolved entry_at
+entry table root d =
+    let v : View = logged_in table root in
+    ap (λ c. (entry_told v c).owed) (there_code v.session d refl) ∙ ap (λ node. node_told v node) d

@@ -1,11 +1,11 @@
 -- The worked rows of uploads, computed.
 use Rattle.std.proofs.Common.{◌≡◌, ℕ, ◌+◌, List, [], ◌∷◌, ◌++◌, Option, Some, None, Bool, true, false, refl, ap, ◌∙◌}
-use Rattle.std.specs.Prelude.{codes, decimal, length, take, nat_le, if◌then◌else◌}
+use Rattle.std.specs.Prelude.{codes, decimal, length, take, nat_le, unwrap_or, if◌then◌else◌}
 use Rattle.ftp_command.specs.declared.command.Command.TheVariants as command
 use Rattle.ftp_representation.specs.declared.representation.Kind.TheVariants as Kinds
 use Rattle.ftp_representation.specs.declared.representation.Mode.TheVariants as Modes
 use Rattle.ftp_direct.specs.declared.refusal.Refusal.{Refusal}
-use Rattle.ftp_direct.specs.Direct.{or_refused, refused_name}
+use Rattle.ftp_direct.specs.Direct.{or_refused, place_in, refused_name}
 use Rattle.ftp_path.specs.Path.{resolved, fits, text_of, Names}
 use Rattle.ftp_tree.specs.Tree.{Table, File, node_at, octets_at, octets_or_none, room_refusal, room_at, installed, under}
 use Rattle.ftp_representation.specs.declared.representation.Structure.TheVariants as Structures
@@ -14,11 +14,11 @@ use Rattle.ftp_ends.specs.Decoder.{Decoder, no_octets, decoder_of, ended}
 use Rattle.ftp_ends.specs.Ear.{quiet}
 use Rattle.ftp_server_machine.specs.View.{Footing, Session, Transfer, View, all_facts, seen, with_seen}
 use Rattle.ftp_server_machine.specs.Replies.{reply_octets, reply_of, fixed_reply}
-use Rattle.ftp_server_machine.specs.Transfer.{refused_to_hold}
-use Rattle.ftp_server_machine.specs.Machine.{obeyed, Ending, is_over, put_in, owes, with_session}
-use Rattle.ftp_server_machine.specs.Calls.{listening, data_opened, receives, receives_octet, data_end, data_fault, may_receive, wants}
+use Rattle.ftp_server_machine.specs.Transfer.{misplaced, place_of, refused_to_hold}
+use Rattle.ftp_server_machine.specs.Machine.{may_hear, obeyed, Ending, is_over, put_in, owes, with_session}
+use Rattle.ftp_server_machine.specs.Calls.{control_end, listening, data_opened, receives, receives_octet, data_end, data_fault, may_receive, wants}
 use Rattle.ftp_ends.specs.RowWords.{here}
-use Rattle.ftp_server_machine.specs.Rows.{RowEvent, accounts, after_events, said_to_member, member, at, of, asks, opened, octets, port, ended as ends, broken as breaks, UploadInstalled, BrokenUploadKept, TooMuchRefused, MarkerAnswered, AbortAnswered, AbortPastRoom, EarlyEnd, FaultyUpload}
+use Rattle.ftp_server_machine.specs.Rows.{RowEvent, accounts, after_events, said_to_member, member, at, of, asks, opened, octets, port, ended as ends, broken as breaks, UploadDropped, UploadFromPlace, UploadInstalled, BrokenUploadKept, TooMuchRefused, MarkerAnswered, AbortAnswered, AbortPastRoom, EarlyEnd, FaultyUpload}
 use Rattle.ftp_server_machine.specs.declared.reply.Text.{Text}
 use Rattle.ftp_server_machine.specs.declared.reply.Text.TheVariants as Texts
 use Rattle.ftp_representation.specs.declared.representation.Representation.{Representation}
@@ -29,7 +29,7 @@ use Rattle.ftp_server_machine.specs.declared.session.DataConnection.{DataConnect
 use Rattle.ftp_server_machine.specs.declared.session.DataConnection.TheVariants as Data
 use Rattle.ftp_server_machine.specs.declared.session.Transfer.TheVariants as Transfers
 use Rattle.ftp_server_machine.proofs.ServerRows.{started}
-use Rattle.ftp_server_machine.proofs.RowNumbers.{of_4, six_is}
+use Rattle.ftp_server_machine.proofs.RowNumbers.{of_1, of_4, six_is}
 
 -- ---- uploads: each octet, and the end, by whether a limit of octets is passed
 
@@ -364,3 +364,80 @@ faulty_upload table root f =
     let last : Option Refusal → View = λ c. after_events (opened here ∷ octets (32 ∷ []) ∷ []) (stored v c) in
     let code = stor_code v.session f in
     (ap (λ c. (last c).owed) code, ap (λ c. (last c).session.table) code, ap (λ c. wants (last c)) code, ap (λ c. may_receive (last c)) code)
+
+-- ---- the end of the control connection
+
+drops : (footing : Footing) (place : Place) (said : List ℕ)
+    → control_end (uploading footing place defaults said (up (ascii (97 ∷ 98 ∷ [])))) ≡ record (uploading footing place defaults [] Data.Free) { session = record (uploads place defaults Data.Free true) { life = Lives.Cut } }
+unfolding control_end
+drops footing place said = refl
+
+pub dropped_upload : UploadDropped
+dropped_upload table root f room =
+    let is = ap (λ w. control_end (after_events (octets (codes "ab") ∷ []) w)) (begun table root f)
+    ∙ ap (λ w. control_end (receives_octet w 98)) (a_comes (standing root) (table, root) active_said false (fits_room (table, root) 1000 (ascii (97 ∷ [])) room refl refl))
+    ∙ ap control_end (b_comes (standing root) (table, root) active_said false (fits_room (table, root) 1000 (ascii (97 ∷ 98 ∷ [])) room refl refl))
+    ∙ drops (standing root) (table, root) active_said in
+    (ap (λ w. w.owed) is, ap (λ w. w.session.table) is, ap wants is, ap may_hear is)
+
+-- ---- REST before STOR
+
+-- behind the first octet of a file
+abbrev behind_one : Decoder → Bool → DataConnection Transfer
+behind_one d over = if over then Data.Transferring Transfers.OverLimit else Data.Transferring (Transfers.Upload f_path 1 d)
+
+first_place : (s : Session) → s.settings ≡ image_settings → node_at (seen s) f_path ≡ Some (File (codes "abc") 0) → place_of (Pendings.Restart 1) f_path s ≡ Some 1
+unfolding octets_at place_in
+first_place s kind f = rw kind (rw f refl)
+
+-- the view behind STOR and the opening of the data connection, by its place and its code
+abbrev stored_from : View → Option ℕ → Option Refusal → View
+stored_from v place code =
+    after_events (opened here ∷ []) (started v (Transfers.Upload f_path (unwrap_or place 0) (no_octets v.session.settings)) (or_refused (refused_name (misplaced place)) code))
+
+abbrev restarted : View → List ℕ → View
+restarted v number = owes (reply_octets (reply_of 350 (codes "Restarting at " ++ number))) (with_session (record v.session { pending = Pendings.Restart 1 }) v)
+
+abbrev from_said : List ℕ
+from_said =
+    said_to_member (codes "200 Type set" ∷ codes "200 Endpoint taken" ∷ codes "350 Restarting at 1" ∷ codes "150 Opening data connection" ∷ [])
+
+begun_from : (table : Table) (root : Names) → node_at (under table root) f_path ≡ Some (File (codes "abc") 0)
+    → member table root (asks (command.Repr Kinds.Image) ∷ asks (command.Port (at here)) ∷ asks (command.Rest 1) ∷ asks (command.Stor (codes "f")) ∷ opened here ∷ [])
+    ≡ uploading (standing root) (table, root) image_settings from_said (behind_one (image []) false)
+unfolding obeyed fits text_of resolved data_opened
+begun_from table root f =
+    let e : View = member table root (asks (command.Repr Kinds.Image) ∷ asks (command.Port (at here)) ∷ []) in
+    let told : View = restarted e (codes "1") in
+    let v : View = with_session (record told.session { pending = Pendings.Nothing }) told in
+    ap (λ n. after_events (asks (command.Stor (codes "f")) ∷ opened here ∷ []) (restarted e n)) of_1
+    ∙ ap (λ p. stored_from v p (refused_to_hold v.session f_path)) (first_place v.session refl f)
+    ∙ ap (λ c. stored_from v (Some 1) c) (appe_code v.session f)
+
+z_comes : (footing : Footing) (place : Place) (said : List ℕ) (over : Bool) → is_over f_path 1 (image (122 ∷ [])) (after place image_settings false) ≡ over
+    → receives_octet (uploading footing place image_settings said (behind_one (image []) false)) 122
+    ≡ uploading footing place image_settings said (behind_one (image (122 ∷ [])) over)
+unfolding receives_octet
+z_comes footing place said over is = ap (λ b. uploading footing place image_settings said (behind_one (image (122 ∷ [])) b)) is
+
+-- the first octet of the file that stands there is kept
+abbrev first_kept : Footing → Place → List ℕ → Bool → Ending
+first_kept footing place old over =
+    let s = after place image_settings false in
+    if over then (s, Texts.TooMuch) else (with_seen (installed (part_at place) f_path (take 1 old ++ codes "z") footing.moment) s, Texts.Complete)
+
+ends_behind : (footing : Footing) (place : Place) (said : List ℕ) (over : Bool) → is_over f_path 1 (ended (image (122 ∷ []))) (after place image_settings false) ≡ over
+    → data_end (uploading footing place image_settings said (behind_one (image (122 ∷ [])) false))
+    ≡ left footing said (first_kept footing place (octets_or_none (part_at place) f_path) over)
+unfolding data_end
+ends_behind footing place said over is = ap (λ b. left footing said (first_kept footing place (octets_or_none (part_at place) f_path) b)) is
+
+pub upload_from_place : UploadFromPlace
+upload_from_place table root f room =
+    let over : is_over f_path 1 (image (122 ∷ [])) (after (table, root) image_settings false) ≡ false = rw room refl in
+    let whole : is_over f_path 1 (ended (image (122 ∷ []))) (after (table, root) image_settings false) ≡ false = rw room refl in
+    let is = ap (λ w. data_end (receives w (codes "z"))) (begun_from table root f)
+    ∙ ap (λ w. data_end w) (z_comes (standing root) (table, root) from_said false over)
+    ∙ ends_behind (standing root) (table, root) from_said false whole
+    ∙ ap (λ o. left (standing root) from_said (first_kept (standing root) (table, root) o false)) (abc_octets (under table root) f) in
+    (ap (λ w. w.owed) is, ap (λ w. w.session.table) is)

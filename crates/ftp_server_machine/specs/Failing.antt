@@ -1,7 +1,7 @@
 -- What a call leaves that was refused memory or whose device failed. Beside its view a server has two counts, of refused growths
 -- and of its tree's device failures; both wrap. Where neither changed in a call, the call is the function of `Machine` or `Calls`;
 -- else it leaves one of these. Every later call is a function again.
-use Rattle.std.specs.Prelude.{◌++◌, ◌≡◌, ◌⊎◌, ◌<◌, ℕ, Bool, true, false, ◌&&◌, List, [], ◌∷◌, length, Option, Some, None, is_some}
+use Rattle.std.specs.Prelude.{◌++◌, ◌≡◌, ◌⊎◌, ◌<◌, ℕ, Bool, true, false, List, [], ◌∷◌, length, Option, Some, None, is_some}
 use Rattle.ftp_nvt.specs.Lines.{NvtEvent, line, too_long, owed}
 use Rattle.ftp_command.specs.declared.command.Command.{Command}
 use Rattle.ftp_command.specs.declared.command.Command.TheVariants as command

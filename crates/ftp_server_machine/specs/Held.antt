@@ -1,16 +1,16 @@
 -- How many octets a server holds, beside the map, the accounts and what came of an upload (own choice of the limits). Of a download and of
 -- a listing the view has all that is still to be given, which is the map's; here is what of it a server may hold at once.
-use Rattle.std.specs.Prelude.{◌≡◌, ℕ, ◌+◌, ◌≤◌, true, List, length, Option, Some}
-use Rattle.std.specs.List.{list_all}
+use Rattle.std.specs.Prelude.{ℕ, ◌+◌, ◌≤◌, List, length, Option, Some}
 use Rattle.ftp_endpoint.specs.declared.host.Host.{Host}
 use Rattle.ftp_command.specs.Line.{line_of}
-use Rattle.ftp_path.specs.Path.{Names, fits, text_of}
+use Rattle.ftp_path.specs.Path.{Names, text_of}
 use Rattle.ftp_representation.specs.declared.marker.TheConstants.{MARKER_LIMIT}
 use Rattle.ftp_tree.specs.Tree.{Table}
 use Rattle.ftp_server_machine.specs.View.{Accounts, Session, Transfer, View, line_limit}
 use Rattle.ftp_server_machine.specs.Calls.{start}
 use Rattle.ftp_server_machine.specs.Machine.{Reading, IsReading}
 use Rattle.ftp_server_machine.specs.Play.{Cue, left_by}
+use Rattle.ftp_server_machine.specs.Told.{AreWithinLimits}
 use Rattle.ftp_server_machine.specs.declared.heard.Heard.{Heard}
 use Rattle.ftp_server_machine.specs.declared.heard.Heard.TheVariants.{Asks}
 use Rattle.ftp_server_machine.specs.declared.session.Access.{Access}
@@ -82,10 +82,6 @@ held v = length v.owed + (length v.ear.line.text + (waiting_len v.waiting + sess
 -- the most octets that an end holds
 abbrev pub held_limit : ℕ
 held_limit = 24576
-
--- each account's root is within the limits of paths
-abbrev pub AreWithinLimits : Accounts → Type 0
-AreWithinLimits accounts = list_all (λ account. fits account.root) accounts ≡ true
 
 -- whatever is called, a server never holds more
 abbrev pub HoldsLittle : Type 0

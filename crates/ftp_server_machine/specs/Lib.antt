@@ -13,6 +13,7 @@ pub mod Transfer
 pub mod Act
 pub mod Machine
 pub mod InFlight
+pub mod Told
 pub mod Calls
 pub mod Failing
 pub mod Far

@@ -16,7 +16,7 @@ use Rattle.ftp_tree.specs.Tree.{Dir, File, Table, node_at, children, installed, 
 use Rattle.ftp_ends.specs.RowWords.{here, elsewhere, lines}
 use Rattle.ftp_server_machine.specs.View.{Accounts, View}
 use Rattle.ftp_server_machine.specs.Machine.{heard_line, may_hear}
-use Rattle.ftp_server_machine.specs.Calls.{start, gives_control, listening, listen_refused, data_opened, data_refused, receives, gives_data, data_end, data_fault, data_closed, may_receive, to_give, wants}
+use Rattle.ftp_server_machine.specs.Calls.{start, control_end, gives_control, listening, listen_refused, data_opened, data_refused, receives, gives_data, data_end, data_fault, data_closed, may_receive, to_give, wants}
 use Rattle.ftp_ends.specs.declared.link.Wants.TheVariants as Want
 use Rattle.ftp_server_machine.specs.declared.session.Access.TheVariants.{Known}
 use Rattle.ftp_server_machine.specs.declared.heard.Heard.{Heard}
@@ -155,6 +155,13 @@ FactsChosen =
     → (server table root (asks (command.Opts (codes "MLST perm;Type;Unique;")) ∷ asks (command.Opts (codes "MLST")) ∷ asks (command.Opts (codes "MLST Type")) ∷ [])).owed
     ≡ lines (codes "220 Ready" ∷ codes "200 MLST OPTS Type;Perm;" ∷ codes "200 MLST OPTS" ∷ codes "501 Bad argument" ∷ [])
 
+-- FEAT behind OPTS MLST: `*` behind the facts in force alone (RFC 3659, section 7.8)
+abbrev pub FeaturesBehindOptions : Type 0
+FeaturesBehindOptions =
+    (table : Table) (root : Names) → (server table root (asks (command.Opts (codes "MLST size;")) ∷ asks command.Feat ∷ [])).owed
+    ≡ lines (codes "220 Ready" ∷ codes "200 MLST OPTS Size;" ∷ codes "211-Features" ∷ codes " EPRT" ∷ codes " EPSV" ∷ codes " MDTM"
+    ∷ codes " MLST Type;Size*;Modify;Perm;" ∷ codes " REST STREAM" ∷ codes " SIZE" ∷ codes " UTF8" ∷ codes "211 End" ∷ [])
+
 -- after EPSV ALL no other command opens a data connection, whatever endpoint it names
 abbrev pub OnlyExtended : Type 0
 OnlyExtended =
@@ -246,6 +253,13 @@ LateRename =
     → (member table root (asks (command.Rnfr (codes "d")) ∷ line (Bad Faults.Unknown) ∷ asks (command.Rnto (codes "e")) ∷ [])).owed
     ≡ said_to_member (codes "350 Ready for the new name" ∷ codes "500 Unknown command" ∷ codes "503 Bad sequence" ∷ [])
 
+-- MLST: the entry of a directory in three lines, with its canonical text (RFC 3659, section 7.3)
+abbrev pub EntryTold : Type 0
+EntryTold =
+    (table : Table) (root : Names) → node_at (under table root) (of (codes "d")) ≡ Some Dir
+    → (member table root (asks (command.Mlst (Some (codes "d"))) ∷ [])).owed
+    ≡ said_to_member (codes "250-Listing" ∷ codes " Type=dir;Perm=cdeflmp; /d" ∷ codes "250 End" ∷ [])
+
 -- ---- downloads
 
 -- TYPE I, PORT and RETR: the link is opened by the server, the octets are given, and with the last the link is to be closed
@@ -299,6 +313,13 @@ RestartInRecords =
     → (member table root (asks (command.Stru Structures.Record) ∷ asks (command.Rest 3) ∷ asks (command.Rest 0) ∷ [])).owed
     ≡ said_to_member (codes "200 Structure set" ∷ codes "504 Parameter not implemented" ∷ codes "350 Restarting at 0" ∷ [])
 
+-- in records each line of the file is one: 255 1 ends it, and 255 3 the last one and the file (RFC 959, section 3.4.1)
+abbrev pub RecordsSent : Type 0
+RecordsSent =
+    (table : Table) (root : Names) (moment : ℕ) → node_at (under table root) (of (codes "f")) ≡ Some (File (97 ∷ 10 ∷ 98 ∷ 10 ∷ []) moment)
+    → to_give (member table root (asks (command.Stru Structures.Record) ∷ asks (command.Port (at here)) ∷ asks (command.Retr (codes "f")) ∷ opened here ∷ []))
+    ≡ 97 ∷ 255 ∷ 1 ∷ 98 ∷ 255 ∷ 3 ∷ []
+
 -- LIST of a directory with one file
 abbrev pub ListingSent : Type 0
 ListingSent =
@@ -306,6 +327,21 @@ ListingSent =
     → node_at (under table root) (codes "d" ∷ codes "x" ∷ []) ≡ Some (File (codes "abc") 946684800)
     → to_give (member table root (asks (command.Port (at here)) ∷ asks (command.List (Some (codes "d"))) ∷ opened here ∷ []))
     ≡ codes "-rw-r--r-- 1 ftp ftp          3 Jan  1  2000 x\r\n"
+
+-- NLST of it: a pathname that can be used as an argument
+abbrev pub NamesSent : Type 0
+NamesSent =
+    (table : Table) (root : Names) → node_at (under table root) (of (codes "d")) ≡ Some Dir → children (under table root) (of (codes "d")) ≡ codes "x" ∷ []
+    → node_at (under table root) (codes "d" ∷ codes "x" ∷ []) ≡ Some (File (codes "abc") 946684800)
+    → to_give (member table root (asks (command.Port (at here)) ∷ asks (command.Nlst (Some (codes "d"))) ∷ opened here ∷ [])) ≡ codes "d/x\r\n"
+
+-- MLSD of a directory with one directory
+abbrev pub EntriesSent : Type 0
+EntriesSent =
+    (table : Table) (root : Names) → node_at (under table root) (of (codes "d")) ≡ Some Dir → children (under table root) (of (codes "d")) ≡ codes "x" ∷ []
+    → node_at (under table root) (codes "d" ∷ codes "x" ∷ []) ≡ Some Dir
+    → to_give (member table root (asks (command.Port (at here)) ∷ asks (command.Mlsd (Some (codes "d"))) ∷ opened here ∷ []))
+    ≡ codes "Type=dir;Perm=cdeflmp; x\r\n"
 
 -- ---- uploads
 
@@ -320,6 +356,16 @@ UploadInstalled =
     × (v.session.table ≡ with_part table root (installed (under table root) (of (codes "f")) (codes "abc") 0))
     × (wants v ≡ Want.Nothing)
 
+-- REST right before STOR: the octets come behind those before that place
+abbrev pub UploadFromPlace : Type 0
+UploadFromPlace =
+    (table : Table) (root : Names) → node_at (under table root) (of (codes "f")) ≡ Some (File (codes "abc") 0) → room_at (under table root) (of (codes "f")) ≡ 1000
+    → let v = member table root (asks (command.Repr Kinds.Image) ∷ asks (command.Port (at here)) ∷ asks (command.Rest 1) ∷ asks (command.Stor (codes "f"))
+    ∷ opened here ∷ octets (codes "z") ∷ ended ∷ []) in
+    (v.owed ≡ said_to_member (codes "200 Type set" ∷ codes "200 Endpoint taken" ∷ codes "350 Restarting at 1" ∷ codes "150 Opening data connection"
+    ∷ codes "226 Transfer complete" ∷ []))
+    × (v.session.table ≡ with_part table root (installed (under table root) (of (codes "f")) (codes "az") 0))
+
 -- in ASCII a CR that the break leaves unpaired is dropped, and what was settled is kept
 abbrev pub BrokenUploadKept : Type 0
 BrokenUploadKept =
@@ -327,6 +373,14 @@ BrokenUploadKept =
     → let v = member table root (asks (command.Port (at here)) ∷ asks (command.Stor (codes "f")) ∷ opened here ∷ octets (120 ∷ 13 ∷ []) ∷ broken ∷ []) in
     (v.owed ≡ said_to_member (codes "200 Endpoint taken" ∷ codes "150 Opening data connection" ∷ codes "426 Transfer broken" ∷ []))
     × (v.session.table ≡ with_part table root (installed (under table root) (of (codes "f")) (codes "x") 0))
+
+-- the end of the control connection drops an upload under way: nothing is owed, the map is as it was, and the data connection is to be
+-- closed
+abbrev pub UploadDropped : Type 0
+UploadDropped =
+    (table : Table) (root : Names) → node_at (under table root) (of (codes "f")) ≡ Some (File [] 0) → room_at (under table root) (of (codes "f")) ≡ 1000
+    → let v = control_end (member table root (asks (command.Port (at here)) ∷ asks (command.Stor (codes "f")) ∷ opened here ∷ octets (codes "ab") ∷ [])) in
+    (v.owed ≡ []) × (v.session.table ≡ table) × (wants v ≡ Want.CloseData) × (may_hear v ≡ false)
 
 -- 552: past the room for the file the rest is dropped, and the map is as it was
 abbrev pub TooMuchRefused : Type 0

@@ -3,6 +3,7 @@ ghost use Rattle.ftp_server_machine.specs.Bounds.{ServerLowers};
 ghost use Rattle.ftp_server_machine.specs.Failing.{NeverFailsWithoutLogin};
 ghost use Rattle.ftp_server_machine.specs.InFlight.{ServerDropsAnswer, ServerHearsCommand, ServerHearsPieces, ServerHearsEachLine, LineLeavesEar, ServerHearsRow, StatedIsLine};
 ghost use Rattle.ftp_server_machine.specs.Replies.{RepliesAreWritten, RepliesHaveRoom};
+ghost use Rattle.ftp_server_machine.specs.Told.{LineKeeps, ParentIsPath, PathHasText, PathLeadsToPath, ReadCanBeHeard};
 ghost use Rattle.ftp_server_machine.specs.Machine.{OneReading, ReadingExists, ReadsStated};
 
 /// Lines are read, in one way, and the line of a command as that command.
@@ -28,6 +29,20 @@ pub fn commands_in_flight()
 pub fn replies_are_written()
     ensures written { RepliesAreWritten }
     ensures room { RepliesHaveRoom }
+{}
+
+/// The canonical text of a path of names, within the limits, is a path text; and where a path text leads from there is such a path
+/// again, unless it passes the limits.
+pub fn paths_have_texts()
+    ensures text { PathHasText }
+    ensures led { PathLeadsToPath }
+    ensures parent { ParentIsPath }
+{}
+
+/// What a line makes keeps its limits: the reply tells what is within them, and so do the paths of the session.
+pub fn lines_keep_limits()
+    ensures heard { ReadCanBeHeard }
+    ensures made { LineKeeps }
 {}
 
 /// A command that is answered 530 is never answered 451.

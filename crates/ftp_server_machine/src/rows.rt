@@ -1,5 +1,5 @@
 //! Worked rows of a server: functions that do nothing, whose contracts are rows of `specs/Rows`.
-ghost use Rattle.ftp_server_machine.specs.Rows.{AbortAnswered, AbortPastRoom, BeforeLogin, BrokenUploadKept, ByFamily, DownloadSent, EarlyAbort, EarlyEnd, FactsChosen, FaultyUpload, FeaturesTold, ForeignEndpoint, ForeignOpener, LateRename, LateRestart, ListingSent, LoginAnswered, MadeBelowRoot, MarkerAnswered, OnlyExtended, OpenLogin, OrderOfDecisions, QuitHeard, RefusedListen, RefusedOpening, Reinitialized, RenameDone, RestartInAscii, RestartInPair, RestartInRecords, RestartSent, RootIsTop, RootMissing, TooMuchRefused, UploadInstalled, Utf8Chosen, WaitingLine, WrongPassword};
+ghost use Rattle.ftp_server_machine.specs.Rows.{AbortAnswered, AbortPastRoom, BeforeLogin, BrokenUploadKept, ByFamily, DownloadSent, EarlyAbort, EarlyEnd, EntriesSent, EntryTold, FactsChosen, FaultyUpload, FeaturesBehindOptions, FeaturesTold, ForeignEndpoint, ForeignOpener, LateRename, LateRestart, ListingSent, LoginAnswered, MadeBelowRoot, MarkerAnswered, NamesSent, OnlyExtended, OpenLogin, OrderOfDecisions, QuitHeard, RecordsSent, RefusedListen, RefusedOpening, Reinitialized, RenameDone, RestartInAscii, RestartInPair, RestartInRecords, RestartSent, RootIsTop, RootMissing, TooMuchRefused, UploadDropped, UploadFromPlace, UploadInstalled, Utf8Chosen, WaitingLine, WrongPassword};
 
 /// A login with a password.
 pub fn login()
@@ -189,4 +189,39 @@ pub fn waiting_line()
 /// ABOR of an upload.
 pub fn abort()
     ensures { AbortAnswered }
+{}
+
+/// FEAT behind OPTS MLST.
+pub fn features_behind_options()
+    ensures { FeaturesBehindOptions }
+{}
+
+/// The entry of a directory.
+pub fn entry()
+    ensures { EntryTold }
+{}
+
+/// A file in records.
+pub fn records()
+    ensures { RecordsSent }
+{}
+
+/// NLST of a directory.
+pub fn names()
+    ensures { NamesSent }
+{}
+
+/// MLSD of a directory.
+pub fn entries()
+    ensures { EntriesSent }
+{}
+
+/// REST before STOR.
+pub fn upload_from_place()
+    ensures { UploadFromPlace }
+{}
+
+/// The end of the control connection in an upload.
+pub fn dropped_upload()
+    ensures { UploadDropped }
 {}
