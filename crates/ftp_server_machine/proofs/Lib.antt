@@ -1,3 +1,4 @@
+pub mod CallLemmas
 pub mod CommandsInFlight
 pub mod Deciding
 pub mod EndpointsDecided

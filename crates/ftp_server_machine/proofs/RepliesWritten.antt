@@ -92,11 +92,11 @@ line_short : (text : List ℕ) → length (written_line text) ≤ 2 * length tex
 line_short text = omega (arith, length-append (flat_map written_octet text) (13 ∷ 10 ∷ []), text_short text)
 
 -- so many octets in lines, and so many lines
-abbrev octets_in : List (List ℕ) → ℕ
+abbrev pub octets_in : List (List ℕ) → ℕ
 octets_in [] = 0
 octets_in (line ∷ lines) = 2 * length line + 2 + octets_in lines
 
-lines_short : (lines : List (List ℕ)) → length (flat_map written_line lines) ≤ octets_in lines
+pub lines_short : (lines : List (List ℕ)) → length (flat_map written_line lines) ≤ octets_in lines
 lines_short [] = omega arith
 lines_short (line ∷ lines) = omega (arith, length-append (written_line line) (flat_map written_line lines), line_short line, lines_short lines)
 

@@ -84,7 +84,7 @@ number_by false n small is = none_is_some is
 
 -- ---- sessions
 
-forgotten_keeps : (s : Session) → Keeps s → Keeps (forgotten s)
+pub forgotten_keeps : (s : Session) → Keeps s → Keeps (forgotten s)
 forgotten_keeps s k = record { access = k.access; root = k.root; cwd = k.cwd; pending = k.pending; connection = tt }
 
 logged_out_keeps : (s : Session) → Keeps s → Keeps (logged_out s)
@@ -98,10 +98,10 @@ enters_keeps root s within k = record { access = tt; root = within; cwd = refl; 
 moved_keeps : (state : State) (s : Session) → is_path state.cwd ≡ true → Keeps s → Keeps (as_direct state s)
 moved_keeps state s led k = record { access = k.access; root = k.root; cwd = led; pending = k.pending; connection = k.connection }
 
-pending_keeps : (pending : Pending Names) (s : Session) → PendingKeeps pending → Keeps s → Keeps (record s { pending = pending })
+pub pending_keeps : (pending : Pending Names) (s : Session) → PendingKeeps pending → Keeps s → Keeps (record s { pending = pending })
 pending_keeps pending s kept k = record { access = k.access; root = k.root; cwd = k.cwd; pending = kept; connection = k.connection }
 
-connection_keeps : (connection : DataConnection Transfer) (s : Session) → ConnectionKeeps connection → Keeps s → Keeps (record s { connection = connection })
+pub connection_keeps : (connection : DataConnection Transfer) (s : Session) → ConnectionKeeps connection → Keeps s → Keeps (record s { connection = connection })
 connection_keeps connection s kept k = record { access = k.access; root = k.root; cwd = k.cwd; pending = k.pending; connection = kept }
 
 -- ---- turns

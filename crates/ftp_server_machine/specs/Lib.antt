@@ -15,6 +15,7 @@ pub mod Machine
 pub mod InFlight
 pub mod Told
 pub mod Calls
+pub mod Kept
 pub mod Failing
 pub mod Far
 pub mod Bounds

@@ -1,0 +1,53 @@
+-- What every call of a server keeps, so that whatever comes of an octet has room (own choice of the limits): of the 8,192 octets of
+-- control output a line is acted on, and an octet taken, only while 4,096 are free.
+use Rattle.std.specs.Prelude.{◌≡◌, ℕ, ◌<◌, ◌≤◌, true, List, length, Option, Some, None, if◌then◌else◌}
+use Rattle.ftp_endpoint.specs.Written.{IsTypedHost}
+use Rattle.ftp_endpoint.specs.declared.host.Host.{Host}
+use Rattle.ftp_tree.specs.Tree.{Table}
+use Rattle.ftp_server_machine.specs.Calls.{start, clocked, gives_control, control_end, listening, listen_refused, data_opened, data_refused, gives_data, data_end, data_fault, data_closed}
+use Rattle.ftp_server_machine.specs.Machine.{Reading, IsReading, is_connection_busy, hears_octet, may_hear}
+use Rattle.ftp_server_machine.specs.Told.{AreWithinLimits, CanBeHeard, Keeps}
+use Rattle.ftp_server_machine.specs.View.{Accounts, Transfer, View}
+use Rattle.ftp_server_machine.specs.declared.heard.Heard.{Heard}
+use Rattle.ftp_server_machine.specs.declared.session.DataConnection.{DataConnection}
+
+-- the most control octets that are owed: while a transfer stands or a port is asked for, its last reply is still to come
+abbrev pub owed_limit : DataConnection Transfer → ℕ
+owed_limit connection = if is_connection_busy connection then 5120 else 8192
+
+-- a line that waits
+abbrev pub WaitingKeeps : Option (Heard (List ℕ)) → Type 0
+WaitingKeeps None = Unit {0}
+WaitingKeeps (Some heard) = CanBeHeard heard
+
+-- a server that keeps its limits
+pub record ServerKeeps (v : View) : Type 0 where
+  pub accounts : AreWithinLimits v.footing.accounts
+  pub host : IsTypedHost v.footing.here
+  pub session : Keeps v.session
+  pub waiting : WaitingKeeps v.waiting
+  pub owed : length v.owed ≤ owed_limit v.session.connection
+
+-- it does at the start
+abbrev pub StartKeeps : Type 0
+StartKeeps =
+    (table : Table) (accounts : Accounts) (here peer : Host) → AreWithinLimits accounts → IsTypedHost here → ServerKeeps (start table accounts here peer)
+
+-- and after each call
+pub record CallsKeep (v : View) : Type 0 where
+  pub clock : (moment : ℕ) → ServerKeeps (clocked moment v)
+  pub hear : (read : Reading) (octet : ℕ) → IsReading read → may_hear v ≡ true → ServerKeeps (hears_octet read v octet)
+  pub control : (count : ℕ) → ServerKeeps (gives_control count v)
+  pub control_ended : ServerKeeps (control_end v)
+  pub listened : (port : ℕ) → port < 65536 → ServerKeeps (listening port v)
+  pub no_port : ServerKeeps (listen_refused v)
+  pub opened : (host : Host) → ServerKeeps (data_opened host v)
+  pub refused : ServerKeeps (data_refused v)
+  pub given : (count : ℕ) → ServerKeeps (gives_data count v)
+  pub ended : ServerKeeps (data_end v)
+  pub broke : ServerKeeps (data_fault v)
+  pub closed : ServerKeeps (data_closed v)
+
+-- but for the octets of an upload, whose markers are answered: that those are short is the decoder's
+abbrev pub EachCallKeeps : Type 0
+EachCallKeeps = (v : View) → ServerKeeps v → CallsKeep v
