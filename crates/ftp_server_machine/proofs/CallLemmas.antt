@@ -120,7 +120,7 @@ extended_room s port small =
 
 -- ---- the room
 
-least_room : (connection : DataConnection Transfer) → 5120 ≤ owed_limit connection
+pub least_room : (connection : DataConnection Transfer) → 5120 ≤ owed_limit connection
 least_room connection = cond_both (is_connection_busy connection) 5120 8192 (λ n. 5120 ≤ n) (λ is. omega arith) (λ is. omega arith)
 
 most_room : (connection : DataConnection Transfer) → owed_limit connection ≤ 8192
@@ -129,7 +129,7 @@ most_room connection = cond_both (is_connection_busy connection) 5120 8192 (λ n
 calm_room : (connection : DataConnection Transfer) → is_connection_busy connection ≡ false → owed_limit connection ≡ 8192
 calm_room connection is = ap (λ b. if b then 5120 else 8192) is
 
-busy_owed : (v : View) → ServerKeeps v → is_connection_busy v.session.connection ≡ true → length v.owed ≤ 5120
+pub busy_owed : (v : View) → ServerKeeps v → is_connection_busy v.session.connection ≡ true → length v.owed ≤ 5120
 busy_owed v k is = let room : owed_limit v.session.connection ≡ 5120 = ap (λ b. if b then 5120 else 8192) is in omega (arith, k.owed, room)
 
 owed_most : (v : View) → ServerKeeps v → length v.owed ≤ 8192
@@ -137,14 +137,14 @@ owed_most v k = omega (arith, k.owed, most_room v.session.connection)
 
 -- ---- what is said
 
-moves_keeps : (session : Session) (v : View) → ServerKeeps v → Keeps session → length v.owed ≤ owed_limit session.connection → ServerKeeps (with_session session v)
+pub moves_keeps : (session : Session) (v : View) → ServerKeeps v → Keeps session → length v.owed ≤ owed_limit session.connection → ServerKeeps (with_session session v)
 moves_keeps session v k kept room = record { accounts = k.accounts; host = k.host; session = kept; waiting = k.waiting; owed = room }
 
 -- to a session with no transfer
 rests_keeps : (session : Session) (v : View) → ServerKeeps v → Keeps session → is_connection_busy session.connection ≡ false → ServerKeeps (with_session session v)
 rests_keeps session v k kept calm = moves_keeps session v k kept (omega (arith, owed_most v k, calm_room session.connection calm))
 
-replied_keeps : (text : Text) (session : Session) (v : View) → ServerKeeps v → Keeps session → is_connection_busy session.connection ≡ false → length v.owed ≤ 7936 → ServerKeeps (replied text session v)
+pub replied_keeps : (text : Text) (session : Session) (v : View) → ServerKeeps v → Keeps session → is_connection_busy session.connection ≡ false → length v.owed ≤ 7936 → ServerKeeps (replied text session v)
 replied_keeps text session v k kept calm small = record {
   accounts = k.accounts;
   host = k.host;
@@ -204,7 +204,7 @@ waited_keeps (Some heard) v is k =
     (λ idle. obeyed_keeps heard before (record { accounts = k.accounts; host = k.host; session = k.session; waiting = tt; owed = k.owed }) (subst WaitingKeeps is k.waiting) idle)
     (λ busy. k)
 
-later_keeps : (v : View) → ServerKeeps v → ServerKeeps (later v)
+pub later_keeps : (v : View) → ServerKeeps v → ServerKeeps (later v)
 later_keeps v k = waited_keeps v.waiting v refl k
 
 -- ---- how a transfer ends
@@ -246,7 +246,7 @@ disconnected_keeps s k = connection_keeps Data.Free s tt k
 
 -- ---- the calls of the data connection
 
-by_connection : (v : View) (f : DataConnection Transfer → View) → ServerKeeps (f Data.Free) → ServerKeeps (f v.session.connection) → ServerKeeps (f (connection_of v.session))
+pub by_connection : (v : View) (f : DataConnection Transfer → View) → ServerKeeps (f Data.Free) → ServerKeeps (f v.session.connection) → ServerKeeps (f (connection_of v.session))
 by_connection v f none one = cond_both v.session.closing Data.Free v.session.connection (λ connection. ServerKeeps (f connection)) (λ is. none) (λ is. one)
 
 unsaid : (v : View) → ServerKeeps v → ServerKeeps (record v { owed = v.owed ++ [] })

@@ -11,3 +11,4 @@ pub mod ServerRows
 pub mod ServerUploads
 pub mod PathTexts
 pub mod TurnLemmas
+pub mod UploadLemmas

@@ -1,15 +1,17 @@
 -- What every call of a server keeps, so that whatever comes of an octet has room (own choice of the limits): of the 8,192 octets of
 -- control output a line is acted on, and an octet taken, only while 4,096 are free.
-use Rattle.std.specs.Prelude.{◌≡◌, ℕ, ◌<◌, ◌≤◌, true, List, length, Option, Some, None, if◌then◌else◌}
+use Rattle.std.specs.Prelude.{◌≡◌, ℕ, ◌+◌, ◌^◌, ◌<◌, ◌≤◌, true, List, length, Option, Some, None, if◌then◌else◌}
 use Rattle.ftp_endpoint.specs.Written.{IsTypedHost}
 use Rattle.ftp_endpoint.specs.declared.host.Host.{Host}
 use Rattle.ftp_tree.specs.Tree.{Table}
-use Rattle.ftp_server_machine.specs.Calls.{start, clocked, gives_control, control_end, listening, listen_refused, data_opened, data_refused, gives_data, data_end, data_fault, data_closed}
+use Rattle.ftp_server_machine.specs.Calls.{start, clocked, gives_control, control_end, listening, listen_refused, data_opened, data_refused, gives_data, data_end, data_fault, data_closed, receives_octet, may_receive}
 use Rattle.ftp_server_machine.specs.Machine.{Reading, IsReading, is_connection_busy, hears_octet, may_hear}
 use Rattle.ftp_server_machine.specs.Told.{AreWithinLimits, CanBeHeard, Keeps}
 use Rattle.ftp_server_machine.specs.View.{Accounts, Transfer, View}
 use Rattle.ftp_server_machine.specs.declared.heard.Heard.{Heard}
 use Rattle.ftp_server_machine.specs.declared.session.DataConnection.{DataConnection}
+use Rattle.ftp_server_machine.specs.declared.session.DataConnection.TheVariants as Data
+use Rattle.ftp_server_machine.specs.declared.session.Transfer.TheVariants as Transfers
 
 -- the most control octets that are owed: while a transfer stands or a port is asked for, its last reply is still to come
 abbrev pub owed_limit : DataConnection Transfer → ℕ
@@ -48,6 +50,15 @@ pub record CallsKeep (v : View) : Type 0 where
   pub broke : ServerKeeps (data_fault v)
   pub closed : ServerKeeps (data_closed v)
 
--- but for the octets of an upload, whose markers are answered: that those are short is the decoder's
+-- after each call but that of an octet of an upload
 abbrev pub EachCallKeeps : Type 0
 EachCallKeeps = (v : View) → ServerKeeps v → CallsKeep v
+
+-- the octets that an upload holds can be told in 18 digits, as a marker asks for
+abbrev pub CanTell : DataConnection Transfer → Type 0
+CanTell (Data.Transferring (Transfers.Upload path keep d)) = keep + length d.content < 10 ^ 18
+CanTell connection = Unit {0}
+
+-- and after such an octet
+abbrev pub UploadOctetKeeps : Type 0
+UploadOctetKeeps = (v : View) (octet : ℕ) → ServerKeeps v → may_receive v ≡ true → CanTell v.session.connection → ServerKeeps (receives_octet v octet)

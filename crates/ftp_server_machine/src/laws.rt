@@ -3,7 +3,7 @@ ghost use Rattle.ftp_server_machine.specs.Bounds.{ServerLowers};
 ghost use Rattle.ftp_server_machine.specs.Failing.{NeverFailsWithoutLogin};
 ghost use Rattle.ftp_server_machine.specs.InFlight.{ServerDropsAnswer, ServerHearsCommand, ServerHearsPieces, ServerHearsEachLine, LineLeavesEar, ServerHearsRow, StatedIsLine};
 ghost use Rattle.ftp_server_machine.specs.Replies.{RepliesAreWritten, RepliesHaveRoom};
-ghost use Rattle.ftp_server_machine.specs.Kept.{EachCallKeeps, StartKeeps};
+ghost use Rattle.ftp_server_machine.specs.Kept.{EachCallKeeps, StartKeeps, UploadOctetKeeps};
 ghost use Rattle.ftp_server_machine.specs.Told.{LineKeeps, ParentIsPath, PathHasText, PathLeadsToPath, ReadCanBeHeard};
 ghost use Rattle.ftp_server_machine.specs.Machine.{OneReading, ReadingExists, ReadsStated};
 
@@ -46,10 +46,11 @@ pub fn lines_keep_limits()
     ensures made { LineKeeps }
 {}
 
-/// A server keeps its limits at the start, and after each call but the octets of an upload: at most 8,192 control octets are owed.
+/// A server keeps its limits at the start and after each call: at most 8,192 control octets are owed.
 pub fn calls_keep_limits()
     ensures start { StartKeeps }
     ensures calls { EachCallKeeps }
+    ensures octets { UploadOctetKeeps }
 {}
 
 /// A command that is answered 530 is never answered 451.
