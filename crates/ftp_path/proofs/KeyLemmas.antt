@@ -13,7 +13,7 @@ use Rattle.std.proofs.lemmas.Bool.{and_parts, and_from, cond-false, cond-true, l
 use Rattle.std.proofs.lemmas.Bool.Decides.{nat_tests}
 use Rattle.std.proofs.lemmas.List.{append-nil, length-append, length-drop, drop_at, drop-drop}
 use Rattle.std.proofs.lemmas.List.Folds.{list_all-append, list_any-append}
-use Rattle.ftp_path.specs.Path.{is_slash, is_path_octet, is_name_octet, is_component, is_name, joined, text_of, fits, path_cmp, is_within, only_name, name_in, moved_path}
+use Rattle.ftp_path.specs.Path.{is_slash, is_path_octet, is_name_octet, is_component, is_name, joined, fits, path_cmp, is_within, only_name, name_in, moved_path}
 use Rattle.ftp_path.specs.Kept.{names_of, IsJoined, IsKept, rank, goes_on}
 use Rattle.ftp_path.proofs.PathLemmas.{component-octets, name_octet-slash, joined-append, names_of-joined, IsJoined-joined, split-kept, fits-kept}
 

@@ -230,16 +230,28 @@ followed-le names component =
 pub split-kept : (text : List ℕ) → IsJoined text → slice_split is_slash text ≡ [] ∷ names_of text
 split-kept text kept = ap (slice_split is_slash) (sym kept.whole) ∙ split-joined (names_of text) kept.components
 
+-- the canonical text is within the limit just where the names joined are
+text-within : (names : List (List ℕ)) → nat_le (length (text_of names)) 900 ≡ nat_le (length (joined names)) 900
+unfolding text_of
+text-within [] = refl
+text-within (name ∷ names) = refl
+
 pub fits-kept : (text : List ℕ) → IsJoined text → fits (names_of text) ≡ (list_all (λ name. nat_le (length name) 255) (slice_split is_slash text) && nat_le (length text) 900)
-unfolding fits text_of
+unfolding fits
 fits-kept text kept =
-    ap (λ n. list_all (λ name. nat_le (length name) 255) (names_of text) && n) (texts (names_of text))
+    ap (λ n. list_all (λ name. nat_le (length name) 255) (names_of text) && n) (text-within (names_of text))
     ∙ ap (λ t. list_all (λ name. nat_le (length name) 255) (names_of text) && nat_le (length t) 900) kept.whole
     ∙ ap (λ parts. list_all (λ name. nat_le (length name) 255) parts && nat_le (length text) 900) (sym (split-kept text kept))
-  where
-    texts : (names : List (List ℕ)) → nat_le (length (text_of names)) 900 ≡ nat_le (length (joined names)) 900
-    texts [] = refl
-    texts (name ∷ names) = refl
+
+-- the parent of a path within the limits is within them
+pub parent-fits : (names : List (List ℕ)) → fits names ≡ true → fits (parent names) ≡ true
+unfolding fits parent
+parent-fits names fit =
+    let both = and_parts (list_all (λ name. nat_le (length name) 255) names) _ fit in
+    let front = list_all-from_AllPass (λ name. nat_le (length name) 255) _ (All-take (λ name. nat_le (length name) 255 ≡ true) (length names - 1) names (AllPass-from_list_all (λ name. nat_le (length name) 255) names both.0)) in
+    let long : length (joined names) ≤ 900 = leb-true (length (joined names)) 900 (sym (text-within names) ∙ both.1) in
+    let less : length (joined (parent names)) ≤ length (joined names) = joined-parent-le names in
+    and_from _ _ front (text-within (parent names) ∙ le-leb (length (joined (parent names))) 900 (omega (arith, long, less)))
 
 -- ---- the three steps
 

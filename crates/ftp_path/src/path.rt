@@ -108,6 +108,14 @@ impl<A: Allocator> Path<A> {
         &self.octets.as_slice()[..parent_len(self.octets.as_slice())]
     }
 
+    /// Goes to the parent, which of the root is the root. Takes no memory.
+    pub fn up(&mut self)
+        ensures { self.new ≡ parent self.old }
+    {
+        let kept = parent_len(self.octets.as_slice());
+        self.octets.truncate(kept);
+    }
+
     /// The same path, in memory of its own.
     pub fn copy<B: Allocator>(&self, alloc: B) -> Result<Path<B>, AllocError>
         ensures { IfOk result (λ path. path ≡ self.now) }
