@@ -1,5 +1,5 @@
 -- Who may log in, and what an account sees of the tree (RFC 959, section 4.1.1; roots are an own choice).
-use Rattle.std.specs.Prelude.{ℕ, ◌&&◌, ◌||◌, ◌==◌, Bool, true, not, nat_le, nat_eq, List, [], ◌∷◌, length, Option, Some, None, if◌then◌else◌}
+use Rattle.std.specs.Prelude.{ℕ, ◌&&◌, ◌||◌, ◌==◌, Bool, true, not, nat_le, nat_eq, List, [], ◌∷◌, length, Option, Some, None, is_none, if◌then◌else◌}
 use Rattle.std.specs.List.{find, list_all, list_any}
 use Rattle.std.specs.Option.{option_map}
 use Rattle.std.specs.Cmp.Lexicographic.{pointwise}
@@ -52,3 +52,11 @@ knows user pass account = has_user user account && passes account.pass pass
 -- the root of the account that a login names so; none where it names no account
 unfoldable pub login_root : List Account → List ℕ → List ℕ → Option Names
 login_root accounts user pass = option_map (λ account. account.root) (find (knows user pass) accounts)
+
+-- an account of this name that needs no password
+abbrev pub is_open : List ℕ → Account → Bool
+is_open user account = has_user user account && is_none account.pass
+
+-- its root, if there is one
+abbrev pub open_root : List Account → List ℕ → Option Names
+open_root accounts user = option_map (λ account. account.root) (find (is_open user) accounts)

@@ -2,7 +2,7 @@
 ghost use Rattle.std.specs.Prelude.{◌≡◌, ◌&&◌, ◌↔◌, None, Some, IfOk, IfErr, IfSome, IsSome, IsTrue, drop};
 ghost use Rattle.std.specs.List.{list_all, list_any};
 ghost use Rattle.std.specs.Option.{option_map};
-ghost use Rattle.ftp_operation.specs.Account.{accounts_refusal, are_apart, are_distinct, has_nested, has_user, is_below, is_password, is_user, knows, login_root, passes};
+ghost use Rattle.ftp_operation.specs.Account.{accounts_refusal, are_apart, are_distinct, has_nested, has_user, is_below, is_open, is_password, is_user, knows, login_root, open_root, passes};
 
 use ftp_facts::Text;
 use ftp_login::{is_password, is_user};
@@ -112,13 +112,30 @@ impl<A: Allocator> Accounts<A> {
     }
 
     /// The root of the account that a login names, where that needs no password or the one given. Takes no memory.
-    #[tactic(auto, unfolding(crate::specs::Account::login_root))]
     pub fn login_root(&self, login: &Login<A>) -> Option<&Path<A>>
         ensures { option_map (λ root. root.now) result ≡ login_root self.now login.now.user login.now.pass }
     {
+        self.root_of(login.user(), login.pass())
+    }
+
+    /// The same of a user name and a password, whatever octets they have.
+    #[tactic(auto, unfolding(crate::specs::Account::login_root))]
+    pub fn root_of(&self, user: &[u8], pass: &[u8]) -> Option<&Path<A>>
+        ensures { option_map (λ root. root.now) result ≡ login_root self.now user.now pass.now }
+    {
         self.list
             .iter()
-            .find(|account| knows(account, login.user(), login.pass()))
+            .find(|account| knows(account, user, pass))
+            .map(|account| &account.root)
+    }
+
+    /// The root of the account of this name that needs no password. Takes no memory.
+    pub fn open_root(&self, user: &[u8]) -> Option<&Path<A>>
+        ensures { option_map (λ root. root.now) result ≡ open_root self.now user.now }
+    {
+        self.list
+            .iter()
+            .find(|account| is_open(account, user))
             .map(|account| &account.root)
     }
 }
@@ -173,6 +190,13 @@ fn knows<A: Allocator>(account: &Account<Text<A>, Path<A>>, user: &[u8], pass: &
     ensures { result ≡ knows user.now pass.now account.now }
 {
     account.user.as_slice() == user && passes(&account.pass, pass)
+}
+
+/// Whether an account is that of a user name and needs no password.
+fn is_open<A: Allocator>(account: &Account<Text<A>, Path<A>>, user: &[u8]) -> bool
+    ensures { result ≡ is_open user.now account.now }
+{
+    account.user.as_slice() == user && account.pass.is_none()
 }
 
 /// Whether a password is the one that is needed, or none is.

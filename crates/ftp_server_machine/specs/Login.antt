@@ -1,8 +1,6 @@
 -- Who is logged in: USER, PASS, REIN, QUIT (RFC 959, sections 4.1.1 and 5.4).
-use Rattle.std.specs.Prelude.{ℕ, Bool, true, false, ◌&&◌, List, [], Option, Some, None, is_none}
-use Rattle.std.specs.List.{find}
-use Rattle.std.specs.Option.{option_map}
-use Rattle.ftp_operation.specs.Account.{Account, has_user, login_root}
+use Rattle.std.specs.Prelude.{ℕ, Bool, true, false, List, [], Option, Some, None}
+use Rattle.ftp_operation.specs.Account.{login_root, open_root}
 use Rattle.ftp_path.specs.Path.{Names}
 use Rattle.ftp_tree.specs.Tree.{node_at}
 use Rattle.ftp_direct.specs.Direct.{is_directory}
@@ -27,14 +25,6 @@ admits false root s = tells Texts.LoginRefused (logged_out s)
 -- it is 530 where the root of its account is no directory (own choice)
 abbrev pub logs_in : Names → Session → Turn
 logs_in root s = admits (is_directory (node_at s.table root)) root s
-
--- an account of this name that needs no password
-abbrev pub is_open : List ℕ → Account → Bool
-is_open name account = has_user name account && is_none account.pass
-
--- its root, if there is one
-abbrev pub open_root : Accounts → List ℕ → Option Names
-open_root accounts name = option_map (λ account. account.root) (find (is_open name) accounts)
 
 -- any name that needs a password, or that no account has, is asked for one (own choice)
 abbrev pub user_named : Option Names → List ℕ → Session → Turn
