@@ -15,7 +15,7 @@ use std::alloc::Allocator;
 pub(crate) const PIECE: usize = 8192;
 
 /// Whether an offset has a meaning in that representation.
-pub(crate) fn takes_offset(offset: u64, how: How) -> bool
+pub fn takes_offset(offset: u64, how: How) -> bool
     ensures { offset_refusal offset how ≡ (if result then None else Some Refusal.BadParameter) }
 {
     offset == 0 || is_in_files(how.representation.structure)
@@ -31,7 +31,7 @@ fn is_in_files(structure: Structure) -> bool
 }
 
 /// How many first octets of the file at a path go as so many octets of a transfer in that type, where some do.
-pub(crate) fn place_at<A: Allocator, T: Tree<A>>(
+pub fn place_at<A: Allocator, T: Tree<A>>(
     tree: &T,
     root: &Path<A>,
     path: &Path<A>,

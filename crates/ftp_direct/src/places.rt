@@ -167,7 +167,7 @@ pub(crate) fn rename<A: Allocator + Clone, T: Tree<A>>(
 }
 
 /// Whether nothing can be moved from a path: nothing stands there, or it is in use.
-fn is_held<A: Allocator, T: Tree<A>>(
+pub fn is_held<A: Allocator, T: Tree<A>>(
     tree: &T,
     root: &Path<A>,
     path: &Path<A>,
@@ -179,7 +179,7 @@ fn is_held<A: Allocator, T: Tree<A>>(
 }
 
 /// Whether the current directory is at or below a path.
-fn is_busy<A: Allocator>(path: &Path<A>, cwd: &Path<A>) -> bool
+pub fn is_busy<A: Allocator>(path: &Path<A>, cwd: &Path<A>) -> bool
     ensures { result ≡ is_within path.now cwd.now }
 {
     is_within(path.key(), cwd.key())

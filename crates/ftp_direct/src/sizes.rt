@@ -40,7 +40,12 @@ pub(crate) fn size<A: Allocator + Clone, T: Tree<A>>(
 }
 
 /// How many octets the file at a path goes as in that type, or `u64::MAX` where they are more.
-fn wire_len<A: Allocator, T: Tree<A>>(tree: &T, root: &Path<A>, path: &Path<A>, kind: Kind) -> u64
+pub fn wire_len<A: Allocator, T: Tree<A>>(
+    tree: &T,
+    root: &Path<A>,
+    path: &Path<A>,
+    kind: Kind,
+) -> u64
     ensures { result ≡ min (size_in kind (octets_or_none (under (T.table tree.now) root.now) path.now)) (2 ^ 64 - 1) }
 {
     let end = len_at(tree, root, path);
