@@ -1,6 +1,6 @@
 -- Lines of the control connection, as functions of the view: a line is acted on, or waits; how an upload ends; ABOR; control octets
 -- (RFC 959, sections 4.1.3 and 5.4). Each call ends by `later`: the line that waits is acted on once it may be.
-use Rattle.std.specs.Prelude.{◌≡◌, ℕ, ◌+◌, Bool, true, false, not, ◌&&◌, List, [], ◌∷◌, ◌++◌, length, take, nat_le, Option, Some, None, is_some, is_none, if◌then◌else◌}
+use Rattle.std.specs.Prelude.{◌≡◌, ℕ, ◌+◌, ◌-◌, Bool, true, false, not, ◌&&◌, List, [], ◌∷◌, ◌++◌, length, take, nat_le, Option, Some, None, is_some, is_none, if◌then◌else◌}
 use Rattle.ftp_nvt.specs.Lines.{NvtEvent, line, too_long, owed}
 use Rattle.ftp_command.specs.Command.{Says, Refuses}
 use Rattle.ftp_command.specs.Line.{IsStated, IsTyped, line_of}
@@ -14,6 +14,7 @@ use Rattle.ftp_server_machine.specs.View.{Session, Transfer, View, line_limit, s
 use Rattle.ftp_server_machine.specs.Replies.{Turn, fixed_reply, reply_octets, said_octets}
 use Rattle.ftp_server_machine.specs.Endpoint.{forgotten}
 use Rattle.ftp_server_machine.specs.Act.{decided}
+use Rattle.ftp_server_machine.specs.declared.room.TheConstants.{FREE_ROOM, OUTPUT_ROOM}
 use Rattle.ftp_server_machine.specs.declared.heard.Heard.{Heard}
 use Rattle.ftp_server_machine.specs.declared.heard.Heard.TheVariants.{TooLong, Bad, Asks}
 use Rattle.ftp_server_machine.specs.declared.reply.Text.{Text}
@@ -70,9 +71,9 @@ is_connection_busy (Data.Active endpoint) = false
 is_connection_busy Data.Passive = false
 is_connection_busy Data.Ready = false
 
--- 4,096 of the 8,192 octets of control output are free, so that whatever comes of an octet has room (own choice)
+-- enough of the room for control output is free, so that whatever comes of an octet has room (own choice)
 abbrev pub has_room : View → Bool
-has_room v = nat_le (length v.owed) 4096
+has_room v = nat_le (length v.owed) (OUTPUT_ROOM - FREE_ROOM)
 
 -- a line may be acted on: no transfer is under way, no port is asked for, and there is room for its reply
 abbrev pub is_idle : View → Bool

@@ -11,6 +11,7 @@ pub use Rattle.ftp_ends.specs.Reply.{Reply, IsWritten, reply_of, reply_octets}
 use Rattle.ftp_server_machine.specs.Texts.{code_of, text_of}
 use Rattle.ftp_server_machine.specs.View.{Session, seen}
 use Rattle.ftp_server_machine.specs.Entries.{listed_line, features_text, chosen_text, is_any_chosen}
+use Rattle.ftp_server_machine.specs.declared.room.TheConstants.{FREE_ROOM}
 use Rattle.ftp_server_machine.specs.declared.session.Facts.{Facts}
 use Rattle.ftp_server_machine.specs.declared.reply.Text.{Text}
 use Rattle.ftp_server_machine.specs.declared.reply.ReplyKind.{ReplyKind}
@@ -116,4 +117,4 @@ RepliesAreWritten =
 
 -- and its octets fit into the room that is free before an octet is heard
 abbrev pub RepliesHaveRoom : Type 0
-RepliesHaveRoom = (s : Session) (kind : ReplyKind Names) → IsTold s kind → length (said_octets s kind) ≤ 4096
+RepliesHaveRoom = (s : Session) (kind : ReplyKind Names) → IsTold s kind → length (said_octets s kind) ≤ FREE_ROOM

@@ -6,10 +6,12 @@ mod far;
 mod heard;
 pub mod laws;
 mod reply;
+mod room;
 pub mod rows;
 mod session;
 
 pub use far::Far;
 pub use heard::Heard;
 pub use reply::{ReplyKind, Text};
+pub use room::{FREE_ROOM, OUTPUT_ROOM};
 pub use session::{Access, Asked, DataConnection, Facts, Life, Pending, Transfer, Way};
