@@ -1,5 +1,5 @@
 // The control octets that a server owes, in the order in which they go out (RFC 959, section 4.2).
-ghost use Rattle.std.specs.Prelude.{◌≡◌, ◌+◌, ◌*◌, ◌≤◌, ◌++◌, [], IfOk, length, take, drop, min, nat_le, flat_map, decimal};
+ghost use Rattle.std.specs.Prelude.{◌≡◌, ◌+◌, ◌-◌, ◌*◌, ◌≤◌, ◌++◌, [], IfOk, length, take, drop, min, nat_le, flat_map, decimal};
 ghost use Rattle.ftp_ends.specs.Reply.{reply_octets};
 ghost use Rattle.ftp_nvt.specs.Lines.{written_octet};
 ghost use Rattle.ftp_reply.specs.Values.{doubled};
@@ -7,16 +7,10 @@ ghost use Rattle.ftp_server_machine.specs.Replies.{fixed_reply};
 
 use crate::text::{FIXED_LIMIT, fixed_line};
 use circular_buffer::HeapCircularBuffer;
-use ftp_server_machine::Text;
+use ftp_server_machine::{FREE_ROOM, OUTPUT_ROOM, Text};
 use itoa::Buffer;
 use std::alloc::{AllocError, Allocator};
 use std::marker::Model;
-
-/// The room for control octets, reserved at the start.
-pub const OUTPUT_ROOM: usize = 8192;
-
-/// What has to be free before an octet is taken: room for whatever comes of it (own choice).
-pub const FREE_ROOM: usize = 4096;
 
 /// The most octets of a number in decimal.
 const NUMBER_LIMIT: usize = 20;
@@ -36,7 +30,7 @@ pub struct Output<A: Allocator> {
 
 impl<A: Allocator> Model for Output<A> {
     ghost use Rattle.std.specs.Prelude.{ℕ, List, ◌≡◌};
-    ghost use Rattle.ftp_session.specs.declared.output.TheConstants.{OUTPUT_ROOM};
+    ghost use Rattle.ftp_server_machine.specs.declared.room.TheConstants.{OUTPUT_ROOM};
 
     ghost Value = { List ℕ };
 
@@ -64,9 +58,9 @@ impl<A: Allocator> Output<A> {
 
     /// Whether there is room for whatever comes of one more octet.
     pub fn has_room(&self) -> bool
-        ensures { result ≡ nat_le (length self.now) FREE_ROOM }
+        ensures { result ≡ nat_le (length self.now) (OUTPUT_ROOM - FREE_ROOM) }
     {
-        self.octets.len() <= FREE_ROOM
+        self.octets.len() <= OUTPUT_ROOM - FREE_ROOM
     }
 
     /// Gives octets, the first that are owed first, and says how many.

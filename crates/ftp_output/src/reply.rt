@@ -6,18 +6,18 @@ ghost use Rattle.ftp_nvt.specs.Lines.{written_octet};
 ghost use Rattle.ftp_server_machine.specs.Entries.{chosen_text, fact_text, feature_text, is_any_chosen};
 ghost use Rattle.ftp_server_machine.specs.Replies.{chosen_reply, features_reply, extended_text, here_text, made_text, mark_reply, passive_text};
 
-use crate::output::{FREE_ROOM, OUTPUT_ROOM, Output};
+use crate::output::Output;
 use crate::text::FIXED_LIMIT;
 use ftp_endpoint::{Endpoint, write_six};
 use ftp_path::Path;
 use ftp_representation::MARKER_LIMIT;
-use ftp_server_machine::Facts;
+use ftp_server_machine::{FREE_ROOM, Facts, OUTPUT_ROOM};
 use std::alloc::Allocator;
 
 impl<A: Allocator> Output<A> {
     /// Owes the reply to PWD (RFC 959, appendix II).
     pub fn put_here<B: Allocator>(&mut self, path: &Path<B>)
-        requires { length self.old ≤ FREE_ROOM }
+        requires { length self.old + FREE_ROOM ≤ OUTPUT_ROOM }
         ensures { self.new ≡ self.old ++ reply_octets (reply_of 257 (here_text path.now)) }
     {
         self.put(b"257 \"");
@@ -27,7 +27,7 @@ impl<A: Allocator> Output<A> {
 
     /// Owes the reply that a directory was made (RFC 959, appendix II).
     pub fn put_made<B: Allocator>(&mut self, path: &Path<B>)
-        requires { length self.old ≤ FREE_ROOM }
+        requires { length self.old + FREE_ROOM ≤ OUTPUT_ROOM }
         ensures { self.new ≡ self.old ++ reply_octets (reply_of 257 (made_text path.now)) }
     {
         self.put(b"257 \"");
@@ -37,7 +37,7 @@ impl<A: Allocator> Output<A> {
 
     /// Owes the reply to an accepted REST (RFC 3659, section 5).
     pub fn put_restarting(&mut self, place: u64)
-        requires { length self.old ≤ FREE_ROOM }
+        requires { length self.old + FREE_ROOM ≤ OUTPUT_ROOM }
         ensures { self.new ≡ self.old ++ reply_octets (reply_of 350 (codes "Restarting at " ++ decimal place)) }
     {
         self.put(b"350 Restarting at ");
@@ -47,7 +47,7 @@ impl<A: Allocator> Output<A> {
 
     /// Owes the reply to SIZE (RFC 3659, section 4).
     pub fn put_size(&mut self, size: u64)
-        requires { length self.old ≤ FREE_ROOM }
+        requires { length self.old + FREE_ROOM ≤ OUTPUT_ROOM }
         ensures { self.new ≡ self.old ++ reply_octets (reply_of 213 (decimal size)) }
     {
         self.put(b"213 ");
@@ -57,7 +57,7 @@ impl<A: Allocator> Output<A> {
 
     /// Owes the reply to EPSV (RFC 2428, section 3).
     pub fn put_extended(&mut self, port: u16)
-        requires { length self.old ≤ FREE_ROOM }
+        requires { length self.old + FREE_ROOM ≤ OUTPUT_ROOM }
         ensures { self.new ≡ self.old ++ reply_octets (reply_of 229 (extended_text port)) }
     {
         self.put(b"229 Entering Extended Passive Mode (|||");
@@ -67,7 +67,7 @@ impl<A: Allocator> Output<A> {
 
     /// Owes the reply to PASV (RFC 959, section 4.1.2).
     pub fn put_passive(&mut self, endpoint: Endpoint)
-        requires { length self.old ≤ FREE_ROOM }
+        requires { length self.old + FREE_ROOM ≤ OUTPUT_ROOM }
         ensures { self.new ≡ self.old ++ reply_octets (reply_of 227 (passive_text endpoint)) }
     {
         self.put(b"227 Entering Passive Mode (");
@@ -77,7 +77,7 @@ impl<A: Allocator> Output<A> {
 
     /// Owes the six numbers of an endpoint of IPv4.
     fn put_six(&mut self, endpoint: Endpoint)
-        requires { length self.old ≤ FREE_ROOM + FIXED_LIMIT }
+        requires { length self.old + FREE_ROOM ≤ OUTPUT_ROOM + FIXED_LIMIT }
         ensures octets { self.new ≡ self.old ++ flat_map written_octet (six_text endpoint) }
         ensures room { length self.new ≤ length self.old + 256 }
     {
@@ -111,7 +111,7 @@ impl<A: Allocator> Output<A> {
 
     /// Owes the reply to FEAT, with `*` behind each fact in force (RFC 2389, section 3.2; RFC 3659, section 7.8).
     pub fn put_features(&mut self, facts: Facts)
-        requires { length self.old ≤ FREE_ROOM }
+        requires { length self.old + FREE_ROOM ≤ OUTPUT_ROOM }
         ensures { self.new ≡ self.old ++ reply_octets (features_reply facts) }
     {
         self.put(b"211-Features\r\n EPRT\r\n EPSV\r\n MDTM\r\n MLST ");
@@ -124,7 +124,7 @@ impl<A: Allocator> Output<A> {
 
     /// Owes a fact of FEAT.
     fn put_feature(&mut self, name: &[u8], chosen: bool)
-        requires room { length self.old ≤ FREE_ROOM + 4 * FIXED_LIMIT }
+        requires room { length self.old + FREE_ROOM ≤ OUTPUT_ROOM + 4 * FIXED_LIMIT }
         requires name { length name.now ≤ 6 }
         ensures octets { self.new ≡ self.old ++ flat_map written_octet (feature_text name.now chosen) }
         ensures room { length self.new ≤ length self.old + FIXED_LIMIT / 2 }
@@ -139,7 +139,7 @@ impl<A: Allocator> Output<A> {
 
     /// Owes the reply to OPTS MLST: the facts that are now in force (RFC 3659, section 7.9).
     pub fn put_chosen(&mut self, facts: Facts)
-        requires { length self.old ≤ FREE_ROOM }
+        requires { length self.old + FREE_ROOM ≤ OUTPUT_ROOM }
         ensures { self.new ≡ self.old ++ reply_octets (reply_of 200 (chosen_reply facts)) }
     {
         self.put(b"200 MLST OPTS");
@@ -149,7 +149,7 @@ impl<A: Allocator> Output<A> {
 
     /// Owes a space and the facts in force, where there are some.
     fn put_chosen_facts(&mut self, facts: Facts)
-        requires { length self.old ≤ FREE_ROOM + FIXED_LIMIT }
+        requires { length self.old + FREE_ROOM ≤ OUTPUT_ROOM + FIXED_LIMIT }
         ensures octets { self.new ≡ self.old ++ flat_map written_octet (if is_any_chosen facts then 32 ∷ chosen_text facts else []) }
         ensures room { length self.new ≤ length self.old + 4 * FIXED_LIMIT }
     {
@@ -165,7 +165,7 @@ impl<A: Allocator> Output<A> {
 
     /// Owes a fact, where it is in force.
     fn put_fact(&mut self, name: &[u8], chosen: bool)
-        requires room { length self.old ≤ FREE_ROOM + 4 * FIXED_LIMIT }
+        requires room { length self.old + FREE_ROOM ≤ OUTPUT_ROOM + 4 * FIXED_LIMIT }
         requires name { length name.now ≤ 6 }
         ensures octets { self.new ≡ self.old ++ flat_map written_octet (fact_text name.now chosen) }
         ensures room { length self.new ≤ length self.old + FIXED_LIMIT / 2 }

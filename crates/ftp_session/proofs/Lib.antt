@@ -1,2 +1,4 @@
-pub mod ListLemmas
-pub mod ReplyLemmas
+pub mod AskLemmas
+pub mod LineLemmas
+pub mod RefusedLemmas
+pub mod SessionLemmas

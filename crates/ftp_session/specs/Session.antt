@@ -1,10 +1,20 @@
 -- How a session that is held is seen by the definitions of the server.
-use Rattle.std.specs.Prelude.{ℕ, List}
+use Rattle.std.specs.Prelude.{◌≡◌, ◌≢◌, ℕ, Bool, true, false, Result, Ok, Err}
 use Rattle.ftp_path.specs.Path.{Names}
-use Rattle.ftp_tree.specs.Tree.{Table}
-use Rattle.ftp_server_machine.specs.View.{Session, Transfer}
+use Rattle.ftp_tree.specs.Change.{next_count}
+use Rattle.ftp_tree.specs.Tree.{Table, under}
+use Rattle.ftp_tree.specs.declared.fault.TreeFault.{TreeFault}
+use Rattle.ftp_tree.specs.declared.fault.TreeFault.TheVariants as Faults
+use Rattle.ftp_server_machine.specs.Replies.{Turn}
+use Rattle.ftp_server_machine.specs.View.{Footing, Session, Transfer}
+use Rattle.ftp_server_machine.specs.declared.reply.ReplyKind.{ReplyKind}
+use Rattle.ftp_server_machine.specs.declared.reply.ReplyKind.TheVariants as Replies
+use Rattle.ftp_server_machine.specs.declared.reply.Text.{Text}
 use Rattle.ftp_server_machine.specs.declared.session.DataConnection.{DataConnection}
 use Rattle.ftp_server_machine.specs.declared.session.DataConnection.TheVariants as Data
+use Rattle.ftp_session.specs.declared.fault.Fault.{Fault}
+use Rattle.ftp_session.specs.declared.fault.Fault.TheVariants.{Memory, Device}
+use Rattle.ftp_session.specs.declared.footing.Footing.{Footing as Stands}
 use Rattle.ftp_session.specs.declared.session.Session.{Session as Held}
 
 -- a data connection, by how its transfer is seen
@@ -17,8 +27,18 @@ connection_of view Data.Ready = Data.Ready
 connection_of view (Data.Opening transfer way) = Data.Opening (view transfer) way
 connection_of view (Data.Transferring transfer) = Data.Transferring (view transfer)
 
--- a session, by how its tree and its transfer are seen
-abbrev pub session_of : {A T J : Type 0} → (T → Table) → (J → Transfer) → Held A T J → Session
+-- a transfer is under way, its data connection open or still to come
+abbrev pub has_transfer : {J : Type 0} → DataConnection J → Bool
+has_transfer Data.Free = false
+has_transfer (Data.Asked asked) = false
+has_transfer (Data.Active endpoint) = false
+has_transfer Data.Passive = false
+has_transfer Data.Ready = false
+has_transfer (Data.Opening transfer way) = true
+has_transfer (Data.Transferring transfer) = true
+
+-- a session, by how its tree is seen, and its transfer beside the part of the tree that the account sees
+abbrev pub session_of : {A T J : Type 0} → (T → Table) → (Table → J → Transfer) → Held A T J → Session
 session_of table view s = record {
   table = table s.tree;
   access = s.access;
@@ -28,7 +48,28 @@ session_of table view s = record {
   settings = s.settings;
   facts = s.facts;
   only_extended = s.only_extended;
-  connection = connection_of view s.connection;
+  connection = connection_of (view (under (table s.tree) s.root)) s.connection;
   closing = s.closing;
   life = s.life;
 }
+
+-- what no command changes
+abbrev pub footing_of : {A : Type 0} → Stands A → Footing
+footing_of f = record { accounts = f.accounts; here = f.here; peer = f.peer; moment = f.moment.seconds }
+
+-- the count of device failures moves on where the device failed, and stays where memory was refused
+abbrev pub Counted : Fault → (before after : ℕ) → Type 0
+Counted Memory before after = after ≡ before
+Counted Device before after = after ≡ next_count before
+
+-- what a command leaves: session and reply are its row of the definitions; or nothing has changed, for want of memory or as the
+-- device failed
+abbrev pub Turns : {A T J : Type 0} → (T → Table) → (T → ℕ) → (Table → J → Transfer) → (Session → Turn) → Held A T J → Held A T J → Result (ReplyKind Names) Fault → Type 0
+Turns table failures view row old new (Ok kind) = ((session_of table view new, kind) ≡ row (session_of table view old)) × (failures new.tree ≡ failures old.tree)
+Turns table failures view row old new (Err fault) = (session_of table view new ≡ session_of table view old) × Counted fault (failures old.tree) (failures new.tree)
+
+-- what a refused call of the tree makes of a command: want of memory, a failed device, or a reply
+abbrev pub RefusedAs : TreeFault → Text → Result (ReplyKind Names) Fault → Type 0
+RefusedAs fault text (Ok kind) = (kind ≡ Replies.Fixed text) × (fault ≢ Faults.Memory) × (fault ≢ Faults.Device)
+RefusedAs fault text (Err Memory) = fault ≡ Faults.Memory
+RefusedAs fault text (Err Device) = fault ≡ Faults.Device

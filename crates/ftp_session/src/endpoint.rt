@@ -1,9 +1,10 @@
 // PORT, EPRT, PASV and EPSV (RFC 959, section 4.1.2; RFC 2428).
-ghost use Rattle.std.specs.Prelude.{◌≡◌};
+ghost use Rattle.std.specs.Prelude.{◌≡◌, false};
 ghost use Rattle.ftp_ends.specs.Link.{is_v6, same_host};
 ghost use Rattle.ftp_server_machine.specs.Endpoint.{asks, disconnected, epsv, forgotten, is_standing, is_taken, pasv, port};
-ghost use Rattle.ftp_server_machine.specs.View.{Footing};
+ghost use Rattle.ftp_tree.specs.Tree.{under};
 
+use crate::footing::Footing;
 use crate::session::{Moves, Session};
 use ftp_command::Passive;
 use ftp_endpoint::{Endpoint, Host};
@@ -15,12 +16,12 @@ use std::alloc::Allocator;
 /// The lowest port of a client's endpoint (RFC 2577, section 3).
 const LOWEST_PORT: u16 = 1024;
 
-impl<A: Allocator + Clone, T: Tree<A>, J: Moves> Session<A, T, J> {
-    ghost use Rattle.ftp_session.specs.Session.{connection_of, session_of};
+impl<A: Allocator + Copy, T: Tree<A>, J: Moves> Session<A, T, J> {
+    ghost use Rattle.ftp_session.specs.Session.{connection_of, footing_of, has_transfer, session_of};
 
     /// Whether the data connection is open, or a port is listened at.
     fn is_standing(&self) -> bool
-        ensures { result ≡ is_standing (connection_of J.view self.now.connection) }
+        ensures { result ≡ is_standing (connection_of (J.view (under (T.table self.now.tree) self.now.root)) self.now.connection) }
     {
         match &self.connection {
             DataConnection::Free | DataConnection::Asked(_) | DataConnection::Active(_) => false,
@@ -32,21 +33,33 @@ impl<A: Allocator + Clone, T: Tree<A>, J: Moves> Session<A, T, J> {
 
     /// The endpoint is forgotten, and what stands of it is to be closed.
     pub fn forget(&mut self)
-        ensures { session_of T.table J.view self.new ≡ forgotten (session_of T.table J.view self.old) }
+        ensures view { session_of T.table J.view self.new ≡ forgotten (session_of T.table J.view self.old) }
+        ensures tree { self.new.tree ≡ self.old.tree }
+        ensures idle { has_transfer self.new.connection ≡ false }
     {
         self.closing = self.closing || self.is_standing();
         self.connection = DataConnection::Free;
     }
 
+    /// The data connection is gone, and nothing is left to close.
+    pub fn disconnect(&mut self)
+        ensures view { session_of T.table J.view self.new ≡ disconnected (session_of T.table J.view self.old) }
+        ensures tree { self.new.tree ≡ self.old.tree }
+        ensures idle { has_transfer self.new.connection ≡ false }
+    {
+        self.connection = DataConnection::Free;
+    }
+
     /// PORT and EPRT.
-    pub fn port(&mut self, peer: Host, endpoint: Endpoint) -> ReplyKind<Path<A>>
-        ensures { (footing : Footing) → footing.peer ≡ peer → (session_of T.table J.view self.new, result) ≡ port footing endpoint (session_of T.table J.view self.old) }
+    pub(crate) fn port(&mut self, footing: &Footing<A>, endpoint: Endpoint) -> ReplyKind<Path<A>>
+        ensures turn { (session_of T.table J.view self.new, result) ≡ port (footing_of footing.now) endpoint (session_of T.table J.view self.old) }
+        ensures tree { self.new.tree ≡ self.old.tree }
     {
         if self.only_extended {
             return ReplyKind::Fixed(Text::BadSequence);
         }
         self.forget();
-        if !is_taken(peer, endpoint) {
+        if !is_taken(footing.peer, endpoint) {
             return ReplyKind::Fixed(Text::BadParameter);
         }
         self.connection = DataConnection::Active(endpoint);
@@ -55,7 +68,8 @@ impl<A: Allocator + Clone, T: Tree<A>, J: Moves> Session<A, T, J> {
 
     /// A port is asked for.
     fn ask(&mut self, asked: Asked) -> ReplyKind<Path<A>>
-        ensures { (session_of T.table J.view self.new, result) ≡ asks asked (session_of T.table J.view self.old) }
+        ensures turn { (session_of T.table J.view self.new, result) ≡ asks asked (session_of T.table J.view self.old) }
+        ensures tree { self.new.tree ≡ self.old.tree }
     {
         self.forget();
         self.connection = DataConnection::Asked(asked);
@@ -63,32 +77,34 @@ impl<A: Allocator + Clone, T: Tree<A>, J: Moves> Session<A, T, J> {
     }
 
     /// PASV.
-    pub fn pasv(&mut self, here: Host) -> ReplyKind<Path<A>>
-        ensures { (footing : Footing) → footing.here ≡ here → (session_of T.table J.view self.new, result) ≡ pasv footing (session_of T.table J.view self.old) }
+    pub(crate) fn pasv(&mut self, footing: &Footing<A>) -> ReplyKind<Path<A>>
+        ensures turn { (session_of T.table J.view self.new, result) ≡ pasv (footing_of footing.now) (session_of T.table J.view self.old) }
+        ensures tree { self.new.tree ≡ self.old.tree }
     {
         if self.only_extended {
             return ReplyKind::Fixed(Text::BadSequence);
         }
-        if is_v6(here) {
+        if is_v6(footing.here) {
             return ReplyKind::Fixed(Text::NoConnection);
         }
         self.ask(Asked::Pasv)
     }
 
     /// EPSV.
-    pub fn epsv(&mut self, here: Host, family: Passive) -> ReplyKind<Path<A>>
-        ensures { (footing : Footing) → footing.here ≡ here → (session_of T.table J.view self.new, result) ≡ epsv footing family (session_of T.table J.view self.old) }
+    pub(crate) fn epsv(&mut self, footing: &Footing<A>, family: Passive) -> ReplyKind<Path<A>>
+        ensures turn { (session_of T.table J.view self.new, result) ≡ epsv (footing_of footing.now) family (session_of T.table J.view self.old) }
+        ensures tree { self.new.tree ≡ self.old.tree }
     {
         match family {
             Passive::Any => self.ask(Asked::Epsv),
             Passive::Ipv4 => {
-                if is_v6(here) {
+                if is_v6(footing.here) {
                     return ReplyKind::Fixed(Text::OnlyIpv6);
                 }
                 self.ask(Asked::Epsv)
             }
             Passive::Ipv6 => {
-                if !is_v6(here) {
+                if !is_v6(footing.here) {
                     return ReplyKind::Fixed(Text::OnlyIpv4);
                 }
                 self.ask(Asked::Epsv)

@@ -1,17 +1,21 @@
-//! A part of the server to come: the control octets that it owes, and what commands change of a session, over any tree and any
-//! transfer, without input or output (RFC 959; RFC 2389, RFC 2428, RFC 3659).
+//! What commands and the data connection change of a server's session, over any tree and any transfer; no IO (RFC 959, sections 3.2
+//! and 4.1; RFC 2389, RFC 2428, RFC 3659).
 #![tactic(auto)]
 
+mod act;
+mod ask;
+mod decide;
 mod endpoint;
-mod list_line;
+mod fault;
+mod footing;
+mod login;
 mod options;
-mod output;
-mod reply;
 mod session;
 mod settings;
-mod text;
+mod transfers;
+mod walk;
 
 pub use endpoint::is_same_host;
-pub use list_line::{put_dir_line, put_file_line};
-pub use output::Output;
+pub use fault::Fault;
+pub use footing::Footing;
 pub use session::{Moves, Session};

@@ -1,81 +1,112 @@
 // What commands and the data connection change (RFC 959, sections 3.2 and 4.1).
-ghost use Rattle.std.specs.Prelude.{◌≡◌, [], IfErr, IfOk};
+ghost use Rattle.std.specs.Prelude.{◌≡◌, IfOk, MatchOption, false, true};
+ghost use Rattle.ftp_path.specs.Path.{IsPathText, fits, resolved};
+ghost use Rattle.ftp_server_machine.specs.Machine.{is_connection_busy};
 ghost use Rattle.ftp_server_machine.specs.View.{first_session};
+ghost use Rattle.ftp_tree.specs.Tree.{under};
 
-use ftp_facts::Text;
-use ftp_path::Path;
+use ftp_command::Text;
+use ftp_path::{Path, PathFault};
 use ftp_representation::{Kind, Mode, Representation, Structure};
 use ftp_server_machine::{Access, DataConnection, Facts, Life, Pending};
 use ftp_tree::Tree;
 use std::alloc::{AllocError, Allocator};
 
-/// A transfer, as the definitions of the server see it.
+/// A transfer, as the definitions of the server see it beside the part of the tree that the account sees: a download or a listing
+/// need not hold what it is still to give.
 pub trait Moves: Drop {
     ghost use Rattle.ftp_server_machine.specs.View.{Transfer};
+    ghost use Rattle.ftp_tree.specs.Tree.{Table};
 
-    ghost view: { Self → Transfer };
+    ghost view: { Table → Self → Transfer };
 }
 
 /// A session over a tree `T`, with transfers `J`.
 #[derive(Drop)]
 pub struct Session<A: Allocator, T: Drop, J: Drop> {
-    pub(crate) alloc: A,
-    pub(crate) tree: T,
-    pub(crate) access: Access<Text<A>>,
+    pub alloc: A,
+    pub tree: T,
+    pub access: Access<Text<A>>,
     /// The root of the account, which is `/` to its user.
-    pub(crate) root: Path<A>,
+    pub root: Path<A>,
     /// The current directory, below that root.
-    pub(crate) cwd: Path<A>,
-    pub(crate) pending: Pending<Path<A>>,
-    pub(crate) settings: Representation,
-    pub(crate) facts: Facts,
-    pub(crate) only_extended: bool,
-    pub(crate) connection: DataConnection<J>,
+    pub cwd: Path<A>,
+    pub pending: Pending<Path<A>>,
+    pub settings: Representation,
+    pub facts: Facts,
+    pub only_extended: bool,
+    pub connection: DataConnection<J>,
     /// Whether the data connection, or the port that is listened at, is to be closed.
-    pub(crate) closing: bool,
-    pub(crate) life: Life,
+    pub closing: bool,
+    pub life: Life,
 }
 
-impl<A: Allocator + Clone, T: Tree<A>, J: Moves> Session<A, T, J> {
-    ghost use Rattle.ftp_session.specs.Session.{session_of};
+/// All facts, which are in force at the start (RFC 3659, section 7.9).
+pub(crate) const ALL_FACTS: Facts = Facts {
+    kind: true,
+    size: true,
+    modify: true,
+    perm: true,
+};
 
-    /// A session as it begins: nobody is logged in, and all is as after REIN. Refused memory, it hands the tree back.
-    pub fn new(alloc: A, tree: T) -> Result<Session<A, T, J>, T>
-        ensures begun { IfOk result (λ session. session_of T.table J.view session ≡ first_session (T.table tree)) }
-        ensures back { IfErr result (λ back. back ≡ tree) }
+/// The settings at the start (RFC 959, section 5.1).
+pub(crate) const DEFAULTS: Representation = Representation {
+    kind: Kind::Ascii,
+    structure: Structure::File,
+    mode: Mode::Stream,
+};
+
+impl<A: Allocator + Copy, T: Tree<A>, J: Moves> Session<A, T, J> {
+    ghost use Rattle.ftp_session.specs.Session.{connection_of, has_transfer, session_of};
+
+    /// A session as it begins: nobody is logged in, and all is as after REIN. Takes no memory.
+    pub fn new(alloc: A, tree: T) -> Session<A, T, J>
+        ensures begun { session_of T.table J.view result ≡ first_session (T.table tree) }
+        ensures tree { result.tree ≡ tree }
+        ensures idle { has_transfer result.connection ≡ false }
     {
-        let Ok((root, cwd)) = two_roots(&alloc) else {
-            return Err(tree);
-        };
-        Ok(Session {
+        Session {
             alloc,
             tree,
             access: Access::Nobody,
-            root,
-            cwd,
+            root: Path::root(alloc),
+            cwd: Path::root(alloc),
             pending: Pending::Nothing,
-            settings: Representation {
-                kind: Kind::Ascii,
-                structure: Structure::File,
-                mode: Mode::Stream,
-            },
-            facts: Facts {
-                kind: true,
-                size: true,
-                modify: true,
-                perm: true,
-            },
+            settings: DEFAULTS,
+            facts: ALL_FACTS,
             only_extended: false,
             connection: DataConnection::Free,
             closing: false,
             life: Life::Running,
-        })
+        }
     }
-}
 
-/// Two paths, each the root.
-fn two_roots<A: Allocator + Clone>(alloc: &A) -> Result<(Path<A>, Path<A>), AllocError>
-    ensures { IfOk result (λ roots. (roots.0 ≡ []) × (roots.1 ≡ [])) }
-{
-    Ok((Path::root(alloc.clone()?), Path::root(alloc.clone()?)))
+    /// Whether a transfer is under way, or a port was asked for.
+    pub fn is_busy(&self) -> bool
+        ensures busy { result ≡ is_connection_busy (connection_of (J.view (under (T.table self.now.tree) self.now.root)) self.now.connection) }
+        ensures idle { result ≡ false → has_transfer self.now.connection ≡ false }
+    {
+        match &self.connection {
+            DataConnection::Asked(_)
+            | DataConnection::Opening(_, _)
+            | DataConnection::Transferring(_) => true,
+            DataConnection::Free
+            | DataConnection::Active(_)
+            | DataConnection::Passive
+            | DataConnection::Ready => false,
+        }
+    }
+
+    /// The path that a text names from the current directory, or `None` where it is past the limits of paths.
+    pub(crate) fn find(&self, text: &[u8]) -> Result<Option<Path<A>>, AllocError>
+        requires { IsPathText text.now }
+        ensures { IfOk result (λ found. MatchOption found (fits (resolved self.now.cwd text.now) ≡ false)
+            (λ path. (path ≡ resolved self.now.cwd text.now) × (fits path ≡ true))) }
+    {
+        match self.cwd.resolve(self.alloc, text) {
+            Ok(path) => Ok(Some(path)),
+            Err(PathFault::TooBig) => Ok(None),
+            Err(PathFault::Memory) => Err(AllocError),
+        }
+    }
 }

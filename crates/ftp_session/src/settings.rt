@@ -10,36 +10,40 @@ use ftp_server_machine::{ReplyKind, Text};
 use ftp_tree::Tree;
 use std::alloc::Allocator;
 
-impl<A: Allocator + Clone, T: Tree<A>, J: Moves> Session<A, T, J> {
+impl<A: Allocator + Copy, T: Tree<A>, J: Moves> Session<A, T, J> {
     ghost use Rattle.ftp_session.specs.Session.{session_of};
 
     /// TYPE.
-    pub fn set_kind(&mut self, kind: Kind) -> ReplyKind<Path<A>>
-        ensures { (session_of T.table J.view self.new, result) ≡ set_kind kind (session_of T.table J.view self.old) }
+    pub(crate) fn set_kind(&mut self, kind: Kind) -> ReplyKind<Path<A>>
+        ensures turn { (session_of T.table J.view self.new, result) ≡ set_kind kind (session_of T.table J.view self.old) }
+        ensures tree { self.new.tree ≡ self.old.tree }
     {
         self.settings.kind = kind;
         ReplyKind::Fixed(Text::TypeSet)
     }
 
     /// STRU.
-    pub fn set_structure(&mut self, structure: Structure) -> ReplyKind<Path<A>>
-        ensures { (session_of T.table J.view self.new, result) ≡ set_structure structure (session_of T.table J.view self.old) }
+    pub(crate) fn set_structure(&mut self, structure: Structure) -> ReplyKind<Path<A>>
+        ensures turn { (session_of T.table J.view self.new, result) ≡ set_structure structure (session_of T.table J.view self.old) }
+        ensures tree { self.new.tree ≡ self.old.tree }
     {
         self.settings.structure = structure;
         ReplyKind::Fixed(Text::StructureSet)
     }
 
     /// MODE.
-    pub fn set_mode(&mut self, mode: Mode) -> ReplyKind<Path<A>>
-        ensures { (session_of T.table J.view self.new, result) ≡ set_mode mode (session_of T.table J.view self.old) }
+    pub(crate) fn set_mode(&mut self, mode: Mode) -> ReplyKind<Path<A>>
+        ensures turn { (session_of T.table J.view self.new, result) ≡ set_mode mode (session_of T.table J.view self.old) }
+        ensures tree { self.new.tree ≡ self.old.tree }
     {
         self.settings.mode = mode;
         ReplyKind::Fixed(Text::ModeSet)
     }
 
     /// OPTS.
-    pub fn opts(&mut self, text: &[u8]) -> ReplyKind<Path<A>>
-        ensures { (session_of T.table J.view self.new, result) ≡ opts text.now (session_of T.table J.view self.old) }
+    pub(crate) fn opts(&mut self, text: &[u8]) -> ReplyKind<Path<A>>
+        ensures turn { (session_of T.table J.view self.new, result) ≡ opts text.now (session_of T.table J.view self.old) }
+        ensures tree { self.new.tree ≡ self.old.tree }
     {
         if is_utf8_on(text) {
             return ReplyKind::Fixed(Text::Utf8Set);

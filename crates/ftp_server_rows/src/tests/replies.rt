@@ -1,10 +1,10 @@
 //! Rows of the replies of RFC 959, RFC 2389, RFC 2428 and RFC 3659, as they go out, and of the lines of LIST.
 use ftp_endpoint::{Endpoint, Host};
 use ftp_facts::Moment;
+use ftp_output::{Output, put_dir_line, put_file_line};
 use ftp_path::{Path, is_path_text};
 use ftp_refusing::Refusing;
 use ftp_server_machine::{Facts, Text};
-use ftp_session::{Output, put_dir_line, put_file_line};
 use std::alloc::Global;
 use std::test::Fail;
 

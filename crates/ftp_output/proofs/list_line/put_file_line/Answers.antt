@@ -1,7 +1,7 @@
 use Rattle.std.proofs.Common.{[], codes}
 use Rattle.ftp_server_machine.specs.Listing.{list_line}
-use Rattle.ftp_session.proofs.ListLemmas.{behind}
-use Rattle.ftp_session.proofs.list_line.put_file_line.Goals as goal
+use Rattle.ftp_output.proofs.ListLemmas.{behind}
+use Rattle.ftp_output.proofs.list_line.put_file_line.Goals as goal
 
 pub returns : goal.returns
 returns g c =

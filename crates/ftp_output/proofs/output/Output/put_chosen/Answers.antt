@@ -2,8 +2,8 @@ use Rattle.std.proofs.Common.{[], ◌∷◌, codes, refl, append-nil}
 use Rattle.std.specs.Prelude.{if◌then◌else◌}
 use Rattle.ftp_server_machine.specs.Entries.{chosen_text, is_any_chosen}
 use Rattle.ftp_server_machine.specs.Replies.{chosen_reply}
-use Rattle.ftp_session.proofs.ReplyLemmas.{in_parts}
-use Rattle.ftp_session.proofs.output.Output.put_chosen.Goals as goal
+use Rattle.ftp_output.proofs.ReplyLemmas.{in_parts}
+use Rattle.ftp_output.proofs.output.Output.put_chosen.Goals as goal
 
 pub returns : goal.returns
 returns g c =

@@ -1,7 +1,7 @@
 use Rattle.std.proofs.Common.{◌≡◌, [], ◌∷◌, codes}
 use Rattle.ftp_ends.specs.Reply.{reply_octets}
-use Rattle.ftp_session.proofs.ReplyLemmas.{around, entry_octets}
-use Rattle.ftp_session.proofs.output.Output.put_entry.Goals as goal
+use Rattle.ftp_output.proofs.ReplyLemmas.{around, entry_octets}
+use Rattle.ftp_output.proofs.output.Output.put_entry.Goals as goal
 
 pub returns : goal.returns
 returns g c =

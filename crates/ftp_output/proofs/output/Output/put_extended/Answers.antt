@@ -2,8 +2,8 @@ use Rattle.std.proofs.Common.{◌≡◌, [], ◌∷◌, ◌++◌, codes, decimal
 use Rattle.ftp_path.specs.Path.{text_of}
 use Rattle.ftp_reply.specs.Values.{doubled}
 use Rattle.ftp_server_machine.specs.Replies.{here_text, made_text, extended_text}
-use Rattle.ftp_session.proofs.ReplyLemmas.{in_parts}
-use Rattle.ftp_session.proofs.output.Output.put_extended.Goals as goal
+use Rattle.ftp_output.proofs.ReplyLemmas.{in_parts}
+use Rattle.ftp_output.proofs.output.Output.put_extended.Goals as goal
 
 pub returns : goal.returns
 returns g c = in_parts 229 (codes "Entering Extended Passive Mode (|||") (decimal c.args.port) (codes "|)") (extended_text c.args.port) _ _ _ _ _ _ refl refl refl c.put.ensures (rw (← c.from.ensures) c.put_number.ensures.octets) c.put-2.ensures

@@ -2,8 +2,8 @@ use Rattle.std.proofs.Common.{codes}
 use Rattle.ftp_ends.specs.Reply.{reply_octets}
 use Rattle.ftp_server_machine.specs.Entries.{feature_text, features_text}
 use Rattle.ftp_server_machine.specs.Replies.{features_reply}
-use Rattle.ftp_session.proofs.ReplyLemmas.{around, features_octets, four}
-use Rattle.ftp_session.proofs.output.Output.put_features.Goals as goal
+use Rattle.ftp_output.proofs.ReplyLemmas.{around, features_octets, four}
+use Rattle.ftp_output.proofs.output.Output.put_features.Goals as goal
 
 pub returns : goal.returns
 returns g c =

@@ -1,8 +1,8 @@
 use Rattle.std.proofs.Common.{◌≡◌, codes, refl}
 use Rattle.ftp_endpoint.specs.Written.{six_text}
 use Rattle.ftp_server_machine.specs.Replies.{passive_text}
-use Rattle.ftp_session.proofs.ReplyLemmas.{in_parts}
-use Rattle.ftp_session.proofs.output.Output.put_passive.Goals as goal
+use Rattle.ftp_output.proofs.ReplyLemmas.{in_parts}
+use Rattle.ftp_output.proofs.output.Output.put_passive.Goals as goal
 
 pub returns : goal.returns
 returns g c =

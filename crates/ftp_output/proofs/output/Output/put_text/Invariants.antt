@@ -1,6 +1,6 @@
 use Rattle.std.proofs.Common.{◌≡◌, ◌+◌, ◌*◌, ◌≤◌, ◌++◌, length, take, flat_map}
 use Rattle.ftp_nvt.specs.Lines.{written_octet}
-use Rattle.ftp_session.proofs.output.Output.put_text.Given as goal
+use Rattle.ftp_output.proofs.output.Output.put_text.Given as goal
 
 abbrev pub invariant-loop-octet : goal.invariant-loop-octet
 invariant-loop-octet g l = record {

@@ -1,0 +1,129 @@
+// The order of decisions on a line (own choice).
+ghost use Rattle.std.specs.Prelude.{◌≡◌, false, if◌then◌else◌};
+ghost use Rattle.ftp_server_machine.specs.Act.{fault_text, is_free, is_in, is_transfer};
+ghost use Rattle.ftp_server_machine.specs.Endpoint.{forgotten};
+ghost use Rattle.ftp_session.specs.Line.{HasPathTexts, HeardPaths};
+
+use crate::fault::Fault;
+use crate::footing::Footing;
+use crate::session::{Moves, Session};
+use ftp_command::{Command, CommandFault, Text};
+use ftp_path::Path;
+use ftp_server_machine::{Access, Heard, Pending, ReplyKind, Text as Says};
+use ftp_tree::Tree;
+use std::alloc::Allocator;
+use std::mem;
+
+impl<A: Allocator + Copy, T: Tree<A>, J: Moves> Session<A, T, J> {
+    ghost use Rattle.ftp_session.specs.Session.{footing_of, has_transfer, session_of};
+    ghost use Rattle.ftp_session.specs.Line.{Asked, Decides};
+
+    /// Acts on a line: what was pending is taken, the order of decisions gone through, and the reply that is to be said answered.
+    pub fn decide(
+        &mut self,
+        footing: &Footing<A>,
+        heard: Heard<Text<A>>,
+    ) -> Result<ReplyKind<Path<A>>, Fault>
+        requires idle { has_transfer self.old.connection ≡ false }
+        requires paths { HeardPaths heard }
+        ensures { Decides T.table T.failures J.view (footing_of footing.now) heard self.old self.new result }
+    {
+        let pending = mem::replace(&mut self.pending, Pending::Nothing);
+        match heard {
+            Heard::TooLong => Ok(ReplyKind::Fixed(Says::LineTooLong)),
+            Heard::Bad(fault) => Ok(ReplyKind::Fixed(fault_text(fault))),
+            Heard::Asks(command) => self.answer(footing, command, &pending),
+        }
+    }
+
+    /// A command has its own answer where somebody is logged in, or where it needs no login; else it is 530. A transfer command
+    /// that is not begun has forgotten the endpoint.
+    fn answer(
+        &mut self,
+        footing: &Footing<A>,
+        command: Command<Text<A>>,
+        pending: &Pending<Path<A>>,
+    ) -> Result<ReplyKind<Path<A>>, Fault>
+        requires idle { has_transfer self.old.connection ≡ false }
+        requires paths { HasPathTexts command }
+        ensures { Asked T.table T.failures J.view (footing_of footing.now) command pending.now self.old self.new result }
+    {
+        let is_transfer = is_transfer(&command);
+        if !is_in(&self.access) && !is_free(&command) {
+            self.forget_if(is_transfer);
+            return Ok(ReplyKind::Fixed(Says::NotLoggedIn));
+        }
+        match self.act(footing, command, pending) {
+            Ok(kind) => Ok(kind),
+            Err(fault) => {
+                self.forget_if(is_transfer);
+                Err(fault)
+            }
+        }
+    }
+
+    /// A transfer command forgets the endpoint.
+    fn forget_if(&mut self, is_transfer: bool)
+        ensures view { session_of T.table J.view self.new ≡ (if is_transfer then forgotten (session_of T.table J.view self.old) else session_of T.table J.view self.old) }
+        ensures tree { self.new.tree ≡ self.old.tree }
+    {
+        if is_transfer {
+            self.forget();
+        }
+    }
+}
+
+/// Whether somebody is logged in.
+fn is_in<A: Allocator>(access: &Access<Text<A>>) -> bool
+    ensures { result ≡ is_in access.now }
+{
+    matches!(access, Access::Known)
+}
+
+/// Whether a command needs a data connection (RFC 959, section 4.1.3; RFC 3659, section 7).
+fn is_transfer<A: Allocator>(command: &Command<Text<A>>) -> bool
+    ensures { result ≡ is_transfer command.now }
+{
+    matches!(
+        command,
+        Command::Retr(_)
+            | Command::Stor(_)
+            | Command::Appe(_)
+            | Command::List(_)
+            | Command::Nlst(_)
+            | Command::Mlsd(_)
+    )
+}
+
+/// Whether a command is done before a login too.
+fn is_free<A: Allocator>(command: &Command<Text<A>>) -> bool
+    ensures { result ≡ is_free command.now }
+{
+    matches!(
+        command,
+        Command::User(_)
+            | Command::Pass(_)
+            | Command::Rein
+            | Command::Quit
+            | Command::Noop
+            | Command::Help(_)
+            | Command::Syst
+            | Command::Feat
+            | Command::Opts(_)
+            | Command::Abor
+    )
+}
+
+/// The reply to a line that says no command.
+fn fault_text(fault: CommandFault) -> Says
+    ensures { result ≡ fault_text fault }
+{
+    match fault {
+        CommandFault::Unknown => Says::Unknown,
+        CommandFault::BadArgument => Says::BadArgument,
+        CommandFault::NotDone => Says::NotImplemented,
+        CommandFault::BadParameter => Says::BadParameter,
+        CommandFault::Protocol => Says::Protocol,
+        CommandFault::Memory => Says::LocalFault,
+    }
+}
