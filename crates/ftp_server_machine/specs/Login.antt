@@ -1,6 +1,6 @@
 -- Who is logged in: USER, PASS, REIN, QUIT (RFC 959, sections 4.1.1 and 5.4).
 use Rattle.std.specs.Prelude.{ℕ, Bool, true, false, List, [], Option, Some, None}
-use Rattle.ftp_operation.specs.Account.{login_root, open_root}
+pub use Rattle.ftp_operation.specs.Account.{is_open, login_root, open_root}
 use Rattle.ftp_path.specs.Path.{Names}
 use Rattle.ftp_tree.specs.Tree.{node_at}
 use Rattle.ftp_direct.specs.Direct.{is_directory}
