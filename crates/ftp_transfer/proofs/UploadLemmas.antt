@@ -1,0 +1,64 @@
+-- Limits of octets behind those that are kept; contents that are put one behind another.
+use Rattle.std.proofs.Common.{ℕ, ◌+◌, ◌-◌, ◌≤◌, ◌<◌, ◌≡◌, min, not, Bool, true, false, Option, Some, None, List, [], ◌++◌, length, take, drop, nat_le, is_some, refl, sym, ap, ◌∙◌, arith, append_assoc}
+use Rattle.std.proofs.Math.Nat.{min-le_left}
+use Rattle.std.proofs.lemmas.Bool.{leb-true, leb-false, le-leb, lt-leb}
+use Rattle.std.proofs.lemmas.List.{take-append-drop, take_min, drop-drop}
+use Rattle.std.specs.Option.{option_map, unwrap_or}
+use Rattle.ftp_path.specs.Path.{Names}
+use Rattle.ftp_tree.specs.Tree.{Table, octets_at, octets_or_none, octets_refusal, octets_in, or_else, whenever, file_limit, total_limit, room_at, size_at}
+use Rattle.ftp_tree.specs.declared.fault.TreeFault.TheVariants.{TooBig, Full}
+
+-- where a limit holds that is none past the other, that one alone tells
+one_limit : (n keep count room : ℕ) → n ≡ keep + count → room ≤ file_limit → keep ≤ room
+    → is_some (or_else (whenever (not (nat_le n file_limit)) TooBig) (whenever (not (nat_le n room)) Full)) ≡ not (nat_le count (room - keep))
+one_limit n keep count room is most kept = of (nat_le n room) refl
+  where
+    of : (fits : Bool) → nat_le n room ≡ fits
+        → is_some (or_else (whenever (not (nat_le n file_limit)) TooBig) (whenever (not (nat_le n room)) Full)) ≡ not (nat_le count (room - keep))
+    of true fits =
+        let within : n ≤ room = leb-true n room fits in
+        rw (le-leb n file_limit (omega arith)) (rw fits (rw (le-leb count (room - keep) (omega arith)) refl))
+    of false past =
+        let beyond : room < n = leb-false n room past in
+        rw (lt-leb count (room - keep) (omega arith)) (either (nat_le n file_limit))
+      where
+        either : (b : Bool) → is_some (or_else (whenever (not b) TooBig) (whenever (not (nat_le n room)) Full)) ≡ true
+        either true = rw past refl
+        either false = refl
+
+pub within_room : (part : Table) (path : Names) (keep count room : ℕ) → room ≡ room_at part path → keep ≤ room
+    → is_some (octets_refusal part path (keep + count)) ≡ not (nat_le count (room - keep))
+unfolding room_at
+within_room part path keep count room is kept =
+    let most : room ≤ file_limit = rw is (min-le_left file_limit (total_limit - (octets_in part - length (octets_or_none part path)))) in
+    ap (λ r. is_some (or_else (whenever (not (nat_le (keep + count) file_limit)) TooBig) (whenever (not (nat_le (keep + count) r)) Full))) (sym is)
+    ∙ one_limit (keep + count) keep count room refl most kept
+
+-- how many octets a file has
+has_size : (o : Option (List ℕ)) (size : ℕ) → option_map length o ≡ Some size → length (unwrap_or o []) ≡ size
+has_size None size is = cc
+has_size (Some octets) size is = cc
+
+pub sized : (part : Table) (path : Names) (size : ℕ) → size_at part path ≡ Some size → length (octets_or_none part path) ≡ size
+unfolding size_at
+sized part path size is = has_size (octets_at part path) size is
+
+no_octets_of : (o : Option (List ℕ)) → option_map length o ≡ None → unwrap_or o [] ≡ []
+no_octets_of None is = refl
+no_octets_of (Some octets) is = cc
+
+pub no_file : (part : Table) (path : Names) → size_at part path ≡ None → octets_or_none part path ≡ []
+unfolding size_at
+no_file part path is = no_octets_of (octets_at part path) is
+
+-- a front of as many octets as there are
+pub front_sized : (octets : List ℕ) (keep size : ℕ) → length octets ≡ size → take (min keep size) octets ≡ take keep octets
+front_sized octets keep size is = ap (λ n. take (min keep n) octets) (sym is) ∙ take_min keep octets
+
+-- one more piece is put behind
+pub put_more : (whole next : List ℕ) (more piece all : List ℕ) (at : ℕ) → whole ++ drop at more ≡ all → piece ≡ take (length piece) (drop at more) → next ≡ whole ++ piece
+    → next ++ drop (at + length piece) more ≡ all
+put_more whole next more piece all at so_far is put =
+    ap (λ l. l ++ drop (at + length piece) more) put ∙ append_assoc whole piece (drop (at + length piece) more)
+    ∙ ap (λ l. whole ++ l) (ap (λ l. piece ++ l) (sym (drop-drop (length piece) at more)) ∙ ap (λ l. l ++ drop (length piece) (drop at more)) is ∙ take-append-drop (length piece) (drop at more))
+    ∙ so_far
