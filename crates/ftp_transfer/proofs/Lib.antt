@@ -1,1 +1,2 @@
+pub mod DownloadLemmas
 pub mod UploadLemmas

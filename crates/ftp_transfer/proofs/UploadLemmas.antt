@@ -62,3 +62,12 @@ put_more whole next more piece all at so_far is put =
     ap (λ l. l ++ drop (at + length piece) more) put ∙ append_assoc whole piece (drop (at + length piece) more)
     ∙ ap (λ l. whole ++ l) (ap (λ l. piece ++ l) (sym (drop-drop (length piece) at more)) ∙ ap (λ l. l ++ drop (length piece) (drop at more)) is ∙ take-append-drop (length piece) (drop at more))
     ∙ so_far
+
+-- the same number, none where no file stands
+count_of : (o : Option (List ℕ)) → unwrap_or (option_map length o) 0 ≡ length (unwrap_or o [])
+count_of None = refl
+count_of (Some octets) = refl
+
+pub count_at : (part : Table) (path : Names) → unwrap_or (size_at part path) 0 ≡ length (octets_or_none part path)
+unfolding size_at
+count_at part path = count_of (octets_at part path)

@@ -2,8 +2,8 @@
 //! put into the tree; no IO (RFC 959, sections 3 and 4.1.3).
 #![tactic(auto)]
 
-//mod download;
+mod download;
 mod upload;
 
-//pub use download::Download;
+pub use download::Download;
 pub use upload::{put_in, room_behind};
