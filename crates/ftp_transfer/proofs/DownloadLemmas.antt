@@ -1,7 +1,7 @@
 -- What of a file is given, piece by piece.
-use Rattle.std.proofs.Common.{ℕ, ◌+◌, ◌-◌, ◌≤◌, ◌<◌, ◌≡◌, ◌⊎◌, inl, inr, nat_le, true, false, Bool, List, [], ◌++◌, length, take, drop, IsTrue, min, refl, sym, ap, ◌∙◌, arith, append_assoc}
+use Rattle.std.proofs.Common.{ℕ, ◌+◌, ◌-◌, ◌≤◌, ◌<◌, ◌≡◌, ◌⊎◌, ◌↔◌, inl, inr, nat_le, true, false, Bool, List, [], ◌++◌, length, take, drop, IsTrue, min, refl, sym, ap, ◌∙◌, arith, append_assoc}
 use Rattle.std.proofs.Math.Seq.{take-append-add}
-use Rattle.std.proofs.lemmas.Bool.{leb-false}
+use Rattle.std.proofs.lemmas.Bool.{leb-true, leb-false, le-leb}
 use Rattle.std.proofs.lemmas.List.{take-append-drop, drop-drop, drop-append-le, drop_all, length-take, length-drop, length-take-le}
 use Rattle.std.proofs.Math.Nat.{min-le_right}
 
@@ -47,3 +47,10 @@ pub long_at_most : (file piece : List ℕ) (at : ℕ) → piece ≡ take (length
 long_at_most file piece at is =
     let long : length piece ≡ min (length piece) (length file - at) = ap length is ∙ length-take (length piece) (drop at file) ∙ ap (min (length piece)) (length-drop at file) in
     omega (arith, long, min-le_right (length piece) (length file - at))
+
+-- nothing is left behind the last octet
+pub at_end : (file : List ℕ) (count at : ℕ) → count ≡ length file → IsTrue (nat_le count at) ↔ (drop at file ≡ [])
+at_end file count at is = (
+  (λ past. drop_all at file (omega (arith, leb-true count at past, is))),
+  (λ none. le-leb count at (omega (arith, is, sym (length-drop at file) ∙ ap length none))),
+)

@@ -1,5 +1,5 @@
 // A download: the octets of a file, from a place on, as its data connection carries them (RFC 959, section 3).
-ghost use Rattle.std.specs.Prelude.{◌≡◌, ◌≤◌, ◌<◌, ◌⊎◌, ◌^◌, ◌++◌, [], drop, length, min, take, true, if◌then◌else◌};
+ghost use Rattle.std.specs.Prelude.{◌≡◌, ◌≤◌, ◌<◌, ◌⊎◌, ◌↔◌, ◌^◌, ◌++◌, [], IsTrue, drop, length, min, take, true, if◌then◌else◌};
 ghost use Rattle.ftp_encoder.specs.Encoding.{is_done};
 ghost use Rattle.ftp_framer.specs.Block.{marked_text};
 ghost use Rattle.ftp_framer.specs.Wire.{wire};
@@ -54,6 +54,18 @@ impl<A: Allocator> Download<A> {
             made += self.step(tree, root, free);
         }
         made
+    }
+
+    /// Whether all is given.
+    pub fn is_given_out<B: Allocator, C: Allocator, T: Tree<B>>(
+        &self,
+        tree: &T,
+        root: &Path<C>,
+    ) -> bool
+        ensures { IsTrue result ↔ (rest_of (under (T.table tree.now) root.now) self.now ≡ []) }
+    {
+        self.encoder
+            .is_out(len_at(tree, root, &self.path) <= self.at)
     }
 
     /// Gives octets of the next piece of the file.
