@@ -49,6 +49,13 @@ impl<A: Allocator> Output<A> {
         })
     }
 
+    /// No octets are owed any longer.
+    pub fn clear(&mut self)
+        ensures { self.new ≡ [] }
+    {
+        self.octets.clear();
+    }
+
     /// How many octets are owed.
     pub fn len(&self) -> usize
         ensures { result ≡ length self.now }

@@ -55,9 +55,19 @@ impl<A: Allocator> Output<A> {
         self.put(b"\r\n");
     }
 
+    /// Owes the reply to MDTM: the fourteen digits of a moment (RFC 3659, section 3).
+    pub fn put_stamp(&mut self, digits: &[u8; 14])
+        requires { length self.old + FREE_ROOM ≤ OUTPUT_ROOM }
+        ensures { self.new ≡ self.old ++ reply_octets (reply_of 213 digits.now) }
+    {
+        self.put(b"213 ");
+        self.put_text(digits);
+        self.put(b"\r\n");
+    }
+
     /// Owes the reply to EPSV (RFC 2428, section 3).
     pub fn put_extended(&mut self, port: u16)
-        requires { length self.old + FREE_ROOM ≤ OUTPUT_ROOM }
+        requires { length self.old + 512 ≤ OUTPUT_ROOM }
         ensures { self.new ≡ self.old ++ reply_octets (reply_of 229 (extended_text port)) }
     {
         self.put(b"229 Entering Extended Passive Mode (|||");
@@ -67,7 +77,7 @@ impl<A: Allocator> Output<A> {
 
     /// Owes the reply to PASV (RFC 959, section 4.1.2).
     pub fn put_passive(&mut self, endpoint: Endpoint)
-        requires { length self.old + FREE_ROOM ≤ OUTPUT_ROOM }
+        requires { length self.old + 512 ≤ OUTPUT_ROOM }
         ensures { self.new ≡ self.old ++ reply_octets (reply_of 227 (passive_text endpoint)) }
     {
         self.put(b"227 Entering Passive Mode (");
@@ -77,7 +87,7 @@ impl<A: Allocator> Output<A> {
 
     /// Owes the six numbers of an endpoint of IPv4.
     fn put_six(&mut self, endpoint: Endpoint)
-        requires { length self.old + FREE_ROOM ≤ OUTPUT_ROOM + FIXED_LIMIT }
+        requires { length self.old + 448 ≤ OUTPUT_ROOM }
         ensures octets { self.new ≡ self.old ++ flat_map written_octet (six_text endpoint) }
         ensures room { length self.new ≤ length self.old + 256 }
     {

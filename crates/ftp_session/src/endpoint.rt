@@ -20,7 +20,7 @@ impl<A: Allocator + Copy, T: Tree<A>, J: Moves> Session<A, T, J> {
     ghost use Rattle.ftp_session.specs.Session.{connection_of, footing_of, has_transfer, session_of};
 
     /// Whether the data connection is open, or a port is listened at.
-    fn is_standing(&self) -> bool
+    pub fn is_standing(&self) -> bool
         ensures { result ≡ is_standing (connection_of (J.view (under (T.table self.now.tree) self.now.root)) self.now.connection) }
     {
         match &self.connection {

@@ -1,0 +1,6 @@
+//! Rows of a session.
+mod dialogue;
+mod endpoints;
+mod logins;
+mod places;
+mod settings;
