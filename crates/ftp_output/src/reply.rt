@@ -100,7 +100,8 @@ impl<A: Allocator> Output<A> {
     pub fn put_mark(&mut self, theirs: &[u8], held: u64)
         requires room { length self.old + 2 * MARKER_LIMIT + 2 * FIXED_LIMIT ≤ OUTPUT_ROOM }
         requires marker { length theirs.now ≤ MARKER_LIMIT }
-        ensures { self.new ≡ self.old ++ reply_octets (mark_reply theirs.now held) }
+        ensures octets { self.new ≡ self.old ++ reply_octets (mark_reply theirs.now held) }
+        ensures room { length self.new ≤ length self.old + 2 * MARKER_LIMIT + 2 * FIXED_LIMIT }
     {
         self.put(b"110 MARK ");
         self.put_text(theirs);

@@ -1,5 +1,5 @@
 // PORT, EPRT, PASV and EPSV (RFC 959, section 4.1.2; RFC 2428).
-ghost use Rattle.std.specs.Prelude.{◌≡◌, false};
+ghost use Rattle.std.specs.Prelude.{◌≡◌};
 ghost use Rattle.ftp_ends.specs.Link.{is_v6, same_host};
 ghost use Rattle.ftp_server_machine.specs.Endpoint.{asks, disconnected, epsv, forgotten, is_standing, is_taken, pasv, port};
 ghost use Rattle.ftp_tree.specs.Tree.{under};
@@ -17,7 +17,7 @@ use std::alloc::Allocator;
 const LOWEST_PORT: u16 = 1024;
 
 impl<A: Allocator + Copy, T: Tree<A>, J: Moves> Session<A, T, J> {
-    ghost use Rattle.ftp_session.specs.Session.{connection_of, footing_of, has_transfer, session_of};
+    ghost use Rattle.ftp_session.specs.Session.{connection_of, footing_of, session_of};
 
     /// Whether the data connection is open, or a port is listened at.
     pub fn is_standing(&self) -> bool
@@ -35,17 +35,17 @@ impl<A: Allocator + Copy, T: Tree<A>, J: Moves> Session<A, T, J> {
     pub fn forget(&mut self)
         ensures view { session_of T.table J.view self.new ≡ forgotten (session_of T.table J.view self.old) }
         ensures tree { self.new.tree ≡ self.old.tree }
-        ensures idle { has_transfer self.new.connection ≡ false }
+        ensures free { self.new.connection ≡ DataConnection.Free }
     {
         self.closing = self.closing || self.is_standing();
-        self.connection = DataConnection::Free;
+        self.disconnect();
     }
 
     /// The data connection is gone, and nothing is left to close.
     pub fn disconnect(&mut self)
         ensures view { session_of T.table J.view self.new ≡ disconnected (session_of T.table J.view self.old) }
         ensures tree { self.new.tree ≡ self.old.tree }
-        ensures idle { has_transfer self.new.connection ≡ false }
+        ensures free { self.new.connection ≡ DataConnection.Free }
     {
         self.connection = DataConnection::Free;
     }
