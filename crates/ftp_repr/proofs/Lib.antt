@@ -7,7 +7,7 @@ pub mod FileLemmas
 pub mod RecordLemmas
 pub mod RunLemmas
 pub mod ReceivingLemmas
-pub mod RoomLemmas
+pub mod LendLemmas
 pub mod SkipLemmas
 pub mod LaneLemmas
 pub mod LineEndLemmas

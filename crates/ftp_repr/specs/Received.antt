@@ -1,9 +1,11 @@
 -- What a receiver made of items.
-use Rattle.std.specs.Prelude.{◌≡◌, ℕ, ◌+◌, ◌<◌, ◌≤◌, List, ◌++◌, length, take, map, true, false}
+use Rattle.std.specs.Prelude.{◌≡◌, ℕ, ◌+◌, ◌-◌, ◌<◌, ◌≤◌, List, ◌++◌, length, take, drop, true, false, if◌then◌else◌}
 use Rattle.ftp_machine.specs.Machine.{after, gives}
-use Rattle.ftp_repr.specs.Signs.{Sign, octet}
+use Rattle.ftp_repr.specs.Signs.{Sign}
+use Rattle.ftp_repr.specs.Items.{signs}
 use Rattle.ftp_representation.specs.Representation.{Form}
-use Rattle.ftp_repr.specs.Receiving.{Taking, fresh, over, receiving}
+use Rattle.ftp_repr.specs.Receiving.{Taking, fresh, over, receiving, held_octets}
+use Rattle.ftp_repr.specs.declared.item.Lent.{Lent}
 use Rattle.ftp_repr.specs.declared.receiver.Receiver.{Receiver}
 use Rattle.ftp_repr.specs.declared.receiver.Stage.{Stage}
 use Rattle.ftp_repr.specs.declared.receiver.Stage.TheVariants.{Settled, Held, Over}
@@ -31,8 +33,27 @@ pub record Receives (old : Receiver) (ss : List Sign) (new : Receiver) (before n
 abbrev pub HasNoRoom : Receiver → List Sign → ℕ → ℕ → Type 0
 HasNoRoom r ss capacity len = capacity < len + length (gives (receiving (receiver_form r)) (taking r) ss)
 
--- the first n octets of a piece were received, one at least
-pub record Bites (old : Receiver) (piece : List ℕ) (n : ℕ) (new : Receiver) (before now : List ℕ) : Type 0 where
-  pub some : 0 < n
-  pub within : n ≤ length piece
-  pub receives : Receives old (map octet (take n piece)) new before now
+-- ---- what signs in front of a row settle, lent
+
+-- what signs settle
+abbrev pub settled_by : Receiver → List Sign → List ℕ
+settled_by r ss = gives (receiving (receiver_form r)) (taking r) ss
+
+-- the octets that are lent: a CR that was held, and others
+abbrev pub lent_octets : Lent → List ℕ
+lent_octets lent = held_octets lent.with_return ++ lent.octets.now
+
+-- the sign that this octet of them comes with: a CR that was held comes with the first sign, as the octet behind it
+abbrev pub comes_with : Lent → ℕ → ℕ
+comes_with lent k = if lent.with_return then k - 1 else k
+
+-- so many signs were taken, one at least where there is one, and what they settle was lent
+pub record Lends (old : Receiver) (ss : List Sign) (lent : Lent) (new : Receiver) : Type 0 where
+  pub form : receiver_form new ≡ receiver_form old
+  pub within : lent.taken ≤ length ss
+  pub some : 0 < length ss → 0 < lent.taken
+  pub rest : signs lent.rest ≡ drop lent.taken ss
+  pub state : taking new ≡ after (receiving (receiver_form old)) (taking old) (take lent.taken ss)
+  pub settles : lent_octets lent ≡ settled_by old (take lent.taken ss)
+  pub no_sooner : (k : ℕ) → k < length (lent_octets lent) → length (settled_by old (take (comes_with lent k) ss)) ≤ k
+  pub no_later : (k : ℕ) → k < length (lent_octets lent) → k < length (settled_by old (take (comes_with lent k + 1) ss))

@@ -13,7 +13,7 @@ mod skipping;
 
 pub use fault::ReprFault;
 pub use ftp_representation::{Kind, Structure};
-pub use item::Item;
+pub use item::{Item, Lent};
 pub use receiver::Receiver;
 pub use run::{first_ff, plain_run};
 pub use sender::Sender;

@@ -1,15 +1,17 @@
-ghost use Rattle.std.specs.Prelude.{◌≡◌, ◌≢◌, ◌+◌, ◌<◌, ◌≤◌, ◌⊎◌, ◌++◌, ℕ, List, [], ◌∷◌, length, take, drop, map, IfOk, OnOk, OnErr, vec_len, vec_capacity};
+ghost use Rattle.std.specs.Prelude.{◌≡◌, ◌≢◌, ◌+◌, ◌<◌, ◌≤◌, ◌⊎◌, ◌++◌, ℕ, List, [], ◌∷◌, false, length, take, drop, map, IfOk, OnOk, OnErr, vec_len, vec_capacity};
 ghost use Rattle.ftp_repr.specs.Signs.{Sign, octet as sign, end_record, end_file};
 ghost use Rattle.ftp_repr.specs.Items.{signs};
 ghost use Rattle.ftp_repr.specs.Receiving.{fresh, over};
-ghost use Rattle.ftp_repr.specs.Received.{Receives, Bites, HasNoRoom, receiver_form, taking};
+ghost use Rattle.ftp_repr.specs.Received.{Receives, Lends, HasNoRoom, lent_octets, receiver_form, taking};
 ghost use Rattle.ftp_representation.specs.declared.representation.Kind.TheVariants.{Ascii};
 
 use crate::fault::ReprFault;
-use crate::item::Item;
+use crate::item::{Item, Lent};
 use crate::run::before_return;
 use ftp_representation::{Kind, Structure};
 use std::alloc::{AllocError, Allocator};
+
+const FEED: [u8; 1] = [10];
 
 /// Where in a file a receiver stands.
 #[derive(Clone, Copy, Debug, PartialEq, Eq)]
@@ -40,6 +42,16 @@ impl Receiver {
             kind,
             structure,
             stage: Stage::Settled,
+        }
+    }
+
+    /// Whether a CR is held, which what comes next settles.
+    pub fn holds_return(&self) -> bool
+        ensures { result ≡ (taking self.now).held }
+    {
+        match self.stage {
+            Stage::Held => true,
+            Stage::Settled | Stage::Over => false,
         }
     }
 
@@ -93,6 +105,106 @@ impl Receiver {
         self.stage = Stage::Over; // a held CR goes with it
     }
 
+    /// Takes octets or an end in front of an item, and lends what they settle of the file. Takes no memory.
+    ///
+    /// Given an item that is not empty it takes one octet or the end at least. What one call lends and what calls with
+    /// the rest lend, one behind the other, is what `take` puts at the end of a file.
+    pub fn next<'a>(&mut self, item: Item<'a>) -> Lent<'a>
+        ensures { Lends self.old (signs item.entry) result self.new }
+    {
+        if let Stage::Over = self.stage {
+            return whole(false, &[], item.len());
+        }
+        match item {
+            Item::Octets(piece) => match self.kind {
+                Kind::Ascii => self.next_line(piece),
+                Kind::Image => whole(false, piece, piece.len()),
+            },
+            Item::EndRecord => self.next_record_end(),
+            Item::EndFile => self.next_file_end(),
+        }
+    }
+
+    fn next_record_end<'a>(&mut self) -> Lent<'a>
+        requires going { self.old.stage ≢ Stage.Over }
+        ensures { Lends self.old (end_record ∷ []) result self.new }
+    {
+        match (self.structure, self.stage) {
+            (Structure::File, _) => whole(false, &[], 1),
+            (Structure::Record, Stage::Held) => {
+                self.stage = Stage::Settled;
+                whole(true, &FEED, 1)
+            }
+            (Structure::Record, _) => whole(false, &FEED, 1),
+        }
+    }
+
+    fn next_file_end<'a>(&mut self) -> Lent<'a>
+        requires going { self.old.stage ≢ Stage.Over }
+        ensures { Lends self.old (end_file ∷ []) result self.new }
+    {
+        let held = self.stage;
+        self.stage = Stage::Over;
+        match held {
+            Stage::Held => whole(true, &[], 1),
+            Stage::Settled | Stage::Over => whole(false, &[], 1),
+        }
+    }
+
+    /// Octets in type A.
+    fn next_line<'a>(&mut self, piece: &'a [u8]) -> Lent<'a>
+        requires going { self.old.stage ≢ Stage.Over }
+        requires ascii { self.old.kind ≡ Ascii }
+        ensures { Lends self.old (map sign piece.now) result self.new }
+    {
+        if piece.is_empty() {
+            return whole(false, piece, 0);
+        }
+        if let Stage::Held = self.stage {
+            return self.next_held(piece);
+        }
+        self.next_run(piece)
+    }
+
+    /// Octets in type A behind a CR: CR LF is LF, CR NUL is CR, and any other CR is itself.
+    fn next_held<'a>(&mut self, piece: &'a [u8]) -> Lent<'a>
+        requires some { 0 < length piece.now }
+        requires held { self.old.stage ≡ Stage.Held }
+        requires ascii { self.old.kind ≡ Ascii }
+        ensures { Lends self.old (map sign piece.now) result self.new }
+    {
+        self.stage = Stage::Settled;
+        let first = piece[0];
+        if first == 0 {
+            return part(true, &[], 1, piece);
+        }
+        let run = self.next_run(piece);
+        if first == 10 {
+            return run;
+        }
+        Lent {
+            with_return: true,
+            ..run
+        }
+    }
+
+    /// Octets in type A with no CR before them: a run up to a CR, and this.
+    fn next_run<'a>(&mut self, piece: &'a [u8]) -> Lent<'a>
+        requires some { 0 < length piece.now }
+        requires settled { self.old.stage ≡ Stage.Settled }
+        requires ascii { self.old.kind ≡ Ascii }
+        ensures lends { Lends self.old (map sign piece.now) result self.new }
+        ensures plain { result.with_return ≡ false }
+    {
+        let run = before_return(piece);
+        let (front, _) = piece.split_at(run);
+        if run == piece.len() {
+            return whole(false, front, run);
+        }
+        self.stage = Stage::Held;
+        part(false, front, run + 1, piece)
+    }
+
     /// Puts at the end of the file what the item settles, or some of it.
     fn add<A: Allocator>(&mut self, item: Item<'_>, out: &mut Vec<u8, A>) -> Result<(), AllocError>
         ensures ok { OnOk result (Receives self.old (signs item.entry) self.new out.old.items out.new.items) }
@@ -100,129 +212,58 @@ impl Receiver {
         ensures full { OnErr result (HasNoRoom self.old (signs item.entry) (vec_capacity out.old) (vec_len out.old)) }
         ensures capacity { vec_capacity out.old ≤ vec_capacity out.new }
     {
-        if let Stage::Over = self.stage {
-            return Ok(());
-        }
-        match item {
-            Item::Octets(piece) => match self.kind {
-                Kind::Ascii => self.add_lines(piece, out)?,
-                Kind::Image => out.extend_from_slice(piece)?,
-            },
-            Item::EndRecord => self.add_record_end(out)?,
-            Item::EndFile => self.add_file_end(out)?,
+        let mut rest = item;
+        while !rest.is_empty() {
+            let lent = self.next(rest);
+            put(lent, out)?;
+            rest = lent.rest;
         }
         Ok(())
     }
+}
 
-    fn add_record_end<A: Allocator>(&mut self, out: &mut Vec<u8, A>) -> Result<(), AllocError>
-        requires going { self.old.stage ≢ Stage.Over }
-        ensures ok { OnOk result (Receives self.old (end_record ∷ []) self.new out.old.items out.new.items) }
-        ensures err { OnErr result ((rest : List ℕ) × (out.new.items ≡ out.old.items ++ rest)) }
-        ensures full { OnErr result (HasNoRoom self.old (end_record ∷ []) (vec_capacity out.old) (vec_len out.old)) }
-        ensures capacity { vec_capacity out.old ≤ vec_capacity out.new }
-    {
-        match self.structure {
-            Structure::File => {}
-            Structure::Record => {
-                if let Stage::Held = self.stage {
-                    out.push(13)?;
-                    self.stage = Stage::Settled;
-                }
-                out.push(10)?;
-            }
-        }
-        Ok(())
+/// Puts what was lent at the end of the file, or some of it.
+fn put<A: Allocator>(lent: Lent<'_>, out: &mut Vec<u8, A>) -> Result<(), AllocError>
+    ensures ok { OnOk result (out.new.items ≡ out.old.items ++ lent_octets lent.entry) }
+    ensures err { OnErr result ((rest : List ℕ) × (out.new.items ≡ out.old.items ++ rest)) }
+    ensures full { OnErr result (vec_capacity out.old < vec_len out.old + length (lent_octets lent.entry)) }
+    ensures capacity { vec_capacity out.old ≤ vec_capacity out.new }
+{
+    if lent.with_return {
+        out.push(13)?;
     }
+    out.extend_from_slice(lent.octets)?;
+    Ok(())
+}
 
-    fn add_file_end<A: Allocator>(&mut self, out: &mut Vec<u8, A>) -> Result<(), AllocError>
-        requires going { self.old.stage ≢ Stage.Over }
-        ensures ok { OnOk result (Receives self.old (end_file ∷ []) self.new out.old.items out.new.items) }
-        ensures err { OnErr result ((rest : List ℕ) × (out.new.items ≡ out.old.items ++ rest)) }
-        ensures full { OnErr result (HasNoRoom self.old (end_file ∷ []) (vec_capacity out.old) (vec_len out.old)) }
-        ensures capacity { vec_capacity out.old ≤ vec_capacity out.new }
-    {
-        if let Stage::Held = self.stage {
-            out.push(13)?;
-        }
-        self.stage = Stage::Over;
-        Ok(())
+/// These octets, and nothing left of an item of so many.
+fn whole<'a>(with_return: bool, octets: &'a [u8], taken: usize) -> Lent<'a>
+    ensures with_return { result.with_return ≡ with_return }
+    ensures octets { result.octets.now ≡ octets.now }
+    ensures taken { result.taken ≡ taken }
+    ensures rest { signs result.rest ≡ [] }
+{
+    Lent {
+        with_return,
+        octets,
+        taken,
+        rest: Item::Octets(&[]),
     }
+}
 
-    /// Octets in type A.
-    fn add_lines<A: Allocator>(
-        &mut self,
-        piece: &[u8],
-        out: &mut Vec<u8, A>,
-    ) -> Result<(), AllocError>
-        requires going { self.old.stage ≢ Stage.Over }
-        requires ascii { self.old.kind ≡ Ascii }
-        ensures ok { OnOk result (Receives self.old (map sign piece.now) self.new out.old.items out.new.items) }
-        ensures err { OnErr result ((rest : List ℕ) × (out.new.items ≡ out.old.items ++ rest)) }
-        ensures full { OnErr result (HasNoRoom self.old (map sign piece.now) (vec_capacity out.old) (vec_len out.old)) }
-        ensures capacity { vec_capacity out.old ≤ vec_capacity out.new }
-    {
-        let mut at = 0;
-        while at < piece.len() {
-            let (_, rest) = piece.split_at(at);
-            at += self.add_front(rest, out)?;
-        }
-        Ok(())
-    }
-
-    /// The run in front of a CR, or one octet, of what is not empty.
-    fn add_front<A: Allocator>(
-        &mut self,
-        piece: &[u8],
-        out: &mut Vec<u8, A>,
-    ) -> Result<usize, AllocError>
-        requires going { self.old.stage ≢ Stage.Over }
-        requires ascii { self.old.kind ≡ Ascii }
-        requires some { 0 < length piece.now }
-        ensures ok { IfOk result (λ n. Bites self.old piece.now n self.new out.old.items out.new.items) }
-        ensures err { OnErr result ((rest : List ℕ) × (out.new.items ≡ out.old.items ++ rest)) }
-        ensures full { OnErr result (HasNoRoom self.old (map sign piece.now) (vec_capacity out.old) (vec_len out.old)) }
-        ensures capacity { vec_capacity out.old ≤ vec_capacity out.new }
-        ensures stays { (self.new.stage ≢ Stage.Over) × (self.new.kind ≡ self.old.kind) }
-    {
-        if let Stage::Settled = self.stage {
-            let run = before_return(piece);
-            if run > 0 {
-                let (front, _) = piece.split_at(run);
-                out.extend_from_slice(front)?;
-                return Ok(run);
-            }
-        }
-        self.add_octet(piece[0], out)?;
-        Ok(1)
-    }
-
-    /// An octet in type A.
-    fn add_octet<A: Allocator>(&mut self, octet: u8, out: &mut Vec<u8, A>) -> Result<(), AllocError>
-        requires going { self.old.stage ≢ Stage.Over }
-        requires ascii { self.old.kind ≡ Ascii }
-        ensures ok { OnOk result (Receives self.old (sign octet ∷ []) self.new out.old.items out.new.items) }
-        ensures err { OnErr result ((rest : List ℕ) × (out.new.items ≡ out.old.items ++ rest)) }
-        ensures full { OnErr result (HasNoRoom self.old (sign octet ∷ []) (vec_capacity out.old) (vec_len out.old)) }
-        ensures capacity { vec_capacity out.old ≤ vec_capacity out.new }
-        ensures stays { (self.new.stage ≢ Stage.Over) × (self.new.kind ≡ self.old.kind) }
-    {
-        if let Stage::Held = self.stage {
-            if octet == 10 {
-                out.push(10)?;
-                self.stage = Stage::Settled;
-                return Ok(());
-            }
-            out.push(13)?;
-            self.stage = Stage::Settled;
-            if octet == 0 {
-                return Ok(());
-            }
-        }
-        if octet == 13 {
-            self.stage = Stage::Held;
-            return Ok(());
-        }
-        out.push(octet)?;
-        Ok(())
+/// These octets, and what is left of a piece of which so many were taken.
+fn part<'a>(with_return: bool, octets: &'a [u8], taken: usize, piece: &'a [u8]) -> Lent<'a>
+    requires { taken ≤ length piece.now }
+    ensures with_return { result.with_return ≡ with_return }
+    ensures octets { result.octets.now ≡ octets.now }
+    ensures taken { result.taken ≡ taken }
+    ensures rest { signs result.rest ≡ map sign (drop taken piece.now) }
+{
+    let (_, rest) = piece.split_at(taken);
+    Lent {
+        with_return,
+        octets,
+        taken,
+        rest: Item::Octets(rest),
     }
 }

@@ -1,34 +1,34 @@
-use Rattle.std.proofs.Common.{◌≢◌, ◌++◌, List, ℕ, subst, sym, vec_len, vec_capacity, rules}
+use Rattle.std.proofs.Common.{◌++◌, ◌<◌, ◌+◌, ℕ, length, vec_capacity, sym, ap, ◌∙◌, subst, append_assoc, arith}
 use Rattle.std.proofs.lemmas.Result.{err_from_is_err_and}
-use Rattle.ftp_repr.specs.declared.item.Item.{Item}
 use Rattle.ftp_repr.specs.Items.{signs}
-use Rattle.ftp_repr.specs.Received.{Receives, HasNoRoom}
-use Rattle.ftp_repr.proofs.ReceivingLemmas.{receives_over, receives_image}
-use Rattle.ftp_repr.proofs.RoomLemmas.{no_room_image}
-use Rattle.ftp_repr.specs.declared.receiver.Stage.TheVariants.{Over}
+use Rattle.ftp_repr.specs.Received.{HasNoRoom, settled_by, lent_octets}
+use Rattle.ftp_repr.proofs.LendLemmas.{lends_rest, no_room_part}
 use Rattle.ftp_repr.proofs.receiver.Receiver.add.Goals as goal
 
-pub returns-in-Over-clause-ok : goal.returns-in-Over-clause-ok
-returns-in-Over-clause-ok g c = receives_over c.args.self.now (signs c.args.item) c.args.out.now.items c.in-Over.is
+pub returns-in_err-put-clause-full : goal.returns-in_err-put-clause-full
+returns-in_err-put-clause-full g c =
+    let p = err_from_is_err_and c.from_residual.result c.from_residual.ensures.1 in
+    let out = c.loop-rest.out in
+    let lent = lent_octets c.next-lent.result in
+    let rest = lends_rest c.loop-rest.self c.next-lent.new.self (signs c.loop-rest.rest) c.next-lent.result c.next-lent.ensures in
+    let T : ℕ → Type 0 = λ n. HasNoRoom c.args.self.now (signs c.args.item) (vec_capacity c.args.out.now) n in
+    let Q : ℕ → Type 0 = λ n. vec_capacity out < n + length lent in
+    rw p.1 (subst T (sym c.args.out.now.ok.0)
+    (no_room_part c.args.self.now (signs c.args.item) lent c.args.out.now.items out.items (settled_by c.next-lent.new.self (signs c.next-lent.result.rest)) (vec_capacity c.args.out.now) (vec_capacity out)
+    (c.loop-rest.invariant.settled ∙ ap (λ l. out.items ++ l) rest.1) c.loop-rest.invariant.room
+    (subst Q out.ok.0 c.in_err-put.ensures.full)))
 
-pub returns-in_ok-extend_from_slice-in-Image-clause-ok : goal.returns-in_ok-extend_from_slice-in-Image-clause-ok
-returns-in_ok-extend_from_slice-in-Image-clause-ok g c =
-    let self = c.args.self.now in
-    let before = c.args.out.now.items in
-    let piece = c.in-Octets.piece.now in
-    let going : self.stage ≢ Over = search rules in
-    let P : List ℕ → Type 0 = λ l. Receives self (signs c.args.item) self before l in
-    let Q : Item → Type 0 = λ i. Receives self (signs i) self before (before ++ piece) in
-    subst P (sym c.in_ok-extend_from_slice-in-Image.ensures.items)
-    (subst Q (sym c.in-Octets.is) (receives_image self piece before c.in-Image.is going))
-
-pub returns-in_err-extend_from_slice-in-Image-clause-full : goal.returns-in_err-extend_from_slice-in-Image-clause-full
-returns-in_err-extend_from_slice-in-Image-clause-full g c =
-    let self = c.args.self.now in
-    let piece = c.in-Octets.piece.now in
-    let going : self.stage ≢ Over = search rules in
-    let capacity = vec_capacity c.args.out.now in
-    let len = vec_len c.args.out.now in
-    let p = err_from_is_err_and c.from_residual-in_err-extend_from_slice-in-Image.result c.from_residual-in_err-extend_from_slice-in-Image.ensures.1 in
-    let Q : Item → Type 0 = λ i. HasNoRoom self (signs i) capacity len in
-    rw p.1 (subst Q (sym c.in-Octets.is) (no_room_image self piece capacity len c.in-Image.is going c.in_err-extend_from_slice-in-Image.ensures.full))
+pub loop-rest-preserved : goal.loop-rest-preserved
+loop-rest-preserved g c =
+    let rest = lends_rest c.loop-rest.self c.next-lent.new.self (signs c.loop-rest.rest) c.next-lent.result c.next-lent.ensures in
+    let out = c.loop-rest.out.items in
+    let lent = lent_octets c.next-lent.result in
+    let later = settled_by c.next-lent.new.self (signs c.next-lent.result.rest) in
+    let so_far = c.loop-rest.invariant.so_far in
+    record {
+      form = c.next-lent.ensures.form ∙ c.loop-rest.invariant.form;
+      room = omega (arith, c.loop-rest.invariant.room, c.put.ensures.capacity);
+      state = c.loop-rest.invariant.state ∙ rest.0;
+      so_far = (so_far.0 ++ lent, c.in_ok-put.ensures.ok ∙ ap (λ l. l ++ lent) so_far.1 ∙ append_assoc c.args.out.now.items so_far.0 lent);
+      settled = c.loop-rest.invariant.settled ∙ ap (λ l. out ++ l) rest.1 ∙ sym (append_assoc out lent later) ∙ ap (λ l. l ++ later) (sym c.in_ok-put.ensures.ok);
+    }
