@@ -1,0 +1,3 @@
+pub mod HearLemmas
+pub mod SettleLemmas
+pub mod StepLemmas
