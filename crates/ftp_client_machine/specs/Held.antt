@@ -5,6 +5,7 @@ use Rattle.ftp_endpoint.specs.declared.host.Host.{Host}
 use Rattle.ftp_endpoint.specs.Written.{IsTypedHost}
 use Rattle.ftp_operation.specs.Account.{is_user, is_password}
 use Rattle.ftp_operation.specs.declared.op.Op.{Op}
+use Rattle.ftp_ends.specs.Limits.{block_limit, held_limit}
 use Rattle.ftp_reply.specs.Lines.{Text}
 use Rattle.ftp_reply.specs.Reader.{Gathered, Between, Begun}
 use Rattle.ftp_client_machine.specs.Calls.{starts, uploads, is_busy, reports, hears_octet, may_hear, gives_control, control_end, listening}
@@ -26,14 +27,6 @@ gathered_len (Begun code texts) = texts_len texts
 -- the login, the line that is being read, the reply that it is of, and what is owed
 abbrev pub held : View → ℕ
 held v = length v.user + length v.pass + (length v.ear.line.text + (gathered_len v.gathered + length v.owed))
-
--- the most octets of a block as it is sent: three of its header, and its data (RFC 959, section 3.4.2)
-abbrev pub sent_block : ℕ
-sent_block = 8195
-
--- the most octets that a client holds
-abbrev pub client_limit : ℕ
-client_limit = 24576
 
 -- ---- after every list of calls
 
@@ -99,4 +92,4 @@ abbrev pub ClientHoldsLittle : Type 0
 ClientHoldsLittle =
     (user pass : List ℕ) (here peer : Host) (calls : List Call)
     → IsTrue (is_user user) → IsTrue (is_password pass) → IsTypedHost here → AreTypedCalls calls
-    → held (called_all calls (client user pass here peer)) + sent_block ≤ client_limit
+    → held (called_all calls (client user pass here peer)) + block_limit ≤ held_limit

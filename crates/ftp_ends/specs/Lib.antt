@@ -3,3 +3,4 @@ pub mod Decoder
 pub mod Link
 pub mod Reply
 pub mod RowWords
+pub mod Limits

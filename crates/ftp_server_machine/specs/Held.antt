@@ -1,15 +1,17 @@
 -- How many octets a server holds, beside the map, the accounts and what came of an upload (own choice of the limits). Of a download and of
 -- a listing the view has all that is still to be given, which is the map's; here is what of it a server may hold at once.
-use Rattle.std.specs.Prelude.{ℕ, ◌+◌, ◌≤◌, List, length, Option, Some}
+use Rattle.std.specs.Prelude.{ℕ, ◌+◌, ◌<◌, ◌≤◌, List, [], ◌∷◌, length, Option, Some}
+use Rattle.ftp_endpoint.specs.Written.{IsTypedHost}
 use Rattle.ftp_endpoint.specs.declared.host.Host.{Host}
 use Rattle.ftp_command.specs.Line.{line_of}
-use Rattle.ftp_path.specs.Path.{Names, text_of}
+use Rattle.ftp_path.specs.Path.{Names, text_limit, text_of}
 use Rattle.ftp_representation.specs.declared.marker.TheConstants.{MARKER_LIMIT}
-use Rattle.ftp_tree.specs.Tree.{Table}
+use Rattle.ftp_tree.specs.Tree.{Table, file_limit, octets_or_none}
+use Rattle.ftp_ends.specs.Limits.{block_limit, held_limit}
 use Rattle.ftp_server_machine.specs.View.{Accounts, Session, Transfer, View, line_limit}
 use Rattle.ftp_server_machine.specs.Calls.{start}
 use Rattle.ftp_server_machine.specs.Machine.{Reading, IsReading}
-use Rattle.ftp_server_machine.specs.Play.{Cue, left_by}
+use Rattle.ftp_server_machine.specs.Play.{Cue, Listening, left_by}
 use Rattle.ftp_server_machine.specs.Told.{AreWithinLimits}
 use Rattle.ftp_server_machine.specs.declared.heard.Heard.{Heard}
 use Rattle.ftp_server_machine.specs.declared.heard.Heard.TheVariants.{Asks}
@@ -21,17 +23,9 @@ use Rattle.ftp_server_machine.specs.declared.session.DataConnection.{DataConnect
 use Rattle.ftp_server_machine.specs.declared.session.DataConnection.TheVariants as Data
 use Rattle.ftp_server_machine.specs.declared.session.Transfer.TheVariants as Transfers
 
--- the most octets of a block as it is sent: three of its header, and its data (RFC 959, section 3.4.2)
-abbrev pub block_limit : ℕ
-block_limit = 8195
-
--- the most octets of a pathname, as `ftp_path` has it
-abbrev pub path_limit : ℕ
-path_limit = 900
-
 -- a sender holds a block, a line of a listing, and the path of its file or directory
 abbrev pub sending_limit : ℕ
-sending_limit = block_limit + (line_limit + path_limit)
+sending_limit = block_limit + (line_limit + text_limit)
 
 -- ---- what each part holds
 
@@ -79,12 +73,23 @@ session_len s = access_len s.access + (path_len s.root + (path_len s.cwd + (pend
 abbrev pub held : View → ℕ
 held v = length v.owed + (length v.ear.line.text + (waiting_len v.waiting + session_len v.session))
 
--- the most octets that an end holds
-abbrev pub held_limit : ℕ
-held_limit = 24576
+-- each file is within the limit of files, so that the octets of an upload behind it can be told
+abbrev pub HasShortFiles : Table → Type 0
+HasShortFiles table = (path : Names) → length (octets_or_none table path) ≤ file_limit
+
+-- a port has 16 bits
+abbrev pub IsTypedCue : Cue → Type 0
+IsTypedCue (Listening port) = port < 65536
+IsTypedCue cue = Unit {0}
+
+-- so has that of each of these calls
+abbrev pub AreTypedCues : List Cue → Type 0
+AreTypedCues [] = Unit {0}
+AreTypedCues (cue ∷ cues) = IsTypedCue cue × AreTypedCues cues
 
 -- whatever is called, a server never holds more
 abbrev pub HoldsLittle : Type 0
 HoldsLittle =
     (read : Reading) (table : Table) (accounts : Accounts) (here peer : Host) (cues : List Cue)
-    → IsReading read → AreWithinLimits accounts → held (left_by read cues (start table accounts here peer)) ≤ held_limit
+    → IsReading read → AreWithinLimits accounts → IsTypedHost here → HasShortFiles table → AreTypedCues cues
+    → held (left_by read cues (start table accounts here peer)) ≤ held_limit
