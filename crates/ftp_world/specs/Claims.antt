@@ -11,7 +11,7 @@ use Rattle.ftp_operation.specs.Answer.{Said, Done, Unopened, Lost}
 use Rattle.ftp_direct.specs.Direct.{State, start as direct_start, answer, answers, changed, named, part}
 use Rattle.std.specs.List.{list_all}
 use Rattle.std.specs.FinMap as fin
-use Rattle.ftp_path.specs.Path.{fits, is_name, Names}
+use Rattle.ftp_path.specs.Path.{is_name, Names}
 use Rattle.ftp_tree.specs.Tree.{Node, Dir, File, Table, IsTree, octets_in, total_limit, installed}
 use Rattle.ftp_operation.specs.declared.op.How.{How}
 use Rattle.ftp_operation.specs.declared.op.Op.{Op}
@@ -21,6 +21,7 @@ use Rattle.ftp_client_machine.specs.Tries.{OverBreaks, most_tries}
 use Rattle.ftp_client_machine.specs.View.{client}
 use Rattle.ftp_server_machine.specs.Calls.{start}
 use Rattle.ftp_server_machine.specs.Machine.{Reading, IsReading}
+use Rattle.ftp_server_machine.specs.Told.{is_path}
 use Rattle.ftp_server_machine.specs.View.{Accounts}
 use Rattle.ftp_world.specs.Agreement.{IsAmong, AttemptHolds, Order, Tries, tries_in, Item, IsItemOf, item_did, ItemHolds}
 use Rattle.ftp_world.specs.Agreement.{IsReported, AreSingle, operations, Agrees, WorldAgrees, IsDirect, Leads, AreHonest}
@@ -58,10 +59,6 @@ is_sound_node (File octets moment) = nat_le moment last_second
 -- what stands at a path is sound, and the path is one
 abbrev pub is_sound_entry : Names × Node → Bool
 is_sound_entry entry = list_all is_name entry.0 && is_sound_node entry.1
-
--- a path of names, within the limits of paths
-abbrev pub is_path : Names → Bool
-is_path path = list_all is_name path && fits path
 
 -- where the direct run begins
 abbrev pub state_of : Beginning → State
