@@ -1,6 +1,5 @@
--- What every call of a server keeps, so that whatever comes of an octet has room (own choice of the limits): of the 8,192 octets of
--- control output a line is acted on, and an octet taken, only while 4,096 are free.
-use Rattle.std.specs.Prelude.{◌≡◌, ℕ, ◌+◌, ◌^◌, ◌<◌, ◌≤◌, true, List, length, Option, Some, None, if◌then◌else◌}
+-- What every call of a server keeps, so that whatever comes of an octet has room (own choice of the limits).
+use Rattle.std.specs.Prelude.{◌≡◌, ℕ, ◌+◌, ◌-◌, ◌^◌, ◌<◌, ◌≤◌, true, List, length, Option, Some, None, if◌then◌else◌}
 use Rattle.ftp_endpoint.specs.Written.{IsTypedHost}
 use Rattle.ftp_endpoint.specs.declared.host.Host.{Host}
 use Rattle.ftp_tree.specs.Tree.{Table}
@@ -9,13 +8,15 @@ use Rattle.ftp_server_machine.specs.Machine.{Reading, IsReading, is_connection_b
 use Rattle.ftp_server_machine.specs.Told.{AreWithinLimits, CanBeHeard, Keeps}
 use Rattle.ftp_server_machine.specs.View.{Accounts, Transfer, View}
 use Rattle.ftp_server_machine.specs.declared.heard.Heard.{Heard}
+use Rattle.ftp_server_machine.specs.declared.room.TheConstants.{FREE_ROOM, OUTPUT_ROOM}
 use Rattle.ftp_server_machine.specs.declared.session.DataConnection.{DataConnection}
 use Rattle.ftp_server_machine.specs.declared.session.DataConnection.TheVariants as Data
 use Rattle.ftp_server_machine.specs.declared.session.Transfer.TheVariants as Transfers
 
--- the most control octets that are owed: while a transfer stands or a port is asked for, its last reply is still to come
+-- the most control octets that are owed: while a transfer stands or a port is asked for, its last reply is still to come, and what is
+-- owed until then is answers to Telnet octets and to markers, each taken only while there is room
 abbrev pub owed_limit : DataConnection Transfer → ℕ
-owed_limit connection = if is_connection_busy connection then 5120 else 8192
+owed_limit connection = if is_connection_busy connection then OUTPUT_ROOM - FREE_ROOM + 1024 else OUTPUT_ROOM
 
 -- a line that waits
 abbrev pub WaitingKeeps : Option (Heard (List ℕ)) → Type 0
