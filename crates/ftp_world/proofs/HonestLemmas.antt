@@ -14,9 +14,9 @@ use Rattle.ftp_world.specs.World.{World, Mark, Control, Stands, LeftByNear, Left
 use Rattle.ftp_world.proofs.AgreementLemmas.{unmarked_is_direct}
 
 -- no mark, and no end of the control connection
-record Clean (w : World) : Type 0 where
-  marks : AreUnmarked w.marks
-  cutoff : w.cutoff ≡ None
+pub record Clean (w : World) : Type 0 where
+  pub marks : AreUnmarked w.marks
+  pub cutoff : w.cutoff ≡ None
 
 near_link_clean : (link : Link) (w : World) → Clean w → Clean (link_closed_by_near link w)
 near_link_clean Gone w c = c
@@ -128,7 +128,7 @@ happens_clean : (read : Reading) (event : Event) (old new : World) (possible : B
 happens_clean read event old new true honest happens c = does_clean read event _ new honest happens.1 (record { marks = c.marks; cutoff = c.cutoff })
 happens_clean read event old new false honest happens c = subst Clean (sym happens.1) c
 
-leads_clean : (read : Reading) (w : World) (events : List Event) (begun : List Order) (new : World) → AreHonest events
+pub leads_clean : (read : Reading) (w : World) (events : List Event) (begun : List Order) (new : World) → AreHonest events
     → Leads read w events begun new → Clean w → Clean new
 leads_clean read w [] begun new honest leads c = subst Clean (sym leads.1) c
 leads_clean read w (event ∷ events) begun new honest leads c =
