@@ -1,0 +1,14 @@
+pub mod ServerTurns
+pub mod Exchanges
+pub mod Rows
+pub mod Single
+pub mod Paths
+pub mod Moving
+pub mod Renaming
+pub mod Settings
+pub mod Sizing
+pub mod Sound
+pub mod LoginTurns
+pub mod Telling
+pub mod Theorems
+pub mod Commuting

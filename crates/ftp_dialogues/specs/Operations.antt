@@ -1,0 +1,34 @@
+-- What an operation without a transfer leads to, from any state of both ends where nothing is on its way: its answer and the map of the
+-- direct run.
+use Rattle.std.specs.Prelude.{◌≡◌, ℕ, true, List}
+use Rattle.ftp_nvt.specs.Lines.{written_line}
+use Rattle.ftp_command.specs.Line.{IsLine}
+use Rattle.ftp_operation.specs.Answer.{Said}
+use Rattle.ftp_operation.specs.Operation.{can_be_sent}
+use Rattle.ftp_operation.specs.declared.op.Op.{Op}
+use Rattle.ftp_direct.specs.Direct.{State, answer}
+use Rattle.ftp_client_machine.specs.Dialogue.{begins}
+use Rattle.ftp_client_machine.specs.View.{View as Near, Job}
+use Rattle.ftp_server_machine.specs.Machine.{Reading, IsReading}
+use Rattle.ftp_server_machine.specs.View.{View as Far}
+use Rattle.ftp_dialogues.specs.Stage.{calm, Asking, Leads}
+use Rattle.ftp_dialogues.specs.Dialogue.{Passes, Stands, Ends, IsSound, HasNoTransfer, resting}
+
+-- the client begins with a line, and some turns lead to this answer and this state, with the map before or behind it all along
+pub record LeadsTo (read : Reading) (state : State) (op : Op (List ℕ)) (result : Said × State) (n : Near) (f : Far) : Type 0 where
+  pub near : Near
+  pub text : List ℕ
+  pub left : ℕ
+  pub begins_so : (job : Job) → begins op (record (calm (resting n)) { job = job }) ≡ record (calm near) { owed = written_line text }
+  pub line : IsLine text
+  pub leads : Leads read (Passes state.table result.1.table) (Ends result) left (Asking text) near f
+
+-- so it is of every such operation that can be sent, with the answer of the direct run
+abbrev pub EachLeadsAsRun : Type 0
+EachLeadsAsRun =
+    (read : Reading) (state : State) (op : Op (List ℕ)) (moment : ℕ) (n : Near) (f : Far) → IsReading read → HasNoTransfer op
+    → can_be_sent op ≡ true → IsSound state → Stands state n f → LeadsTo read state op (answer state op moment) n f
+
+-- and a sound state is left sound
+abbrev pub EachStaysSound : Type 0
+EachStaysSound = (state : State) (op : Op (List ℕ)) (moment : ℕ) → HasNoTransfer op → can_be_sent op ≡ true → IsSound state → IsSound (answer state op moment).1
