@@ -1,0 +1,13 @@
+pub mod Chunks
+pub mod Items
+pub mod Keeps
+pub mod Still
+pub mod Phases
+pub mod Deliveries
+pub mod Begins
+pub mod Parting
+pub mod Events
+pub mod Agreeing
+pub mod Quiet
+pub mod Beginning
+pub mod Theorems

@@ -1,0 +1,31 @@
+-- The claims of `ftp_world` for lists of events whose operations have no transfer: deliveries, breaks, refusals and ends of every kind,
+-- and operations that can't be sent, among them.
+use Rattle.std.specs.Prelude.{◌≡◌, true, List, [], ◌∷◌}
+use Rattle.ftp_operation.specs.Operation.{can_be_sent}
+use Rattle.ftp_world.specs.Agreement.{WorldAgrees, IsDirect, AreHonest}
+use Rattle.ftp_world.specs.Claims.{state_of, Always, IsAnswered}
+use Rattle.ftp_world.specs.Events.{Event, Next, Upload, IsQuiet}
+use Rattle.ftp_dialogues.specs.Dialogue.{HasNoTransfer}
+
+-- what an event begins has no transfer, or can't be sent
+abbrev pub IsPlain : Event → Type 0
+IsPlain (Next op moment) = can_be_sent op ≡ true → HasNoTransfer op
+IsPlain (Upload upload moment) = ⊥
+IsPlain event = Unit {0}
+
+-- so it is of each event
+abbrev pub ArePlain : List Event → Type 0
+ArePlain [] = Unit {0}
+ArePlain (event ∷ events) = IsPlain event × ArePlain events
+
+-- after every event of such a list there is agreement
+abbrev pub PlainAgrees : Type 0
+PlainAgrees = Always (λ read b events begun w. ArePlain events → WorldAgrees (state_of b) begun w)
+
+-- where nothing is in flight, nothing is left open
+abbrev pub PlainIsAnswered : Type 0
+PlainIsAnswered = Always (λ read b events begun w. ArePlain events → IsQuiet w → IsAnswered begun w)
+
+-- and without an end of the control connection that is the direct run
+abbrev pub PlainHeadline : Type 0
+PlainHeadline = Always (λ read b events begun w. ArePlain events → AreHonest events → IsQuiet w → IsDirect (state_of b) begun w)

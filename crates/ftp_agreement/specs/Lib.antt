@@ -1,0 +1,4 @@
+-- Agreement in the world. The files are in the order in which they are to be read.
+pub mod Cut
+pub mod Follows
+pub mod Laws
