@@ -2,6 +2,7 @@
 //! (RFC 959, sections 4.1.3 and 4.2; RFC 2389, RFC 2428, RFC 3659).
 #![tactic(auto)]
 
+mod entry;
 mod list_line;
 mod output;
 mod reply;

@@ -163,6 +163,28 @@ fn an_entry(rt: HostRuntime) -> Result<(), Fail> {
 }
 
 #[test]
+fn an_entry_by_its_facts(rt: HostRuntime) -> Result<(), Fail> {
+    let mut output = Output::new(rt.alloc())?;
+    let moment = Moment { seconds: 1000 };
+    output.put_listed(ALL, b"file", Some(3), Some(moment), b"adfrw", b"/f");
+    assert!(rt;
+        owes(
+            output,
+            b"250-Listing\r\n Type=file;Size=3;Modify=19700101001640;Perm=adfrw; /f\r\n250 End\r\n"
+        )
+    );
+    Ok(())
+}
+
+#[test]
+fn an_entry_with_one_fact(rt: HostRuntime) -> Result<(), Fail> {
+    let mut output = Output::new(rt.alloc())?;
+    output.put_listed(SIZE_ALONE, b"dir", None, None, b"cdeflmp", b"/d");
+    assert!(rt; owes(output, b"250-Listing\r\n  /d\r\n250 End\r\n"));
+    Ok(())
+}
+
+#[test]
 fn room_is_reserved_once(rt: HostRuntime) {
     let none = Refusing::new(rt.alloc(), 1);
     assert!(&rt; Output::new(&none).is_err());

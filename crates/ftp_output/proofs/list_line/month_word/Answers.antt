@@ -1,6 +1,5 @@
-use Rattle.std.proofs.Common.{◌≡◌, ◌-◌, ◌*◌, ◌∙◌, ap, codes, drop, length, min, sym, take}
+use Rattle.std.proofs.Common.{◌≡◌, ◌-◌, ◌*◌, ◌∙◌, ap, codes, drop, take}
 use Rattle.std.proofs.lemmas.List.{drop_min, take_min}
-use Rattle.ftp_server_machine.specs.Listing.{month_word}
 use Rattle.ftp_output.proofs.list_line.month_word.Goals as goal
 
 pub returns : goal.returns

@@ -1,4 +1,4 @@
-use Rattle.std.proofs.Common.{◌≡◌, [], ◌∷◌, codes}
+use Rattle.std.proofs.Common.{[], ◌∷◌, codes}
 use Rattle.ftp_ends.specs.Reply.{reply_octets}
 use Rattle.ftp_output.proofs.ReplyLemmas.{around, entry_octets}
 use Rattle.ftp_output.proofs.output.Output.put_entry.Goals as goal

@@ -1,4 +1,4 @@
-use Rattle.std.proofs.Common.{◌≡◌, codes, refl}
+use Rattle.std.proofs.Common.{codes, refl}
 use Rattle.ftp_endpoint.specs.Written.{six_text}
 use Rattle.ftp_server_machine.specs.Replies.{passive_text}
 use Rattle.ftp_output.proofs.ReplyLemmas.{in_parts}

@@ -1,7 +1,4 @@
-use Rattle.std.proofs.Common.{◌≡◌, [], ◌∷◌, ◌++◌, codes, decimal, refl, append-nil}
-use Rattle.ftp_path.specs.Path.{text_of}
-use Rattle.ftp_reply.specs.Values.{doubled}
-use Rattle.ftp_server_machine.specs.Replies.{here_text, made_text, extended_text}
+use Rattle.std.proofs.Common.{[], decimal, refl, append-nil}
 use Rattle.ftp_output.proofs.ReplyLemmas.{in_parts}
 use Rattle.ftp_output.proofs.output.Output.put_size.Goals as goal
 
