@@ -123,7 +123,7 @@ extended_room s port small =
 pub least_room : (connection : DataConnection Transfer) → 5120 ≤ owed_limit connection
 least_room connection = cond_both (is_connection_busy connection) 5120 8192 (λ n. 5120 ≤ n) (λ is. omega arith) (λ is. omega arith)
 
-most_room : (connection : DataConnection Transfer) → owed_limit connection ≤ 8192
+pub most_room : (connection : DataConnection Transfer) → owed_limit connection ≤ 8192
 most_room connection = cond_both (is_connection_busy connection) 5120 8192 (λ n. n ≤ 8192) (λ is. omega arith) (λ is. omega arith)
 
 calm_room : (connection : DataConnection Transfer) → is_connection_busy connection ≡ false → owed_limit connection ≡ 8192

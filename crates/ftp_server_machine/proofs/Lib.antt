@@ -12,3 +12,4 @@ pub mod ServerUploads
 pub mod PathTexts
 pub mod TurnLemmas
 pub mod UploadLemmas
+pub mod HeldLemmas

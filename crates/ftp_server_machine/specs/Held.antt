@@ -12,6 +12,7 @@ use Rattle.ftp_server_machine.specs.View.{Accounts, Session, Transfer, View, lin
 use Rattle.ftp_server_machine.specs.Calls.{start}
 use Rattle.ftp_server_machine.specs.Machine.{Reading, IsReading}
 use Rattle.ftp_server_machine.specs.Play.{Cue, Listening, left_by}
+use Rattle.ftp_server_machine.specs.Kept.{ServerKeeps}
 use Rattle.ftp_server_machine.specs.Told.{AreWithinLimits}
 use Rattle.ftp_server_machine.specs.declared.heard.Heard.{Heard}
 use Rattle.ftp_server_machine.specs.declared.heard.Heard.TheVariants.{Asks}
@@ -72,6 +73,12 @@ session_len s = access_len s.access + (path_len s.root + (path_len s.cwd + (pend
 -- a server: its control output, the line that is being read, the line that waits, and the session
 abbrev pub held : View → ℕ
 held v = length v.owed + (length v.ear.line.text + (waiting_len v.waiting + session_len v.session))
+
+-- a server that keeps its limits holds no more than it may, where the line that is being read keeps its limit, and the one that waits,
+-- as it would be written, is at most twice as long
+abbrev pub KeepsLittle : Type 0
+KeepsLittle =
+    (v : View) → ServerKeeps v → length v.ear.line.text ≤ line_limit → waiting_len v.waiting ≤ line_limit + line_limit → held v ≤ held_limit
 
 -- each file is within the limit of files, so that the octets of an upload behind it can be told
 abbrev pub HasShortFiles : Table → Type 0

@@ -3,6 +3,7 @@ ghost use Rattle.ftp_server_machine.specs.Bounds.{ServerLowers};
 ghost use Rattle.ftp_server_machine.specs.Failing.{NeverFailsWithoutLogin};
 ghost use Rattle.ftp_server_machine.specs.InFlight.{ServerDropsAnswer, ServerHearsCommand, ServerHearsPieces, ServerHearsEachLine, LineLeavesEar, ServerHearsRow, StatedIsLine};
 ghost use Rattle.ftp_server_machine.specs.Replies.{RepliesAreWritten, RepliesHaveRoom};
+ghost use Rattle.ftp_server_machine.specs.Held.{KeepsLittle};
 ghost use Rattle.ftp_server_machine.specs.Kept.{EachCallKeeps, StartKeeps, UploadOctetKeeps};
 ghost use Rattle.ftp_server_machine.specs.Told.{LineKeeps, ParentIsPath, PathHasText, PathLeadsToPath, ReadCanBeHeard};
 ghost use Rattle.ftp_server_machine.specs.Machine.{OneReading, ReadingExists, ReadsStated};
@@ -46,11 +47,13 @@ pub fn lines_keep_limits()
     ensures made { LineKeeps }
 {}
 
-/// A server keeps its limits at the start and after each call: at most 8,192 control octets are owed.
+/// A server keeps its limits at the start and after each call: at most 8,192 control octets are owed. With short lines it holds at most
+/// 24,576 octets.
 pub fn calls_keep_limits()
     ensures start { StartKeeps }
     ensures calls { EachCallKeeps }
     ensures octets { UploadOctetKeeps }
+    ensures little { KeepsLittle }
 {}
 
 /// A command that is answered 530 is never answered 451.
