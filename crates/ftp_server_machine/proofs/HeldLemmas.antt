@@ -1,13 +1,12 @@
 -- How much a server holds that keeps its limits.
-use Rattle.std.proofs.Common.{◌≡◌, ℕ, ◌+◌, ◌≤◌, Bool, true, ◌&&◌, List, Option, Some, None, arith, length}
+use Rattle.std.proofs.Common.{◌≡◌, ◌≤◌, true, List, ℕ, arith, length}
 use Rattle.std.specs.Prelude.{nat_le}
 use Rattle.std.specs.List.{list_all}
 use Rattle.std.proofs.lemmas.Bool.{and_parts, leb-true}
 use Rattle.ftp_path.specs.Path.{Names, fits, is_name, text_of}
 use Rattle.ftp_server_machine.specs.Held.{path_len, access_len, pending_len, transfer_len, connection_len, KeepsLittle}
-use Rattle.ftp_server_machine.specs.Kept.{ServerKeeps, owed_limit}
-use Rattle.ftp_server_machine.specs.Told.{is_path, AccessKeeps, PendingKeeps, TransferKeeps, ConnectionKeeps}
-use Rattle.ftp_server_machine.specs.View.{Transfer, View}
+use Rattle.ftp_server_machine.specs.Told.{AccessKeeps, PendingKeeps, TransferKeeps, ConnectionKeeps}
+use Rattle.ftp_server_machine.specs.View.{Transfer}
 use Rattle.ftp_server_machine.specs.declared.session.Access.{Access}
 use Rattle.ftp_server_machine.specs.declared.session.Access.TheVariants.{Nobody, AwaitsPass, Known}
 use Rattle.ftp_server_machine.specs.declared.session.Pending.{Pending}
