@@ -7,7 +7,6 @@ pub mod LawLemmas
 pub mod LeafLemmas
 pub mod MoveLemmas
 pub mod NameLemmas
-pub mod PageLemmas
 pub mod PartLemmas
 pub mod PlaceLemmas
 pub mod TableLemmas

@@ -2,6 +2,5 @@ pub mod Branch
 pub mod BranchFalls
 pub mod Change
 pub mod Laws
-pub mod Pages
 pub mod Store
 pub mod Tree

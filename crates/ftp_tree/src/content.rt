@@ -3,18 +3,16 @@ ghost use Rattle.std.specs.Prelude.{◌≡◌, ◌≤◌, ◌<◌, ◌++◌, [],
 ghost use Rattle.ftp_tree.specs.Tree.{front_refusal, octets_or_none, under};
 
 use crate::fault::TreeFault;
-use crate::pages::{self, Page};
 use crate::tree::Tree;
+use ftp_pages::Pages;
 use ftp_path::Path;
 use std::alloc::{AllocError, Allocator};
 use std::marker::Model;
-use std::mem;
 
 /// The octets of a file, as they are gathered before it is installed.
 #[derive(Debug, Drop)]
 pub struct Content<A: Allocator> {
-    pages: Vec<Page<A>, A>,
-    len: u64,
+    octets: Pages<A>,
 }
 
 impl<A: Allocator> Model for Content<A> {
@@ -22,13 +20,7 @@ impl<A: Allocator> Model for Content<A> {
 
     ghost Value = { List ℕ };
 
-    ghost use Rattle.std.specs.Prelude.{◌≡◌, length};
-    ghost use Rattle.std.specs.List.{concat};
-    ghost use Rattle.ftp_tree.specs.Pages.{IsPaged, page_octets};
-
-    ghost view = { λ content. concat (page_octets content.pages.items) };
-
-    ghost invariant = { λ content. IsPaged (page_octets content.pages.items) × (content.len ≡ length (concat (page_octets content.pages.items))) };
+    ghost view = { λ content. content.octets };
 }
 
 impl<A: Allocator> Content<A> {
@@ -37,8 +29,7 @@ impl<A: Allocator> Content<A> {
         ensures { result ≡ [] }
     {
         Content {
-            pages: Vec::new(alloc),
-            len: 0,
+            octets: Pages::new(alloc),
         }
     }
 
@@ -46,7 +37,7 @@ impl<A: Allocator> Content<A> {
     pub fn len(&self) -> u64
         ensures { result ≡ length self.now }
     {
-        self.len
+        self.octets.len()
     }
 
     /// Takes its octets out.
@@ -54,7 +45,9 @@ impl<A: Allocator> Content<A> {
         ensures taken { result ≡ self.old }
         ensures left { self.new ≡ [] }
     {
-        mem::replace(self, Content::new(alloc))
+        Content {
+            octets: self.octets.take(alloc),
+        }
     }
 
     /// Some of its octets from a place on, at most `max` of them and at most to the end of a page. Lends them.
@@ -63,7 +56,7 @@ impl<A: Allocator> Content<A> {
         ensures most { length result.now ≤ max }
         ensures some { 0 < max → at < length self.now → 0 < length result.now }
     {
-        pages::piece(self.pages.as_slice(), at, max)
+        self.octets.piece(at, max)
     }
 }
 
@@ -101,12 +94,7 @@ impl<A: Allocator + Clone> Content<A> {
         ensures ok { OnOk result (self.new ≡ self.old ++ octets.now) }
         ensures err { OnErr result (self.new ≡ self.old) }
     {
-        let Some(len) = self.len.checked_add(octets.len() as u64) else {
-            return Err(AllocError);
-        };
-        pages::push_all(&mut self.pages, self.len, octets)?;
-        self.len = len;
-        Ok(())
+        self.octets.push(octets)
     }
 }
 

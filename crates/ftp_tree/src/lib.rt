@@ -7,7 +7,6 @@ mod fault;
 pub mod laws;
 mod memory;
 mod node;
-mod pages;
 mod place;
 mod tree;
 
