@@ -1,5 +1,5 @@
 -- When a file was installed, as MDTM answers it.
-use Rattle.std.proofs.Common.{◌≡◌, ◌∙◌, ℕ, true, not, List, Option, Some, None, is_some, ap, sym}
+use Rattle.std.proofs.Common.{◌≡◌, ◌∙◌, ℕ, true, not, List, Some, None, is_some, ap, sym}
 use Rattle.std.specs.Option.{unwrap_or}
 use Rattle.ftp_path.specs.Path.{Names, fits, resolved}
 use Rattle.ftp_tree.specs.Tree.{stamp_at}

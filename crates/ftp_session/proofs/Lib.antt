@@ -2,3 +2,4 @@ pub mod AskLemmas
 pub mod LineLemmas
 pub mod RefusedLemmas
 pub mod SessionLemmas
+pub mod ConcludeLemmas

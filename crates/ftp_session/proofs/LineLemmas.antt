@@ -1,5 +1,5 @@
 -- Lines that are read name paths by path texts.
-use Rattle.std.proofs.Common.{◌≡◌, ℕ, List, Some, None}
+use Rattle.std.proofs.Common.{ℕ, List, Some, None}
 use Rattle.ftp_command.specs.Command.{Says}
 use Rattle.ftp_command.specs.declared.command.Command.{Command}
 use Rattle.ftp_command.specs.declared.command.Command.TheVariants as command

@@ -1,12 +1,11 @@
 -- A call that the tree refused: what it makes of a command.
-use Rattle.std.proofs.Common.{◌≡◌, ◌≢◌, ◌∙◌, ℕ, Bool, true, false, if◌then◌else◌, inl, inr, List, Option, Some, None, is_some, Result, Ok, Err, ap, refl, sym}
+use Rattle.std.proofs.Common.{◌≡◌, ◌∙◌, ℕ, Bool, true, false, if◌then◌else◌, inl, inr, List, Option, Some, None, is_some, Result, Ok, Err, ap, refl, sym}
 use Rattle.ftp_path.specs.Path.{Names, fits, resolved}
 use Rattle.ftp_tree.specs.Change.{IsRefused}
 use Rattle.ftp_tree.specs.Tree.{Table, moved, rename_refusal, under}
 use Rattle.ftp_tree.specs.declared.fault.TreeFault.{TreeFault}
 use Rattle.ftp_tree.specs.declared.fault.TreeFault.TheVariants as Faults
 use Rattle.ftp_direct.specs.Direct.{limited, refused_name, refused_there}
-use Rattle.ftp_direct.specs.declared.refusal.Refusal.{Refusal}
 use Rattle.ftp_direct.specs.declared.refusal.Refusal.TheVariants as Refusals
 use Rattle.ftp_direct.proofs.RefusalLemmas.{NoDevice, there_some}
 use Rattle.ftp_server_machine.specs.Replies.{Turn, tells}

@@ -1,6 +1,5 @@
 -- A session without a transfer is seen alike by all views of transfers.
 use Rattle.std.proofs.Common.{◌≡◌, false, refl}
-use Rattle.std.specs.Prelude.{true}
 use Rattle.ftp_server_machine.specs.View.{Transfer}
 use Rattle.ftp_server_machine.specs.declared.session.DataConnection.{DataConnection}
 use Rattle.ftp_server_machine.specs.declared.session.DataConnection.TheVariants as Data

@@ -1,2 +1,4 @@
 pub mod Line
 pub mod Session
+pub mod Moves
+pub mod Receiving

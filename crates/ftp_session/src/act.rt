@@ -6,14 +6,15 @@ ghost use Rattle.ftp_session.specs.Line.{HasPathTexts};
 
 use crate::fault::Fault;
 use crate::footing::Footing;
-use crate::session::{Moves, Session};
+use crate::moves::Moves;
+use crate::session::Session;
 use ftp_command::{Command, Text};
 use ftp_path::Path;
 use ftp_server_machine::{Pending, ReplyKind, Text as Says};
 use ftp_tree::Tree;
 use std::alloc::Allocator;
 
-impl<A: Allocator + Copy, T: Tree<A>, J: Moves> Session<A, T, J> {
+impl<A: Allocator + Copy, T: Tree<A>, J: Moves<A, T>> Session<A, T, J> {
     ghost use Rattle.ftp_session.specs.Session.{Turns, footing_of, has_transfer};
 
     /// Does a command, after what the line before left pending for it. An ABOR during a transfer is not done here.

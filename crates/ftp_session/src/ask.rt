@@ -9,7 +9,8 @@ ghost use Rattle.ftp_server_machine.specs.Transfer.{rest};
 ghost use Rattle.ftp_server_machine.specs.View.{direct_of, how_in_force};
 
 use crate::fault::Fault;
-use crate::session::{Moves, Session};
+use crate::moves::Moves;
+use crate::session::Session;
 use ftp_command::Text;
 use ftp_direct::{absent_fault, file_fault, takes_offset, wire_len};
 use ftp_facts::moment_text;
@@ -20,7 +21,7 @@ use ftp_server_machine::{Pending, ReplyKind, Text as Says};
 use ftp_tree::Tree;
 use std::alloc::{AllocError, Allocator};
 
-impl<A: Allocator + Copy, T: Tree<A>, J: Moves> Session<A, T, J> {
+impl<A: Allocator + Copy, T: Tree<A>, J: Moves<A, T>> Session<A, T, J> {
     ghost use Rattle.ftp_session.specs.Session.{Turns, session_of};
 
     /// REST.

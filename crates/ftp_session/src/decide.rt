@@ -6,7 +6,8 @@ ghost use Rattle.ftp_session.specs.Line.{HasPathTexts, HeardPaths};
 
 use crate::fault::Fault;
 use crate::footing::Footing;
-use crate::session::{Moves, Session};
+use crate::moves::Moves;
+use crate::session::Session;
 use ftp_command::{Command, CommandFault, Text};
 use ftp_path::Path;
 use ftp_server_machine::{Access, Heard, Pending, ReplyKind, Text as Says};
@@ -14,7 +15,7 @@ use ftp_tree::Tree;
 use std::alloc::Allocator;
 use std::mem;
 
-impl<A: Allocator + Copy, T: Tree<A>, J: Moves> Session<A, T, J> {
+impl<A: Allocator + Copy, T: Tree<A>, J: Moves<A, T>> Session<A, T, J> {
     ghost use Rattle.ftp_session.specs.Session.{footing_of, has_transfer, session_of};
     ghost use Rattle.ftp_session.specs.Line.{Asked, Decides};
 

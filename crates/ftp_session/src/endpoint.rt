@@ -5,7 +5,8 @@ ghost use Rattle.ftp_server_machine.specs.Endpoint.{asks, disconnected, epsv, fo
 ghost use Rattle.ftp_tree.specs.Tree.{under};
 
 use crate::footing::Footing;
-use crate::session::{Moves, Session};
+use crate::moves::Moves;
+use crate::session::Session;
 use ftp_command::Passive;
 use ftp_endpoint::{Endpoint, Host};
 use ftp_path::Path;
@@ -16,7 +17,7 @@ use std::alloc::Allocator;
 /// The lowest port of a client's endpoint (RFC 2577, section 3).
 const LOWEST_PORT: u16 = 1024;
 
-impl<A: Allocator + Copy, T: Tree<A>, J: Moves> Session<A, T, J> {
+impl<A: Allocator + Copy, T: Tree<A>, J: Moves<A, T>> Session<A, T, J> {
     ghost use Rattle.ftp_session.specs.Session.{connection_of, footing_of, session_of};
 
     /// Whether the data connection is open, or a port is listened at.

@@ -4,12 +4,15 @@
 
 mod act;
 mod ask;
+mod conclude;
 mod decide;
 mod endpoint;
 mod fault;
 mod footing;
 mod login;
+mod moves;
 mod options;
+mod receive;
 mod session;
 mod settings;
 mod transfers;
@@ -18,4 +21,5 @@ mod walk;
 pub use endpoint::is_same_host;
 pub use fault::Fault;
 pub use footing::Footing;
-pub use session::{Moves, Session};
+pub use moves::{Given, Marker, Moves, Received, Told};
+pub use session::Session;

@@ -3,7 +3,8 @@ ghost use Rattle.std.specs.Prelude.{◌≡◌, false};
 ghost use Rattle.ftp_server_machine.specs.Login.{logged_out, logs_in, pass, quit, rein, user};
 
 use crate::fault::Fault;
-use crate::session::{ALL_FACTS, DEFAULTS, Moves, Session};
+use crate::moves::Moves;
+use crate::session::{ALL_FACTS, DEFAULTS, Session};
 use ftp_command::Text;
 use ftp_direct::is_dir;
 use ftp_operation::Accounts;
@@ -12,7 +13,7 @@ use ftp_server_machine::{Access, Life, ReplyKind, Text as Says};
 use ftp_tree::Tree;
 use std::alloc::Allocator;
 
-impl<A: Allocator + Copy, T: Tree<A>, J: Moves> Session<A, T, J> {
+impl<A: Allocator + Copy, T: Tree<A>, J: Moves<A, T>> Session<A, T, J> {
     ghost use Rattle.ftp_session.specs.Session.{Turns, has_transfer, session_of};
 
     /// Nobody is logged in any longer.

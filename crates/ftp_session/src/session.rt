@@ -5,21 +5,13 @@ ghost use Rattle.ftp_server_machine.specs.Machine.{is_connection_busy};
 ghost use Rattle.ftp_server_machine.specs.View.{first_session};
 ghost use Rattle.ftp_tree.specs.Tree.{under};
 
+use crate::moves::Moves;
 use ftp_command::Text;
 use ftp_path::{Path, PathFault};
 use ftp_representation::{Kind, Mode, Representation, Structure};
 use ftp_server_machine::{Access, DataConnection, Facts, Life, Pending};
 use ftp_tree::Tree;
 use std::alloc::{AllocError, Allocator};
-
-/// A transfer, as the definitions of the server see it beside the part of the tree that the account sees: a download or a listing
-/// need not hold what it is still to give.
-pub trait Moves: Drop {
-    ghost use Rattle.ftp_server_machine.specs.View.{Transfer};
-    ghost use Rattle.ftp_tree.specs.Tree.{Table};
-
-    ghost view: { Table → Self → Transfer };
-}
 
 /// A session over a tree `T`, with transfers `J`.
 #[derive(Drop)]
@@ -56,7 +48,7 @@ pub(crate) const DEFAULTS: Representation = Representation {
     mode: Mode::Stream,
 };
 
-impl<A: Allocator + Copy, T: Tree<A>, J: Moves> Session<A, T, J> {
+impl<A: Allocator + Copy, T: Tree<A>, J: Moves<A, T>> Session<A, T, J> {
     ghost use Rattle.ftp_session.specs.Session.{connection_of, has_transfer, session_of};
 
     /// A session as it begins: nobody is logged in, and all is as after REIN. Takes no memory.

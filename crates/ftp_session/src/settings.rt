@@ -2,15 +2,16 @@
 ghost use Rattle.std.specs.Prelude.{◌≡◌};
 ghost use Rattle.ftp_server_machine.specs.Setting.{opts, set_kind, set_mode, set_structure};
 
+use crate::moves::Moves;
 use crate::options::{is_utf8_on, option_facts};
-use crate::session::{Moves, Session};
+use crate::session::Session;
 use ftp_path::Path;
 use ftp_representation::{Kind, Mode, Structure};
 use ftp_server_machine::{ReplyKind, Text};
 use ftp_tree::Tree;
 use std::alloc::Allocator;
 
-impl<A: Allocator + Copy, T: Tree<A>, J: Moves> Session<A, T, J> {
+impl<A: Allocator + Copy, T: Tree<A>, J: Moves<A, T>> Session<A, T, J> {
     ghost use Rattle.ftp_session.specs.Session.{session_of};
 
     /// TYPE.

@@ -5,14 +5,15 @@ ghost use Rattle.ftp_server_machine.specs.Walk.{cdup, cwd, dele, mkd, rmd, rnfr,
 ghost use Rattle.ftp_session.specs.Session.{RefusedAs};
 
 use crate::fault::Fault;
-use crate::session::{Moves, Session};
+use crate::moves::Moves;
+use crate::session::Session;
 use ftp_direct::{directory_fault, is_busy, is_held};
 use ftp_path::Path;
 use ftp_server_machine::{Pending, ReplyKind, Text};
 use ftp_tree::{Tree, TreeFault};
 use std::alloc::Allocator;
 
-impl<A: Allocator + Copy, T: Tree<A>, J: Moves> Session<A, T, J> {
+impl<A: Allocator + Copy, T: Tree<A>, J: Moves<A, T>> Session<A, T, J> {
     ghost use Rattle.ftp_session.specs.Session.{Turns, has_transfer, session_of};
 
     /// CWD.

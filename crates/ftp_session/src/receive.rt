@@ -1,0 +1,95 @@
+// Octets of the data connection (RFC 959, section 3).
+ghost use Rattle.std.specs.Prelude.{◌≡◌, ◌≤◌, ◌<◌, false, length, take, true};
+ghost use Rattle.ftp_server_machine.specs.Calls.{connection_of as connection_in, given_by, is_upload};
+ghost use Rattle.ftp_server_machine.specs.Machine.{has_room};
+ghost use Rattle.ftp_server_machine.specs.View.{View};
+ghost use Rattle.ftp_session.specs.Receiving.{ComesIn, Gives, GivesOut};
+
+use crate::moves::{Given, Moves, Received, Told};
+use crate::session::Session;
+use ftp_server_machine::DataConnection;
+use ftp_tree::Tree;
+use std::alloc::Allocator;
+
+impl<A: Allocator + Copy, T: Tree<A>, J: Moves<A, T>> Session<A, T, J> {
+    ghost use Rattle.ftp_session.specs.Session.{has_transfer, session_of};
+
+    /// Takes octets of the data connection, at least one where an upload is under way. There has to be room for what is to be said.
+    pub fn receive(&mut self, piece: &[u8]) -> Received
+        ensures within { result.count ≤ length piece.now }
+        ensures comes { (v : View) → v.session ≡ session_of T.table J.view self.old → has_room v ≡ true → ComesIn v (take result.count piece.now) result.told (session_of T.table J.view self.new) }
+        ensures some { is_upload (connection_in (session_of T.table J.view self.old)) ≡ true → 0 < length piece.now → 0 < result.count }
+        ensures tree { self.new.tree ≡ self.old.tree }
+    {
+        if self.closing {
+            return no_octets();
+        }
+        let received = match &mut self.connection {
+            DataConnection::Transferring(transfer) => transfer.receive(
+                &self.tree, &self.root, piece,
+            ),
+            _ => no_octets(),
+        };
+        if matches!(received.told, Told::Faulty | Told::NoMemory) {
+            self.forget();
+        }
+        received
+    }
+
+    /// Gives octets to the data connection.
+    pub fn give(&mut self, room: &mut [u8]) -> Given
+        ensures within { result.count ≤ length room.old }
+        ensures gave { take result.count room.new ≡ take result.count (given_by (connection_in (session_of T.table J.view self.old))) }
+        ensures most { result.count ≤ length (given_by (connection_in (session_of T.table J.view self.old))) }
+        ensures on { (v : View) → v.session ≡ session_of T.table J.view self.old → Gives v result.count result.lost (session_of T.table J.view self.new) }
+        ensures some { result.lost ≡ false → 0 < length room.old → 0 < length (given_by (connection_in (session_of T.table J.view self.old))) → 0 < result.count }
+        ensures tree { self.new.tree ≡ self.old.tree }
+        ensures free { result.lost ≡ true → self.new.connection ≡ DataConnection.Free }
+        ensures busy { has_transfer self.new.connection ≡ true → has_transfer self.old.connection ≡ true }
+    {
+        if self.closing {
+            return Given {
+                count: 0,
+                lost: false,
+            };
+        }
+        let given = match &mut self.connection {
+            DataConnection::Transferring(transfer) => transfer.give(&self.tree, &self.root, room),
+            _ => Given {
+                count: 0,
+                lost: false,
+            },
+        };
+        if given.lost {
+            self.forget();
+        }
+        given
+    }
+
+    /// A download or a listing of which all is given is over: whether the 226 is to be said.
+    pub fn give_out(&mut self) -> bool
+        ensures on { (v : View) → v.session ≡ session_of T.table J.view self.old → GivesOut v result (session_of T.table J.view self.new) }
+        ensures tree { self.new.tree ≡ self.old.tree }
+        ensures free { result ≡ true → self.new.connection ≡ DataConnection.Free }
+        ensures same { result ≡ false → self.new.connection ≡ self.old.connection }
+    {
+        let DataConnection::Transferring(transfer) = &self.connection else {
+            return false;
+        };
+        if !transfer.is_given_out(&self.tree, &self.root) {
+            return false;
+        }
+        self.forget();
+        true
+    }
+}
+
+/// No octet was taken.
+fn no_octets() -> Received
+    ensures { (result.count ≡ 0) × (result.told ≡ Told.Nothing) }
+{
+    Received {
+        count: 0,
+        told: Told::Nothing,
+    }
+}
