@@ -178,7 +178,7 @@ fn entries<A: Allocator + Clone, T: Tree<A>>(
 }
 
 /// The entry of a name in a directory, where its path is within the limits of paths.
-fn entry_in<A: Allocator + Clone, T: Tree<A>>(
+pub fn entry_in<A: Allocator + Clone, T: Tree<A>>(
     alloc: &A,
     tree: &T,
     root: &Path<A>,
@@ -230,8 +230,8 @@ fn files<A: Allocator + Clone, T: Tree<A>>(
     Ok(files)
 }
 
-/// The pathname of a name in a directory, where it is a file's.
-fn file_in<A: Allocator + Clone, T: Tree<A>>(
+/// The pathname of a name in a directory, where it is a file's. `text` names the directory.
+pub fn file_in<A: Allocator + Clone, T: Tree<A>>(
     alloc: &A,
     tree: &T,
     root: &Path<A>,

@@ -70,7 +70,7 @@ pub(crate) fn refused<A: Allocator>(fault: TreeFault, why: Refusal) -> Result<An
 }
 
 /// The path that a text names, read from the current directory, or `None` where it is past the limits of paths.
-pub(crate) fn find<A: Allocator + Clone>(
+pub fn find<A: Allocator + Clone>(
     alloc: &A,
     cwd: &Path<A>,
     text: &Text<A>,
