@@ -1,0 +1,7 @@
+pub mod BusyLemmas
+pub mod CallLemmas
+pub mod EntryLemmas
+pub mod HearLemmas
+pub mod PathLemmas
+pub mod ReaderLemmas
+pub mod ReadingLemmas

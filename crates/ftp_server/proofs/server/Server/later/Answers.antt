@@ -1,0 +1,9 @@
+use Rattle.std.proofs.Common.{sym, subst, ◌∙◌}
+use Rattle.std.proofs.Math.Logic.{∥∥₁_elim}
+use Rattle.ftp_server.specs.Busy.{MayWait}
+use Rattle.ftp_server.proofs.PathLemmas.{paths_once}
+use Rattle.ftp_server.proofs.server.Server.later.Goals as goal
+
+pub obey-requires-clause-paths : goal.obey-requires-clause-paths
+obey-requires-clause-paths g c =
+    ∥∥₁_elim c.args.self.now.paths (paths_once c.in-Some.heard) (λ h. subst MayWait (sym c.replace.ensures.value ∙ c.in-Some.is) h)

@@ -1,0 +1,43 @@
+-- Room for the replies that come by themselves: while a transfer is under way or a port is asked for, less is owed (own choice).
+use Rattle.std.specs.Prelude.{◌≡◌, ℕ, ◌≤◌, Bool, true, false, List, length, Option, Some, None}
+use Rattle.ftp_path.specs.Path.{Names}
+use Rattle.ftp_session.specs.Line.{HeardPaths}
+use Rattle.ftp_server_machine.specs.declared.heard.Heard.{Heard}
+use Rattle.ftp_server_machine.specs.declared.reply.ReplyKind.{ReplyKind}
+use Rattle.ftp_server_machine.specs.declared.reply.ReplyKind.TheVariants as Replies
+use Rattle.ftp_server_machine.specs.declared.session.DataConnection.{DataConnection}
+use Rattle.ftp_server_machine.specs.declared.session.DataConnection.TheVariants as Data
+
+-- a transfer is under way, or a port was asked for, however a transfer is held
+abbrev pub is_busy : {J : Type 0} → DataConnection J → Bool
+is_busy Data.Free = false
+is_busy (Data.Asked asked) = true
+is_busy (Data.Active endpoint) = false
+is_busy Data.Passive = false
+is_busy Data.Ready = false
+is_busy (Data.Opening transfer way) = true
+is_busy (Data.Transferring transfer) = true
+
+-- the most octets that are owed meanwhile: the 4,096 with which an octet is taken, and what comes of it
+abbrev pub busy_room : ℕ
+busy_room = 5120
+
+-- so 3,072 are free for the reply by which it ends
+abbrev pub HasRoom : {J : Type 0} → DataConnection J → List ℕ → Type 0
+HasRoom connection owed = is_busy connection ≡ true → length owed ≤ busy_room
+
+-- a reply without a computed part, or none: all that is said by a command that leaves the data connection busy
+abbrev pub is_short : ReplyKind Names → Bool
+is_short Replies.Nothing = true
+is_short (Replies.Fixed text) = true
+is_short other = false
+
+-- the texts of paths in the line that waits are path texts
+abbrev pub MayWait : Option (Heard (List ℕ)) → Type 0
+MayWait None = Unit {0}
+MayWait (Some heard) = HeardPaths heard
+
+-- the entry of what stands at a path, which is written from the tree
+abbrev pub is_entry : ReplyKind Names → Bool
+is_entry (Replies.Entry path) = true
+is_entry other = false

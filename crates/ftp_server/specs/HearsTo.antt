@@ -1,0 +1,13 @@
+-- Control octets, however lines are read: there is one reading of them.
+use Rattle.std.specs.Prelude.{◌≡◌, ℕ, List}
+use Rattle.ftp_server_machine.specs.Failing.{AreHeard}
+use Rattle.ftp_server_machine.specs.Machine.{IsReading, MayHear, Reading, hears}
+use Rattle.ftp_server_machine.specs.View.{View}
+
+-- they are heard as ever, each when it may be
+abbrev pub HearsTo : List ℕ → View → View → Type 0
+HearsTo octets v w = (read : Reading) → IsReading read → (w ≡ hears read v octets) × MayHear read v octets
+
+-- they are heard, and some of what they asked may have failed
+abbrev pub AreHeardTo : List ℕ → View → View → Type 0
+AreHeardTo octets v w = (read : Reading) → IsReading read → AreHeard read v octets w

@@ -1,0 +1,104 @@
+// The calls of a server: a step, and then the line that waits (RFC 959, sections 3.2 and 4.1).
+ghost use Rattle.std.specs.Prelude.{◌≡◌, ◌≢◌, ◌<◌, ◌≤◌, length, take, OnErr, OnOk};
+ghost use Rattle.ftp_server_machine.specs.Calls.{clock_step, close_step, control_end, control_step, listening_step, no_port_step, opened_step, refused_step};
+ghost use Rattle.ftp_server_machine.specs.Far.{Acts};
+
+use crate::line::Failed;
+use crate::server::Server;
+use ftp_endpoint::Host;
+use ftp_facts::Moment;
+use ftp_session::Moves;
+use ftp_tree::Tree;
+use std::alloc::Allocator;
+
+impl<A: Allocator + Copy, T: Tree<A>, J: Moves<A, T>> Server<A, T, J> {
+    ghost use Rattle.ftp_server.specs.Server.{counts_of, server_of, view_of};
+
+    /// Counts a refused growth where a call failed and the device's count did not move since it stood at `failures`.
+    pub(crate) fn count(&mut self, outcome: Result<(), Failed>, failures: u64)
+        ensures view { view_of T.table J.view self.new ≡ view_of T.table J.view self.old }
+        ensures done { OnOk outcome (counts_of T.failures self.new ≡ counts_of T.failures self.old) }
+        ensures failed { OnErr outcome (counts_of T.failures self.new ≢ record (counts_of T.failures self.old) { failures = failures }) }
+    {
+        if outcome.is_err() && self.session.tree.device_failures() == failures {
+            self.refusals = self.refusals.wrapping_add(1);
+        }
+    }
+
+    /// The end of each call: the line that waits is acted on, if it may be.
+    pub(crate) fn settle(&mut self)
+        ensures { Acts (λ v. v) (server_of T.table T.failures J.view self.old) (server_of T.table T.failures J.view self.new) }
+    {
+        let failures = self.session.tree.device_failures();
+        let outcome = self.later();
+        self.count(outcome, failures);
+    }
+
+    /// The moment in force from now on.
+    #[tactic(auto, using(crate::proofs::CallLemmas::acts))]
+    pub fn clock(&mut self, moment: Moment)
+        ensures { Acts (clock_step moment.seconds) (server_of T.table T.failures J.view self.old) (server_of T.table T.failures J.view self.new) }
+    {
+        self.footing.moment = moment;
+        self.settle();
+    }
+
+    /// Gives octets of the control connection, and says how many.
+    pub fn control_out(&mut self, room: &mut [u8]) -> usize
+        ensures within { (result ≤ length room.old) × (result ≤ length (view_of T.table J.view self.old).owed) }
+        ensures gave { take result room.new ≡ take result (view_of T.table J.view self.old).owed }
+        ensures now { Acts (control_step result) (server_of T.table T.failures J.view self.old) (server_of T.table T.failures J.view self.new) }
+        ensures some { 0 < length room.old → 0 < length (view_of T.table J.view self.old).owed → 0 < result }
+    {
+        let count = self.output.give(room);
+        self.settle();
+        count
+    }
+
+    /// A port is listened at.
+    pub fn listening(&mut self, port: u16)
+        ensures { Acts (listening_step port) (server_of T.table T.failures J.view self.old) (server_of T.table T.failures J.view self.new) }
+    {
+        self.listen(port);
+        self.settle();
+    }
+
+    /// No port was had.
+    pub fn listen_refused(&mut self)
+        ensures { Acts no_port_step (server_of T.table T.failures J.view self.old) (server_of T.table T.failures J.view self.new) }
+    {
+        self.give_up_port();
+        self.settle();
+    }
+
+    /// The data connection is open; this host is at its other end.
+    pub fn data_opened(&mut self, host: Host)
+        ensures { Acts (opened_step host) (server_of T.table T.failures J.view self.old) (server_of T.table T.failures J.view self.new) }
+    {
+        self.open(host);
+        self.settle();
+    }
+
+    /// The data connection was not had.
+    pub fn data_refused(&mut self)
+        ensures { Acts refused_step (server_of T.table T.failures J.view self.old) (server_of T.table T.failures J.view self.new) }
+    {
+        self.give_up_opening();
+        self.settle();
+    }
+
+    /// A close that it wanted is done.
+    pub fn data_closed(&mut self)
+        ensures { Acts close_step (server_of T.table T.failures J.view self.old) (server_of T.table T.failures J.view self.new) }
+    {
+        self.close();
+        self.settle();
+    }
+
+    /// The control connection ended.
+    pub fn control_end(&mut self)
+        ensures { server_of T.table T.failures J.view self.new ≡ record (server_of T.table T.failures J.view self.old) { view = control_end (view_of T.table J.view self.old) } }
+    {
+        self.cut();
+    }
+}

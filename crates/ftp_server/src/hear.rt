@@ -1,0 +1,158 @@
+// The octets of the control connection (RFC 854; RFC 959, sections 4.1.3 and 5.4).
+ghost use Rattle.std.specs.Prelude.{◌≡◌, ◌≤◌, ◌<◌, IsTrue, None, OnErr, OnOk, length, take, true};
+ghost use Rattle.ftp_nvt.specs.Ear.{line_of};
+ghost use Rattle.ftp_server_machine.specs.Far.{Hears};
+ghost use Rattle.ftp_server_machine.specs.Failing.{ActingFails, AreHeard, LineIsHeard, OctetIsHeard};
+ghost use Rattle.ftp_server_machine.specs.Machine.{IsReading, MayHear, Reading, hears, hears_octet, heard_line, is_abor, is_abort, is_transferring, may_hear};
+ghost use Rattle.ftp_server.specs.HearsTo.{AreHeardTo, HearsTo};
+ghost use Rattle.ftp_session.specs.Line.{HeardPaths};
+ghost use Rattle.ftp_session.specs.Session.{has_transfer};
+
+use crate::line::Failed;
+use crate::reading::read_line;
+use crate::server::Server;
+use ftp_command::{Command, CommandFault, Text};
+use ftp_nvt::Event;
+use ftp_server_machine::{DataConnection, Heard, Life};
+use ftp_session::Moves;
+use ftp_tree::Tree;
+use std::alloc::Allocator;
+
+/// How many octets were taken, and whether the last of them failed.
+#[derive(Drop)]
+pub(crate) struct Taken {
+    pub(crate) count: usize,
+    pub(crate) outcome: Result<(), Failed>,
+}
+
+impl<A: Allocator + Copy, T: Tree<A>, J: Moves<A, T>> Server<A, T, J> {
+    ghost use Rattle.ftp_server.specs.Server.{counts_of, server_of, view_of};
+
+    /// Takes octets of the control connection, and says how many.
+    pub fn hear(&mut self, piece: &[u8]) -> usize
+        ensures within { result ≤ length piece.now }
+        ensures took { Hears (take result piece.now) (server_of T.table T.failures J.view self.old) (server_of T.table T.failures J.view self.new) }
+        ensures some { IsTrue (may_hear (view_of T.table J.view self.old)) → 0 < length piece.now → 0 < result }
+    {
+        let failures = self.session.tree.device_failures();
+        let taken = self.hear_octets(piece);
+        self.count(taken.outcome, failures);
+        taken.count
+    }
+
+    /// Whether a control octet may be taken.
+    fn may_hear(&self) -> bool
+        ensures { result ≡ may_hear (view_of T.table J.view self.now) }
+    {
+        matches!(self.session.life, Life::Running)
+            && self.waiting.is_none()
+            && self.output.has_room()
+    }
+
+    /// Whether a line is an ABOR that comes during a transfer.
+    fn is_abort(&self, heard: &Heard<Text<A>>) -> bool
+        ensures is { result ≡ is_abort heard.now (view_of T.table J.view self.now) }
+        ensures busy { result ≡ true → is_transferring (view_of T.table J.view self.now).session.connection ≡ true }
+    {
+        is_abor(heard) && is_transferring(&self.session.connection)
+    }
+
+    /// A whole line: ABOR is taken at once during a transfer, any other line waits until it may be acted on.
+    fn hear_line(&mut self, heard: Heard<Text<A>>) -> Result<(), Failed>
+        requires room { length self.old.output ≤ 4096 }
+        requires none { self.old.waiting ≡ None }
+        requires paths { HeardPaths heard }
+        ensures done { OnOk result (view_of T.table J.view self.new ≡ heard_line heard (view_of T.table J.view self.old)) }
+        ensures steady { OnOk result (counts_of T.failures self.new ≡ counts_of T.failures self.old) }
+        ensures lost { OnErr result (ActingFails (is_abort heard (view_of T.table J.view self.old)) heard (view_of T.table J.view self.old) (view_of T.table J.view self.new)) }
+        ensures refusals { self.new.refusals ≡ self.old.refusals }
+    {
+        if self.is_abort(&heard) {
+            return self.abort();
+        }
+        self.waiting = Some(heard);
+        self.later()
+    }
+
+    /// The line that the last octet ended.
+    fn hear_text(&mut self) -> Result<(), Failed>
+        requires room { length self.old.output ≤ 4096 }
+        requires none { self.old.waiting ≡ None }
+        ensures done { OnOk result ((read : Reading) → IsReading read → view_of T.table J.view self.new ≡ heard_line (read (line_of self.old.reader.ear)) (view_of T.table J.view self.old)) }
+        ensures steady { OnOk result (counts_of T.failures self.new ≡ counts_of T.failures self.old) }
+        ensures lost { OnErr result ((read : Reading) → IsReading read → LineIsHeard (read (line_of self.old.reader.ear)) (view_of T.table J.view self.old) (view_of T.table J.view self.new)) }
+        ensures refusals { self.new.refusals ≡ self.old.refusals }
+    {
+        match read_line(self.session.alloc, self.reader.line()) {
+            Some(heard) => self.hear_line(heard),
+            None => {
+                let _heard = self.hear_line(Heard::Bad(CommandFault::Memory));
+                Err(Failed)
+            }
+        }
+    }
+
+    /// Takes octets as long as it may, and says how many; the last of them may have failed.
+    pub(crate) fn hear_octets(&mut self, piece: &[u8]) -> Taken
+        ensures within { result.count ≤ length piece.now }
+        ensures done { OnOk result.outcome (HearsTo (take result.count piece.now) (view_of T.table J.view self.old) (view_of T.table J.view self.new)) }
+        ensures steady { OnOk result.outcome (counts_of T.failures self.new ≡ counts_of T.failures self.old) }
+        ensures lost { OnErr result.outcome (AreHeardTo (take result.count piece.now) (view_of T.table J.view self.old) (view_of T.table J.view self.new)) }
+        ensures refusals { self.new.refusals ≡ self.old.refusals }
+        ensures some { may_hear (view_of T.table J.view self.old) ≡ true → 0 < length piece.now → 0 < result.count }
+    {
+        let mut count = 0;
+        for octet in piece {
+            if !self.may_hear() {
+                break;
+            }
+            count += 1;
+            let outcome = self.hear_octet(*octet);
+            if outcome.is_err() {
+                return Taken { count, outcome };
+            }
+        }
+        Taken {
+            count,
+            outcome: Ok(()),
+        }
+    }
+
+    /// Takes one octet.
+    #[tactic(auto, unfolding(ftp_server_machine::specs::Machine::hears_octet))]
+    fn hear_octet(&mut self, octet: u8) -> Result<(), Failed>
+        requires room { length self.old.output ≤ 4096 }
+        requires none { self.old.waiting ≡ None }
+        ensures done { OnOk result ((read : Reading) → IsReading read → view_of T.table J.view self.new ≡ hears_octet read (view_of T.table J.view self.old) octet) }
+        ensures steady { OnOk result (counts_of T.failures self.new ≡ counts_of T.failures self.old) }
+        ensures lost { OnErr result ((read : Reading) → IsReading read → OctetIsHeard read (view_of T.table J.view self.old) octet (view_of T.table J.view self.new)) }
+        ensures refusals { self.new.refusals ≡ self.old.refusals }
+    {
+        match self.reader.hear(octet) {
+            Event::More => Ok(()),
+            Event::Line => self.hear_text(),
+            Event::TooLong => self.hear_line(Heard::TooLong),
+            Event::Owed(answer) => {
+                self.output.put(&answer);
+                Ok(())
+            }
+        }
+    }
+}
+
+/// Whether a line is an ABOR.
+fn is_abor<A: Allocator>(heard: &Heard<Text<A>>) -> bool
+    ensures { result ≡ is_abor heard.now }
+{
+    matches!(heard, Heard::Asks(Command::Abor))
+}
+
+/// Whether a transfer is under way, its data connection open or still to come.
+pub(crate) fn is_transferring<J>(connection: &DataConnection<J>) -> bool
+    ensures { result ≡ has_transfer connection.now }
+{
+    matches!(
+        connection,
+        DataConnection::Opening(_, _) | DataConnection::Transferring(_)
+    )
+}

@@ -1,0 +1,17 @@
+//! The server's machine, without IO: octets and events in, octets and wants out (RFC 959; RFC 2389, RFC 2428, RFC 3659).
+#![tactic(auto)]
+
+mod abort;
+mod begin;
+mod calls;
+mod connect;
+mod events;
+mod hear;
+mod line;
+mod reader;
+mod reading;
+mod say;
+mod server;
+
+pub use begin::NotBegun;
+pub use server::Server;

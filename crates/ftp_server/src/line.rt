@@ -1,0 +1,85 @@
+// A line is acted on, or waits (RFC 959, sections 4.1.3 and 5.4).
+ghost use Rattle.std.specs.Prelude.{◌≡◌, OnErr, OnOk, true, false};
+ghost use Rattle.ftp_server_machine.specs.Machine.{completed, is_idle, later, obeyed};
+ghost use Rattle.ftp_server_machine.specs.Failing.{LineFails, WaitingFails};
+ghost use Rattle.ftp_session.specs.Line.{HeardPaths};
+
+use crate::say::say;
+use crate::server::Server;
+use ftp_command::Text;
+use ftp_server_machine::{DataConnection, Heard, ReplyKind, Text as Fixed};
+use ftp_session::Moves;
+use ftp_tree::Tree;
+use std::alloc::Allocator;
+use std::mem;
+
+/// A step could not be done, for want of memory or by the tree's device.
+#[derive(Clone, Copy)]
+pub(crate) struct Failed;
+
+impl<A: Allocator + Copy, T: Tree<A>, J: Moves<A, T>> Server<A, T, J> {
+    ghost use Rattle.ftp_server.specs.Server.{counts_of, view_of};
+
+    /// A download or a listing whose last octet was given is over.
+    pub(crate) fn complete(&mut self)
+        ensures done { view_of T.table J.view self.new ≡ completed (view_of T.table J.view self.old) }
+        ensures steady { counts_of T.failures self.new ≡ counts_of T.failures self.old }
+    {
+        let DataConnection::Transferring(_) = &self.session.connection else {
+            return;
+        };
+        if self.session.give_out() {
+            self.output.put_fixed(Fixed::Complete);
+        }
+    }
+
+    /// Acts on a line.
+    #[tactic(auto, unfolding(ftp_server_machine::specs::Machine::obeyed))]
+    fn obey(&mut self, heard: Heard<Text<A>>) -> Result<(), Failed>
+        requires idle { is_idle (view_of T.table J.view self.old) ≡ true }
+        requires paths { HeardPaths heard }
+        ensures done { OnOk result (view_of T.table J.view self.new ≡ obeyed heard (view_of T.table J.view self.old)) }
+        ensures steady { OnOk result (T.failures self.new.session.tree ≡ T.failures self.old.session.tree) }
+        ensures lost { OnErr result (LineFails heard (view_of T.table J.view self.old) (view_of T.table J.view self.new)) }
+        ensures refusals { self.new.refusals ≡ self.old.refusals }
+    {
+        match self.session.decide(&self.footing, heard) {
+            Ok(ReplyKind::Entry(_)) => {
+                self.output.put_fixed(Fixed::LocalFault);
+                Err(Failed)
+            }
+            Ok(kind) => {
+                say(&mut self.output, &kind, &self.session);
+                self.complete();
+                Ok(())
+            }
+            Err(_) => {
+                self.output.put_fixed(Fixed::LocalFault);
+                Err(Failed)
+            }
+        }
+    }
+
+    /// Whether a line may be acted on.
+    fn is_idle(&self) -> bool
+        ensures { result ≡ is_idle (view_of T.table J.view self.now) }
+    {
+        !self.session.is_busy() && self.output.has_room()
+    }
+
+    /// Acts on the line that waits, where that may be.
+    pub(crate) fn later(&mut self) -> Result<(), Failed>
+        ensures done { OnOk result (view_of T.table J.view self.new ≡ later (view_of T.table J.view self.old)) }
+        ensures steady { OnOk result (T.failures self.new.session.tree ≡ T.failures self.old.session.tree) }
+        ensures lost { OnErr result (WaitingFails (view_of T.table J.view self.old).waiting (view_of T.table J.view self.old) (view_of T.table J.view self.new)) }
+        ensures refusals { self.new.refusals ≡ self.old.refusals }
+    {
+        if !self.is_idle() {
+            return Ok(());
+        }
+        match mem::replace(&mut self.waiting, None) {
+            Some(heard) => self.obey(heard),
+            None => Ok(()),
+        }
+    }
+}
