@@ -38,7 +38,7 @@ impl<A: Allocator> Download<A> {
     }
 
     /// Gives octets, as many as there is room for and as are left, and says how many. The tree has to be that from which it was begun.
-    pub fn out<B: Allocator, C: Allocator, T: Tree<B>>(
+    pub fn give<B: Allocator, C: Allocator, T: Tree<B>>(
         &mut self,
         tree: &T,
         root: &Path<C>,

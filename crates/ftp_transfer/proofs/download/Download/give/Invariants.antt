@@ -3,7 +3,7 @@ use Rattle.std.specs.Prelude.{if◌then◌else◌}
 use Rattle.ftp_tree.specs.Tree.{octets_or_none, under}
 use Rattle.ftp_encoder.specs.Encoding.{is_done}
 use Rattle.ftp_transfer.specs.Download.{rest_of}
-use Rattle.ftp_transfer.proofs.download.Download.out.Given as goal
+use Rattle.ftp_transfer.proofs.download.Download.give.Given as goal
 
 abbrev pub invariant-loop-made : goal.invariant-loop-made
 invariant-loop-made g l = record {

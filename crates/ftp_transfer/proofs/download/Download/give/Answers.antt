@@ -2,7 +2,7 @@ use Rattle.std.proofs.Common.{◌∙◌, rules}
 use Rattle.ftp_tree.specs.Tree.{under}
 use Rattle.ftp_transfer.specs.Download.{rest_of}
 use Rattle.ftp_transfer.proofs.DownloadLemmas.{more_made}
-use Rattle.ftp_transfer.proofs.download.Download.out.Goals as goal
+use Rattle.ftp_transfer.proofs.download.Download.give.Goals as goal
 
 pub loop-made-preserved : goal.loop-made-preserved
 loop-made-preserved g c =
