@@ -1,0 +1,6 @@
+pub mod ReadLemmas
+pub mod SaidLemmas
+pub mod FileLemmas
+pub mod SessionLemmas
+pub mod ViewLemmas
+pub mod Theorems

@@ -1,0 +1,3 @@
+-- What stays small in a server. The files are in the order in which they are to be read.
+pub mod Small
+pub mod Laws

@@ -1,0 +1,49 @@
+-- What stays small in a server, beside the limits that it keeps (`Kept` of `ftp_server_machine`): the line that is being read, the line that
+-- waits, the files of its map, and an upload with the octets before it (own choices of the limits).
+use Rattle.std.specs.Prelude.{◌+◌, ◌≤◌, length}
+use Rattle.ftp_nvt.specs.Fold.{Unfinished}
+use Rattle.ftp_tree.specs.Tree.{file_limit}
+use Rattle.ftp_server_machine.specs.Held.{HasShortFiles, waiting_len}
+use Rattle.ftp_server_machine.specs.Kept.{ServerKeeps}
+use Rattle.ftp_server_machine.specs.View.{Session, Transfer, View, line_limit}
+use Rattle.ftp_server_machine.specs.declared.session.DataConnection.{DataConnection}
+use Rattle.ftp_server_machine.specs.declared.session.DataConnection.TheVariants as Data
+use Rattle.ftp_server_machine.specs.declared.session.Transfer.TheVariants as Transfers
+
+-- a line that is being read: its text is no longer than its octets so far, and these keep the limit
+pub record IsShortLine (u : Unfinished) : Type 0 where
+  pub text : length u.text ≤ u.count
+  pub count : u.count ≤ line_limit
+
+-- an upload: the octets before it and those that came are within the limit of a file
+abbrev pub IsShortTransfer : Transfer → Type 0
+IsShortTransfer (Transfers.Upload path keep d) = keep + length d.content ≤ file_limit
+IsShortTransfer Transfers.OverLimit = Unit {0}
+IsShortTransfer (Transfers.Download rest) = Unit {0}
+IsShortTransfer (Transfers.Listing rest) = Unit {0}
+
+-- a transfer that waits for its data connection, or has it
+abbrev pub IsShortConnection : DataConnection Transfer → Type 0
+IsShortConnection Data.Free = Unit {0}
+IsShortConnection (Data.Asked asked) = Unit {0}
+IsShortConnection (Data.Active endpoint) = Unit {0}
+IsShortConnection Data.Passive = Unit {0}
+IsShortConnection Data.Ready = Unit {0}
+IsShortConnection (Data.Opening transfer way) = IsShortTransfer transfer
+IsShortConnection (Data.Transferring transfer) = IsShortTransfer transfer
+
+-- a session: every file of its map is within the limit of a file, and so is what it uploads
+pub record IsShortSession (s : Session) : Type 0 where
+  pub files : HasShortFiles s.table
+  pub connection : IsShortConnection s.connection
+
+-- of a view: its session, the line that is being read, and the line that waits, which is at most twice as long as it is written
+pub record IsShort (v : View) : Type 0 where
+  pub session : IsShortSession v.session
+  pub reading : IsShortLine v.ear.line
+  pub waiting : waiting_len v.waiting ≤ line_limit + line_limit
+
+-- a server that stays small: it keeps its limits too
+pub record IsSmall (v : View) : Type 0 where
+  pub keeps : ServerKeeps v
+  pub short : IsShort v

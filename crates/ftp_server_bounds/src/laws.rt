@@ -1,0 +1,12 @@
+//! How much a server holds: functions that do nothing, whose contracts are laws.
+ghost use Rattle.ftp_server_bounds.specs.Laws.{CallsStaySmall, SmallHoldsLittle, StartIsSmall};
+ghost use Rattle.ftp_server_machine.specs.Held.{HoldsLittle};
+
+/// Whatever is called, a server never holds more than 24,576 octets beside the map, the accounts and what came of an upload; its lines, its
+/// files and its uploads stay within their limits.
+pub fn servers_hold_little()
+    ensures start { StartIsSmall }
+    ensures calls { CallsStaySmall }
+    ensures held { SmallHoldsLittle }
+    ensures always { HoldsLittle }
+{}
