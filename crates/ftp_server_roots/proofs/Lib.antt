@@ -1,0 +1,5 @@
+pub mod SeenLemmas
+pub mod TurnLemmas
+pub mod ViewLemmas
+pub mod HeardLemmas
+pub mod Theorems
