@@ -4,3 +4,5 @@ pub mod FileLemmas
 pub mod SessionLemmas
 pub mod ViewLemmas
 pub mod Theorems
+pub mod LossLemmas
+pub mod FarLemmas

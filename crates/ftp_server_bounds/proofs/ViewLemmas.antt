@@ -173,7 +173,7 @@ grown_short path keep d s =
     cond_both (is_over path keep d s) (Data.Transferring Transfers.OverLimit) (Data.Transferring (Transfers.Upload path keep d)) IsShortConnection (λ is. tt)
     (λ is. not_over (seen s) path (keep + length d.content) is)
 
-said_short : (connection : DataConnection Transfer) (said : Said) (v : View) → v.session.connection ≡ connection → IsShort v → IsShort (takes_said connection said v)
+pub said_short : (connection : DataConnection Transfer) (said : Said) (v : View) → v.session.connection ≡ connection → IsShort v → IsShort (takes_said connection said v)
 said_short (Data.Transferring (Transfers.Upload path keep d)) (says sign) v is k = moves_short (grown path keep (with_sign d sign) v.session) v (grown_short path keep (with_sign d sign) v.session) k
 said_short (Data.Transferring (Transfers.Upload path keep d)) (marker text) v is k =
     let same = subst IsShortConnection is k.session.connection in

@@ -1,3 +1,4 @@
 -- What stays small in a server. The files are in the order in which they are to be read.
 pub mod Small
 pub mod Laws
+pub mod Losses

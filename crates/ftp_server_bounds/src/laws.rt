@@ -1,5 +1,6 @@
 //! How much a server holds: functions that do nothing, whose contracts are laws.
 ghost use Rattle.ftp_server_bounds.specs.Laws.{CallsStaySmall, SmallHoldsLittle, StartIsSmall};
+ghost use Rattle.ftp_server_bounds.specs.Losses.{FarStaysSmall};
 ghost use Rattle.ftp_server_machine.specs.Held.{HoldsLittle};
 
 /// Whatever is called, a server never holds more than 24,576 octets beside the map, the accounts and what came of an upload; its lines, its
@@ -9,4 +10,9 @@ pub fn servers_hold_little()
     ensures calls { CallsStaySmall }
     ensures held { SmallHoldsLittle }
     ensures always { HoldsLittle }
+{}
+
+/// Whoever keeps the clauses of `Far` stays small with each call, where memory is refused and where the device fails too.
+pub fn servers_stay_small()
+    ensures { FarStaysSmall }
 {}
