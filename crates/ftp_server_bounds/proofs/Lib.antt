@@ -6,3 +6,4 @@ pub mod ViewLemmas
 pub mod Theorems
 pub mod LossLemmas
 pub mod FarLemmas
+pub mod SenderLemmas

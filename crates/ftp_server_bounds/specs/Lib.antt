@@ -2,3 +2,4 @@
 pub mod Small
 pub mod Laws
 pub mod Losses
+pub mod Senders
