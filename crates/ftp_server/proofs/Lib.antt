@@ -1,6 +1,6 @@
 pub mod BusyLemmas
 pub mod CallLemmas
-pub mod EntryLemmas
+pub mod DataLemmas
 pub mod HearLemmas
 pub mod PathLemmas
 pub mod ReaderLemmas

@@ -18,6 +18,16 @@ is_busy Data.Ready = false
 is_busy (Data.Opening transfer way) = true
 is_busy (Data.Transferring transfer) = true
 
+-- a transfer was begun, and its data connection is not open yet
+abbrev pub is_opening : {J : Type 0} → DataConnection J → Bool
+is_opening Data.Free = false
+is_opening (Data.Asked asked) = false
+is_opening (Data.Active endpoint) = false
+is_opening Data.Passive = false
+is_opening Data.Ready = false
+is_opening (Data.Opening transfer way) = true
+is_opening (Data.Transferring transfer) = false
+
 -- the most octets that are owed meanwhile: the 4,096 with which an octet is taken, and what comes of it
 abbrev pub busy_room : ℕ
 busy_room = 5120
@@ -36,8 +46,3 @@ is_short other = false
 abbrev pub MayWait : Option (Heard (List ℕ)) → Type 0
 MayWait None = Unit {0}
 MayWait (Some heard) = HeardPaths heard
-
--- the entry of what stands at a path, which is written from the tree
-abbrev pub is_entry : ReplyKind Names → Bool
-is_entry (Replies.Entry path) = true
-is_entry other = false

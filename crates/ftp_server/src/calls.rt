@@ -2,6 +2,7 @@
 ghost use Rattle.std.specs.Prelude.{◌≡◌, ◌≢◌, ◌<◌, ◌≤◌, length, take, OnErr, OnOk};
 ghost use Rattle.ftp_server_machine.specs.Calls.{clock_step, close_step, control_end, control_step, listening_step, no_port_step, opened_step, refused_step};
 ghost use Rattle.ftp_server_machine.specs.Far.{Acts};
+ghost use Rattle.ftp_server.specs.Settled.{IsSettled};
 
 use crate::line::Failed;
 use crate::server::Server;
@@ -11,8 +12,28 @@ use ftp_session::Moves;
 use ftp_tree::Tree;
 use std::alloc::Allocator;
 
+/// What has failed so far; both counts wrap. Where neither moved in a call, nothing failed in it.
+#[derive(Clone, Copy, Debug, PartialEq, Eq)]
+pub struct Counts {
+    /// In how many calls a growth was refused.
+    pub refusals: u64,
+    /// How many failures the tree's device has counted.
+    pub failures: u64,
+}
+
 impl<A: Allocator + Copy, T: Tree<A>, J: Moves<A, T>> Server<A, T, J> {
     ghost use Rattle.ftp_server.specs.Server.{counts_of, server_of, view_of};
+
+    /// What has failed so far.
+    pub fn counts(&self) -> Counts
+        ensures refusals { result.refusals ≡ (counts_of T.failures self.now).refusals }
+        ensures failures { result.failures ≡ (counts_of T.failures self.now).failures }
+    {
+        Counts {
+            refusals: self.refusals,
+            failures: self.session.tree.device_failures(),
+        }
+    }
 
     /// Counts a refused growth where a call failed and the device's count did not move since it stood at `failures`.
     pub(crate) fn count(&mut self, outcome: Result<(), Failed>, failures: u64)
@@ -30,8 +51,19 @@ impl<A: Allocator + Copy, T: Tree<A>, J: Moves<A, T>> Server<A, T, J> {
         ensures { Acts (λ v. v) (server_of T.table T.failures J.view self.old) (server_of T.table T.failures J.view self.new) }
     {
         let failures = self.session.tree.device_failures();
-        let outcome = self.later();
-        self.count(outcome, failures);
+        self.settle_behind(Ok(()), failures);
+    }
+
+    /// The end of a call whose step may have failed; it began where the device's count stood at `failures`.
+    pub(crate) fn settle_behind(&mut self, step: Result<(), Failed>, failures: u64)
+        ensures { IsSettled step failures (server_of T.table T.failures J.view self.old) (server_of T.table T.failures J.view self.new) }
+    {
+        let settled = self.later();
+        if step.is_err() {
+            self.count(step, failures);
+        } else {
+            self.count(settled, failures);
+        }
     }
 
     /// The moment in force from now on.

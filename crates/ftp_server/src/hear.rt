@@ -8,7 +8,7 @@ ghost use Rattle.ftp_server.specs.HearsTo.{AreHeardTo, HearsTo};
 ghost use Rattle.ftp_session.specs.Line.{HeardPaths};
 ghost use Rattle.ftp_session.specs.Session.{has_transfer};
 
-use crate::line::Failed;
+use crate::line::{Failed, Moved};
 use crate::reading::read_line;
 use crate::server::Server;
 use ftp_command::{Command, CommandFault, Text};
@@ -17,13 +17,6 @@ use ftp_server_machine::{DataConnection, Heard, Life};
 use ftp_session::Moves;
 use ftp_tree::Tree;
 use std::alloc::Allocator;
-
-/// How many octets were taken, and whether the last of them failed.
-#[derive(Drop)]
-pub(crate) struct Taken {
-    pub(crate) count: usize,
-    pub(crate) outcome: Result<(), Failed>,
-}
 
 impl<A: Allocator + Copy, T: Tree<A>, J: Moves<A, T>> Server<A, T, J> {
     ghost use Rattle.ftp_server.specs.Server.{counts_of, server_of, view_of};
@@ -93,7 +86,7 @@ impl<A: Allocator + Copy, T: Tree<A>, J: Moves<A, T>> Server<A, T, J> {
     }
 
     /// Takes octets as long as it may, and says how many; the last of them may have failed.
-    pub(crate) fn hear_octets(&mut self, piece: &[u8]) -> Taken
+    pub(crate) fn hear_octets(&mut self, piece: &[u8]) -> Moved
         ensures within { result.count ≤ length piece.now }
         ensures done { OnOk result.outcome (HearsTo (take result.count piece.now) (view_of T.table J.view self.old) (view_of T.table J.view self.new)) }
         ensures steady { OnOk result.outcome (counts_of T.failures self.new ≡ counts_of T.failures self.old) }
@@ -109,10 +102,10 @@ impl<A: Allocator + Copy, T: Tree<A>, J: Moves<A, T>> Server<A, T, J> {
             count += 1;
             let outcome = self.hear_octet(*octet);
             if outcome.is_err() {
-                return Taken { count, outcome };
+                return Moved { count, outcome };
             }
         }
-        Taken {
+        Moved {
             count,
             outcome: Ok(()),
         }

@@ -4,7 +4,11 @@
 mod abort;
 mod begin;
 mod calls;
+mod carry;
 mod connect;
+mod data;
+mod ending;
+mod entry;
 mod events;
 mod hear;
 mod line;
@@ -14,4 +18,5 @@ mod say;
 mod server;
 
 pub use begin::NotBegun;
+pub use calls::Counts;
 pub use server::Server;

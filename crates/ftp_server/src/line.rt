@@ -7,7 +7,7 @@ ghost use Rattle.ftp_session.specs.Line.{HeardPaths};
 use crate::say::say;
 use crate::server::Server;
 use ftp_command::Text;
-use ftp_server_machine::{DataConnection, Heard, ReplyKind, Text as Fixed};
+use ftp_server_machine::{DataConnection, Heard, Text as Fixed};
 use ftp_session::Moves;
 use ftp_tree::Tree;
 use std::alloc::Allocator;
@@ -16,6 +16,13 @@ use std::mem;
 /// A step could not be done, for want of memory or by the tree's device.
 #[derive(Clone, Copy)]
 pub(crate) struct Failed;
+
+/// How many octets were taken or given, and whether the last of them failed.
+#[derive(Drop)]
+pub(crate) struct Moved {
+    pub(crate) count: usize,
+    pub(crate) outcome: Result<(), Failed>,
+}
 
 impl<A: Allocator + Copy, T: Tree<A>, J: Moves<A, T>> Server<A, T, J> {
     ghost use Rattle.ftp_server.specs.Server.{counts_of, view_of};
@@ -44,10 +51,6 @@ impl<A: Allocator + Copy, T: Tree<A>, J: Moves<A, T>> Server<A, T, J> {
         ensures refusals { self.new.refusals ≡ self.old.refusals }
     {
         match self.session.decide(&self.footing, heard) {
-            Ok(ReplyKind::Entry(_)) => {
-                self.output.put_fixed(Fixed::LocalFault);
-                Err(Failed)
-            }
             Ok(kind) => {
                 say(&mut self.output, &kind, &self.session);
                 self.complete();

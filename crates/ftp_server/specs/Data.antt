@@ -1,0 +1,32 @@
+-- Octets of the data connection as one call takes them, and what is said of them.
+use Rattle.std.specs.Prelude.{◌≡◌, ℕ, List}
+use Rattle.ftp_server_machine.specs.Calls.{MayReceive, receives}
+use Rattle.ftp_server_machine.specs.Failing.{Late}
+use Rattle.ftp_server_machine.specs.Machine.{later, owes, replied}
+use Rattle.ftp_server_machine.specs.Replies.{mark_reply, reply_octets}
+use Rattle.ftp_server_machine.specs.View.{View}
+use Rattle.ftp_server_machine.specs.declared.reply.Text.TheVariants as Texts
+use Rattle.ftp_session.specs.declared.moves.Told.{Told}
+use Rattle.ftp_session.specs.declared.moves.Told.TheVariants.{Nothing, Mark, Faulty, NoMemory}
+
+-- they are taken as ever, each when it may be
+abbrev pub ReceivesTo : List ℕ → View → View → Type 0
+ReceivesTo octets v w = (w ≡ receives v octets) × MayReceive v octets
+
+-- the 451 by which a transfer ends
+abbrev pub refused : View → View
+refused v = replied Texts.LocalFault v.session v
+
+-- what is to be said is said, and behind a fault the line that waits is acted on
+abbrev pub IsSaid : Told → View → View → Type 0
+IsSaid Nothing v w = w ≡ v
+IsSaid (Mark marker) v w = w ≡ owes (reply_octets (mark_reply marker.text.items marker.held)) v
+IsSaid Faulty v w = w ≡ later (refused v)
+IsSaid NoMemory v w = ⊥
+
+-- memory was refused, or the line that waits failed
+abbrev pub SayingFails : Told → View → View → Type 0
+SayingFails Nothing v w = ⊥
+SayingFails (Mark marker) v w = ⊥
+SayingFails Faulty v w = Late (refused v) w
+SayingFails NoMemory v w = Late (refused v) w

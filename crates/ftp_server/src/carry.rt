@@ -1,0 +1,57 @@
+// The calls of the data connection (RFC 959, section 3).
+ghost use Rattle.std.specs.Prelude.{◌≡◌, ◌≤◌, ◌<◌, IsTrue, length, take};
+ghost use Rattle.ftp_server_machine.specs.Calls.{break_step, end_step, given_step, may_receive, to_give};
+ghost use Rattle.ftp_server_machine.specs.Failing.{EndFails, GiveFails};
+ghost use Rattle.ftp_server_machine.specs.Far.{Receives, Steps};
+
+use crate::server::Server;
+use ftp_session::Moves;
+use ftp_tree::Tree;
+use std::alloc::Allocator;
+
+impl<A: Allocator + Copy, T: Tree<A>, J: Moves<A, T>> Server<A, T, J> {
+    ghost use Rattle.ftp_server.specs.Server.{server_of, view_of};
+
+    /// Takes octets of the data connection, and says how many: none behind those of which something is to be said.
+    pub fn data_hear(&mut self, piece: &[u8]) -> usize
+        ensures within { result ≤ length piece.now }
+        ensures took { Receives (take result piece.now) (server_of T.table T.failures J.view self.old) (server_of T.table T.failures J.view self.new) }
+        ensures some { IsTrue (may_receive (view_of T.table J.view self.old)) → 0 < length piece.now → 0 < result }
+    {
+        let failures = self.session.tree.device_failures();
+        let taken = self.receive(piece);
+        self.count(taken.outcome, failures);
+        taken.count
+    }
+
+    /// The other end closed the data connection.
+    pub fn data_end(&mut self)
+        ensures { Steps EndFails end_step (server_of T.table T.failures J.view self.old) (server_of T.table T.failures J.view self.new) }
+    {
+        let failures = self.session.tree.device_failures();
+        let ended = self.end_transfer();
+        self.settle_behind(ended, failures);
+    }
+
+    /// The data connection broke.
+    pub fn data_fault(&mut self)
+        ensures { Steps EndFails break_step (server_of T.table T.failures J.view self.old) (server_of T.table T.failures J.view self.new) }
+    {
+        let failures = self.session.tree.device_failures();
+        let broken = self.break_transfer();
+        self.settle_behind(broken, failures);
+    }
+
+    /// Gives octets of the data connection, and says how many.
+    pub fn data_out(&mut self, room: &mut [u8]) -> usize
+        ensures within { (result ≤ length room.old) × (result ≤ length (to_give (view_of T.table J.view self.old))) }
+        ensures gave { take result room.new ≡ take result (to_give (view_of T.table J.view self.old)) }
+        ensures now { Steps (GiveFails result) (given_step result) (server_of T.table T.failures J.view self.old) (server_of T.table T.failures J.view self.new) }
+        ensures some { let old = server_of T.table T.failures J.view self.old in (server_of T.table T.failures J.view self.new).counts ≡ old.counts → 0 < length room.old → 0 < length (to_give old.view) → 0 < result }
+    {
+        let failures = self.session.tree.device_failures();
+        let given = self.give(room);
+        self.settle_behind(given.outcome, failures);
+        given.count
+    }
+}

@@ -1,0 +1,96 @@
+// The octets of the data connection (RFC 959, section 3).
+ghost use Rattle.std.specs.Prelude.{◌≡◌, ◌≤◌, ◌<◌, OnErr, OnOk, length, take, true};
+ghost use Rattle.ftp_server_machine.specs.Calls.{given_step, may_receive, to_give};
+ghost use Rattle.ftp_server_machine.specs.Failing.{AreReceived, GiveFails, Late};
+ghost use Rattle.ftp_server_machine.specs.View.{View};
+ghost use Rattle.ftp_server.specs.Data.{IsSaid, ReceivesTo, SayingFails};
+
+use crate::line::{Failed, Moved};
+use crate::server::Server;
+use ftp_server_machine::{DataConnection, Text};
+use ftp_session::{Moves, Told};
+use ftp_tree::Tree;
+use std::alloc::Allocator;
+
+impl<A: Allocator + Copy, T: Tree<A>, J: Moves<A, T>> Server<A, T, J> {
+    ghost use Rattle.ftp_server.specs.Server.{counts_of, view_of};
+
+    /// Takes octets where there is room for what is to be said of them, and says it.
+    pub(crate) fn receive(&mut self, piece: &[u8]) -> Moved
+        ensures within { result.count ≤ length piece.now }
+        ensures done { OnOk result.outcome (ReceivesTo (take result.count piece.now) (view_of T.table J.view self.old) (view_of T.table J.view self.new)) }
+        ensures steady { OnOk result.outcome (counts_of T.failures self.new ≡ counts_of T.failures self.old) }
+        ensures lost { OnErr result.outcome (AreReceived (view_of T.table J.view self.old) (take result.count piece.now) (view_of T.table J.view self.new)) }
+        ensures refusals { self.new.refusals ≡ self.old.refusals }
+        ensures some { may_receive (view_of T.table J.view self.old) ≡ true → 0 < length piece.now → 0 < result.count }
+    {
+        if !self.output.has_room() {
+            return Moved {
+                count: 0,
+                outcome: Ok(()),
+            };
+        }
+        let received = self.session.receive(piece);
+        let outcome = self.tell(received.told);
+        Moved {
+            count: received.count,
+            outcome,
+        }
+    }
+
+    /// Says what is to be said of octets that came: a marker is answered, and a transfer that is over by a fault or for want of memory is too.
+    fn tell(&mut self, told: Told) -> Result<(), Failed>
+        requires room { length self.old.output ≤ 4096 }
+        ensures done { OnOk result (IsSaid told (view_of T.table J.view self.old) (view_of T.table J.view self.new)) }
+        ensures steady { OnOk result (counts_of T.failures self.new ≡ counts_of T.failures self.old) }
+        ensures lost { OnErr result (SayingFails told (view_of T.table J.view self.old) (view_of T.table J.view self.new)) }
+        ensures refusals { self.new.refusals ≡ self.old.refusals }
+    {
+        match told {
+            Told::Nothing => Ok(()),
+            Told::Mark(marker) => {
+                self.output.put_mark(&marker.text, marker.held);
+                Ok(())
+            }
+            Told::Faulty => {
+                self.output.put_fixed(Text::LocalFault);
+                self.later()
+            }
+            Told::NoMemory => {
+                self.output.put_fixed(Text::LocalFault);
+                let _settled = self.later();
+                Err(Failed)
+            }
+        }
+    }
+
+    /// Gives octets; with the last the transfer is over. It may fail for want of memory for the next line of a listing.
+    pub(crate) fn give(&mut self, room: &mut [u8]) -> Moved
+        ensures within { (result.count ≤ length room.old) × (result.count ≤ length (to_give (view_of T.table J.view self.old))) }
+        ensures gave { take result.count room.new ≡ take result.count (to_give (view_of T.table J.view self.old)) }
+        ensures done { OnOk result.outcome (view_of T.table J.view self.new ≡ given_step result.count (view_of T.table J.view self.old)) }
+        ensures lost { OnErr result.outcome ((x : View) → Late (view_of T.table J.view self.new) x → GiveFails result.count (view_of T.table J.view self.old) x) }
+        ensures some { OnOk result.outcome (0 < length room.old → 0 < length (to_give (view_of T.table J.view self.old)) → 0 < result.count) }
+        ensures steady { counts_of T.failures self.new ≡ counts_of T.failures self.old }
+    {
+        let DataConnection::Transferring(_) = &self.session.connection else {
+            return Moved {
+                count: 0,
+                outcome: Ok(()),
+            };
+        };
+        let given = self.session.give(room);
+        if given.lost {
+            self.output.put_fixed(Text::LocalFault);
+            return Moved {
+                count: given.count,
+                outcome: Err(Failed),
+            };
+        }
+        self.complete();
+        Moved {
+            count: given.count,
+            outcome: Ok(()),
+        }
+    }
+}

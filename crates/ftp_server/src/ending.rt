@@ -1,0 +1,93 @@
+// The data connection ends or breaks (RFC 959, section 3.4).
+ghost use Rattle.std.specs.Prelude.{◌≡◌, OnErr, OnOk};
+ghost use Rattle.ftp_server_machine.specs.Calls.{break_step, connection_of as connection_in, end_step};
+ghost use Rattle.ftp_server_machine.specs.Endpoint.{disconnected};
+ghost use Rattle.ftp_server_machine.specs.Machine.{with_session};
+ghost use Rattle.ftp_server_machine.specs.View.{seen};
+ghost use Rattle.ftp_server.specs.Breaking.{InstallIsLost};
+ghost use Rattle.ftp_server.specs.Busy.{HasRoom};
+ghost use Rattle.ftp_session.specs.Session.{connection_of};
+
+use crate::line::Failed;
+use crate::server::Server;
+use ftp_server_machine::{DataConnection, Text};
+use ftp_session::Moves;
+use ftp_tree::Tree;
+use std::alloc::Allocator;
+use std::mem;
+
+impl<A: Allocator + Copy, T: Tree<A>, J: Moves<A, T>> Server<A, T, J> {
+    ghost use Rattle.ftp_server.specs.Server.{counts_of, view_of};
+
+    /// The client closed it: what came of an upload is installed.
+    pub(crate) fn end_transfer(&mut self) -> Result<(), Failed>
+        ensures done { OnOk result (view_of T.table J.view self.new ≡ end_step (view_of T.table J.view self.old)) }
+        ensures steady { OnOk result (counts_of T.failures self.new ≡ counts_of T.failures self.old) }
+        ensures lost { let v = view_of T.table J.view self.old in OnErr result (InstallIsLost (connection_in v.session) (disconnected v.session) v (view_of T.table J.view self.new)) }
+        ensures refusals { self.new.refusals ≡ self.old.refusals }
+    {
+        if self.session.closing {
+            return Ok(());
+        }
+        match self.leave() {
+            DataConnection::Ready => Ok(()),
+            DataConnection::Transferring(transfer) => {
+                match self.session.at_end(self.footing.moment, transfer) {
+                    Ok(text) => {
+                        self.output.put_fixed(text);
+                        Ok(())
+                    }
+                    Err(_) => {
+                        self.output.put_fixed(Text::LocalFault);
+                        Err(Failed)
+                    }
+                }
+            }
+            other => {
+                self.session.connection = other;
+                Ok(())
+            }
+        }
+    }
+
+    /// It broke: what was settled of an upload is installed.
+    pub(crate) fn break_transfer(&mut self) -> Result<(), Failed>
+        ensures done { OnOk result (view_of T.table J.view self.new ≡ break_step (view_of T.table J.view self.old)) }
+        ensures steady { OnOk result (counts_of T.failures self.new ≡ counts_of T.failures self.old) }
+        ensures lost { let v = view_of T.table J.view self.old in OnErr result (InstallIsLost (connection_in v.session) (disconnected v.session) v (view_of T.table J.view self.new)) }
+        ensures refusals { self.new.refusals ≡ self.old.refusals }
+    {
+        if self.session.closing {
+            return Ok(());
+        }
+        match self.leave() {
+            DataConnection::Ready => Ok(()),
+            DataConnection::Transferring(transfer) => {
+                match self.session.at_break(self.footing.moment, transfer) {
+                    Ok(text) => {
+                        self.output.put_fixed(text);
+                        Ok(())
+                    }
+                    Err(_) => {
+                        self.output.put_fixed(Text::LocalFault);
+                        Err(Failed)
+                    }
+                }
+            }
+            other => {
+                self.session.connection = other;
+                Ok(())
+            }
+        }
+    }
+
+    /// Takes the data connection out, with nothing left to close.
+    fn leave(&mut self) -> DataConnection<J>
+        ensures view { view_of T.table J.view self.new ≡ with_session (disconnected (view_of T.table J.view self.old).session) (view_of T.table J.view self.old) }
+        ensures connection { connection_of (J.view (seen (view_of T.table J.view self.old).session)) result ≡ (view_of T.table J.view self.old).session.connection }
+        ensures steady { counts_of T.failures self.new ≡ counts_of T.failures self.old }
+        ensures room { HasRoom result self.new.output }
+    {
+        mem::replace(&mut self.session.connection, DataConnection::Free)
+    }
+}
