@@ -185,7 +185,7 @@ octet_taken_at octet root v before held known =
     acts_at root v (takes_data (connection_of v.session) octet v) (takes_data (connection_of v.session) octet (at_root root v)) (receives_at octet root v held) before known
 
 -- where another may be taken, no line was acted on
-known_between : (octet : ℕ) (root : Names) (v : View) → IsAt root v → IsHeld root v.session → may_receive (receives_octet v octet) ≡ true → IsAt root (receives_octet v octet)
+pub known_between : (octet : ℕ) (root : Names) (v : View) → IsAt root v → IsHeld root v.session → may_receive (receives_octet v octet) ≡ true → IsAt root (receives_octet v octet)
 unfolding receives_octet
 known_between octet root v before held may =
     let w : View = takes_data (connection_of v.session) octet v in

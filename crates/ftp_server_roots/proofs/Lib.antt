@@ -3,3 +3,4 @@ pub mod TurnLemmas
 pub mod ViewLemmas
 pub mod HeardLemmas
 pub mod Theorems
+pub mod FarLemmas
