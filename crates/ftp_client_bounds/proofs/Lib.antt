@@ -1,0 +1,6 @@
+pub mod ReadLemmas
+pub mod SentLemmas
+pub mod AnswerLemmas
+pub mod DialogueLemmas
+pub mod CallLemmas
+pub mod Theorems

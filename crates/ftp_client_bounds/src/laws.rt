@@ -1,0 +1,12 @@
+//! How much a client holds: a function that does nothing, whose contracts are laws.
+ghost use Rattle.ftp_client_bounds.specs.Laws.{CallsStayFit, FitHoldsLittle, StartIsFit};
+ghost use Rattle.ftp_client_machine.specs.Held.{ClientHoldsLittle};
+
+/// Whatever is called, a client never holds more than 24,576 octets, with the block that it sends, beside the texts of an operation and what its
+/// report brings: at most one command is owed behind what may stand when an octet is heard.
+pub fn clients_hold_little()
+    ensures start { StartIsFit }
+    ensures calls { CallsStayFit }
+    ensures held { FitHoldsLittle }
+    ensures always { ClientHoldsLittle }
+{}
