@@ -6,9 +6,9 @@ use Rattle.ftp_server_machine.specs.View.{Transfer}
 use Rattle.ftp_server_machine.specs.Machine.{Ending}
 use Rattle.ftp_server_machine.specs.declared.reply.Text.{Text}
 use Rattle.ftp_session.specs.Session.{has_transfer, session_of}
-use Rattle.ftp_session.specs.Moves.{Ends}
+use Rattle.ftp_moves.specs.Moves.{Ends}
 use Rattle.ftp_session.specs.Receiving.{Concludes}
-use Rattle.ftp_session.specs.declared.fault.Fault.{Fault}
+use Rattle.ftp_moves.specs.declared.fault.Fault.{Fault}
 use Rattle.ftp_session.specs.declared.session.Session.{Session as Held}
 use Rattle.ftp_session.proofs.SessionLemmas.{same_connection}
 

@@ -16,8 +16,8 @@ use Rattle.ftp_server_machine.specs.declared.reply.ReplyKind.TheVariants as Repl
 use Rattle.ftp_server_machine.specs.declared.reply.Text.{Text}
 use Rattle.ftp_server_machine.specs.declared.reply.Text.TheVariants as Texts
 use Rattle.ftp_session.specs.Session.{RefusedAs, Turns, connection_of, session_of}
-use Rattle.ftp_session.specs.declared.fault.Fault.{Fault}
-use Rattle.ftp_session.specs.declared.fault.Fault.TheVariants.{Memory, Device}
+use Rattle.ftp_moves.specs.declared.fault.Fault.{Fault}
+use Rattle.ftp_moves.specs.declared.fault.Fault.TheVariants.{Memory, Device}
 use Rattle.ftp_session.specs.declared.session.Session.{Session as Held}
 
 -- a tree that holds the same is seen as the same session

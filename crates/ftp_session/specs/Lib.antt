@@ -1,4 +1,3 @@
 pub mod Line
 pub mod Session
-pub mod Moves
 pub mod Receiving

@@ -9,8 +9,9 @@ use Rattle.ftp_server_machine.specs.Act.{decided, forgets, is_allowed}
 use Rattle.ftp_server_machine.specs.Failing.{may_fail}
 use Rattle.ftp_server_machine.specs.View.{Footing, Session, Transfer}
 use Rattle.ftp_server_machine.specs.declared.reply.ReplyKind.{ReplyKind}
-use Rattle.ftp_session.specs.Session.{Counted, session_of}
-use Rattle.ftp_session.specs.declared.fault.Fault.{Fault}
+use Rattle.ftp_session.specs.Session.{session_of}
+use Rattle.ftp_moves.specs.Fault.{Counted}
+use Rattle.ftp_moves.specs.declared.fault.Fault.{Fault}
 use Rattle.ftp_session.specs.declared.session.Session.{Session as Held}
 use Rattle.ftp_server_machine.specs.declared.heard.Heard.{Heard}
 use Rattle.ftp_server_machine.specs.declared.heard.Heard.TheVariants.{TooLong, Bad, Asks}

@@ -7,10 +7,10 @@ use Rattle.ftp_server_machine.specs.Calls.{connection_of, receives, MayReceive, 
 use Rattle.ftp_server_machine.specs.Failing.{Late, AreReceived, GiveFails}
 use Rattle.ftp_server_machine.specs.declared.reply.Text.{Text}
 use Rattle.ftp_server_machine.specs.declared.reply.Text.TheVariants as Texts
-use Rattle.ftp_session.specs.Session.{Counted}
-use Rattle.ftp_session.specs.declared.fault.Fault.{Fault}
-use Rattle.ftp_session.specs.declared.moves.Told.{Told}
-use Rattle.ftp_session.specs.declared.moves.Told.TheVariants.{Nothing, Mark, Faulty, NoMemory}
+use Rattle.ftp_moves.specs.Fault.{Counted}
+use Rattle.ftp_moves.specs.declared.fault.Fault.{Fault}
+use Rattle.ftp_moves.specs.declared.moves.Told.{Told}
+use Rattle.ftp_moves.specs.declared.moves.Told.TheVariants.{Nothing, Mark, Faulty, NoMemory}
 
 -- octets came, and this is the session then; where the transfer is over by the last of them, the 451 is to be said
 abbrev pub ComesIn : View → List ℕ → Told → Session → Type 0

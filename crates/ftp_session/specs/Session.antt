@@ -1,7 +1,6 @@
 -- How a session that is held is seen by the definitions of the server.
 use Rattle.std.specs.Prelude.{◌≡◌, ◌≢◌, ℕ, Bool, true, false, Result, Ok, Err}
 use Rattle.ftp_path.specs.Path.{Names}
-use Rattle.ftp_tree.specs.Change.{next_count}
 use Rattle.ftp_tree.specs.Tree.{Table, under}
 use Rattle.ftp_tree.specs.declared.fault.TreeFault.{TreeFault}
 use Rattle.ftp_tree.specs.declared.fault.TreeFault.TheVariants as Faults
@@ -12,8 +11,9 @@ use Rattle.ftp_server_machine.specs.declared.reply.ReplyKind.TheVariants as Repl
 use Rattle.ftp_server_machine.specs.declared.reply.Text.{Text}
 use Rattle.ftp_server_machine.specs.declared.session.DataConnection.{DataConnection}
 use Rattle.ftp_server_machine.specs.declared.session.DataConnection.TheVariants as Data
-use Rattle.ftp_session.specs.declared.fault.Fault.{Fault}
-use Rattle.ftp_session.specs.declared.fault.Fault.TheVariants.{Memory, Device}
+use Rattle.ftp_moves.specs.Fault.{Counted}
+use Rattle.ftp_moves.specs.declared.fault.Fault.{Fault}
+use Rattle.ftp_moves.specs.declared.fault.Fault.TheVariants.{Memory, Device}
 use Rattle.ftp_session.specs.declared.footing.Footing.{Footing as Stands}
 use Rattle.ftp_session.specs.declared.session.Session.{Session as Held}
 
@@ -56,11 +56,6 @@ session_of table view s = record {
 -- what no command changes
 abbrev pub footing_of : {A : Type 0} → Stands A → Footing
 footing_of f = record { accounts = f.accounts; here = f.here; peer = f.peer; moment = f.moment.seconds }
-
--- the count of device failures moves on where the device failed, and stays where memory was refused
-abbrev pub Counted : Fault → (before after : ℕ) → Type 0
-Counted Memory before after = after ≡ before
-Counted Device before after = after ≡ next_count before
 
 -- what a command leaves: session and reply are its row of the definitions; or nothing has changed, for want of memory or as the
 -- device failed

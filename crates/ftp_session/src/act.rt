@@ -4,11 +4,10 @@ ghost use Rattle.ftp_server_machine.specs.Act.{act};
 ghost use Rattle.ftp_server_machine.specs.Failing.{may_fail};
 ghost use Rattle.ftp_session.specs.Line.{HasPathTexts};
 
-use crate::fault::Fault;
 use crate::footing::Footing;
-use crate::moves::Moves;
 use crate::session::Session;
 use ftp_command::{Command, Text};
+use ftp_moves::{Fault, Moves};
 use ftp_path::Path;
 use ftp_server_machine::{Pending, ReplyKind, Text as Says};
 use ftp_tree::Tree;

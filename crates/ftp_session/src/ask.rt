@@ -8,12 +8,11 @@ ghost use Rattle.ftp_server_machine.specs.Ask.{has_size, mdtm, mlst, or_empty, s
 ghost use Rattle.ftp_server_machine.specs.Transfer.{rest};
 ghost use Rattle.ftp_server_machine.specs.View.{direct_of, how_in_force};
 
-use crate::fault::Fault;
-use crate::moves::Moves;
 use crate::session::Session;
 use ftp_command::Text;
 use ftp_direct::{absent_fault, file_fault, takes_offset, wire_len};
 use ftp_facts::moment_text;
+use ftp_moves::{Fault, Moves};
 use ftp_operation::{How, is_number};
 use ftp_path::Path;
 use ftp_representation::{Mode, Representation, Structure};

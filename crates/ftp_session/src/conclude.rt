@@ -1,14 +1,13 @@
 // How a transfer ends (RFC 959, section 3.4).
 ghost use Rattle.std.specs.Prelude.{◌≡◌, OnErr, false};
 ghost use Rattle.ftp_server_machine.specs.Machine.{at_break, at_end};
-ghost use Rattle.ftp_session.specs.Moves.{IsUpload};
+ghost use Rattle.ftp_moves.specs.Moves.{IsUpload};
 ghost use Rattle.ftp_session.specs.Receiving.{Concludes};
 ghost use Rattle.ftp_tree.specs.Tree.{under};
 
-use crate::fault::Fault;
-use crate::moves::Moves;
 use crate::session::Session;
 use ftp_facts::Moment;
+use ftp_moves::{Fault, Moves};
 use ftp_server_machine::Text;
 use ftp_tree::Tree;
 use std::alloc::Allocator;

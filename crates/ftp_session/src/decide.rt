@@ -4,11 +4,10 @@ ghost use Rattle.ftp_server_machine.specs.Act.{fault_text, is_free, is_in, is_tr
 ghost use Rattle.ftp_server_machine.specs.Endpoint.{forgotten};
 ghost use Rattle.ftp_session.specs.Line.{HasPathTexts, HeardPaths};
 
-use crate::fault::Fault;
 use crate::footing::Footing;
-use crate::moves::Moves;
 use crate::session::Session;
 use ftp_command::{Command, CommandFault, Text};
+use ftp_moves::{Fault, Moves};
 use ftp_path::Path;
 use ftp_server_machine::{Access, Heard, Pending, ReplyKind, Text as Says};
 use ftp_tree::Tree;

@@ -5,10 +5,10 @@ ghost use Rattle.ftp_server_machine.specs.Endpoint.{asks, disconnected, epsv, fo
 ghost use Rattle.ftp_tree.specs.Tree.{under};
 
 use crate::footing::Footing;
-use crate::moves::Moves;
 use crate::session::Session;
 use ftp_command::Passive;
 use ftp_endpoint::{Endpoint, Host};
+use ftp_moves::Moves;
 use ftp_path::Path;
 use ftp_server_machine::{Asked, DataConnection, ReplyKind, Text, Way};
 use ftp_tree::Tree;

@@ -2,11 +2,10 @@
 ghost use Rattle.std.specs.Prelude.{◌≡◌, false};
 ghost use Rattle.ftp_server_machine.specs.Login.{logged_out, logs_in, pass, quit, rein, user};
 
-use crate::fault::Fault;
-use crate::moves::Moves;
 use crate::session::{ALL_FACTS, DEFAULTS, Session};
 use ftp_command::Text;
 use ftp_direct::is_dir;
+use ftp_moves::{Fault, Moves};
 use ftp_operation::Accounts;
 use ftp_path::Path;
 use ftp_server_machine::{Access, Life, ReplyKind, Text as Says};

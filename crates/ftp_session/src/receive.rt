@@ -5,8 +5,8 @@ ghost use Rattle.ftp_server_machine.specs.Machine.{has_room};
 ghost use Rattle.ftp_server_machine.specs.View.{View};
 ghost use Rattle.ftp_session.specs.Receiving.{ComesIn, Gives, GivesOut};
 
-use crate::moves::{Given, Moves, Received, Told};
 use crate::session::Session;
+use ftp_moves::{Given, Moves, Received, Told};
 use ftp_server_machine::DataConnection;
 use ftp_tree::Tree;
 use std::alloc::Allocator;

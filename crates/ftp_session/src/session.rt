@@ -5,8 +5,8 @@ ghost use Rattle.ftp_server_machine.specs.Machine.{is_connection_busy};
 ghost use Rattle.ftp_server_machine.specs.View.{first_session};
 ghost use Rattle.ftp_tree.specs.Tree.{under};
 
-use crate::moves::Moves;
 use ftp_command::Text;
+use ftp_moves::Moves;
 use ftp_path::{Path, PathFault};
 use ftp_representation::{Kind, Mode, Representation, Structure};
 use ftp_server_machine::{Access, DataConnection, Facts, Life, Pending};

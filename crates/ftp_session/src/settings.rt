@@ -2,9 +2,9 @@
 ghost use Rattle.std.specs.Prelude.{◌≡◌};
 ghost use Rattle.ftp_server_machine.specs.Setting.{opts, set_kind, set_mode, set_structure};
 
-use crate::moves::Moves;
 use crate::options::{is_utf8_on, option_facts};
 use crate::session::Session;
+use ftp_moves::Moves;
 use ftp_path::Path;
 use ftp_representation::{Kind, Mode, Structure};
 use ftp_server_machine::{ReplyKind, Text};

@@ -12,11 +12,10 @@ ghost use Rattle.ftp_server_machine.specs.Walk.{refusal_text};
 ghost use Rattle.ftp_server_machine.specs.declared.session.Transfer.TheVariants as Transfers;
 ghost use Rattle.ftp_tree.specs.Tree.{octets_or_none, room_refusal, under};
 
-use crate::fault::Fault;
-use crate::moves::Moves;
 use crate::session::Session;
 use ftp_command::Text;
 use ftp_direct::{absent_fault, directory_fault, len_at, place_at};
+use ftp_moves::{Fault, Moves};
 use ftp_path::Path;
 use ftp_server_machine::{DataConnection, Pending, ReplyKind, Text as Says, Way};
 use ftp_tree::{Tree, TreeFault};

@@ -4,10 +4,9 @@ ghost use Rattle.ftp_path.specs.Path.{IsPathText};
 ghost use Rattle.ftp_server_machine.specs.Walk.{cdup, cwd, dele, mkd, rmd, rnfr, rnto};
 ghost use Rattle.ftp_session.specs.Session.{RefusedAs};
 
-use crate::fault::Fault;
-use crate::moves::Moves;
 use crate::session::Session;
 use ftp_direct::{directory_fault, is_busy, is_held};
+use ftp_moves::{Fault, Moves};
 use ftp_path::Path;
 use ftp_server_machine::{Pending, ReplyKind, Text};
 use ftp_tree::{Tree, TreeFault};

@@ -7,7 +7,7 @@ ghost use Rattle.ftp_server_machine.specs.Machine.{at_break, at_end};
 ghost use Rattle.ftp_server_machine.specs.Transfer.{file_wire};
 ghost use Rattle.ftp_server_machine.specs.View.{Session as Seen};
 ghost use Rattle.ftp_server_machine.specs.declared.session.Transfer.TheVariants as Transfers;
-ghost use Rattle.ftp_session.specs.Moves.{Comes, Ends, IsUpload, MayStop, behind, given_of, is_out, takes_octets};
+ghost use Rattle.ftp_moves.specs.Moves.{Comes, Ends, IsUpload, MayStop, behind, given_of, is_out, takes_octets};
 ghost use Rattle.ftp_tree.specs.Tree.{octets_or_none, under};
 
 use crate::fault::Fault;

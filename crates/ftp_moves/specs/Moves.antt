@@ -9,10 +9,10 @@ use Rattle.ftp_server_machine.specs.Failing.{Late, AreReceived}
 use Rattle.ftp_server_machine.specs.declared.reply.Text.{Text}
 use Rattle.ftp_server_machine.specs.declared.session.Transfer.TheVariants as Transfers
 use Rattle.ftp_server_machine.specs.declared.session.DataConnection.TheVariants as Data
-use Rattle.ftp_session.specs.Session.{Counted}
-use Rattle.ftp_session.specs.declared.fault.Fault.{Fault}
-use Rattle.ftp_session.specs.declared.moves.Told.{Told}
-use Rattle.ftp_session.specs.declared.moves.Told.TheVariants.{Nothing, Mark, Faulty, NoMemory}
+use Rattle.ftp_moves.specs.Fault.{Counted}
+use Rattle.ftp_moves.specs.declared.fault.Fault.{Fault}
+use Rattle.ftp_moves.specs.declared.moves.Told.{Told}
+use Rattle.ftp_moves.specs.declared.moves.Told.TheVariants.{Nothing, Mark, Faulty, NoMemory}
 
 -- ---- octets are given
 
