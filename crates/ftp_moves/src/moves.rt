@@ -63,6 +63,7 @@ pub trait Moves<A: Allocator, T: Tree<A>>: Drop {
 
     /// A download of the file at a path, from a place on. The path is taken out, here and below.
     fn download(
+        alloc: A,
         path: &mut Path<A>,
         place: u64,
         settings: Representation,
@@ -109,6 +110,10 @@ pub trait Moves<A: Allocator, T: Tree<A>>: Drop {
         mode: Mode,
     ) -> Result<Self, AllocError>
         ensures { IfOk result (λ listing. let part = under (T.table tree.now) root.now in view part listing ≡ Transfers.Listing (listing_wire mode (entry_lines facts part path.old))) };
+
+    /// Whether it takes octets of the data connection, and does not give them.
+    fn takes_octets(&self) -> bool
+        ensures { (part : Table) → result ≡ takes_octets (view part self.now) };
 
     /// Takes octets of the data connection. Where the transfer is over by them, it is of no use any more.
     fn receive(&mut self, tree: &T, root: &Path<A>, piece: &[u8]) -> Received

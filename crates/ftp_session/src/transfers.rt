@@ -43,7 +43,7 @@ impl<A: Allocator + Copy, T: Tree<A>, J: Moves<A, T>> Session<A, T, J> {
         let Some(place) = self.place_of(pending, &path) else {
             return Ok(self.not_begun(Says::Refused));
         };
-        let Ok(download) = J::download(&mut path, place, self.settings) else {
+        let Ok(download) = J::download(self.alloc, &mut path, place, self.settings) else {
             return Err(Fault::Memory);
         };
         Ok(self.begin(download))

@@ -23,6 +23,7 @@ impl<A: Allocator + Copy> Moves<A, MemTree<A>> for Idle {
     ghost view = { λ part idle. Transfers.Listing [] };
 
     fn download(
+        _alloc: A,
         _path: &mut Path<A>,
         _place: u64,
         _settings: Representation,
@@ -79,6 +80,10 @@ impl<A: Allocator + Copy> Moves<A, MemTree<A>> for Idle {
         ensures { IsErr result }
     {
         Err(AllocError)
+    }
+
+    fn takes_octets(&self) -> bool {
+        false
     }
 
     fn receive(&mut self, _tree: &MemTree<A>, _root: &Path<A>, _piece: &[u8]) -> Received {
