@@ -78,7 +78,7 @@ impl<A: Allocator + Copy> Listing<A> {
 
     /// Gives octets until the room is full or all is out. Where the next line had no memory all that was still to be given stays
     /// so, and something is.
-    pub fn out<T: Tree<A>>(&mut self, tree: &T, root: &Path<A>, room: &mut [u8]) -> Given
+    pub fn give<T: Tree<A>>(&mut self, tree: &T, root: &Path<A>, room: &mut [u8]) -> Given
         ensures within { result.made ≤ length room.old }
         ensures gives { let part = under (T.table tree.now) root.now in
             rest_of part self.old ≡ take result.made room.new ++ rest_of part self.new }
@@ -94,7 +94,7 @@ impl<A: Allocator + Copy> Listing<A> {
                 };
             }
             let (_, free) = room.split_at_mut(made);
-            made += self.give(free);
+            made += self.give_line(free);
         }
         Given {
             made,
@@ -160,7 +160,7 @@ impl<A: Allocator + Copy> Listing<A> {
     }
 
     /// Gives octets of the line, and of the end where no line is behind it.
-    fn give(&mut self, room: &mut [u8]) -> usize
+    fn give_line(&mut self, room: &mut [u8]) -> usize
         requires ready { (self.old.given < length self.old.line.items) ⊎ (length self.old.ahead.items ≡ 0) }
         ensures within { result ≤ length room.old }
         ensures gives { (table : Table) → rest_of table self.old ≡ take result room.new ++ rest_of table self.new }

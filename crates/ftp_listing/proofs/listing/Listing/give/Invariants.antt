@@ -1,7 +1,7 @@
 use Rattle.std.proofs.Common.{◌≡◌, ◌+◌, ◌-◌, ◌≤◌, ◌++◌, length, take}
 use Rattle.ftp_tree.specs.Tree.{under}
 use Rattle.ftp_listing.specs.Rest.{rest_of, text_left}
-use Rattle.ftp_listing.proofs.listing.Listing.out.Given as goal
+use Rattle.ftp_listing.proofs.listing.Listing.give.Given as goal
 
 abbrev pub invariant-loop-made : goal.invariant-loop-made
 invariant-loop-made g l =
