@@ -1,7 +1,8 @@
 -- Limits of octets behind those that are kept; contents that are put one behind another.
-use Rattle.std.proofs.Common.{ℕ, ◌+◌, ◌-◌, ◌≤◌, ◌<◌, ◌≡◌, min, not, Bool, true, false, Option, Some, None, List, [], ◌++◌, length, take, drop, nat_le, is_some, refl, sym, ap, ◌∙◌, arith, append_assoc}
+use Rattle.std.proofs.Common.{ℕ, ◌+◌, ◌-◌, ◌≤◌, ◌<◌, ◌≡◌, min, not, Bool, true, false, Option, Some, None, List, [], ◌++◌, length, take, drop, nat_le, is_some, nat_lt, refl, sym, ap, ◌∙◌, arith, append_assoc}
 use Rattle.std.proofs.Math.Nat.{min-le_left}
 use Rattle.std.proofs.lemmas.Bool.{leb-true, leb-false, le-leb, lt-leb}
+use Rattle.std.proofs.lemmas.Bool.Decides.{nat_tests}
 use Rattle.std.proofs.lemmas.List.{take-append-drop, take_min, drop-drop}
 use Rattle.std.specs.Option.{option_map, unwrap_or}
 use Rattle.ftp_path.specs.Path.{Names}
@@ -33,6 +34,37 @@ within_room part path keep count room is kept =
     let most : room ≤ file_limit = rw is (min-le_left file_limit (total_limit - (octets_in part - length (octets_or_none part path)))) in
     ap (λ r. is_some (or_else (whenever (not (nat_le (keep + count) file_limit)) TooBig) (whenever (not (nat_le (keep + count) r)) Full))) (sym is)
     ∙ one_limit (keep + count) keep count room refl most kept
+
+-- where the octets that are kept pass the limit by themselves, so do any behind them
+beyond : (n room : ℕ) → room < n → is_some (or_else (whenever (not (nat_le n file_limit)) TooBig) (whenever (not (nat_le n room)) Full)) ≡ true
+beyond n room past = either (nat_le n file_limit)
+  where
+    either : (b : Bool) → is_some (or_else (whenever (not b) TooBig) (whenever (not (nat_le n room)) Full)) ≡ true
+    either true = rw (lt-leb n room past) refl
+    either false = refl
+
+pub past_room : (part : Table) (path : Names) (keep count room : ℕ) → room ≡ room_at part path → room < keep
+    → is_some (octets_refusal part path (keep + count)) ≡ true
+past_room part path keep count room is past =
+    ap (λ r. is_some (or_else (whenever (not (nat_le (keep + count) file_limit)) TooBig) (whenever (not (nat_le (keep + count) r)) Full))) (sym is)
+    ∙ beyond (keep + count) room (omega arith)
+
+-- so many octets pass what is left of the limit, or not
+less_is : (left count : ℕ) → nat_lt left count ≡ not (nat_le count left)
+less_is left count = of (nat_le count left) refl
+  where
+    of : (fits : Bool) → nat_le count left ≡ fits → nat_lt left count ≡ not fits
+    of true fits = let few : count ≤ left = leb-true count left fits in grind (arith, nat_tests)
+    of false past = let many : left < count = leb-false count left past in grind (arith, nat_tests)
+
+pub passes_room : (part : Table) (path : Names) (keep count room : ℕ) → room ≡ room_at part path → keep ≤ room
+    → nat_lt (room - keep) count ≡ is_some (octets_refusal part path (keep + count))
+passes_room part path keep count room is kept = less_is (room - keep) count ∙ sym (within_room part path keep count room is kept)
+
+-- a file's limit is within 64 bits
+pub room_is_short : (part : Table) (path : Names) (room : ℕ) → room ≡ room_at part path → room ≤ file_limit
+unfolding room_at
+room_is_short part path room is = rw is (min-le_left file_limit (total_limit - (octets_in part - length (octets_or_none part path))))
 
 -- how many octets a file has
 has_size : (o : Option (List ℕ)) (size : ℕ) → option_map length o ≡ Some size → length (unwrap_or o []) ≡ size

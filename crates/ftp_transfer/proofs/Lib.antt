@@ -1,2 +1,5 @@
 pub mod DownloadLemmas
-pub mod UploadLemmas
+pub mod EndLemmas
+pub mod InstallLemmas
+pub mod MarkLemmas
+pub mod ReceiveLemmas

@@ -1,1 +1,3 @@
 pub mod Download
+pub mod Receiving
+pub mod Upload

@@ -1,7 +1,8 @@
 // An upload's end: what came is put into the tree, behind the octets of the file there that are kept (own choice).
-ghost use Rattle.std.specs.Prelude.{◌≡◌, ◌⊎◌, ◌+◌, ◌++◌, ℕ, not, nat_le, IfErr, IfOk, OnOk, OnErr, drop, length, take, is_some};
+ghost use Rattle.std.specs.Prelude.{◌≡◌, ◌⊎◌, ◌+◌, ◌++◌, IfErr, IfOk, OnOk, OnErr, drop, length, take, is_some};
 ghost use Rattle.std.specs.Option.{IfSome};
 ghost use Rattle.ftp_tree.specs.Change.{next_count};
+ghost use Rattle.ftp_transfer.specs.Receiving.{Leaves};
 ghost use Rattle.ftp_tree.specs.Tree.{installed, octets_or_none, octets_refusal, under, with_part};
 
 use ftp_facts::Moment;
@@ -11,13 +12,13 @@ use std::alloc::{AllocError, Allocator};
 
 /// How many octets may come behind so many of the file at a path. `None` where those alone pass the limit, or where the tree
 /// takes no file there.
-pub fn room_behind<A: Allocator, B: Allocator, C: Allocator, T: Tree<A>>(
+pub(crate) fn room_behind<A: Allocator, B: Allocator, C: Allocator, T: Tree<A>>(
     tree: &T,
     root: &Path<B>,
     path: &Path<C>,
     keep: u64,
 ) -> Option<u64>
-    ensures { IfSome result (λ room. (count : ℕ) → is_some (octets_refusal (under (T.table tree.now) root.now) path.now (keep + count)) ≡ not (nat_le count room)) }
+    ensures { IfSome result (λ room. Leaves (under (T.table tree.now) root.now) path.now keep room) }
 {
     match tree.room(root, path) {
         Ok(room) => {
@@ -30,9 +31,30 @@ pub fn room_behind<A: Allocator, B: Allocator, C: Allocator, T: Tree<A>>(
     }
 }
 
+/// Whether so many octets pass a limit behind so many of the file at a path. `None` where the tree takes no file there.
+pub(crate) fn passes<A: Allocator, B: Allocator, C: Allocator, T: Tree<A>>(
+    tree: &T,
+    root: &Path<B>,
+    path: &Path<C>,
+    keep: u64,
+    count: u64,
+) -> Option<bool>
+    ensures { IfSome result (λ passes. passes ≡ is_some (octets_refusal (under (T.table tree.now) root.now) path.now (keep + count))) }
+{
+    match tree.room(root, path) {
+        Ok(room) => {
+            if room < keep {
+                return Some(true);
+            }
+            Some(room - keep < count)
+        }
+        Err(_) => None,
+    }
+}
+
 /// Puts a file into the tree: the first octets of the file that stands there, `keep` of them if it has so many, and then those
 /// that came. All memory is asked for before the first change. On an error the tree is as it was.
-pub fn put_in<A: Allocator + Clone, B: Allocator, C: Allocator, T: Tree<A>>(
+pub(crate) fn put_in<A: Allocator + Clone, B: Allocator, C: Allocator, T: Tree<A>>(
     alloc: A,
     tree: &mut T,
     root: &Path<B>,

@@ -2,8 +2,10 @@
 //! put into the tree; no IO (RFC 959, sections 3 and 4.1.3).
 #![tactic(auto)]
 
+mod came;
 mod download;
+mod install;
 mod upload;
 
 pub use download::Download;
-pub use upload::{put_in, room_behind};
+pub use upload::{Arrived, Upload};

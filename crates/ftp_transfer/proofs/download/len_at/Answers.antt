@@ -1,7 +1,7 @@
 use Rattle.std.proofs.Common.{◌∙◌, ap}
 use Rattle.std.specs.Option.{unwrap_or}
 use Rattle.ftp_tree.specs.Tree.{under}
-use Rattle.ftp_transfer.proofs.UploadLemmas.{count_at}
+use Rattle.ftp_transfer.proofs.InstallLemmas.{count_at}
 use Rattle.ftp_transfer.proofs.download.len_at.Goals as goal
 
 pub returns : goal.returns

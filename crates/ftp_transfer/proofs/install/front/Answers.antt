@@ -2,8 +2,8 @@ use Rattle.std.proofs.Common.{◌∙◌, sym, ap, take}
 use Rattle.std.proofs.lemmas.Result.{IfOk-weaker}
 use Rattle.std.proofs.Math.Seq.{take-nil}
 use Rattle.ftp_tree.specs.Tree.{under, octets_or_none}
-use Rattle.ftp_transfer.proofs.UploadLemmas.{sized, no_file, front_sized}
-use Rattle.ftp_transfer.proofs.upload.front.Goals as goal
+use Rattle.ftp_transfer.proofs.InstallLemmas.{sized, no_file, front_sized}
+use Rattle.ftp_transfer.proofs.install.front.Goals as goal
 
 pub returns-in-Some : goal.returns-in-Some
 returns-in-Some g c =

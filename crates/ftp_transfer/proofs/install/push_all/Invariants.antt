@@ -1,5 +1,5 @@
 use Rattle.std.proofs.Common.{◌≡◌, ◌++◌, ◌-◌, ◌≤◌, drop, length}
-use Rattle.ftp_transfer.proofs.upload.push_all.Given as goal
+use Rattle.ftp_transfer.proofs.install.push_all.Given as goal
 
 abbrev pub invariant-loop-at : goal.invariant-loop-at
 invariant-loop-at g l = record {
