@@ -1,6 +1,9 @@
 -- Octets of the data connection, and its end.
-use Rattle.std.proofs.Common.{◌≡◌, ◌≢◌, ◌⊎◌, inl, inr, ℕ, List, true, false, Result, Ok, Err, OnOk, OnErr, sym, ap, subst, ◌∙◌}
+use Rattle.std.proofs.Common.{◌≡◌, ◌≢◌, ◌⊎◌, inl, inr, ℕ, List, true, false, Result, Ok, Err, OnOk, OnErr, refl, sym, ap, subst, ◌∙◌}
 use Rattle.std.specs.Result.{is_err}
+use Rattle.ftp_ends.specs.declared.link.Wants.TheVariants as Want
+use Rattle.ftp_moves.specs.Moves.{takes_octets}
+use Rattle.ftp_server_machine.specs.Calls.{wants_of}
 use Rattle.ftp_server_machine.specs.Endpoint.{disconnected}
 use Rattle.ftp_server_machine.specs.Failing.{AreReceived, InstallFails, Late, WaitingFails}
 use Rattle.ftp_server_machine.specs.Far.{Receives, Server, Steps}
@@ -10,8 +13,8 @@ use Rattle.ftp_server_machine.specs.declared.session.DataConnection.{DataConnect
 use Rattle.ftp_server_machine.specs.declared.session.DataConnection.TheVariants as Data
 use Rattle.ftp_server_machine.specs.declared.session.Transfer.TheVariants as Transfers
 use Rattle.ftp_session.specs.Receiving.{ComesIn}
-use Rattle.ftp_session.specs.declared.moves.Told.{Told}
-use Rattle.ftp_session.specs.declared.moves.Told.TheVariants.{Nothing, Mark, Faulty, NoMemory}
+use Rattle.ftp_moves.specs.declared.moves.Told.{Told}
+use Rattle.ftp_moves.specs.declared.moves.Told.TheVariants.{Nothing, Mark, Faulty, NoMemory}
 use Rattle.ftp_server.specs.Breaking.{InstallIsLost}
 use Rattle.ftp_server.specs.Data.{IsSaid, ReceivesTo, SayingFails}
 use Rattle.ftp_server.specs.Settled.{IsSettled}
@@ -117,3 +120,17 @@ install_fails (Data.Active endpoint) v w x is after = absurd is
 install_fails Data.Passive v w x is after = absurd is
 install_fails Data.Ready v w x is after = absurd is
 install_fails (Data.Opening transfer way) v w x is after = absurd is
+
+-- ---- what is wanted while a transfer is under way
+
+pub receives_wanted : (transfer : Transfer) → takes_octets transfer ≡ true → Want.Receive ≡ wants_of (Data.Transferring transfer)
+receives_wanted (Transfers.Upload path keep d) e = refl
+receives_wanted Transfers.OverLimit e = refl
+receives_wanted (Transfers.Download rest) e = absurd (let wrong : false ≡ true = e in cc)
+receives_wanted (Transfers.Listing rest) e = absurd (let wrong : false ≡ true = e in cc)
+
+pub sends_wanted : (transfer : Transfer) → takes_octets transfer ≡ false → Want.Send ≡ wants_of (Data.Transferring transfer)
+sends_wanted (Transfers.Upload path keep d) e = absurd (let wrong : true ≡ false = e in cc)
+sends_wanted Transfers.OverLimit e = absurd (let wrong : true ≡ false = e in cc)
+sends_wanted (Transfers.Download rest) e = refl
+sends_wanted (Transfers.Listing rest) e = refl

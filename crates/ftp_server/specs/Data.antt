@@ -6,8 +6,8 @@ use Rattle.ftp_server_machine.specs.Machine.{later, owes, replied}
 use Rattle.ftp_server_machine.specs.Replies.{mark_reply, reply_octets}
 use Rattle.ftp_server_machine.specs.View.{View}
 use Rattle.ftp_server_machine.specs.declared.reply.Text.TheVariants as Texts
-use Rattle.ftp_session.specs.declared.moves.Told.{Told}
-use Rattle.ftp_session.specs.declared.moves.Told.TheVariants.{Nothing, Mark, Faulty, NoMemory}
+use Rattle.ftp_moves.specs.declared.moves.Told.{Told}
+use Rattle.ftp_moves.specs.declared.moves.Told.TheVariants.{Nothing, Mark, Faulty, NoMemory}
 
 -- they are taken as ever, each when it may be
 abbrev pub ReceivesTo : List ℕ → View → View → Type 0

@@ -10,12 +10,14 @@ mod data;
 mod ending;
 mod entry;
 mod events;
+mod far;
 mod hear;
 mod line;
 mod reader;
 mod reading;
 mod say;
 mod server;
+mod wants;
 
 pub use begin::NotBegun;
 pub use calls::Counts;

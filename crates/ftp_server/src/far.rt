@@ -1,0 +1,75 @@
+// A server is the server's end of a session.
+use crate::server::Server;
+use ftp_endpoint::Host;
+use ftp_ends::Wants;
+use ftp_facts::Moment;
+use ftp_server_machine::Far;
+use ftp_session::Moves;
+use ftp_tree::Tree;
+use std::alloc::Allocator;
+
+impl<A: Allocator + Copy, T: Tree<A>, J: Moves<A, T>> Far<A, T> for Server<A, T, J> {
+    ghost use Rattle.ftp_server.specs.Server.{server_of};
+
+    ghost server = { server_of T.table T.failures J.view };
+
+    fn clock(&mut self, moment: Moment) {
+        self.clock(moment);
+    }
+
+    fn hear(&mut self, piece: &[u8]) -> usize {
+        self.hear(piece)
+    }
+
+    fn control_out(&mut self, room: &mut [u8]) -> usize {
+        self.control_out(room)
+    }
+
+    fn control_end(&mut self) {
+        self.control_end();
+    }
+
+    fn listening(&mut self, port: u16) {
+        self.listening(port);
+    }
+
+    fn listen_refused(&mut self) {
+        self.listen_refused();
+    }
+
+    fn data_opened(&mut self, host: Host) {
+        self.data_opened(host);
+    }
+
+    fn data_refused(&mut self) {
+        self.data_refused();
+    }
+
+    fn data_hear(&mut self, piece: &[u8]) -> usize {
+        self.data_hear(piece)
+    }
+
+    fn data_end(&mut self) {
+        self.data_end();
+    }
+
+    fn data_fault(&mut self) {
+        self.data_fault();
+    }
+
+    fn data_out(&mut self, room: &mut [u8]) -> usize {
+        self.data_out(room)
+    }
+
+    fn data_closed(&mut self) {
+        self.data_closed();
+    }
+
+    fn wants(&self) -> Wants {
+        self.wants()
+    }
+
+    fn tree(&self) -> &T {
+        self.tree()
+    }
+}

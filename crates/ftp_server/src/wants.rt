@@ -1,0 +1,82 @@
+// What a server wants of the connections (RFC 959, section 3.2).
+ghost use Rattle.std.specs.Prelude.{◌≡◌, length};
+ghost use Rattle.ftp_server_machine.specs.Calls.{is_done, wants, wants_of};
+ghost use Rattle.ftp_server_machine.specs.Machine.{is_running};
+ghost use Rattle.ftp_server.specs.Busy.{is_opening};
+
+use crate::server::Server;
+use ftp_ends::Wants;
+use ftp_server_machine::{DataConnection, Life, Way};
+use ftp_session::Moves;
+use ftp_tree::Tree;
+use std::alloc::Allocator;
+
+impl<A: Allocator + Copy, T: Tree<A>, J: Moves<A, T>> Server<A, T, J> {
+    ghost use Rattle.ftp_server.specs.Server.{view_of};
+
+    /// What it wants of the connections. Takes no memory.
+    pub fn wants(&self) -> Wants
+        ensures { result ≡ wants (view_of T.table J.view self.now) }
+    {
+        if self.session.closing {
+            return Wants::CloseData;
+        }
+        if self.is_done() {
+            return Wants::CloseAll;
+        }
+        self.wants_of_link()
+    }
+
+    /// Whether a transfer was begun whose data connection is not open yet: its 150 is said, and `Accept` or `Connect` is for it.
+    pub fn is_opening(&self) -> bool
+        ensures { result ≡ is_opening (view_of T.table J.view self.now).session.connection }
+    {
+        matches!(self.session.connection, DataConnection::Opening(_, _))
+    }
+
+    /// How many control octets are owed, at most 8,192.
+    pub fn owed(&self) -> usize
+        ensures { result ≡ length (view_of T.table J.view self.now).owed }
+    {
+        self.output.len()
+    }
+
+    /// Whether neither QUIT nor the end of the control connection came.
+    pub fn is_running(&self) -> bool
+        ensures { result ≡ is_running (view_of T.table J.view self.now).session.life }
+    {
+        matches!(self.session.life, Life::Running)
+    }
+
+    /// Whether it is done with the control connection.
+    fn is_done(&self) -> bool
+        ensures { let v = view_of T.table J.view self.now in result ≡ is_done v.session.life v.owed }
+    {
+        match self.session.life {
+            Life::Running => false,
+            Life::Quit => self.output.len() == 0,
+            Life::Cut => true,
+        }
+    }
+
+    /// What the state of the data connection asks for.
+    fn wants_of_link(&self) -> Wants
+        ensures { result ≡ wants_of (view_of T.table J.view self.now).session.connection }
+    {
+        match &self.session.connection {
+            DataConnection::Free | DataConnection::Active(_) | DataConnection::Ready =>
+                Wants::Nothing,
+            DataConnection::Asked(_) => Wants::Listen,
+            DataConnection::Passive => Wants::Accept,
+            DataConnection::Opening(_, Way::Connect(endpoint)) => Wants::Connect(*endpoint),
+            DataConnection::Opening(_, Way::Accept) => Wants::Accept,
+            DataConnection::Transferring(transfer) => {
+                if transfer.takes_octets() {
+                    Wants::Receive
+                } else {
+                    Wants::Send
+                }
+            }
+        }
+    }
+}
