@@ -5,7 +5,7 @@ use Rattle.std.proofs.lemmas.List.{length-drop}
 use Rattle.ftp_client_machine.specs.Bounds.{login_left, transfer_left, run_left, job_left, to_begin, octets_left, upload_left, closes_left, still_to_give, AddsAtMost, Pays, GivingPays, ShortAddsAClose}
 use Rattle.ftp_client_machine.specs.Calls.{transfer_over, left_of, given_of, to_give, went, goes_by, gives_data}
 use Rattle.ftp_client_machine.specs.Dialogue.{has_begun, carries_on}
-use Rattle.ftp_client_machine.specs.Failing.{short, port_short, opened_short, over_short}
+use Rattle.ftp_client_machine.specs.Failing.{short, port_short, opened_short, over_short, no_port_short, unopened_short}
 use Rattle.ftp_client_machine.specs.View.{View, Job, Idle, Waiting, Doing, Transferring, Told, Flow, Sending, Receiving}
 use Rattle.ftp_client_machine.specs.declared.client.Ending.TheVariants as Endings
 use Rattle.ftp_client_machine.specs.declared.client.Failure.TheVariants as Failures
@@ -125,6 +125,24 @@ over_short_low (Data.Connecting endpoint) v = same v
 over_short_low (Data.Accepting port) v = same v
 over_short_low (Data.Over ending) v = same v
 
+no_port_short_low : (connection : DataConnection) (v : View) → Low v (no_port_short connection v)
+no_port_short_low Data.ListenWanted v = fails_low v.standing Failures.Memory v
+no_port_short_low Data.Free v = same v
+no_port_short_low (Data.Listening port) v = same v
+no_port_short_low (Data.Connecting endpoint) v = same v
+no_port_short_low (Data.Accepting port) v = same v
+no_port_short_low Data.Open v = same v
+no_port_short_low (Data.Over ending) v = same v
+
+unopened_short_low : (connection : DataConnection) (v : View) → Low v (unopened_short connection v)
+unopened_short_low (Data.Connecting endpoint) v = fails_low v.standing Failures.Memory v
+unopened_short_low (Data.Accepting port) v = fails_low v.standing Failures.Memory v
+unopened_short_low Data.Free v = same v
+unopened_short_low Data.ListenWanted v = same v
+unopened_short_low (Data.Listening port) v = same v
+unopened_short_low Data.Open v = same v
+unopened_short_low (Data.Over ending) v = same v
+
 if_lowers : (b : Bool) (v w : View) → AddsAtMost 1 v w → AddsAtMost 1 v (if b then v else w)
 if_lowers true v w one = one_more v v (same v)
 if_lowers false v w one = one
@@ -135,4 +153,7 @@ want_lowers v = record {
   listening_lowers = λ port. if_lowers v.closing v (port_short v.connection port v) (port_short_low v.connection port v);
   opened_lowers = if_lowers v.closing v (opened_short v.connection v) (opened_short_low v.connection v);
   end_lowers = if_low v.closing v v (over_short v.connection v) (same v) (over_short_low v.connection v);
+  fault_lowers = if_low v.closing v v (over_short v.connection v) (same v) (over_short_low v.connection v);
+  refused_lowers = if_low v.closing v v (no_port_short v.connection v) (same v) (no_port_short_low v.connection v);
+  unopened_lowers = if_low v.closing v v (unopened_short v.connection v) (same v) (unopened_short_low v.connection v);
 }

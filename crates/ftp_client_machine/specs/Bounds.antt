@@ -4,7 +4,7 @@ use Rattle.std.specs.Prelude.{◌≡◌, ℕ, suc, ◌+◌, ◌-◌, ◌*◌, �
 use Rattle.ftp_endpoint.specs.declared.host.Host.{Host}
 use Rattle.ftp_client_machine.specs.Calls.{hears_octet, listening, listen_refused, data_opened, data_refused, data_end, data_fault}
 use Rattle.ftp_client_machine.specs.Calls.{receives_octet, gives_control, gives_data, to_give, data_closed, control_end}
-use Rattle.ftp_client_machine.specs.Failing.{short, listening_short, data_opened_short, data_end_short}
+use Rattle.ftp_client_machine.specs.Failing.{short, listening_short, listen_refused_short, data_opened_short, data_refused_short, data_end_short, data_fault_short}
 use Rattle.ftp_operation.specs.declared.op.Op.{Op}
 use Rattle.ftp_client_machine.specs.Plan.{count_of}
 use Rattle.ftp_client_machine.specs.Tries.{Run, is_size}
@@ -148,12 +148,15 @@ pub record PullsPay (v : View) : Type 0 where
 abbrev pub GivingPays : Type 0
 GivingPays = (v : View) → PullsPay v
 
--- want of memory makes no more to do either; `hear` and `data_hear` end by it behind the octets that they took
+-- want of memory makes no more to do either; `hear`, `data_hear` and `data_out` end by it behind the octets that they moved
 pub record ShortAdds (v : View) : Type 0 where
   pub hearing : AddsAtMost 0 v (short v)
   pub listening_lowers : (port : ℕ) → AddsAtMost 1 v (listening_short port v)
   pub opened_lowers : AddsAtMost 1 v (data_opened_short v)
   pub end_lowers : AddsAtMost 0 v (data_end_short v)
+  pub fault_lowers : AddsAtMost 0 v (data_fault_short v)
+  pub refused_lowers : AddsAtMost 0 v (listen_refused_short v)
+  pub unopened_lowers : AddsAtMost 0 v (data_refused_short v)
 
 -- however the client stands
 abbrev pub ShortAddsAClose : Type 0

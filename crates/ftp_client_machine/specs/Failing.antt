@@ -75,6 +75,29 @@ over_short connection v = v
 abbrev pub data_end_short : View → View
 data_end_short v = unless_closing (λ v. over_short v.connection v) v
 
+-- of `data_fault`: the link is gone
+abbrev pub data_fault_short : View → View
+data_fault_short v = unless_closing (λ v. over_short v.connection v) v
+
+-- of the calls that tell that no port and no link is had: an upload over breaks tries again, and its next command could not be made
+abbrev pub no_port_short : DataConnection → View → View
+no_port_short Data.ListenWanted v = short v
+no_port_short connection v = v
+
+-- of `listen_refused`
+abbrev pub listen_refused_short : View → View
+listen_refused_short v = unless_closing (λ v. no_port_short v.connection v) v
+
+-- of a link that was dialled or awaited
+abbrev pub unopened_short : DataConnection → View → View
+unopened_short (Data.Connecting endpoint) v = short v
+unopened_short (Data.Accepting port) v = short v
+unopened_short connection v = v
+
+-- of `data_refused`
+abbrev pub data_refused_short : View → View
+data_refused_short v = unless_closing (λ v. unopened_short v.connection v) v
+
 -- ---- a call's clause
 
 -- a client as a call finds and leaves it: what it holds, and how many growths were refused to it; the count moves on by wrapping

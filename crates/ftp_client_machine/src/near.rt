@@ -2,7 +2,7 @@
 ghost use Rattle.std.specs.Prelude.{◌≡◌, ◌≢◌, ◌<◌, ◌≤◌, ◌↔◌, ℕ, IsTrue, IfErr, OnOk, OnErr, IsErr, length, take};
 ghost use Rattle.ftp_operation.specs.Answer.{said_of};
 ghost use Rattle.ftp_client_machine.specs.Calls.{starts, uploads, is_busy, report_of, reports, gives_control, may_hear, control_end, listening, listen_refused, data_opened, data_refused, data_end, data_fault, data_closed, gives_data, to_give, may_receive, wants};
-ghost use Rattle.ftp_client_machine.specs.Failing.{Client, Holds, HoldsIfRoom, HearsIfRoom, ReceivesIfRoom, starts_short, uploads_short, listening_short, data_opened_short, data_end_short};
+ghost use Rattle.ftp_client_machine.specs.Failing.{Client, Holds, HoldsIfRoom, HearsIfRoom, ReceivesIfRoom, starts_short, uploads_short, short, listening_short, listen_refused_short, data_opened_short, data_refused_short, data_end_short, data_fault_short};
 ghost use Rattle.ftp_client_machine.specs.Tries.{over_breaks};
 ghost use Rattle.std.specs.Option.{option_map};
 
@@ -62,7 +62,7 @@ pub trait Near<A: Allocator>: Drop {
 
     /// No port was had.
     fn listen_refused(&mut self)
-        ensures { Holds (client self.old) (client self.new) (listen_refused (client self.old).view) };
+        ensures { HoldsIfRoom (client self.old) (client self.new) (listen_refused (client self.old).view) (listen_refused_short (client self.old).view) };
 
     /// The link is open; this host is at its other end.
     fn data_opened(&mut self, host: Host)
@@ -70,7 +70,7 @@ pub trait Near<A: Allocator>: Drop {
 
     /// The link was not had.
     fn data_refused(&mut self)
-        ensures { Holds (client self.old) (client self.new) (data_refused (client self.old).view) };
+        ensures { HoldsIfRoom (client self.old) (client self.new) (data_refused (client self.old).view) (data_refused_short (client self.old).view) };
 
     /// Takes octets of the link, and says how many.
     fn data_hear(&mut self, piece: &[u8]) -> usize
@@ -84,13 +84,13 @@ pub trait Near<A: Allocator>: Drop {
 
     /// The link broke.
     fn data_fault(&mut self)
-        ensures { Holds (client self.old) (client self.new) (data_fault (client self.old).view) };
+        ensures { HoldsIfRoom (client self.old) (client self.new) (data_fault (client self.old).view) (data_fault_short (client self.old).view) };
 
-    /// Gives octets of the link, and says how many. Takes no memory.
+    /// Gives octets of the link, and says how many.
     fn data_out(&mut self, room: &mut [u8]) -> usize
         ensures within { (result ≤ length room.old) × (result ≤ length (to_give (client self.old).view)) }
         ensures gave { take result room.new ≡ take result (to_give (client self.old).view) }
-        ensures now { Holds (client self.old) (client self.new) (gives_data result (client self.old).view) }
+        ensures now { HoldsIfRoom (client self.old) (client self.new) (gives_data result (client self.old).view) (short (client self.old).view) }
         ensures some { 0 < length room.old → 0 < length (to_give (client self.old).view) → 0 < result };
 
     /// A close that it wanted is done.
