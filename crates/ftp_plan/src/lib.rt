@@ -6,6 +6,7 @@ mod command;
 mod output;
 mod request;
 mod step;
+mod tries;
 
 pub use command::{
     own_command, passive_command, port_command, restart_command, set_command, source_command,
@@ -13,3 +14,4 @@ pub use command::{
 pub use output::{OUTPUT_ROOM, Output};
 pub use request::{asked_settings, count_of, how_of, listing_settings, offset_of};
 pub use step::{first_step, next_step, settings_behind};
+pub use tries::{MOST_TRIES, Next, Run, can_be_tried, first_try, is_size, next_in};
