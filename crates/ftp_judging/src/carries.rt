@@ -1,11 +1,12 @@
 // What goes over the data connection of a client's transfer, as a client uses it (RFC 959, sections 3.1 to 3.5).
-ghost use Rattle.std.specs.Prelude.{◌≡◌, ◌<◌, ◌≤◌, ℕ, List, IfOk, length, take, option_map};
+ghost use Rattle.std.specs.Prelude.{◌≡◌, ◌<◌, ◌≤◌, ℕ, List, IfErr, IfOk, length, take, option_map};
 ghost use Rattle.ftp_operation.specs.Answer.{said_of};
 ghost use Rattle.ftp_operation.specs.declared.op.Op.{Op as AnyOp};
 ghost use Rattle.ftp_client_machine.specs.Calls.{is_down, left_of, went};
 ghost use Rattle.ftp_client_machine.specs.Dialogue.{is_given, marked_flow};
 ghost use Rattle.ftp_client_machine.specs.Octets.{content_answer, cut_answer, flow_of, has_enough, settled_of, whole_answer};
 ghost use Rattle.ftp_client_machine.specs.View.{Flow};
+ghost use Rattle.ftp_judging.specs.Hearing.{NotYet, heard_all};
 
 use ftp_facts::Text;
 use ftp_operation::{Answer, Op};
@@ -37,16 +38,24 @@ pub trait Carries<A: Allocator>: Drop {
         ensures { flow op.now self.new ≡ marked_flow mark (flow op.now self.old) };
 
     /// What its settled octets answer.
-    fn content(&self, op: &Op<Text<A>>, alloc: &A) -> Result<Option<Answer<A>>, AllocError>
-        ensures { IfOk result (λ answer. option_map said_of answer ≡ content_answer op.now (settled_of (flow op.now self.now))) };
+    fn content(self, op: &Op<Text<A>>, alloc: &A) -> Result<Option<Answer<A>>, AllocError>
+        ensures { IfOk result (λ answer. option_map said_of answer ≡ content_answer op.now (settled_of (flow op.now self))) };
 
     /// What it answers after a clean end.
-    fn whole(&self, op: &Op<Text<A>>, alloc: &A) -> Result<Option<Answer<A>>, AllocError>
-        ensures { IfOk result (λ answer. option_map said_of answer ≡ whole_answer op.now (flow op.now self.now)) };
+    fn whole(self, op: &Op<Text<A>>, alloc: &A) -> Result<Option<Answer<A>>, AllocError>
+        ensures { IfOk result (λ answer. option_map said_of answer ≡ whole_answer op.now (flow op.now self)) };
 
     /// What it answers where it was cut.
-    fn cut(&self, op: &Op<Text<A>>, alloc: &A) -> Result<Option<Answer<A>>, AllocError>
-        ensures { IfOk result (λ answer. option_map said_of answer ≡ cut_answer op.now (flow op.now self.now)) };
+    fn cut(self, op: &Op<Text<A>>, alloc: &A) -> Result<Option<Answer<A>>, AllocError>
+        ensures { IfOk result (λ answer. option_map said_of answer ≡ cut_answer op.now (flow op.now self)) };
+
+    /// Takes octets of a download, and says how many: all, or up to one behind which a Peek has enough. `Err` says behind how many of them
+    /// memory was refused; it is of no use any more then.
+    fn hear(&mut self, op: &Op<Text<A>>, piece: &[u8]) -> Result<usize, usize>
+        ensures heard { IfOk result (λ count. flow op.now self.new ≡ heard_all (flow op.now self.old) (take count piece.now)) }
+        ensures within { IfOk result (λ count. (count ≤ length piece.now) × NotYet op.now (flow op.now self.old) (take count piece.now)) }
+        ensures some { IfOk result (λ count. 0 < length piece.now → 0 < count) }
+        ensures refused { IfErr result (λ count. count < length piece.now) };
 
     /// Gives octets of an upload, and says how many.
     fn give(&mut self, op: &Op<Text<A>>, room: &mut [u8]) -> usize

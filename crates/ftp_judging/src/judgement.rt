@@ -17,10 +17,10 @@ pub fn judged<A: Allocator, F: Carries<A>>(
     abort: Abort,
     code: u16,
     op: &Op<Text<A>>,
-    flow: &F,
+    flow: F,
     alloc: &A,
 ) -> Result<Option<Answer<A>>, AllocError>
-    ensures { IfOk result (λ answer. option_map said_of answer ≡ judged ending abort code op.now (F.flow op.now flow.now)) }
+    ensures { IfOk result (λ answer. option_map said_of answer ≡ judged ending abort code op.now (F.flow op.now flow)) }
 {
     if let Ending::Foreign = ending {
         return Ok(Some(Answer::Foreign));
@@ -39,10 +39,10 @@ fn refused_answer<A: Allocator, F: Carries<A>>(
     ending: Ending,
     code: u16,
     op: &Op<Text<A>>,
-    flow: &F,
+    flow: F,
     alloc: &A,
 ) -> Result<Option<Answer<A>>, AllocError>
-    ensures { IfOk result (λ answer. option_map said_of answer ≡ refused_answer ending code op.now (F.flow op.now flow.now)) }
+    ensures { IfOk result (λ answer. option_map said_of answer ≡ refused_answer ending code op.now (F.flow op.now flow)) }
 {
     if code == 425 {
         return Ok(Some(Answer::Unopened));
@@ -57,10 +57,10 @@ fn refused_answer<A: Allocator, F: Carries<A>>(
 fn broken_off_answer<A: Allocator, F: Carries<A>>(
     ending: Ending,
     op: &Op<Text<A>>,
-    flow: &F,
+    flow: F,
     alloc: &A,
 ) -> Result<Option<Answer<A>>, AllocError>
-    ensures { IfOk result (λ answer. option_map said_of answer ≡ broken_off_answer ending op.now (F.flow op.now flow.now)) }
+    ensures { IfOk result (λ answer. option_map said_of answer ≡ broken_off_answer ending op.now (F.flow op.now flow)) }
 {
     match ending {
         Ending::Clean => match op {
@@ -75,10 +75,10 @@ fn broken_off_answer<A: Allocator, F: Carries<A>>(
 fn ended_answer<A: Allocator, F: Carries<A>>(
     ending: Ending,
     op: &Op<Text<A>>,
-    flow: &F,
+    flow: F,
     alloc: &A,
 ) -> Result<Option<Answer<A>>, AllocError>
-    ensures { IfOk result (λ answer. option_map said_of answer ≡ ended_answer ending op.now (F.flow op.now flow.now)) }
+    ensures { IfOk result (λ answer. option_map said_of answer ≡ ended_answer ending op.now (F.flow op.now flow)) }
 {
     match ending {
         Ending::Clean | Ending::Ours => flow.whole(op, alloc),
