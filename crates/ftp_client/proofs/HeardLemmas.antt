@@ -1,5 +1,5 @@
 -- What is heard by a client that has not failed.
-use Rattle.std.proofs.Common.{◌≡◌, ◌∙◌, ℕ, zero, suc, ◌+◌, ◌<◌, ◌≤◌, ◌⊎◌, inl, inr, false, List, [], ◌∷◌, ◌++◌, length, take, slice_index, refl, sym, ap, subst, add-one, arith, OnOk}
+use Rattle.std.proofs.Common.{◌≡◌, ◌∙◌, ℕ, zero, suc, ◌+◌, ◌<◌, ◌≤◌, ◌⊎◌, inl, inr, true, false, List, [], ◌∷◌, ◌++◌, length, take, slice_index, refl, sym, ap, subst, add-one, arith, OnErr, OnOk}
 use Rattle.std.specs.Result.{is_err}
 use Rattle.std.specs.declared.result.Result.{Result}
 use Rattle.std.specs.declared.result.Result.TheVariants.{Ok, Err}
@@ -47,6 +47,9 @@ short_by (Stands.Failed failure) v sound = absurd (cc sound)
 pub short_is : (v : View) → IsTrue (is_sound v.standing) → short v ≡ shorted v
 short_is v sound = short_by v.standing v sound
 
+pub short_alike : (v w : View) → IsTrue (is_sound v.standing) → IsTrue (is_sound w.standing) → shorted v ≡ shorted w → short v ≡ short w
+short_alike v w sound was same = short_is v sound ∙ same ∙ sym (short_is w was)
+
 pub hears_one : (v : View) (front : List ℕ) (octet : ℕ) → hears v (front ++ octet ∷ []) ≡ hears_octet (hears v front) octet
 hears_one v [] octet = refl
 hears_one v (c ∷ front) octet = hears_one (hears_octet v c) front octet
@@ -79,3 +82,7 @@ hears_next v piece n less =
 pub ok_at : {X E : Type 0} (result : Result X E) (P : Type 0) → is_err result ≡ false → OnOk result P → P
 ok_at (Ok x) P fine is = is
 ok_at (Err e) P fine is = absurd (cc fine)
+
+pub err_at : {X E : Type 0} (result : Result X E) (P : Type 0) → is_err result ≡ true → OnErr result P → P
+err_at (Ok x) P failed is = absurd (cc failed)
+err_at (Err e) P failed is = is

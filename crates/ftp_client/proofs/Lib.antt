@@ -1,2 +1,4 @@
 pub mod RunLemmas
 pub mod HeardLemmas
+pub mod CarryLemmas
+pub mod OctetLemmas

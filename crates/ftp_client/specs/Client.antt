@@ -1,18 +1,23 @@
 -- How a client that is held is seen by its definitions.
-use Rattle.std.specs.Prelude.{ℕ, List, None, true, false, Bool}
+use Rattle.std.specs.Prelude.{ℕ, List, [], Bool, false, Option, None, option_map}
 use Rattle.ftp_operation.specs.Answer.{Memory, said_of}
 use Rattle.ftp_operation.specs.declared.op.Op.{Op}
 use Rattle.ftp_ends.specs.Ear.{Ear, quiet}
 use Rattle.ftp_reply.specs.Reader.{Gathered, Between}
+use Rattle.ftp_client_machine.specs.Calls.{left_of, went}
+use Rattle.ftp_client_machine.specs.Dialogue.{is_to_abort, is_unsent, marked_flow}
+use Rattle.ftp_client_machine.specs.declared.client.DataConnection.{DataConnection}
 use Rattle.ftp_client_machine.specs.View.{View, Flow, Job, Idle, Waiting, Doing, Transferring, Told, dropped, failed_job, silent}
 use Rattle.ftp_client_machine.specs.View.{Transfer as Moved}
 use Rattle.ftp_client_machine.specs.declared.client.Failure.TheVariants as Failures
 use Rattle.ftp_client_machine.specs.declared.client.Standing.{Standing}
 use Rattle.ftp_client_machine.specs.declared.client.Standing.TheVariants as Stands
+use Rattle.ftp_judging.specs.Hearing.{NotYet, heard_all}
+use Rattle.ftp_plan.specs.Tries.{run_in}
 use Rattle.ftp_client.specs.declared.dialogue.Dialogue.{Dialogue}
-use Rattle.ftp_client.specs.declared.dialogue.Place.{Place}
-use Rattle.ftp_client.specs.declared.dialogue.Place.TheVariants as Places
-use Rattle.ftp_client.specs.declared.dialogue.Transfer.{Transfer}
+use Rattle.ftp_client.specs.declared.place.Place.{Place}
+use Rattle.ftp_client.specs.declared.place.Place.TheVariants as Places
+use Rattle.ftp_client.specs.declared.place.Transfer.{Transfer}
 
 -- a transfer, by how what it carries is seen
 abbrev pub transfer_of : {F : Type 0} → (Op (List ℕ) → F → Flow) → Op (List ℕ) → Transfer F → Moved
@@ -45,7 +50,7 @@ view_of flow d = record {
   peer = d.peer;
   standing = d.standing;
   job = job_of flow d.op d.place;
-  run = None;
+  run = option_map run_in d.run;
   settings = d.settings;
   connection = d.connection;
   closing = d.closing;
@@ -54,11 +59,53 @@ view_of flow d = record {
   owed = d.output;
 }
 
--- an operation is under way
-abbrev pub is_under_way : Job → Bool
-is_under_way Idle = false
-is_under_way (Told answer) = false
-is_under_way other = true
+-- what is done of the transfer under way; without one nothing is
+abbrev pub in_job : (Op (List ℕ) → Moved → View → View) → Job → View → View
+in_job f (Transferring op transfer) v = f op transfer v
+in_job f job v = v
+
+-- of a client
+abbrev pub in_transfer : (Op (List ℕ) → Moved → View → View) → View → View
+in_transfer f v = in_job f v.job v
+
+-- the mmmm of a 110 reply is noted
+abbrev pub job_noted : Option ℕ → Job → Job
+job_noted mark (Transferring op transfer) = Transferring op (record transfer { flow = marked_flow mark transfer.flow })
+job_noted mark job = job
+
+-- the octets that are still to give
+abbrev pub job_left : Job → List ℕ
+job_left (Transferring op transfer) = left_of transfer.flow
+job_left job = []
+
+-- so many of them went out
+abbrev pub job_went : ℕ → Job → Job
+job_went count (Transferring op transfer) = Transferring op (record transfer { flow = went count transfer.flow })
+job_went count job = job
+
+-- octets came
+abbrev pub job_heard : List ℕ → Job → Job
+job_heard octets (Transferring op transfer) = Transferring op (record transfer { flow = heard_all transfer.flow octets })
+job_heard octets job = job
+
+-- behind none of them but perhaps the last a Peek has enough
+abbrev pub JobNotYet : List ℕ → Job → Type 0
+JobNotYet octets (Transferring op transfer) = NotYet op transfer.flow octets
+JobNotYet octets job = Unit {0}
+
+-- a transfer that sent no ABOR
+abbrev pub job_unsent : Job → Bool
+job_unsent (Transferring op transfer) = is_unsent transfer.abort
+job_unsent job = false
+
+-- the transfer under way is to be ended by an ABOR
+abbrev pub job_to_abort : DataConnection → Job → Bool
+job_to_abort connection (Transferring op transfer) = is_to_abort connection op transfer
+job_to_abort connection job = false
+
+-- of a client
+abbrev pub to_abort : View → Bool
+to_abort v = job_to_abort v.connection v.job
 
 -- what is left of a client that has not failed, once it is short of memory
 abbrev pub shorted : View → View

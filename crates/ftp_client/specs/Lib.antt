@@ -1,2 +1,3 @@
+pub mod Calm
 pub mod Client
 pub mod Calls

@@ -1,16 +1,18 @@
 // The client, and the calls of its owner (RFC 959, sections 2.3 and 5.4).
 ghost use Rattle.std.specs.Prelude.{◌≡◌, ◌≢◌, ◌<◌, ◌≤◌, ◌↔◌, IfErr, IfOk, IsErr, IsTrue, OnErr, OnOk, length, option_map, take};
 ghost use Rattle.ftp_operation.specs.Answer.{said_of};
-ghost use Rattle.ftp_client_machine.specs.Calls.{control_end, data_closed, gives_control, is_busy, listen_refused, listening, may_hear, report_of, reports, starts};
-ghost use Rattle.ftp_client_machine.specs.Failing.{HearsIfRoom, Holds, HoldsIfRoom, listening_short, short, starts_short};
+ghost use Rattle.ftp_client_machine.specs.Calls.{control_end, data_closed, data_end, data_fault, data_opened, data_refused, gives_control, gives_data, is_busy, listen_refused, listening, may_hear, may_receive, report_of, reports, starts, to_give, uploads, wants};
+ghost use Rattle.ftp_client_machine.specs.Failing.{HearsIfRoom, Holds, HoldsIfRoom, ReceivesIfRoom, data_end_short, data_fault_short, data_opened_short, data_refused_short, listen_refused_short, listening_short, short, starts_short, uploads_short};
+ghost use Rattle.ftp_client_machine.specs.Tries.{over_breaks};
 ghost use Rattle.ftp_client_machine.specs.View as view;
 
 use crate::dialogue::Dialogue;
 use ftp_client_machine::client::Failure;
 use ftp_endpoint::Host;
+use ftp_ends::Wants;
 use ftp_facts::Text;
 use ftp_judging::Carries;
-use ftp_operation::{Answer, Login, Op};
+use ftp_operation::{Answer, How, Login, Op};
 use std::alloc::Allocator;
 
 /// A client: what it holds, and how many growths were refused to it. `F` is what a transfer carries.
@@ -49,7 +51,31 @@ impl<A: Allocator + Clone, F: Carries<A>> Client<A, F> {
         if self.dialogue.is_busy() {
             return Err(op);
         }
-        if self.dialogue.start(op).is_err() {
+        if self.dialogue.start(op).is_ok() {
+            return Ok(());
+        }
+        self.shorten();
+        Ok(())
+    }
+
+    /// Begins an upload that goes on after breaks, and has one report (at most 16 tries; own choice). Refused as `start` is, it hands path
+    /// and octets back.
+    pub fn upload(
+        &mut self,
+        path: Text<A>,
+        octets: Text<A>,
+        how: How,
+    ) -> Result<(), (Text<A>, Text<A>)>
+        ensures begun { OnOk result (HoldsIfRoom (client_of F.flow self.old) (client_of F.flow self.new)
+            (uploads (over_breaks path octets how) (client_of F.flow self.old).view) (uploads_short (over_breaks path octets how) (client_of F.flow self.old).view)) }
+        ensures busy { IsErr result ↔ IsTrue (is_busy (client_of F.flow self.old).view) }
+        ensures same { OnErr result (Holds (client_of F.flow self.old) (client_of F.flow self.new) (client_of F.flow self.old).view) }
+        ensures back { IfErr result (λ back. back ≡ (path, octets)) }
+    {
+        if self.dialogue.is_busy() {
+            return Err((path, octets));
+        }
+        if self.dialogue.upload(path, octets, how).is_err() {
             self.shorten();
         }
         Ok(())
@@ -110,9 +136,92 @@ impl<A: Allocator + Clone, F: Carries<A>> Client<A, F> {
 
     /// No port was had.
     pub fn listen_refused(&mut self)
-        ensures { Holds (client_of F.flow self.old) (client_of F.flow self.new) (listen_refused (client_of F.flow self.old).view) }
+        ensures { HoldsIfRoom (client_of F.flow self.old) (client_of F.flow self.new)
+            (listen_refused (client_of F.flow self.old).view) (listen_refused_short (client_of F.flow self.old).view) }
     {
-        self.dialogue.listen_refused();
+        if self.dialogue.listen_refused().is_err() {
+            self.shorten();
+        }
+    }
+
+    /// The link is open; this host is at its other end.
+    pub fn data_opened(&mut self, host: Host)
+        ensures { HoldsIfRoom (client_of F.flow self.old) (client_of F.flow self.new)
+            (data_opened host (client_of F.flow self.old).view) (data_opened_short (client_of F.flow self.old).view) }
+    {
+        if self.dialogue.data_opened(host).is_err() {
+            self.shorten();
+        }
+    }
+
+    /// The link was not had.
+    pub fn data_refused(&mut self)
+        ensures { HoldsIfRoom (client_of F.flow self.old) (client_of F.flow self.new)
+            (data_refused (client_of F.flow self.old).view) (data_refused_short (client_of F.flow self.old).view) }
+    {
+        if self.dialogue.data_refused().is_err() {
+            self.shorten();
+        }
+    }
+
+    /// Takes octets of the link, and says how many.
+    pub fn data_hear(&mut self, piece: &[u8]) -> usize
+        ensures within { result ≤ length piece.now }
+        ensures took { ReceivesIfRoom (client_of F.flow self.old) (client_of F.flow self.new) piece.now result }
+        ensures some { IsTrue (may_receive (client_of F.flow self.old).view) → 0 < length piece.now → 0 < result }
+    {
+        if !self.dialogue.may_receive() {
+            return 0;
+        }
+        match self.dialogue.receive(piece) {
+            Ok(()) => piece.len(),
+            Err(taken) => {
+                self.shorten();
+                taken + 1
+            }
+        }
+    }
+
+    /// The other end closed the link.
+    pub fn data_end(&mut self)
+        ensures { HoldsIfRoom (client_of F.flow self.old) (client_of F.flow self.new)
+            (data_end (client_of F.flow self.old).view) (data_end_short (client_of F.flow self.old).view) }
+    {
+        if self.dialogue.data_end().is_err() {
+            self.shorten();
+        }
+    }
+
+    /// The link broke.
+    pub fn data_fault(&mut self)
+        ensures { HoldsIfRoom (client_of F.flow self.old) (client_of F.flow self.new)
+            (data_fault (client_of F.flow self.old).view) (data_fault_short (client_of F.flow self.old).view) }
+    {
+        if self.dialogue.data_fault().is_err() {
+            self.shorten();
+        }
+    }
+
+    /// Gives octets of the link, and says how many.
+    pub fn data_out(&mut self, room: &mut [u8]) -> usize
+        ensures within { (result ≤ length room.old) × (result ≤ length (to_give (client_of F.flow self.old).view)) }
+        ensures gave { take result room.new ≡ take result (to_give (client_of F.flow self.old).view) }
+        ensures now { HoldsIfRoom (client_of F.flow self.old) (client_of F.flow self.new)
+            (gives_data result (client_of F.flow self.old).view) (short (client_of F.flow self.old).view) }
+        ensures some { 0 < length room.old → 0 < length (to_give (client_of F.flow self.old).view) → 0 < result }
+    {
+        let count = self.dialogue.give(room);
+        if self.dialogue.carry_on().is_err() {
+            self.shorten();
+        }
+        count
+    }
+
+    /// What it wants of the connections. Takes no memory.
+    pub fn wants(&self) -> Wants
+        ensures { result ≡ wants (client_of F.flow self.now).view }
+    {
+        self.dialogue.wants()
     }
 
     /// A close that it wanted is done.

@@ -4,8 +4,9 @@ ghost use Rattle.ftp_client_machine.specs.Calls.{hears_octet, is_sound, may_hear
 ghost use Rattle.ftp_client_machine.specs.Dialogue.{answered, job_answered, stand_answered};
 ghost use Rattle.ftp_judging.specs.Verdict.{verdict_in};
 
-use crate::dialogue::{Dialogue, Place};
+use crate::dialogue::Dialogue;
 use crate::finishing::is_sound;
+use crate::place::Place;
 use ftp_client_machine::client::{Failure, Standing};
 use ftp_hearing::Heard;
 use ftp_judging::{Carries, Verdict, verdict_of};
@@ -46,8 +47,10 @@ impl<A: Allocator + Clone, F: Carries<A>> Dialogue<A, F> {
     /// A reply came.
     #[tactic(auto, unfolding(ftp_client_machine::specs::Dialogue::answered))]
     pub(crate) fn answered(&mut self, reply: &Reply<A>) -> Result<(), AllocError>
+        requires { IsTrue (is_sound self.old.standing) }
         ensures ok { OnOk result (view_of F.flow self.new ≡ answered reply.now.code reply.now.lines (view_of F.flow self.old)) }
-        ensures err { OnErr result (view_of F.flow self.new ≡ view_of F.flow self.old) }
+        ensures err { OnErr result (shorted (view_of F.flow self.new) ≡ shorted (view_of F.flow self.old)) }
+        ensures sound { OnErr result (IsTrue (is_sound self.new.standing)) }
     {
         let verdict = verdict_of(reply.code);
         match verdict {
@@ -65,9 +68,11 @@ impl<A: Allocator + Clone, F: Carries<A>> Dialogue<A, F> {
 
     /// Who is answered: the greeting, USER, PASS, or the operation under way.
     fn stand_answered(&mut self, verdict: Verdict, reply: &Reply<A>) -> Result<(), AllocError>
+        requires { IsTrue (is_sound self.old.standing) }
         ensures ok { OnOk result (view_of F.flow self.new
             ≡ stand_answered self.old.standing (verdict_in verdict) reply.now.code reply.now.lines (view_of F.flow self.old)) }
-        ensures err { OnErr result (view_of F.flow self.new ≡ view_of F.flow self.old) }
+        ensures err { OnErr result (shorted (view_of F.flow self.new) ≡ shorted (view_of F.flow self.old)) }
+        ensures sound { OnErr result (IsTrue (is_sound self.new.standing)) }
     {
         match self.standing {
             Standing::Greeting => self.greeted(verdict, reply.code),
@@ -82,14 +87,15 @@ impl<A: Allocator + Clone, F: Carries<A>> Dialogue<A, F> {
     fn job_answered(&mut self, verdict: Verdict, reply: &Reply<A>) -> Result<(), AllocError>
         ensures ok { OnOk result (view_of F.flow self.new
             ≡ job_answered (view_of F.flow self.old).job (verdict_in verdict) reply.now.code reply.now.lines (view_of F.flow self.old)) }
-        ensures err { OnErr result (view_of F.flow self.new ≡ view_of F.flow self.old) }
+        ensures err { OnErr result (shorted (view_of F.flow self.new) ≡ shorted (view_of F.flow self.old)) }
+        ensures sound { OnErr result (IsTrue (is_sound self.new.standing)) }
     {
         match &self.place {
             Place::Doing(step) => {
                 let step = *step;
                 self.step_answered(step, verdict, reply)
             }
-            Place::Transferring(_) => Err(AllocError),
+            Place::Transferring(_) => self.transfer_answered(verdict, reply),
             Place::Idle | Place::Waiting | Place::Told(_) => {
                 self.strange();
                 Ok(())

@@ -4,7 +4,8 @@ ghost use Rattle.ftp_client_machine.specs.Calls.{is_sound};
 ghost use Rattle.ftp_client_machine.specs.Dialogue.{greeted, login_ends, pass_answered, user_answered};
 ghost use Rattle.ftp_judging.specs.Verdict.{verdict_in};
 
-use crate::dialogue::{Dialogue, Place};
+use crate::dialogue::Dialogue;
+use crate::place::Place;
 use ftp_client_machine::client::Standing;
 use ftp_command::{Command, Text as Argument};
 use ftp_judging::{Carries, Verdict};

@@ -1,11 +1,13 @@
 // What a client sends (RFC 959, sections 4.1 and 5.3).
-ghost use Rattle.std.specs.Prelude.{◌≡◌, IfOk, OnErr, OnOk};
+ghost use Rattle.std.specs.Prelude.{◌≡◌, IfOk, IsTrue, OnErr, OnOk};
+ghost use Rattle.ftp_client_machine.specs.Calls.{is_sound};
 ghost use Rattle.ftp_client_machine.specs.Dialogue.{begins, goes_on, placed, sends, sends_if};
 ghost use Rattle.ftp_client_machine.specs.Plan.{command_of, is_extended, own_endpoint, port_of};
 ghost use Rattle.ftp_client_machine.specs.View.{Doing, Transferring};
 ghost use Rattle.ftp_ends.specs.Link.{is_v6};
 
-use crate::dialogue::{Dialogue, Place, Transfer};
+use crate::dialogue::Dialogue;
+use crate::place::{Place, Transfer};
 use ftp_client_machine::client::{Abort, DataConnection, Replied, Step};
 use ftp_command::{Command, Text as Argument};
 use ftp_endpoint::{Endpoint, Host};
@@ -30,6 +32,7 @@ impl<A: Allocator + Clone, F: Carries<A>> Dialogue<A, F> {
 
     /// The operation is at a step: its command is sent, or a port is wanted. Without memory nothing changes.
     pub(crate) fn place_at(&mut self, step: Step) -> Result<(), AllocError>
+        requires { IsTrue (is_sound self.old.standing) }
         ensures ok { OnOk result (view_of F.flow self.new ≡ placed self.old.op step (view_of F.flow self.old)) }
         ensures err { OnErr result (view_of F.flow self.new ≡ view_of F.flow self.old) }
     {
@@ -53,6 +56,7 @@ impl<A: Allocator + Clone, F: Carries<A>> Dialogue<A, F> {
 
     /// The operation begins.
     pub(crate) fn begin(&mut self) -> Result<(), AllocError>
+        requires { IsTrue (is_sound self.old.standing) }
         ensures ok { OnOk result (view_of F.flow self.new ≡ begins self.old.op (view_of F.flow self.old)) }
         ensures err { OnErr result (view_of F.flow self.new ≡ view_of F.flow self.old) }
     {
@@ -62,6 +66,7 @@ impl<A: Allocator + Clone, F: Carries<A>> Dialogue<A, F> {
 
     /// The operation goes on behind a step that was answered well.
     pub(crate) fn go_on(&mut self, step: Step) -> Result<(), AllocError>
+        requires { IsTrue (is_sound self.old.standing) }
         ensures ok { OnOk result (view_of F.flow self.new ≡ goes_on self.old.op step (view_of F.flow self.old)) }
         ensures err { OnErr result (view_of F.flow self.new ≡ view_of F.flow self.old) }
     {
@@ -71,6 +76,7 @@ impl<A: Allocator + Clone, F: Carries<A>> Dialogue<A, F> {
 
     /// With its own command an operation's transfer begins, where it has one.
     fn place_last(&mut self) -> Result<(), AllocError>
+        requires { IsTrue (is_sound self.old.standing) }
         ensures ok { OnOk result (view_of F.flow self.new ≡ placed self.old.op Step.Last (view_of F.flow self.old)) }
         ensures err { OnErr result (view_of F.flow self.new ≡ view_of F.flow self.old) }
     {
@@ -92,6 +98,7 @@ impl<A: Allocator + Clone, F: Carries<A>> Dialogue<A, F> {
 
     /// The command of a step is sent, where it has one.
     fn place_step(&mut self, step: Step) -> Result<(), AllocError>
+        requires { IsTrue (is_sound self.old.standing) }
         ensures ok { OnOk result (view_of F.flow self.new
             ≡ sends_if (command_of (view_of F.flow self.old) self.old.op step) (record (view_of F.flow self.old) { job = Doing self.old.op step })) }
         ensures err { OnErr result (view_of F.flow self.new ≡ view_of F.flow self.old) }
