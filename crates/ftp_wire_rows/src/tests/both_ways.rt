@@ -32,39 +32,33 @@ const FILES: &[&'static [u8]] = &[
 ];
 
 /// Whether each file comes back.
-fn all_come_back(alloc: Global, how: How) -> Result<bool, Fail> {
-    for file in FILES {
-        if !comes_back(alloc, how, file, &[1, 3, 64])? {
-            return Ok(false);
-        }
-    }
-    Ok(true)
+fn all_come_back(alloc: Global, how: How) -> bool {
+    FILES
+        .iter()
+        .all(|file| comes_back(alloc, how, file, &[1, 3, 64]))
 }
 
 /// The first representation in which a file does not come back.
-fn first_wrong(alloc: Global) -> Result<Option<usize>, Fail> {
-    for (at, how) in REPRESENTATIONS.iter().enumerate() {
-        if !all_come_back(alloc, *how)? {
-            return Ok(Some(at));
-        }
-    }
-    Ok(None)
+fn first_wrong(alloc: Global) -> Option<usize> {
+    REPRESENTATIONS
+        .iter()
+        .position(|how| !all_come_back(alloc, *how))
 }
 
 #[test]
-fn each_representation_there_and_back(rt: HostRuntime) -> Result<(), Fail> {
-    assert_eq!(&rt; first_wrong(rt.alloc())?, None);
-    Ok(())
+fn each_representation_there_and_back(rt: HostRuntime) {
+    assert_eq!(&rt; first_wrong(rt.alloc()), None);
 }
+
+const MARKED: How = How {
+    start: Some(0),
+    ..FILE_BLOCK
+};
 
 #[test]
 fn seventy_thousand_octets_with_a_marker_come_back(rt: HostRuntime) -> Result<(), Fail> {
     let file = vec![in rt.alloc(); b'x'; 70_000]?;
-    let marked = How {
-        start: Some(0),
-        ..FILE_BLOCK
-    };
-    assert!(&rt; comes_back(rt.alloc(), marked, &file, &[1, 4096, 70_000])?);
+    assert!(&rt; comes_back(rt.alloc(), MARKED, &file, &[1, 4096, 70_000]));
     Ok(())
 }
 

@@ -1,5 +1,4 @@
-//! For tests alone: rows of files, items and wires for `ftp_repr`, `ftp_framer` and `ftp_mode`, and calls at which a
-//! clause of theirs decides the answer.
+//! For tests alone: rows of files and items for `ftp_repr`, and calls at which a clause of it decides the answer.
 #![tactic(auto)]
 
 #[cfg(test)]

@@ -1,11 +1,7 @@
-mod both_ways;
 mod parts;
-mod reading;
 mod receiving;
 mod refusals;
 mod sending;
 mod sizes;
 mod skipping;
-mod wires;
 mod words;
-mod writing;

@@ -1,6 +1,6 @@
-use super::parts::{add_parts, send_piece};
+use super::parts::{Part, add_parts, send_piece};
 use ftp_repr::{Item, Kind, Sender, Structure};
-use std::alloc::Global;
+use std::alloc::{AllocError, Global};
 use std::test::Fail;
 
 /// A file in a type and structure, and its items, by hand from RFC 959, sections 3.1.1.1 and 3.1.2.2.
@@ -78,23 +78,41 @@ const ROWS: &[Row<'static>] = &[
     ),
 ];
 
-/// Whether the row's items are given for its file in these pieces, and nothing behind the end.
-fn is_sent(alloc: Global, row: &Row<'_>, pieces: &[&[u8]]) -> Result<bool, Fail> {
-    let (kind, structure, _, items) = *row;
-    let mut sender = Sender::new(kind, structure);
+/// The least parts of the items that are given for a file in these pieces; none where something is given behind the end.
+fn sent(
+    alloc: Global,
+    mut sender: Sender,
+    pieces: &[&[u8]],
+) -> Result<Option<Vec<Part>>, AllocError> {
     let mut parts = Vec::new(alloc);
     for piece in pieces {
         send_piece(&mut sender, piece, false, &mut parts)?;
     }
     send_piece(&mut sender, &[], true, &mut parts)?;
-    let mut expected = Vec::new(alloc);
-    for item in items {
-        add_parts(*item, &mut expected)?;
-    }
-    Ok(parts.as_slice() == expected.as_slice() && sender.next(&[0x61], true) == (1, None))
+    let (_, more) = sender.next(&[0x61], true);
+    Ok(if more.is_none() { Some(parts) } else { None })
 }
 
-fn is_sent_by_octets(alloc: Global, row: &Row<'_>) -> Result<bool, Fail> {
+/// The least parts of items.
+fn parts_of(alloc: Global, items: &[Item<'_>]) -> Result<Vec<Part>, AllocError> {
+    let mut parts = Vec::new(alloc);
+    for item in items {
+        add_parts(*item, &mut parts)?;
+    }
+    Ok(parts)
+}
+
+/// Whether the row's items are given for its file in these pieces, and nothing behind the end.
+fn is_sent(alloc: Global, row: &Row<'_>, pieces: &[&[u8]]) -> Result<bool, AllocError> {
+    let (kind, structure, _, items) = *row;
+    let expected = parts_of(alloc, items)?;
+    match sent(alloc, Sender::new(kind, structure), pieces)? {
+        Some(parts) => Ok(parts.as_slice() == expected.as_slice()),
+        None => Ok(false),
+    }
+}
+
+fn is_sent_by_octets(alloc: Global, row: &Row<'_>) -> Result<bool, AllocError> {
     let (_, _, octets, _) = *row;
     let mut pieces = Vec::new(alloc);
     for piece in octets.chunks(1) {
@@ -104,7 +122,7 @@ fn is_sent_by_octets(alloc: Global, row: &Row<'_>) -> Result<bool, Fail> {
 }
 
 /// Whether a row holds, cut at each place and by octets.
-fn row_holds(alloc: Global, row: &Row<'_>) -> Result<bool, Fail> {
+fn row_holds(alloc: Global, row: &Row<'_>) -> Result<bool, AllocError> {
     let (_, _, octets, _) = *row;
     for cut in 0..=octets.len() {
         let (front, back) = octets.split_at(cut);
@@ -116,7 +134,7 @@ fn row_holds(alloc: Global, row: &Row<'_>) -> Result<bool, Fail> {
 }
 
 /// The first row that does not hold.
-fn first_wrong(alloc: Global) -> Result<Option<usize>, Fail> {
+fn first_wrong(alloc: Global) -> Result<Option<usize>, AllocError> {
     for (at, row) in ROWS.iter().enumerate() {
         if !row_holds(alloc, row)? {
             return Ok(Some(at));

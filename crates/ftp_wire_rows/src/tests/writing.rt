@@ -4,13 +4,12 @@ use super::wires::{
 };
 use ftp_framer::{Framer, Mode, Written};
 use ftp_repr::{Item, Structure};
-use std::alloc::Global;
-use std::test::Fail;
+use std::alloc::{AllocError, Global};
 
 /// A file and its wire, by hand from RFC 959, sections 3.4.1 and 3.4.2.
-type Row<'a> = (How, &'a [u8], &'a [u8]);
+pub type Row<'a> = (How, &'a [u8], &'a [u8]);
 
-const WIRES: &[Row<'static>] = &[
+pub const WIRES: &[Row<'static>] = &[
     (FILE_STREAM, b"", b""),
     (RECORD_STREAM, b"", b"\xFF\x02"),
     (FILE_BLOCK, b"", b"\x40\x00\x00"),
@@ -49,48 +48,34 @@ const WIRES: &[Row<'static>] = &[
     ),
 ];
 
+const SIZES: &[usize] = &[1, 2, 64];
+
 /// Whether a row holds, by pieces and rooms of several sizes.
-fn row_holds(alloc: Global, row: &Row<'_>) -> Result<bool, Fail> {
+fn row_holds(alloc: Global, row: &Row<'_>) -> bool {
     let (how, file, wire) = *row;
-    for piece in &[1, 2, 64] {
-        for room in &[1, 2, 64] {
-            if !goes_as(alloc, how, file, wire, *piece, *room)? {
-                return Ok(false);
-            }
-        }
-    }
-    Ok(true)
+    SIZES.iter().all(|piece| {
+        SIZES
+            .iter()
+            .all(|room| goes_as(alloc, how, file, wire, *piece, *room))
+    })
 }
 
 /// Whether a row holds, by pieces and rooms of each of these sizes.
-fn row_holds_by(alloc: Global, row: Row<'_>, sizes: &[usize]) -> Result<bool, Fail> {
+fn row_holds_by(alloc: Global, row: Row<'_>, sizes: &[usize]) -> bool {
     let (how, file, wire) = row;
-    for size in sizes {
-        if !goes_as(alloc, how, file, wire, *size, *size)? {
-            return Ok(false);
-        }
-    }
-    Ok(true)
-}
-
-/// The first row that does not hold.
-fn first_wrong(alloc: Global) -> Result<Option<usize>, Fail> {
-    for (at, row) in WIRES.iter().enumerate() {
-        if !row_holds(alloc, row)? {
-            return Ok(Some(at));
-        }
-    }
-    Ok(None)
+    sizes
+        .iter()
+        .all(|size| goes_as(alloc, how, file, wire, *size, *size))
 }
 
 #[test]
-fn wires_of_small_files(rt: HostRuntime) -> Result<(), Fail> {
-    assert_eq!(&rt; first_wrong(rt.alloc())?, None);
-    Ok(())
+fn wires_of_small_files(rt: HostRuntime) {
+    let alloc = rt.alloc();
+    assert_eq!(&rt; WIRES.iter().position(|row| !row_holds(alloc, row)), None);
 }
 
 /// Appends a header and so many octets of the letter x.
-fn add_block(wire: &mut Vec<u8>, header: &[u8], count: usize) -> Result<(), Fail> {
+fn add_block(wire: &mut Vec<u8>, header: &[u8], count: usize) -> Result<(), AllocError> {
     wire.extend_from_slice(header)?;
     for _ in 0..count {
         wire.push(b'x')?;
@@ -99,7 +84,7 @@ fn add_block(wire: &mut Vec<u8>, header: &[u8], count: usize) -> Result<(), Fail
 }
 
 /// Eight blocks of 8,192 octets, a marker, and a block of 4,464.
-fn wire_of_70_000(alloc: Global) -> Result<Vec<u8>, Fail> {
+fn wire_of_70_000(alloc: Global) -> Result<Vec<u8>, AllocError> {
     let mut wire = Vec::new(alloc);
     for _ in 0..8 {
         add_block(&mut wire, &[0x00, 0x20, 0x00], 8192)?;
@@ -113,22 +98,26 @@ fn wire_of_70_000(alloc: Global) -> Result<Vec<u8>, Fail> {
     Ok(wire)
 }
 
+const MARKED: How = How {
+    start: Some(0),
+    ..FILE_BLOCK
+};
+
+/// Whether 70,000 octets go with a marker behind 65,536 of them.
+fn writes_70_000(alloc: Global) -> Result<bool, AllocError> {
+    let file = Vec::from_elem(alloc, b'x', 70_000)?;
+    let wire = wire_of_70_000(alloc)?;
+    let row = (MARKED, file.as_slice(), wire.as_slice());
+    Ok(wire.len() == 70_035 && row_holds_by(alloc, row, &[1, 4096, 70_000]))
+}
+
 #[test]
-fn seventy_thousand_octets_with_a_marker(rt: HostRuntime) -> Result<(), Fail> {
-    let file = vec![in rt.alloc(); b'x'; 70_000]?;
-    let wire = wire_of_70_000(rt.alloc())?;
-    let marked = How {
-        start: Some(0),
-        ..FILE_BLOCK
-    };
-    assert_eq!(&rt; wire.len(), 70_035);
-    let row = (marked, file.as_slice(), wire.as_slice());
-    assert!(&rt; row_holds_by(rt.alloc(), row, &[1, 4096, 70_000])?);
-    Ok(())
+fn seventy_thousand_octets_with_a_marker(rt: HostRuntime) {
+    assert!(&rt; writes_70_000(rt.alloc()) == Ok(true));
 }
 
 /// A start and the wire of four octets behind it.
-const STARTS: &[(u64, &'static [u8])] = &[
+pub const STARTS: &[(u64, &'static [u8])] = &[
     // None at the start, none at the end of the file.
     (0, b"\x40\x00\x04xxxx"),
     (65_536, b"\x40\x00\x04xxxx"),
@@ -137,67 +126,64 @@ const STARTS: &[(u64, &'static [u8])] = &[
     (131_071, b"\x00\x00\x01x\x10\x00\x06131072\x40\x00\x03xxx"),
 ];
 
+/// Whether four octets go as this wire, with markers counted from a start.
+fn goes_from(alloc: Global, how: How, start: u64, wire: &[u8]) -> bool {
+    let marked = How {
+        start: Some(start),
+        ..how
+    };
+    row_holds_by(alloc, (marked, b"xxxx", wire), &[1, 64])
+}
+
 #[test]
-fn markers_count_from_a_start(rt: HostRuntime) -> Result<(), Fail> {
-    for (start, wire) in STARTS {
-        let marked = How {
-            start: Some(*start),
-            ..FILE_BLOCK
-        };
-        let file: &[u8] = b"xxxx";
-        assert!(&rt;
-            row_holds_by(rt.alloc(), (marked, file, *wire), &[1, 64])?,
-            "from {start}"
-        );
-    }
-    Ok(())
+fn markers_count_from_a_start(rt: HostRuntime) {
+    let alloc = rt.alloc();
+    let wrong = STARTS.iter().position(|(start, wire)| !goes_from(alloc, FILE_BLOCK, *start, wire));
+    assert_eq!(&rt; wrong, None);
 }
 
 /// Four octets in which a marker would stand, where none is written.
-const UNMARKED: &[(How, &'static [u8])] = &[
+pub const UNMARKED: &[(How, &'static [u8])] = &[
     (FILE_STREAM, b"xxxx"),
     (RECORD_STREAM, b"xxxx\xFF\x02"),
     (RECORD_BLOCK, b"\x40\x00\x04xxxx"),
 ];
 
 #[test]
-fn markers_are_for_blocks_in_file_structure(rt: HostRuntime) -> Result<(), Fail> {
-    for (how, wire) in UNMARKED {
-        let asked = How {
-            start: Some(65_533),
-            ..*how
-        };
-        assert!(&rt; goes_as(rt.alloc(), asked, b"xxxx", wire, 64, 64)?);
-    }
-    Ok(())
+fn markers_are_for_blocks_in_file_structure(rt: HostRuntime) {
+    let alloc = rt.alloc();
+    let wrong = UNMARKED
+        .iter()
+        .position(|(how, wire)| !goes_from(alloc, *how, 65_533, wire));
+    assert_eq!(&rt; wrong, None);
+}
+
+/// Whether a record of 8,192 octets goes as one block.
+fn writes_a_full_block(alloc: Global) -> Result<bool, AllocError> {
+    let mut file = Vec::from_elem(alloc, b'x', 8192)?;
+    file.push(0x0A)?;
+    let mut wire = Vec::new(alloc);
+    add_block(&mut wire, &[0xC0, 0x20, 0x00], 8192)?;
+    let row = (RECORD_BLOCK, file.as_slice(), wire.as_slice());
+    Ok(row_holds_by(alloc, row, &[1, 4096, 8193]))
 }
 
 #[test]
-fn a_record_of_8192_octets_is_one_block(rt: HostRuntime) -> Result<(), Fail> {
-    let mut file = vec![in rt.alloc(); b'x'; 8192]?;
-    file.push(0x0A)?;
-    let mut wire = Vec::new(rt.alloc());
-    add_block(&mut wire, &[0xC0, 0x20, 0x00], 8192)?;
-    let row = (RECORD_BLOCK, file.as_slice(), wire.as_slice());
-    assert!(&rt; row_holds_by(rt.alloc(), row, &[1, 4096, 8193])?);
-    Ok(())
+fn a_record_of_8192_octets_is_one_block(rt: HostRuntime) {
+    assert!(&rt; writes_a_full_block(rt.alloc()) == Ok(true));
+}
+
+/// Whether an end is taken once all of it is out, and nothing goes behind it.
+fn takes_an_end_once() -> bool {
+    let mut framer = Framer::new(Mode::Stream, Structure::Record);
+    let mut room = [0; 2];
+    let (none, some) = room.split_at_mut(0);
+    framer.put(Item::EndFile, none) == Written { taken: 0, made: 0 }
+        && framer.put(Item::EndFile, some) == Written { taken: 1, made: 2 }
+        && framer.put(Item::Octets(b"x"), some) == Written { taken: 1, made: 0 }
 }
 
 #[test]
 fn an_end_is_taken_once_it_is_out(rt: HostRuntime) {
-    let mut framer = Framer::new(Mode::Stream, Structure::Record);
-    let mut room = [0; 2];
-    let (none, some) = room.split_at_mut(0);
-    assert_eq!(&rt;
-        framer.put(Item::EndFile, none),
-        Written { taken: 0, made: 0 }
-    );
-    assert_eq!(&rt;
-        framer.put(Item::EndFile, some),
-        Written { taken: 1, made: 2 }
-    );
-    assert_eq!(&rt;
-        framer.put(Item::Octets(b"x"), some),
-        Written { taken: 1, made: 0 }
-    );
+    assert!(&rt; takes_an_end_once());
 }

@@ -4,8 +4,7 @@ use super::wires::{
 };
 use ftp_mode::{Deframer, FaultAt, FrameFault, Mode, Part, Step};
 use ftp_repr::Structure;
-use std::alloc::Global;
-use std::test::Fail;
+use std::alloc::{AllocError, Global};
 
 /// A wire, the file that it settles and its fault, by hand from RFC 959, sections 3.4.1, 3.4.2 and 3.5.
 type Row<'a> = (How, &'a [u8], &'a [u8], Option<FrameFault>);
@@ -129,116 +128,132 @@ const WIRES: &[Row<'static>] = &[
 ];
 
 /// Whether a row holds, by pieces of each of these sizes.
-fn row_holds(alloc: Global, row: &Row<'_>, sizes: &[usize]) -> Result<bool, Fail> {
+fn row_holds(alloc: Global, row: &Row<'_>, sizes: &[usize]) -> bool {
     let (how, wire, file, fault) = *row;
-    for size in sizes {
-        if !reads_as(alloc, how, wire, file, fault, *size)? {
-            return Ok(false);
-        }
-    }
-    Ok(true)
+    sizes
+        .iter()
+        .all(|size| reads_as(alloc, how, wire, file, fault, *size))
 }
 
 /// The first row that does not hold.
-fn first_wrong(alloc: Global) -> Result<Option<usize>, Fail> {
-    for (at, row) in WIRES.iter().enumerate() {
-        if !row_holds(alloc, row, &[1, 2, 3, 64])? {
-            return Ok(Some(at));
-        }
-    }
-    Ok(None)
+fn first_wrong(alloc: Global) -> Option<usize> {
+    WIRES
+        .iter()
+        .position(|row| !row_holds(alloc, row, &[1, 2, 3, 64]))
 }
 
 #[test]
-fn wires_read_with_their_faults(rt: HostRuntime) -> Result<(), Fail> {
-    assert_eq!(&rt; first_wrong(rt.alloc())?, None);
-    Ok(())
+fn wires_read_with_their_faults(rt: HostRuntime) {
+    assert_eq!(&rt; first_wrong(rt.alloc()), None);
 }
 
 /// A block of so many octets of one kind.
-fn block(alloc: Global, header: &[u8], octet: u8, count: usize) -> Result<Vec<u8>, Fail> {
-    let mut wire = Vec::new(alloc);
-    wire.extend_from_slice(header)?;
+fn block(alloc: Global, header: &[u8], octet: u8, count: usize) -> Result<Vec<u8>, AllocError> {
+    let mut wire = Vec::from_slice(alloc, header)?;
     for _ in 0..count {
         wire.push(octet)?;
     }
     Ok(wire)
 }
 
-#[test]
-fn a_block_of_65535_octets(rt: HostRuntime) -> Result<(), Fail> {
-    let file = block(rt.alloc(), &[], b'x', 65_535)?;
-    let wire = block(rt.alloc(), &[0x40, 0xFF, 0xFF], b'x', 65_535)?;
+/// Whether a block of 65,535 octets is read.
+fn reads_a_full_block(alloc: Global) -> Result<bool, AllocError> {
+    let file = block(alloc, &[], b'x', 65_535)?;
+    let wire = block(alloc, &[0x40, 0xFF, 0xFF], b'x', 65_535)?;
     let row = (FILE_BLOCK, wire.as_slice(), file.as_slice(), None);
-    assert!(&rt; row_holds(rt.alloc(), &row, &[1, 4096, 70_000])?);
-    Ok(())
+    Ok(row_holds(alloc, &row, &[1, 4096, 70_000]))
 }
 
 #[test]
-fn a_marker_of_255_octets_before_an_end(rt: HostRuntime) -> Result<(), Fail> {
-    let wire = block(rt.alloc(), &[0xD0, 0x00, 0xFF], b'~', 255)?;
+fn a_block_of_65535_octets(rt: HostRuntime) {
+    assert!(&rt; reads_a_full_block(rt.alloc()) == Ok(true));
+}
+
+/// Whether a marker of 255 octets is read over.
+fn reads_a_full_marker(alloc: Global) -> Result<bool, AllocError> {
+    let wire = block(alloc, &[0xD0, 0x00, 0xFF], b'~', 255)?;
     let file: &[u8] = &[0x0A];
     let row = (RECORD_BLOCK, wire.as_slice(), file, None);
-    assert!(&rt; row_holds(rt.alloc(), &row, &[1, 64, 300])?);
-    Ok(())
+    Ok(row_holds(alloc, &row, &[1, 64, 300]))
 }
 
 #[test]
-fn a_marker_is_lent(rt: HostRuntime) {
+fn a_marker_of_255_octets_before_an_end(rt: HostRuntime) {
+    assert!(&rt; reads_a_full_marker(rt.alloc()) == Ok(true));
+}
+
+/// Whether a marker is lent once it is whole.
+fn lends_a_marker() -> bool {
     let mut deframer = Deframer::new(Mode::Block, Structure::File);
     let more = Ok(Step {
         taken: 5,
         part: Part::Need,
     });
-    assert_eq!(&rt; deframer.feed(b"\x10\x00\x0565"), more);
     let ended = Ok(Step {
         taken: 3,
         part: Part::Marker,
     });
-    assert_eq!(&rt; deframer.feed(b"536\x00"), ended);
-    assert_eq!(&rt; deframer.marker(), b"65536".as_slice());
+    deframer.feed(b"\x10\x00\x0565") == more
+        && deframer.feed(b"536\x00") == ended
+        && deframer.marker() == b"65536".as_slice()
+}
+
+#[test]
+fn a_marker_is_lent(rt: HostRuntime) {
+    assert!(&rt; lends_a_marker());
+}
+
+/// Whether a reader that met a fault stays so.
+fn stays_faulty() -> bool {
+    let mut deframer = Deframer::new(Mode::Stream, Structure::Record);
+    let fault = FrameFault::BadEscape(1);
+    let met = deframer.feed(&[0xFF, 0x04, 0x61]) == Err(FaultAt { taken: 2, fault });
+    let again = deframer.feed(&[0x61]) == Err(FaultAt { taken: 0, fault });
+    deframer.broken();
+    met && again && deframer.end() == Err(fault)
 }
 
 #[test]
 fn a_fault_stays(rt: HostRuntime) {
-    let mut deframer = Deframer::new(Mode::Stream, Structure::Record);
-    let fault = FrameFault::BadEscape(1);
-    let met = Err(FaultAt { taken: 2, fault });
-    assert_eq!(&rt; deframer.feed(&[0xFF, 0x04, 0x61]), met);
-    let again = Err(FaultAt { taken: 0, fault });
-    assert_eq!(&rt; deframer.feed(&[0x61]), again);
-    deframer.broken();
-    assert_eq!(&rt; deframer.end(), Err(fault));
+    assert!(&rt; stays_faulty());
 }
 
-#[test]
-fn a_break_leaves_what_was_read(rt: HostRuntime) {
-    // The end of a record that came is still given; then the end of file is missing.
+/// Whether the end of a record that came is still given behind a break; then the end of file is missing.
+fn gives_what_came() -> bool {
     let mut deframer = Deframer::new(Mode::Block, Structure::Record);
     let data: &[u8] = b"a";
     let given = Ok(Step {
         taken: 4,
         part: Part::Data(data),
     });
-    assert_eq!(&rt; deframer.feed(b"\x80\x00\x01a"), given);
+    let came = deframer.feed(b"\x80\x00\x01a") == given;
     deframer.broken();
     let ended = Ok(Step {
         taken: 0,
         part: Part::EndRecord,
     });
-    assert_eq!(&rt; deframer.feed(&[]), ended);
     let fault = FrameFault::EndedEarly;
-    assert_eq!(&rt; deframer.feed(&[]), Err(FaultAt { taken: 0, fault }));
+    came && deframer.feed(&[]) == ended && deframer.feed(&[]) == Err(FaultAt { taken: 0, fault })
 }
 
 #[test]
-fn behind_an_end_of_file_a_break_breaks_nothing(rt: HostRuntime) {
+fn a_break_leaves_what_was_read(rt: HostRuntime) {
+    assert!(&rt; gives_what_came());
+}
+
+/// Whether nothing is missing where a connection breaks behind an end of file.
+fn is_whole_behind_its_end() -> bool {
     let mut deframer = Deframer::new(Mode::Block, Structure::File);
     let ended = Ok(Step {
         taken: 3,
         part: Part::EndFile,
     });
-    assert_eq!(&rt; deframer.feed(&[0x40, 0x00, 0x00]), ended);
+    let came = deframer.feed(&[0x40, 0x00, 0x00]) == ended;
     deframer.broken();
-    assert_eq!(&rt; deframer.end(), Ok(()));
+    came && deframer.end() == Ok(())
+}
+
+#[test]
+fn behind_an_end_of_file_a_break_breaks_nothing(rt: HostRuntime) {
+    assert!(&rt; is_whole_behind_its_end());
 }

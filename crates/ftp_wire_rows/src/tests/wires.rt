@@ -4,7 +4,6 @@ use ftp_framer::{Framer, Mode};
 use ftp_mode::{Deframer, FrameFault, Part};
 use ftp_repr::{Item, Kind, Receiver, ReprFault, Sender, Structure};
 use std::alloc::{AllocError, Global};
-use std::test::Fail;
 
 /// A representation, and where own markers are counted from, if any.
 #[derive(Clone, Copy)]
@@ -127,10 +126,9 @@ pub fn goes_as(
     wire: &[u8],
     piece: usize,
     room: usize,
-) -> Result<bool, Fail> {
+) -> bool {
     let mut made = Vec::new(alloc);
-    write(how, file, piece, room, &mut made)?;
-    Ok(made.as_slice() == wire)
+    write(how, file, piece, room, &mut made).is_ok() && made.as_slice() == wire
 }
 
 fn take_part(receiver: &mut Receiver, part: Part<'_>, file: &mut Vec<u8>) -> Result<(), ReprFault> {
@@ -183,20 +181,21 @@ pub fn reads_as(
     file: &[u8],
     fault: Option<FrameFault>,
     piece: usize,
-) -> Result<bool, Fail> {
+) -> bool {
     let mut got = Vec::new(alloc);
-    let first = read(how, wire, piece, &mut got)?;
-    Ok(first == fault && got.as_slice() == file)
+    read(how, wire, piece, &mut got) == Ok(fault) && got.as_slice() == file
+}
+
+/// Whether a file is read again from its wire, by pieces and rooms of this size.
+fn comes_back_by(alloc: Global, how: How, file: &[u8], size: usize) -> bool {
+    let mut wire = Vec::new(alloc);
+    write(how, file, size, size, &mut wire).is_ok()
+        && reads_as(alloc, how, wire.as_slice(), file, None, size)
 }
 
 /// Whether a file is read again from its wire, by pieces and rooms of each of these sizes.
-pub fn comes_back(alloc: Global, how: How, file: &[u8], sizes: &[usize]) -> Result<bool, Fail> {
-    for size in sizes {
-        let mut wire = Vec::new(alloc);
-        write(how, file, *size, *size, &mut wire)?;
-        if !reads_as(alloc, how, wire.as_slice(), file, None, *size)? {
-            return Ok(false);
-        }
-    }
-    Ok(true)
+pub fn comes_back(alloc: Global, how: How, file: &[u8], sizes: &[usize]) -> bool {
+    sizes
+        .iter()
+        .all(|size| comes_back_by(alloc, how, file, *size))
 }

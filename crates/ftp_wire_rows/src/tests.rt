@@ -1,0 +1,5 @@
+mod both_ways;
+mod encoding;
+mod reading;
+mod wires;
+mod writing;

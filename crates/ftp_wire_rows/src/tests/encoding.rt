@@ -1,0 +1,103 @@
+//! Files to wires by the encoder, which puts a sender and a framer one behind the other.
+use super::wires::{ASCII_STREAM, FILE_BLOCK, FILE_STREAM, How, RECORD_STREAM};
+use super::writing::{Row, STARTS, UNMARKED, WIRES};
+use ftp_encoder::{Encoded, Encoder};
+use ftp_representation::Representation;
+
+fn settings(how: How) -> Representation {
+    Representation {
+        kind: how.kind,
+        structure: how.structure,
+        mode: how.mode,
+    }
+}
+
+fn encoder(how: How) -> Encoder {
+    match how.start {
+        None => Encoder::new(settings(how)),
+        Some(start) => Encoder::marked(settings(how), start),
+    }
+}
+
+/// Whether a file that comes in pieces of one size goes as this wire, by rooms of another.
+fn goes_as(row: Row<'_>, piece: usize, room: usize) -> bool {
+    let (how, mut file, mut wire) = row;
+    let mut encoder = encoder(how);
+    let mut space = [0; 64];
+    for _ in 0..200 {
+        let (front, behind) = file.split_at(piece.min(file.len()));
+        let (free, _) = space.split_at_mut(room.min(64));
+        let encoded = encoder.put(front, behind.is_empty(), free);
+        let (made, _) = space.split_at(encoded.made);
+        let Some(rest) = wire.strip_prefix(made) else {
+            return false;
+        };
+        wire = rest;
+        let (_, left) = file.split_at(encoded.taken);
+        file = left;
+    }
+    file.is_empty() && wire.is_empty() && encoder.is_done() && encoder.is_out(true)
+}
+
+const SIZES: &[usize] = &[1, 2, 64];
+
+/// Whether a row holds, by pieces and rooms of each size.
+fn holds(row: Row<'_>) -> bool {
+    SIZES.iter().all(|piece| SIZES.iter().all(|room| goes_as(row, *piece, *room)))
+}
+
+#[test]
+fn wires_of_small_files(rt: HostRuntime) {
+    assert_eq!(&rt; WIRES.iter().position(|row| !holds(*row)), None);
+}
+
+/// Whether four octets behind a start go as this wire.
+fn begins_at(how: How, start: u64, wire: &[u8]) -> bool {
+    let marked = How {
+        start: Some(start),
+        ..how
+    };
+    holds((marked, b"xxxx", wire))
+}
+
+#[test]
+fn own_markers(rt: HostRuntime) {
+    let wrong = STARTS
+        .iter()
+        .position(|(start, wire)| !begins_at(FILE_BLOCK, *start, wire));
+    assert_eq!(&rt; wrong, None);
+    let written = UNMARKED
+        .iter()
+        .position(|(how, wire)| !begins_at(*how, 65_533, wire));
+    assert_eq!(&rt; written, None);
+}
+
+/// Whether an end that writes nothing is out before it is put, and no other.
+fn ends_are_out() -> bool {
+    let stream = encoder(FILE_STREAM);
+    let records = encoder(RECORD_STREAM);
+    stream.is_out(true) && !stream.is_out(false) && !stream.is_done() && !records.is_out(true)
+}
+
+#[test]
+fn an_end_that_writes_nothing_is_out_before_it_is_put(rt: HostRuntime) {
+    assert!(&rt; ends_are_out());
+}
+
+/// Whether the second octet of a CR LF waits for room.
+fn keeps_a_half() -> bool {
+    let mut encoder = encoder(ASCII_STREAM);
+    let mut room = [0];
+    let first = Encoded { taken: 1, made: 1 };
+    let second = Encoded { taken: 0, made: 1 };
+    encoder.put(b"\n", true, &mut room) == first
+        && !encoder.is_out(true)
+        && encoder.put(b"", true, &mut room) == second
+        && room[0] == b'\n'
+        && encoder.is_out(true)
+}
+
+#[test]
+fn the_second_octet_of_a_pair_waits_for_room(rt: HostRuntime) {
+    assert!(&rt; keeps_a_half());
+}
