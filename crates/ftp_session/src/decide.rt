@@ -1,18 +1,17 @@
 // The order of decisions on a line (own choice).
 ghost use Rattle.std.specs.Prelude.{◌≡◌, false, if◌then◌else◌};
-ghost use Rattle.ftp_server_machine.specs.Act.{fault_text, is_free, is_in, is_transfer};
 ghost use Rattle.ftp_server_machine.specs.Endpoint.{forgotten};
 ghost use Rattle.ftp_session.specs.Line.{HasPathTexts, HeardPaths};
 
 use crate::footing::Footing;
 use crate::session::Session;
-use ftp_command::{Command, CommandFault, Text};
+use ftp_command::{Command, Text};
+use ftp_decisions::{fault_text, is_free, is_in, is_transfer, pending_for};
 use ftp_moves::{Fault, Moves};
 use ftp_path::Path;
-use ftp_server_machine::{Access, Heard, Pending, ReplyKind, Text as Says};
+use ftp_server_machine::{Heard, Pending, ReplyKind, Text as Says};
 use ftp_tree::Tree;
 use std::alloc::Allocator;
-use std::mem;
 
 impl<A: Allocator + Copy, T: Tree<A>, J: Moves<A, T>> Session<A, T, J> {
     ghost use Rattle.ftp_session.specs.Session.{footing_of, has_transfer, session_of};
@@ -28,7 +27,7 @@ impl<A: Allocator + Copy, T: Tree<A>, J: Moves<A, T>> Session<A, T, J> {
         requires paths { HeardPaths heard }
         ensures { Decides T.table T.failures J.view (footing_of footing.now) heard self.old self.new result }
     {
-        let pending = mem::replace(&mut self.pending, Pending::Nothing);
+        let pending = pending_for(&mut self.pending);
         match heard {
             Heard::TooLong => Ok(ReplyKind::Fixed(Says::LineTooLong)),
             Heard::Bad(fault) => Ok(ReplyKind::Fixed(fault_text(fault))),
@@ -70,60 +69,5 @@ impl<A: Allocator + Copy, T: Tree<A>, J: Moves<A, T>> Session<A, T, J> {
         if is_transfer {
             self.forget();
         }
-    }
-}
-
-/// Whether somebody is logged in.
-fn is_in<A: Allocator>(access: &Access<Text<A>>) -> bool
-    ensures { result ≡ is_in access.now }
-{
-    matches!(access, Access::Known)
-}
-
-/// Whether a command needs a data connection (RFC 959, section 4.1.3; RFC 3659, section 7).
-fn is_transfer<A: Allocator>(command: &Command<Text<A>>) -> bool
-    ensures { result ≡ is_transfer command.now }
-{
-    matches!(
-        command,
-        Command::Retr(_)
-            | Command::Stor(_)
-            | Command::Appe(_)
-            | Command::List(_)
-            | Command::Nlst(_)
-            | Command::Mlsd(_)
-    )
-}
-
-/// Whether a command is done before a login too.
-fn is_free<A: Allocator>(command: &Command<Text<A>>) -> bool
-    ensures { result ≡ is_free command.now }
-{
-    matches!(
-        command,
-        Command::User(_)
-            | Command::Pass(_)
-            | Command::Rein
-            | Command::Quit
-            | Command::Noop
-            | Command::Help(_)
-            | Command::Syst
-            | Command::Feat
-            | Command::Opts(_)
-            | Command::Abor
-    )
-}
-
-/// The reply to a line that says no command.
-fn fault_text(fault: CommandFault) -> Says
-    ensures { result ≡ fault_text fault }
-{
-    match fault {
-        CommandFault::Unknown => Says::Unknown,
-        CommandFault::BadArgument => Says::BadArgument,
-        CommandFault::NotDone => Says::NotImplemented,
-        CommandFault::BadParameter => Says::BadParameter,
-        CommandFault::Protocol => Says::Protocol,
-        CommandFault::Memory => Says::LocalFault,
     }
 }

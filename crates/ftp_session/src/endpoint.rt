@@ -1,21 +1,19 @@
 // PORT, EPRT, PASV and EPSV (RFC 959, section 4.1.2; RFC 2428).
 ghost use Rattle.std.specs.Prelude.{◌≡◌};
-ghost use Rattle.ftp_ends.specs.Link.{is_v6, same_host};
-ghost use Rattle.ftp_server_machine.specs.Endpoint.{asks, disconnected, epsv, forgotten, is_standing, is_taken, pasv, port};
+ghost use Rattle.ftp_server_machine.specs.Endpoint.{asks, disconnected, epsv, forgotten, is_standing, pasv, port};
 ghost use Rattle.ftp_tree.specs.Tree.{under};
 
 use crate::footing::Footing;
 use crate::session::Session;
 use ftp_command::Passive;
-use ftp_endpoint::{Endpoint, Host};
+use ftp_decisions::is_taken;
+use ftp_endpoint::Endpoint;
+use ftp_hosts::is_v6;
 use ftp_moves::Moves;
 use ftp_path::Path;
 use ftp_server_machine::{Asked, DataConnection, ReplyKind, Text, Way};
 use ftp_tree::Tree;
 use std::alloc::Allocator;
-
-/// The lowest port of a client's endpoint (RFC 2577, section 3).
-const LOWEST_PORT: u16 = 1024;
 
 impl<A: Allocator + Copy, T: Tree<A>, J: Moves<A, T>> Session<A, T, J> {
     ghost use Rattle.ftp_session.specs.Session.{connection_of, footing_of, session_of};
@@ -116,34 +114,4 @@ impl<A: Allocator + Copy, T: Tree<A>, J: Moves<A, T>> Session<A, T, J> {
             }
         }
     }
-}
-
-/// Whether an endpoint is on the client's own host, and on no port below 1024.
-fn is_taken(peer: Host, endpoint: Endpoint) -> bool
-    ensures { result ≡ is_taken peer endpoint }
-{
-    is_same_host(endpoint.host, peer) && endpoint.port >= LOWEST_PORT
-}
-
-/// Whether two hosts are one.
-pub fn is_same_host(one: Host, other: Host) -> bool
-    ensures { result ≡ same_host one other }
-{
-    match one {
-        Host::V4(a) => match other {
-            Host::V4(b) => a == b,
-            Host::V6(_) => false,
-        },
-        Host::V6(a) => match other {
-            Host::V4(_) => false,
-            Host::V6(b) => a == b,
-        },
-    }
-}
-
-/// Whether a host is one of IPv6.
-fn is_v6(host: Host) -> bool
-    ensures { result ≡ is_v6 host }
-{
-    matches!(host, Host::V6(_))
 }

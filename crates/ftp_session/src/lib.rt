@@ -16,7 +16,7 @@ mod settings;
 mod transfers;
 mod walk;
 
-pub use endpoint::is_same_host;
 pub use footing::Footing;
+pub use ftp_hosts::is_same_host;
 pub use ftp_moves::{Fault, Given, Marker, Moves, Received, Told};
 pub use session::Session;
