@@ -1,0 +1,2 @@
+pub mod UploadLemmas
+pub mod DownloadLemmas

@@ -1,0 +1,41 @@
+// What the octets of a download answer (RFC 959, section 4.1.3; RFC 3659, section 7).
+ghost use Rattle.std.specs.Prelude.{◌≡◌, ◌≤◌, IfOk, length, option_map, take};
+ghost use Rattle.ftp_operation.specs.Answer.{said_of};
+ghost use Rattle.ftp_client_machine.specs.Octets.{content_answer};
+
+use ftp_facts::Text;
+use ftp_operation::{Answer, Op};
+use std::alloc::{AllocError, Allocator};
+
+/// What the octets of a whole download answer; `None` where a line of a listing says nothing.
+pub(crate) fn content_in<A: Allocator + Clone>(
+    op: &Op<Text<A>>,
+    octets: &[u8],
+    alloc: &A,
+) -> Result<Option<Answer<A>>, AllocError>
+    ensures { IfOk result (λ answer. option_map said_of answer ≡ content_answer op.now octets.now) }
+{
+    match op {
+        Op::List(_, _) | Op::Names(_, _) => Err(AllocError),
+        Op::Peek(_, count, _) => Ok(Some(Answer::Octets(copy_of(first(octets, *count), alloc)?))),
+        _ => Ok(Some(Answer::Octets(copy_of(octets, alloc)?))),
+    }
+}
+
+/// A copy of octets.
+pub(crate) fn copy_of<A: Allocator + Clone>(octets: &[u8], alloc: &A) -> Result<Text<A>, AllocError>
+    ensures { IfOk result (λ text. text ≡ octets.now) }
+{
+    Text::copy_of(alloc.clone()?, octets)
+}
+
+/// The first octets, so many if there are so many.
+fn first(octets: &[u8], count: u64) -> &[u8]
+    ensures { result.now ≡ take count octets.now }
+{
+    if count >= octets.len() as u64 {
+        return octets;
+    }
+    let (front, _) = octets.split_at(count as usize);
+    front
+}

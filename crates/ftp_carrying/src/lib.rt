@@ -1,0 +1,10 @@
+//! What goes over the data connection of a client's transfer: the octets of an upload, or the file of a download; no IO (RFC 959,
+//! sections 3.1 to 3.5).
+#![tactic(auto)]
+
+mod carrying;
+mod content;
+mod download;
+mod upload;
+
+pub use carrying::Carrying;
