@@ -4,3 +4,4 @@ pub mod AnswerLemmas
 pub mod DialogueLemmas
 pub mod CallLemmas
 pub mod Theorems
+pub mod NearLemmas

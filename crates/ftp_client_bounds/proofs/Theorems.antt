@@ -24,18 +24,18 @@ use Rattle.ftp_client_bounds.proofs.ReadLemmas.{none_short}
 -- ---- start
 
 -- where the first try of an upload over breaks can be sent, its path is one
-first_path : (u : OverBreaks) → can_be_sent (first_try u) ≡ true → IsSendableRun (Some (run_of u))
+pub first_path : (u : OverBreaks) → can_be_sent (first_try u) ≡ true → IsSendableRun (Some (run_of u))
 first_path u can = by (counts_as_file u.how.representation) can
   where
     by : (b : Bool) → can_be_sent (if b then whole_put u else Ops.MakeDir []) ≡ true → is_path_text u.path ≡ true
     by true can = can
     by false can = absurd (true≢false (sym can))
 
-starts_fits : (op : Op (List ℕ)) (v : View) → IsFit v → is_busy v ≡ false → IsFit (starts op v)
+pub starts_fits : (op : Op (List ℕ)) (v : View) → IsFit v → is_busy v ≡ false → IsFit (starts op v)
 unfolding starts
 starts_fits op v k idle = begun_fits None op v (idle_of v.job idle) (λ can. tt) k
 
-uploads_fits : (u : OverBreaks) (v : View) → IsFit v → is_busy v ≡ false → IsFit (uploads u v)
+pub uploads_fits : (u : OverBreaks) (v : View) → IsFit v → is_busy v ≡ false → IsFit (uploads u v)
 unfolding uploads
 uploads_fits u v k idle = begun_fits (Some (run_of u)) (first_try u) v (idle_of v.job idle) (first_path u) k
 
@@ -44,7 +44,7 @@ uploads_fits u v k idle = begun_fits (Some (run_of u)) (first_try u) v (idle_of 
 short_fits : (v : View) → IsFit v → IsFit (short v)
 short_fits v k = fails_fits Failures.Memory v k
 
-begun_short_fits : (run : Option Run) (op : Op (List ℕ)) (v : View) → is_busy v ≡ false → (can_be_sent op ≡ true → IsSendableRun run) → IsFit v → IsFit (begun_short run op v)
+pub begun_short_fits : (run : Option Run) (op : Op (List ℕ)) (v : View) → is_busy v ≡ false → (can_be_sent op ≡ true → IsSendableRun run) → IsFit v → IsFit (begun_short run op v)
 begun_short_fits run op v idle sendable k =
     cond_both (can_be_sent op && is_sound v.standing) (short (record v { job = Waiting op; run = run })) (begun run op v) IsFit
     (λ is. let can = (and_parts (can_be_sent op) (is_sound v.standing) is).0 in short_fits (record v { job = Waiting op; run = run }) (waits_fits run op v (idle_of v.job idle) (sendable can) can k))
@@ -68,7 +68,7 @@ opened_short_fits (Data.Listening port) v k = k
 opened_short_fits Data.Open v k = k
 opened_short_fits (Data.Over ending) v k = k
 
-over_short_fits : (connection : DataConnection) (v : View) → IsFit v → IsFit (over_short connection v)
+pub over_short_fits : (connection : DataConnection) (v : View) → IsFit v → IsFit (over_short connection v)
 over_short_fits Data.Open v k = short_fits (record v { connection = Data.Over Endings.Clean }) (connected_fits (Data.Over Endings.Clean) v tt tt k)
 over_short_fits Data.Free v k = k
 over_short_fits Data.ListenWanted v k = k
@@ -77,7 +77,7 @@ over_short_fits (Data.Connecting endpoint) v k = k
 over_short_fits (Data.Accepting port) v k = k
 over_short_fits (Data.Over ending) v k = k
 
-failed_fits : (call : Call) (v : View) → IsTypedCall call → IsFit v → IsFit (failed_call call v)
+pub failed_fits : (call : Call) (v : View) → IsTypedCall call → IsFit v → IsFit (failed_call call v)
 failed_fits (Start op) v typed k = cond_both (is_busy v) v (starts_short op v) IsFit (λ busy. k) (λ idle. begun_short_fits None op v idle (λ can. tt) k)
 failed_fits (BeginUpload u) v typed k = cond_both (is_busy v) v (uploads_short u v) IsFit (λ busy. k) (λ idle. begun_short_fits (Some (run_of u)) (first_try u) v idle (first_path u) k)
 failed_fits (Listening port) v typed k = unless_fits (λ v. port_short v.connection port v) v k (port_short_fits v.connection port v typed k)

@@ -1,5 +1,6 @@
-//! How much a client holds: a function that does nothing, whose contracts are laws.
+//! How much a client holds: functions that do nothing, whose contracts are laws.
 ghost use Rattle.ftp_client_bounds.specs.Laws.{CallsStayFit, FitHoldsLittle, StartIsFit};
+ghost use Rattle.ftp_client_bounds.specs.Losses.{NearStaysFit};
 ghost use Rattle.ftp_client_machine.specs.Held.{ClientHoldsLittle};
 
 /// Whatever is called, a client never holds more than 24,576 octets, with the block that it sends, beside the texts of an operation and what its
@@ -9,4 +10,9 @@ pub fn clients_hold_little()
     ensures calls { CallsStayFit }
     ensures held { FitHoldsLittle }
     ensures always { ClientHoldsLittle }
+{}
+
+/// Whoever keeps the clauses of `Near` stays fit with each call, where a growth is refused too.
+pub fn clients_stay_fit()
+    ensures { NearStaysFit }
 {}
