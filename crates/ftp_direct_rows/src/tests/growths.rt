@@ -57,6 +57,19 @@ fn is_begun(alloc: Global, tree: &MemTree<Heap<'_>>) -> Result<bool, Fail> {
     Ok(SIZES.iter().any(|allowed| *allowed == sizes))
 }
 
+/// Whether the run gave all answers as they are due; `None` where it was given up.
+fn is_whole<'a>(
+    alloc: Global,
+    ample: Heap<'a>,
+    tree: &mut MemTree<Heap<'a>>,
+    heap: Heap<'a>,
+) -> Result<Option<bool>, Fail> {
+    match run(ample, heap, tree, GUEST, LIST)? {
+        Ok(answers) => Ok(Some(first_other(alloc, answers.as_slice(), LIST)?.is_none())),
+        Err(_) => Ok(None),
+    }
+}
+
 /// Whether the run is as it has to be: whole where no growth is refused, and else given up with some of it done.
 fn is_as_due<'a>(
     alloc: Global,
@@ -65,23 +78,38 @@ fn is_as_due<'a>(
     refused: bool,
 ) -> Result<bool, Fail> {
     let mut tree = MemTree::new(heap);
-    match run(ample, heap, &mut tree, GUEST, LIST)? {
-        Ok(answers) => Ok(!refused && first_other(alloc, answers.as_slice(), LIST)?.is_none()),
-        Err(_) => Ok(refused && is_begun(alloc, &tree)?),
+    match is_whole(alloc, ample, &mut tree, heap)? {
+        Some(whole) => Ok(!refused && whole),
+        None => Ok(refused && is_begun(alloc, &tree)?),
     }
+}
+
+/// The first growth up to that one whose refusal does not leave the run as it has to be.
+fn first_other_growth(alloc: Global, growths: u64) -> Result<Option<u64>, Fail> {
+    let ample = Refusing::new(alloc, 0);
+    for refused in 1..=growths {
+        let heap = Refusing::new(alloc, refused);
+        if !is_as_due(alloc, &ample, &heap, true)? {
+            return Ok(Some(refused));
+        }
+    }
+    Ok(None)
+}
+
+/// How many growths a whole run asks for; 0 where it is not as it has to be.
+fn growths(alloc: Global) -> Result<u64, Fail> {
+    let ample = Refusing::new(alloc, 0);
+    let counted = Refusing::new(alloc, 0);
+    if !is_as_due(alloc, &ample, &counted, false)? {
+        return Ok(0);
+    }
+    Ok(0u64.wrapping_sub(counted.left()))
 }
 
 #[test]
 fn each_growth_refused_in_turn(rt: HostRuntime) -> Result<(), Fail> {
-    let alloc = rt.alloc();
-    let ample = Refusing::new(alloc, 0);
-    let counted = Refusing::new(alloc, 0);
-    assert!(&rt; is_as_due(alloc, &ample, &counted, false)?);
-    let growths = 0u64.wrapping_sub(counted.left());
+    let growths = growths(rt.alloc())?;
     assert!(&rt; 40 <= growths && growths <= 400, "growths {growths}");
-    for refused in 1..=growths {
-        let heap = Refusing::new(alloc, refused);
-        assert!(&rt; is_as_due(alloc, &ample, &heap, true)?, "growth {refused}");
-    }
+    assert_eq!(&rt; first_other_growth(rt.alloc(), growths)?, None);
     Ok(())
 }

@@ -89,14 +89,17 @@ fn first_refused(
     Ok(None)
 }
 
+/// The codes that refuse one more directory and one more file.
+fn refusals(alloc: Global, tree: &mut MemTree<Global>) -> Result<(u64, u64), Fail> {
+    let dir = code_of(alloc, tree, Op::MakeDir(text(alloc, b"d")?))?;
+    let file = code_of(alloc, tree, step_of(alloc, b"f", Some(0))?)?;
+    Ok((dir, file))
+}
+
 #[test]
 fn all_nodes_have_their_limit(rt: HostRuntime) -> Result<(), Fail> {
-    let alloc = rt.alloc();
-    let mut tree = MemTree::new(alloc);
-    assert!(&rt; first_refused(alloc, &mut tree, 16_384)? == None);
-    let dir = Op::MakeDir(text(alloc, b"d")?);
-    assert!(&rt; code_of(alloc, &mut tree, dir)? == 550);
-    let file = step_of(alloc, b"f", Some(0))?;
-    assert!(&rt; code_of(alloc, &mut tree, file)? == 452);
+    let mut tree = MemTree::new(rt.alloc());
+    assert!(&rt; first_refused(rt.alloc(), &mut tree, 16_384)? == None);
+    assert!(&rt; refusals(rt.alloc(), &mut tree)? == (550, 452));
     Ok(())
 }

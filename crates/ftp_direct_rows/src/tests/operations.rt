@@ -52,8 +52,7 @@ const DIRECTORIES: &'static [Row] = &[
 
 #[test]
 fn directories_answer_as_their_rows(rt: HostRuntime) -> Result<(), Fail> {
-    assert_eq!(&rt; answers(rt.alloc(), GUEST, DIRECTORIES)?, None);
-    Ok(())
+    answers(rt.alloc(), GUEST, DIRECTORIES)
 }
 
 const FILES: &'static [Row] = &[
@@ -88,8 +87,7 @@ const FILES: &'static [Row] = &[
 
 #[test]
 fn files_answer_as_their_rows(rt: HostRuntime) -> Result<(), Fail> {
-    assert_eq!(&rt; answers(rt.alloc(), ANONYMOUS, FILES)?, None);
-    Ok(())
+    answers(rt.alloc(), ANONYMOUS, FILES)
 }
 
 const FRONTS: &'static [Row] = &[
@@ -104,8 +102,7 @@ const FRONTS: &'static [Row] = &[
 
 #[test]
 fn first_octets_are_had(rt: HostRuntime) -> Result<(), Fail> {
-    assert_eq!(&rt; answers(rt.alloc(), GUEST, FRONTS)?, None);
-    Ok(())
+    answers(rt.alloc(), GUEST, FRONTS)
 }
 
 const LISTINGS: &'static [Row] = &[
@@ -135,8 +132,7 @@ const LISTINGS: &'static [Row] = &[
 
 #[test]
 fn listings_answer_as_their_rows(rt: HostRuntime) -> Result<(), Fail> {
-    assert_eq!(&rt; answers(rt.alloc(), GUEST, LISTINGS)?, None);
-    Ok(())
+    answers(rt.alloc(), GUEST, LISTINGS)
 }
 
 const LONG_PATH: &'static [u8] = &[b'a'; 901];
@@ -159,9 +155,8 @@ const NOBODY: User = (b"nobody", b"secret", WHOLE);
 
 #[test]
 fn what_cannot_be_sent_is_told_before_the_login(rt: HostRuntime) -> Result<(), Fail> {
-    assert_eq!(&rt; answers(rt.alloc(), WRONG, UNSENT)?, None);
-    assert_eq!(&rt; answers(rt.alloc(), NOBODY, UNSENT)?, None);
-    Ok(())
+    answers(rt.alloc(), WRONG, UNSENT)?;
+    answers(rt.alloc(), NOBODY, UNSENT)
 }
 
 const LONG_NAME: &'static [u8] = &[b'a'; 256];
@@ -182,6 +177,5 @@ const LONG_NAMES: &'static [Row] = &[
 
 #[test]
 fn a_component_of_256_octets_acts_as_absent(rt: HostRuntime) -> Result<(), Fail> {
-    assert_eq!(&rt; answers(rt.alloc(), GUEST, LONG_NAMES)?, None);
-    Ok(())
+    answers(rt.alloc(), GUEST, LONG_NAMES)
 }

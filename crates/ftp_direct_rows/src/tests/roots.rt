@@ -3,8 +3,8 @@ use super::rows::{ANONYMOUS, GUEST, IMAGE, Roots, Row, User, answers_on, path};
 use crate::FailingTree;
 use ftp_direct::Op;
 use ftp_facts::Moment;
-use ftp_tree::{Content, MemTree, Tree};
-use std::alloc::Global;
+use ftp_tree::{Content, MemTree, Path, Tree};
+use std::alloc::{AllocError, Global};
 use std::test::Fail;
 
 /// `guest` sees `/guest`, and `anonymous` sees `/pub`.
@@ -50,13 +50,26 @@ const LEFT: &'static [Row] = &[
     (Op::Get(b"/guest/e/g", IMAGE), b"x"),
 ];
 
+/// Runs each user's rows, one after another on one tree.
+fn all_answer<T: Tree<Global>>(
+    alloc: Global,
+    tree: &mut T,
+    runs: &[(User, &'static [Row])],
+) -> Result<(), Fail> {
+    for (user, rows) in runs {
+        answers_on(alloc, tree, *user, *rows)?;
+    }
+    Ok(())
+}
+
 #[test]
 fn no_operation_leaves_the_root(rt: HostRuntime) -> Result<(), Fail> {
     let mut tree = MemTree::new(rt.alloc());
-    assert_eq!(&rt; answers_on(rt.alloc(), &mut tree, GUEST, MADE)?, None);
-    assert_eq!(&rt; answers_on(rt.alloc(), &mut tree, AT_HOME, BELOW)?, None);
-    assert_eq!(&rt; answers_on(rt.alloc(), &mut tree, ANONYMOUS, LEFT)?, None);
-    Ok(())
+    all_answer(
+        rt.alloc(),
+        &mut tree,
+        &[(GUEST, MADE), (AT_HOME, BELOW), (ANONYMOUS, LEFT)],
+    )
 }
 
 const REFUSED: &'static [Row] = &[
@@ -82,46 +95,53 @@ const REFUSED: &'static [Row] = &[
 ];
 
 /// A root where nothing stands, and one where a file does.
-const NOWHERE: &'static [User] = &[
-    (b"guest", b"secret", (b"/no", b"/pub")),
-    (b"guest", b"secret", (b"/f", b"/pub")),
-    (b"anonymous", b"", (b"/guest", b"/f")),
+const NOWHERE: &'static [(User, &'static [Row])] = &[
+    (GUEST, MADE),
+    ((b"guest", b"secret", (b"/no", b"/pub")), REFUSED),
+    ((b"guest", b"secret", (b"/f", b"/pub")), REFUSED),
+    ((b"anonymous", b"", (b"/guest", b"/f")), REFUSED),
 ];
 
 #[test]
 fn a_login_needs_a_directory_at_its_root(rt: HostRuntime) -> Result<(), Fail> {
     let mut tree = MemTree::new(rt.alloc());
-    assert_eq!(&rt; answers_on(rt.alloc(), &mut tree, GUEST, MADE)?, None);
-    for user in NOWHERE {
-        assert_eq!(&rt; answers_on(rt.alloc(), &mut tree, *user, REFUSED)?, None);
-    }
-    Ok(())
+    all_answer(rt.alloc(), &mut tree, NOWHERE)
+}
+
+/// As many octets as a root may have.
+fn all_octets(alloc: Global) -> Result<Content<Global>, AllocError> {
+    let mut content = Content::new(alloc);
+    content.push(Vec::from_elem(alloc, b'x', 67_108_864)?.as_slice())?;
+    Ok(content)
 }
 
 /// Puts a file with all octets that a root may have.
-fn fill_octets(alloc: Global, tree: &mut MemTree<Global>, root: &[u8]) -> Result<(), Fail> {
-    let octets = Vec::from_elem(alloc, b'x', 67_108_864)?;
-    let mut content = Content::new(alloc);
-    content.push(octets.as_slice())?;
+fn fill_octets(alloc: Global, tree: &mut MemTree<Global>, root: &Path<Global>) -> Result<(), Fail> {
     let moment = Moment::new(0).ok_or("moment")?;
-    let (root, file) = (path(alloc, root)?, path(alloc, b"/f")?);
-    tree.install(&root, &file, &mut content, moment)?;
-    Ok(())
+    let mut content = all_octets(alloc)?;
+    Ok(tree.install(root, &path(alloc, b"/f")?, &mut content, moment)?)
 }
 
 /// Makes so many directories below a root.
 fn make_dirs(
     alloc: Global,
     tree: &mut MemTree<Global>,
-    root: &[u8],
+    root: &Path<Global>,
     count: u32,
 ) -> Result<(), Fail> {
-    let root = path(alloc, root)?;
     for n in 0..count {
         let name = format!(in alloc; "/d{n}")?;
-        tree.make_dir(&root, &path(alloc, name.as_bytes())?)?;
+        tree.make_dir(root, &path(alloc, name.as_bytes())?)?;
     }
     Ok(())
+}
+
+/// Makes both roots, and the public one full of octets and of nodes.
+fn fill(alloc: Global, tree: &mut MemTree<Global>) -> Result<(), Fail> {
+    answers_on(alloc, tree, GUEST, MADE)?;
+    let root = path(alloc, b"/pub")?;
+    fill_octets(alloc, tree, &root)?;
+    make_dirs(alloc, tree, &root, 16_383)
 }
 
 const FULL: &'static [Row] = &[
@@ -139,14 +159,9 @@ const FREE: &'static [Row] = &[
 
 #[test]
 fn limits_are_of_each_root(rt: HostRuntime) -> Result<(), Fail> {
-    let alloc = rt.alloc();
-    let mut tree = MemTree::new(alloc);
-    assert_eq!(&rt; answers_on(alloc, &mut tree, GUEST, MADE)?, None);
-    fill_octets(alloc, &mut tree, b"/pub")?;
-    make_dirs(alloc, &mut tree, b"/pub", 16_383)?;
-    assert_eq!(&rt; answers_on(alloc, &mut tree, IN_PUBLIC, FULL)?, None);
-    assert_eq!(&rt; answers_on(alloc, &mut tree, AT_HOME, FREE)?, None);
-    Ok(())
+    let mut tree = MemTree::new(rt.alloc());
+    fill(rt.alloc(), &mut tree)?;
+    all_answer(rt.alloc(), &mut tree, &[(IN_PUBLIC, FULL), (AT_HOME, FREE)])
 }
 
 /// What a device's failure leaves below a root.
@@ -159,8 +174,7 @@ const FAILED: &'static [Row] = &[
 #[test]
 fn a_device_fails_below_a_root_too(rt: HostRuntime) -> Result<(), Fail> {
     let mut tree = FailingTree::new(rt.alloc(), 4);
-    assert_eq!(&rt; answers_on(rt.alloc(), &mut tree, GUEST, MADE)?, None);
-    assert_eq!(&rt; answers_on(rt.alloc(), &mut tree, AT_HOME, FAILED)?, None);
+    all_answer(rt.alloc(), &mut tree, &[(GUEST, MADE), (AT_HOME, FAILED)])?;
     assert!(&rt; tree.device_failures() == 0);
     Ok(())
 }

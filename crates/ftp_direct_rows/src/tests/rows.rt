@@ -188,19 +188,27 @@ pub(crate) fn run_list<A: Allocator + Copy, T: Tree<A>>(
     Ok(direct(&alloc, tree, &accounts, &login, list))
 }
 
-/// The first row that is not answered as it says, on a tree, by a user.
+/// Fails with the number of the row, where there is one.
+pub(crate) fn fail_at(row: Option<usize>) -> Result<(), Fail> {
+    match row {
+        None => Ok(()),
+        Some(at) => Err(Fail::new(format_args!("row {at}"))),
+    }
+}
+
+/// Runs the rows on a tree by a user, and fails with the first that is not answered as it says.
 pub(crate) fn answers_on<T: Tree<Global>>(
     alloc: Global,
     tree: &mut T,
     user: User,
     rows: &[Row],
-) -> Result<Option<usize>, Fail> {
+) -> Result<(), Fail> {
     let answers = run(alloc, alloc, tree, user, rows)??;
-    first_other(alloc, answers.as_slice(), rows)
+    fail_at(first_other(alloc, answers.as_slice(), rows)?)
 }
 
 /// The same on an empty tree in memory.
-pub(crate) fn answers(alloc: Global, user: User, rows: &[Row]) -> Result<Option<usize>, Fail> {
+pub(crate) fn answers(alloc: Global, user: User, rows: &[Row]) -> Result<(), Fail> {
     let mut tree = MemTree::new(alloc);
     answers_on(alloc, &mut tree, user, rows)
 }
