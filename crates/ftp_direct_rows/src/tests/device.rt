@@ -1,10 +1,9 @@
 //! Operations on a tree whose device fails once: the operation is refused by 451, and the later ones find the map as it was.
-use super::rows::{GUEST, IMAGE, Row, answers_on};
+use super::rows::{GUEST, IMAGE, Row, answer_on};
 use crate::FailingTree;
 use ftp_direct::Op;
 use ftp_tree::Tree;
 use std::alloc::Global;
-use std::test::Fail;
 
 const NEW_FILE: &'static [Row] = &[
     (Op::Put(b"f", b"abc", IMAGE), b"451"),
@@ -99,31 +98,17 @@ const FAILING: &'static [(u64, &'static [Row])] = &[
     (1, REASONS),
 ];
 
-/// Fails where a count of failures that began at `u64::MAX` did not wrap to 0.
-fn has_failed_once(failures: u64) -> Result<(), Fail> {
-    if failures == 0 {
-        Ok(())
-    } else {
-        Err(Fail::new("a device that did not fail once"))
-    }
-}
-
-/// Runs the rows on a tree whose device fails at that change.
-fn fails_at(alloc: Global, change: u64, rows: &[Row]) -> Result<(), Fail> {
+/// Whether the operations answer as their rows on a tree whose device fails at that change, and its count wrapped to 0.
+fn fails_as_said(alloc: Global, change: u64, rows: &[Row]) -> bool {
     let mut tree = FailingTree::new(alloc, change);
-    answers_on(alloc, &mut tree, GUEST, rows)?;
-    has_failed_once(tree.device_failures())
-}
-
-/// Runs each table on a tree of its own.
-fn all_fail(alloc: Global) -> Result<(), Fail> {
-    for (change, rows) in FAILING {
-        fails_at(alloc, *change, *rows)?;
-    }
-    Ok(())
+    answer_on(alloc, &mut tree, GUEST, rows) && tree.device_failures() == 0
 }
 
 #[test]
-fn a_failed_device_is_told_and_changes_nothing(rt: HostRuntime) -> Result<(), Fail> {
-    all_fail(rt.alloc())
+fn a_failed_device_is_told_and_changes_nothing(rt: HostRuntime) {
+    let alloc = rt.alloc();
+    let wrong = FAILING
+        .iter()
+        .position(|(change, rows)| !fails_as_said(alloc, *change, *rows));
+    assert_eq!(&rt; wrong, None);
 }

@@ -5,12 +5,15 @@ use ftp_direct::Op;
 use ftp_facts::{Moment, Text};
 use ftp_tree::MemTree;
 use std::alloc::{AllocError, Global};
-use std::test::Fail;
 
 /// The code that refuses an operation, or the number that it answers; 0 for any other answer.
-fn code_of(alloc: Global, tree: &mut MemTree<Global>, op: Op<Text<Global>>) -> Result<u64, Fail> {
-    let list = [(op, Moment::new(1000).ok_or("moment")?)];
-    let answers = run_list(alloc, alloc, tree, ANONYMOUS, list.as_slice())??;
+fn code_of(
+    alloc: Global,
+    tree: &mut MemTree<Global>,
+    op: Op<Text<Global>>,
+) -> Result<u64, AllocError> {
+    let list = [(op, Moment { seconds: 1000 })];
+    let answers = run_list(alloc, alloc, tree, ANONYMOUS, list.as_slice())?;
     Ok(answers.as_slice().first().and_then(number_of).unwrap_or(0))
 }
 
@@ -31,7 +34,7 @@ fn step_of(
 }
 
 /// The first step that is not answered as it says, on an empty tree.
-fn first_other(alloc: Global, steps: &[Step]) -> Result<Option<usize>, Fail> {
+fn first_other(alloc: Global, steps: &[Step]) -> Result<Option<usize>, AllocError> {
     let mut tree = MemTree::new(alloc);
     let mut at = 0usize;
     for (path, count, expected) in steps {
@@ -54,9 +57,8 @@ const ONE_FILE: &'static [Step] = &[
 ];
 
 #[test]
-fn a_file_has_its_limit(rt: HostRuntime) -> Result<(), Fail> {
-    assert!(&rt; first_other(rt.alloc(), ONE_FILE)? == None);
-    Ok(())
+fn a_file_has_its_limit(rt: HostRuntime) {
+    assert!(&rt; first_other(rt.alloc(), ONE_FILE) == Ok(None));
 }
 
 const ALL_FILES: &'static [Step] = &[
@@ -68,9 +70,8 @@ const ALL_FILES: &'static [Step] = &[
 ];
 
 #[test]
-fn all_files_have_their_limit(rt: HostRuntime) -> Result<(), Fail> {
-    assert!(&rt; first_other(rt.alloc(), ALL_FILES)? == None);
-    Ok(())
+fn all_files_have_their_limit(rt: HostRuntime) {
+    assert!(&rt; first_other(rt.alloc(), ALL_FILES) == Ok(None));
 }
 
 /// Makes so many directories; the number of the first that is refused.
@@ -78,7 +79,7 @@ fn first_refused(
     alloc: Global,
     tree: &mut MemTree<Global>,
     count: u32,
-) -> Result<Option<u32>, Fail> {
+) -> Result<Option<u32>, AllocError> {
     for n in 0..count {
         let name = format!(in alloc; "d{n}")?;
         let op = Op::MakeDir(text(alloc, name.as_bytes())?);
@@ -89,17 +90,18 @@ fn first_refused(
     Ok(None)
 }
 
-/// The codes that refuse one more directory and one more file.
-fn refusals(alloc: Global, tree: &mut MemTree<Global>) -> Result<(u64, u64), Fail> {
-    let dir = code_of(alloc, tree, Op::MakeDir(text(alloc, b"d")?))?;
-    let file = code_of(alloc, tree, step_of(alloc, b"f", Some(0))?)?;
-    Ok((dir, file))
+/// Whether a directory and a file are refused where so many nodes stand, and none before.
+fn is_full_at(alloc: Global, count: u32) -> Result<bool, AllocError> {
+    let mut tree = MemTree::new(alloc);
+    let none_refused = first_refused(alloc, &mut tree, count)?.is_none();
+    let dir = Op::MakeDir(text(alloc, b"d")?);
+    let dir_refused = code_of(alloc, &mut tree, dir)? == 550;
+    let file = step_of(alloc, b"f", Some(0))?;
+    let file_refused = code_of(alloc, &mut tree, file)? == 452;
+    Ok(none_refused && dir_refused && file_refused)
 }
 
 #[test]
-fn all_nodes_have_their_limit(rt: HostRuntime) -> Result<(), Fail> {
-    let mut tree = MemTree::new(rt.alloc());
-    assert!(&rt; first_refused(rt.alloc(), &mut tree, 16_384)? == None);
-    assert!(&rt; refusals(rt.alloc(), &mut tree)? == (550, 452));
-    Ok(())
+fn all_nodes_have_their_limit(rt: HostRuntime) {
+    assert!(&rt; is_full_at(rt.alloc(), 16_384) == Ok(true));
 }

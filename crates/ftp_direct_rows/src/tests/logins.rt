@@ -1,10 +1,9 @@
 //! Accounts and logins: which are made, and which are known.
 use super::rows::{WHOLE, accounts, login, path, text};
-use ftp_direct::{Account, Accounts, AccountsFault};
+use ftp_direct::{Account, Accounts, AccountsFault, Login};
 use ftp_facts::Text;
 use ftp_tree::Path;
 use std::alloc::{AllocError, Global};
-use std::test::Fail;
 
 /// A user name, a password, and whether the accounts know them.
 const LOGINS: &'static [(&'static [u8], &'static [u8], bool)] = &[
@@ -24,8 +23,8 @@ fn is_as_expected(
     user: &[u8],
     pass: &[u8],
     known: bool,
-) -> Result<bool, Fail> {
-    let login = login(alloc, user, pass)?.ok_or("login")?;
+) -> Result<bool, AllocError> {
+    let login = login(alloc, user, pass)?;
     Ok(
         login.user() == user
             && login.pass() == pass
@@ -33,13 +32,20 @@ fn is_as_expected(
     )
 }
 
-#[test]
-fn a_login_is_known_by_its_password(rt: HostRuntime) -> Result<(), Fail> {
-    let accounts = accounts(rt.alloc(), WHOLE)?.ok_or("accounts")?;
+/// Whether each login is known or not as its row says.
+fn all_as_expected(alloc: Global) -> Result<bool, AllocError> {
+    let accounts = accounts(alloc, WHOLE)?;
     for (user, pass, known) in LOGINS {
-        assert!(&rt; is_as_expected(rt.alloc(), &accounts, *user, *pass, *known)?);
+        if !is_as_expected(alloc, &accounts, *user, *pass, *known)? {
+            return Ok(false);
+        }
     }
-    Ok(())
+    Ok(true)
+}
+
+#[test]
+fn a_login_is_known_by_its_password(rt: HostRuntime) {
+    assert!(&rt; all_as_expected(rt.alloc()) == Ok(true));
 }
 
 const LONG: &'static [u8] = &[b'a'; 256];
@@ -56,12 +62,17 @@ const LIMITS: &'static [(&'static [u8], &'static [u8], bool)] = &[
     (b"a", b"b\0", false),
 ];
 
+/// Whether a login is made of these.
+fn is_made(alloc: Global, user: &[u8], pass: &[u8]) -> Result<bool, AllocError> {
+    Ok(Login::new(text(alloc, user)?, text(alloc, pass)?).is_some())
+}
+
 #[test]
-fn a_login_is_within_its_limits(rt: HostRuntime) -> Result<(), Fail> {
-    for (user, pass, fits) in LIMITS {
-        assert!(&rt; login(rt.alloc(), *user, *pass)?.is_some() == *fits);
-    }
-    Ok(())
+fn a_login_is_within_its_limits(rt: HostRuntime) {
+    let alloc = rt.alloc();
+    let wrong = LIMITS.iter().position(|(user, pass, fits)| is_made(alloc, *user, *pass)
+        != Ok(*fits));
+    assert_eq!(&rt; wrong, None);
 }
 
 /// A list of accounts with texts of their own.
@@ -133,11 +144,19 @@ const LISTS: &'static [(&'static [Row], Option<AccountsFault>)] = &[
     ),
 ];
 
+/// Whether accounts are refused so.
+fn is_refused(
+    alloc: Global,
+    rows: &[Row],
+    fault: Option<AccountsFault>,
+) -> Result<bool, AllocError> {
+    let expected = fault.map(|fault| (fault, rows.len()));
+    Ok(refused(list_of(alloc, rows)?) == expected)
+}
+
 #[test]
-fn accounts_have_names_and_roots_of_their_own(rt: HostRuntime) -> Result<(), Fail> {
-    for (rows, fault) in LISTS {
-        let expected = fault.map(|fault| (fault, rows.len()));
-        assert!(&rt; refused(list_of(rt.alloc(), *rows)?) == expected);
-    }
-    Ok(())
+fn accounts_have_names_and_roots_of_their_own(rt: HostRuntime) {
+    let alloc = rt.alloc();
+    let wrong = LISTS.iter().position(|(rows, fault)| is_refused(alloc, *rows, *fault) != Ok(true));
+    assert_eq!(&rt; wrong, None);
 }

@@ -1,7 +1,6 @@
 use super::rows::{ANONYMOUS, GUEST, IMAGE, Row, User, WHOLE, answers};
 use ftp_direct::{How, Op};
 use ftp_representation::{Kind, Mode, Representation, Structure};
-use std::test::Fail;
 
 pub(crate) const ASCII: How = How {
     representation: Representation {
@@ -51,8 +50,8 @@ const DIRECTORIES: &'static [Row] = &[
 ];
 
 #[test]
-fn directories_answer_as_their_rows(rt: HostRuntime) -> Result<(), Fail> {
-    answers(rt.alloc(), GUEST, DIRECTORIES)
+fn directories_answer_as_their_rows(rt: HostRuntime) {
+    assert!(&rt; answers(rt.alloc(), GUEST, DIRECTORIES));
 }
 
 const FILES: &'static [Row] = &[
@@ -86,8 +85,8 @@ const FILES: &'static [Row] = &[
 ];
 
 #[test]
-fn files_answer_as_their_rows(rt: HostRuntime) -> Result<(), Fail> {
-    answers(rt.alloc(), ANONYMOUS, FILES)
+fn files_answer_as_their_rows(rt: HostRuntime) {
+    assert!(&rt; answers(rt.alloc(), ANONYMOUS, FILES));
 }
 
 const FRONTS: &'static [Row] = &[
@@ -101,8 +100,8 @@ const FRONTS: &'static [Row] = &[
 ];
 
 #[test]
-fn first_octets_are_had(rt: HostRuntime) -> Result<(), Fail> {
-    answers(rt.alloc(), GUEST, FRONTS)
+fn first_octets_are_had(rt: HostRuntime) {
+    assert!(&rt; answers(rt.alloc(), GUEST, FRONTS));
 }
 
 const LISTINGS: &'static [Row] = &[
@@ -131,8 +130,8 @@ const LISTINGS: &'static [Row] = &[
 ];
 
 #[test]
-fn listings_answer_as_their_rows(rt: HostRuntime) -> Result<(), Fail> {
-    answers(rt.alloc(), GUEST, LISTINGS)
+fn listings_answer_as_their_rows(rt: HostRuntime) {
+    assert!(&rt; answers(rt.alloc(), GUEST, LISTINGS));
 }
 
 const LONG_PATH: &'static [u8] = &[b'a'; 901];
@@ -154,9 +153,9 @@ const WRONG: User = (b"guest", b"wrong", WHOLE);
 const NOBODY: User = (b"nobody", b"secret", WHOLE);
 
 #[test]
-fn what_cannot_be_sent_is_told_before_the_login(rt: HostRuntime) -> Result<(), Fail> {
-    answers(rt.alloc(), WRONG, UNSENT)?;
-    answers(rt.alloc(), NOBODY, UNSENT)
+fn what_cannot_be_sent_is_told_before_the_login(rt: HostRuntime) {
+    assert!(&rt; answers(rt.alloc(), WRONG, UNSENT));
+    assert!(&rt; answers(rt.alloc(), NOBODY, UNSENT));
 }
 
 const LONG_NAME: &'static [u8] = &[b'a'; 256];
@@ -176,6 +175,6 @@ const LONG_NAMES: &'static [Row] = &[
 ];
 
 #[test]
-fn a_component_of_256_octets_acts_as_absent(rt: HostRuntime) -> Result<(), Fail> {
-    answers(rt.alloc(), GUEST, LONG_NAMES)
+fn a_component_of_256_octets_acts_as_absent(rt: HostRuntime) {
+    assert!(&rt; answers(rt.alloc(), GUEST, LONG_NAMES));
 }

@@ -1,11 +1,10 @@
 //! Operations below an account's root, and what stands elsewhere.
-use super::rows::{ANONYMOUS, GUEST, IMAGE, Roots, Row, User, answers_on, path};
+use super::rows::{ANONYMOUS, GUEST, IMAGE, Roots, Row, User, answer_on, path};
 use crate::FailingTree;
 use ftp_direct::Op;
 use ftp_facts::Moment;
-use ftp_tree::{Content, MemTree, Path, Tree};
+use ftp_tree::{Content, MemTree, Path, Tree, TreeFault};
 use std::alloc::{AllocError, Global};
-use std::test::Fail;
 
 /// `guest` sees `/guest`, and `anonymous` sees `/pub`.
 const OWN: Roots = (b"/guest", b"/pub");
@@ -50,26 +49,12 @@ const LEFT: &'static [Row] = &[
     (Op::Get(b"/guest/e/g", IMAGE), b"x"),
 ];
 
-/// Runs each user's rows, one after another on one tree.
-fn all_answer<T: Tree<Global>>(
-    alloc: Global,
-    tree: &mut T,
-    runs: &[(User, &'static [Row])],
-) -> Result<(), Fail> {
-    for (user, rows) in runs {
-        answers_on(alloc, tree, *user, *rows)?;
-    }
-    Ok(())
-}
-
 #[test]
-fn no_operation_leaves_the_root(rt: HostRuntime) -> Result<(), Fail> {
+fn no_operation_leaves_the_root(rt: HostRuntime) {
     let mut tree = MemTree::new(rt.alloc());
-    all_answer(
-        rt.alloc(),
-        &mut tree,
-        &[(GUEST, MADE), (AT_HOME, BELOW), (ANONYMOUS, LEFT)],
-    )
+    assert!(&rt; answer_on(rt.alloc(), &mut tree, GUEST, MADE));
+    assert!(&rt; answer_on(rt.alloc(), &mut tree, AT_HOME, BELOW));
+    assert!(&rt; answer_on(rt.alloc(), &mut tree, ANONYMOUS, LEFT));
 }
 
 const REFUSED: &'static [Row] = &[
@@ -95,53 +80,57 @@ const REFUSED: &'static [Row] = &[
 ];
 
 /// A root where nothing stands, and one where a file does.
-const NOWHERE: &'static [(User, &'static [Row])] = &[
-    (GUEST, MADE),
-    ((b"guest", b"secret", (b"/no", b"/pub")), REFUSED),
-    ((b"guest", b"secret", (b"/f", b"/pub")), REFUSED),
-    ((b"anonymous", b"", (b"/guest", b"/f")), REFUSED),
+const NOWHERE: &'static [User] = &[
+    (b"guest", b"secret", (b"/no", b"/pub")),
+    (b"guest", b"secret", (b"/f", b"/pub")),
+    (b"anonymous", b"", (b"/guest", b"/f")),
 ];
 
 #[test]
-fn a_login_needs_a_directory_at_its_root(rt: HostRuntime) -> Result<(), Fail> {
+fn a_login_needs_a_directory_at_its_root(rt: HostRuntime) {
     let mut tree = MemTree::new(rt.alloc());
-    all_answer(rt.alloc(), &mut tree, NOWHERE)
-}
-
-/// As many octets as a root may have.
-fn all_octets(alloc: Global) -> Result<Content<Global>, AllocError> {
-    let mut content = Content::new(alloc);
-    content.push(Vec::from_elem(alloc, b'x', 67_108_864)?.as_slice())?;
-    Ok(content)
+    assert!(&rt; answer_on(rt.alloc(), &mut tree, GUEST, MADE));
+    for user in NOWHERE {
+        assert!(&rt; answer_on(rt.alloc(), &mut tree, *user, REFUSED));
+    }
 }
 
 /// Puts a file with all octets that a root may have.
-fn fill_octets(alloc: Global, tree: &mut MemTree<Global>, root: &Path<Global>) -> Result<(), Fail> {
-    let moment = Moment::new(0).ok_or("moment")?;
-    let mut content = all_octets(alloc)?;
-    Ok(tree.install(root, &path(alloc, b"/f")?, &mut content, moment)?)
-}
-
-/// Makes so many directories below a root.
-fn make_dirs(
+fn fill_octets(
     alloc: Global,
     tree: &mut MemTree<Global>,
     root: &Path<Global>,
-    count: u32,
-) -> Result<(), Fail> {
-    for n in 0..count {
-        let name = format!(in alloc; "/d{n}")?;
-        tree.make_dir(root, &path(alloc, name.as_bytes())?)?;
+) -> Result<(), TreeFault> {
+    let Ok(octets) = Vec::from_elem(alloc, b'x', 67_108_864) else {
+        return Err(TreeFault::Memory);
+    };
+    let mut content = Content::new(alloc);
+    let Ok(file) = path(alloc, b"/f") else {
+        return Err(TreeFault::Memory);
+    };
+    if content.push(octets.as_slice()).is_err() {
+        return Err(TreeFault::Memory);
     }
-    Ok(())
+    tree.install(root, &file, &mut content, Moment { seconds: 0 })
 }
 
-/// Makes both roots, and the public one full of octets and of nodes.
-fn fill(alloc: Global, tree: &mut MemTree<Global>) -> Result<(), Fail> {
-    answers_on(alloc, tree, GUEST, MADE)?;
-    let root = path(alloc, b"/pub")?;
-    fill_octets(alloc, tree, &root)?;
-    make_dirs(alloc, tree, &root, 16_383)
+/// Makes a directory below a root, called by a number.
+fn make_dir(
+    alloc: Global,
+    tree: &mut MemTree<Global>,
+    root: &Path<Global>,
+    number: u32,
+) -> Result<bool, AllocError> {
+    let name = format!(in alloc; "/d{number}")?;
+    let dir = path(alloc, name.as_bytes())?;
+    Ok(tree.make_dir(root, &dir).is_ok())
+}
+
+/// Whether a root is filled with all octets and all nodes that it may have.
+fn is_filled(alloc: Global, tree: &mut MemTree<Global>, root: &[u8]) -> Result<bool, AllocError> {
+    let root = path(alloc, root)?;
+    let filled = fill_octets(alloc, tree, &root).is_ok();
+    Ok(filled && (0..16_383u32).all(|number| make_dir(alloc, tree, &root, number) == Ok(true)))
 }
 
 const FULL: &'static [Row] = &[
@@ -158,10 +147,13 @@ const FREE: &'static [Row] = &[
 ];
 
 #[test]
-fn limits_are_of_each_root(rt: HostRuntime) -> Result<(), Fail> {
-    let mut tree = MemTree::new(rt.alloc());
-    fill(rt.alloc(), &mut tree)?;
-    all_answer(rt.alloc(), &mut tree, &[(IN_PUBLIC, FULL), (AT_HOME, FREE)])
+fn limits_are_of_each_root(rt: HostRuntime) {
+    let alloc = rt.alloc();
+    let mut tree = MemTree::new(alloc);
+    assert!(&rt; answer_on(alloc, &mut tree, GUEST, MADE));
+    assert!(&rt; is_filled(alloc, &mut tree, b"/pub") == Ok(true));
+    assert!(&rt; answer_on(alloc, &mut tree, IN_PUBLIC, FULL));
+    assert!(&rt; answer_on(alloc, &mut tree, AT_HOME, FREE));
 }
 
 /// What a device's failure leaves below a root.
@@ -172,9 +164,9 @@ const FAILED: &'static [Row] = &[
 ];
 
 #[test]
-fn a_device_fails_below_a_root_too(rt: HostRuntime) -> Result<(), Fail> {
+fn a_device_fails_below_a_root_too(rt: HostRuntime) {
     let mut tree = FailingTree::new(rt.alloc(), 4);
-    all_answer(rt.alloc(), &mut tree, &[(GUEST, MADE), (AT_HOME, FAILED)])?;
+    assert!(&rt; answer_on(rt.alloc(), &mut tree, GUEST, MADE));
+    assert!(&rt; answer_on(rt.alloc(), &mut tree, AT_HOME, FAILED));
     assert!(&rt; tree.device_failures() == 0);
-    Ok(())
 }

@@ -5,7 +5,6 @@ use ftp_facts::{Moment, Text};
 use ftp_representation::{Kind, Mode, Representation, Structure};
 use ftp_tree::{MemTree, Path, Tree, is_path_text};
 use std::alloc::{AllocError, Allocator, Global};
-use std::test::Fail;
 
 /// An operation, and what it answers.
 pub(crate) type Row = (Op<&'static [u8]>, &'static [u8]);
@@ -99,7 +98,7 @@ pub(crate) fn path<A: Allocator + Copy>(alloc: A, text: &[u8]) -> Result<Path<A>
 pub(crate) fn accounts<A: Allocator + Copy>(
     alloc: A,
     roots: Roots,
-) -> Result<Option<Accounts<A>>, AllocError> {
+) -> Result<Accounts<A>, AllocError> {
     let mut list = Vec::new(alloc);
     list.push(Account {
         user: text(alloc, b"guest")?,
@@ -111,26 +110,27 @@ pub(crate) fn accounts<A: Allocator + Copy>(
         pass: None,
         root: path(alloc, roots.1)?,
     })?;
-    Ok(Accounts::new(list).ok())
+    Accounts::new(list).ok().ok_or(AllocError)
 }
 
 pub(crate) fn login<A: Allocator + Copy>(
     alloc: A,
     user: &[u8],
     pass: &[u8],
-) -> Result<Option<Login<A>>, AllocError> {
-    Ok(Login::new(text(alloc, user)?, text(alloc, pass)?))
+) -> Result<Login<A>, AllocError> {
+    Login::new(text(alloc, user)?, text(alloc, pass)?).ok_or(AllocError)
 }
 
 /// The operations, the first at second 1,000 and each later one a second on.
 fn list_of<A: Allocator + Copy>(
     alloc: A,
     rows: &[Row],
-) -> Result<Vec<(Op<Text<A>>, Moment), A>, Fail> {
+) -> Result<Vec<(Op<Text<A>>, Moment), A>, AllocError> {
     let mut list = Vec::new(alloc);
     let mut second = 1000u64;
     for (op, _) in rows {
-        list.push((owned(alloc, op)?, Moment::new(second).ok_or("moment")?))?;
+        let moment = Moment::new(second).ok_or(AllocError)?;
+        list.push((owned(alloc, op)?, moment))?;
         second = second.saturating_add(1);
     }
     Ok(list)
@@ -141,7 +141,7 @@ pub(crate) fn first_other<A: Allocator>(
     alloc: Global,
     answers: &[Answer<A>],
     rows: &[Row],
-) -> Result<Option<usize>, Fail> {
+) -> Result<Option<usize>, AllocError> {
     let mut at = 0usize;
     for (answer, (_, expected)) in answers.iter().zip(rows) {
         if !says(alloc, answer, *expected)? {
@@ -170,7 +170,7 @@ pub(crate) fn run<A: Allocator + Copy, T: Tree<A>>(
     tree: &mut T,
     user: User,
     rows: &[Row],
-) -> Result<Result<Vec<Answer<A>, A>, AllocError>, Fail> {
+) -> Result<Vec<Answer<A>, A>, AllocError> {
     let list = list_of(ample, rows)?;
     run_list(ample, alloc, tree, user, list.as_slice())
 }
@@ -182,33 +182,35 @@ pub(crate) fn run_list<A: Allocator + Copy, T: Tree<A>>(
     tree: &mut T,
     user: User,
     list: &[(Op<Text<A>>, Moment)],
-) -> Result<Result<Vec<Answer<A>, A>, AllocError>, Fail> {
-    let accounts = accounts(ample, user.2)?.ok_or("accounts")?;
-    let login = login(ample, user.0, user.1)?.ok_or("login")?;
-    Ok(direct(&alloc, tree, &accounts, &login, list))
+) -> Result<Vec<Answer<A>, A>, AllocError> {
+    let accounts = accounts(ample, user.2)?;
+    let login = login(ample, user.0, user.1)?;
+    direct(&alloc, tree, &accounts, &login, list)
 }
 
-/// Fails with the number of the row, where there is one.
-pub(crate) fn fail_at(row: Option<usize>) -> Result<(), Fail> {
-    match row {
-        None => Ok(()),
-        Some(at) => Err(Fail::new(format_args!("row {at}"))),
-    }
-}
-
-/// Runs the rows on a tree by a user, and fails with the first that is not answered as it says.
-pub(crate) fn answers_on<T: Tree<Global>>(
+/// The first row that is not answered as it says, on a tree, by a user.
+fn answers_on<T: Tree<Global>>(
     alloc: Global,
     tree: &mut T,
     user: User,
     rows: &[Row],
-) -> Result<(), Fail> {
-    let answers = run(alloc, alloc, tree, user, rows)??;
-    fail_at(first_other(alloc, answers.as_slice(), rows)?)
+) -> Result<Option<usize>, AllocError> {
+    let answers = run(alloc, alloc, tree, user, rows)?;
+    first_other(alloc, answers.as_slice(), rows)
+}
+
+/// Whether all rows are answered as they say, on a tree, by a user.
+pub(crate) fn answer_on<T: Tree<Global>>(
+    alloc: Global,
+    tree: &mut T,
+    user: User,
+    rows: &[Row],
+) -> bool {
+    answers_on(alloc, tree, user, rows) == Ok(None)
 }
 
 /// The same on an empty tree in memory.
-pub(crate) fn answers(alloc: Global, user: User, rows: &[Row]) -> Result<(), Fail> {
+pub(crate) fn answers(alloc: Global, user: User, rows: &[Row]) -> bool {
     let mut tree = MemTree::new(alloc);
-    answers_on(alloc, &mut tree, user, rows)
+    answer_on(alloc, &mut tree, user, rows)
 }

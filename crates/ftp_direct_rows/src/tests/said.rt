@@ -1,15 +1,14 @@
 //! What an answer says, in one line or a line for each item.
 use ftp_direct::Answer;
-use ftp_facts::write_entry;
-use std::alloc::{Allocator, Global};
-use std::test::Fail;
+use ftp_facts::{Entry, write_entry};
+use std::alloc::{AllocError, Allocator, Global};
 
 /// Whether an answer says this.
 pub(crate) fn says<A: Allocator>(
     alloc: Global,
     answer: &Answer<A>,
     expected: &[u8],
-) -> Result<bool, Fail> {
+) -> Result<bool, AllocError> {
     if let Some(octets) = octets_of(answer) {
         return Ok(octets == expected);
     }
@@ -39,19 +38,24 @@ pub(crate) fn number_of<A: Allocator>(answer: &Answer<A>) -> Option<u64> {
     }
 }
 
-fn decimal(alloc: Global, number: u64) -> Result<Vec<u8>, Fail> {
+fn decimal(alloc: Global, number: u64) -> Result<Vec<u8>, AllocError> {
     let text = format!(in alloc; "{number}")?;
-    Ok(Vec::from_slice(alloc, text.as_bytes())?)
+    Vec::from_slice(alloc, text.as_bytes())
+}
+
+/// Appends the line of an entry.
+fn put_entry<A: Allocator>(entry: &Entry<A>, out: &mut Vec<u8>) -> Result<(), AllocError> {
+    write_entry(entry, out).ok().ok_or(AllocError)
 }
 
 /// The line of an entry, or a line for each entry or name.
-fn lines_of<A: Allocator>(alloc: Global, answer: &Answer<A>) -> Result<Vec<u8>, Fail> {
+fn lines_of<A: Allocator>(alloc: Global, answer: &Answer<A>) -> Result<Vec<u8>, AllocError> {
     let mut out = Vec::new(alloc);
     match answer {
-        Answer::Entry(entry) => write_entry(entry, &mut out)?,
+        Answer::Entry(entry) => put_entry(entry, &mut out)?,
         Answer::Entries(entries) => {
             for entry in entries {
-                write_entry(entry, &mut out)?;
+                put_entry(entry, &mut out)?;
                 out.push(b'\n')?;
             }
         }
