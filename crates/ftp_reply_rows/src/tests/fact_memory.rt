@@ -32,13 +32,10 @@ fn refused_fault(alloc: Global, refused: u64) -> Option<FactFault> {
 fn reading_is_refused_memory(rt: HostRuntime) {
     let count = growths(rt.alloc(), LINE);
     assert_eq!(&rt; count, 3);
-    for refused in 1..=count {
-        assert_eq!(&rt;
-            refused_fault(rt.alloc(), refused),
-            Some(FactFault::Memory),
-            "growth {refused}"
-        );
-    }
+    let alloc = rt.alloc();
+    assert!(&rt;
+        (1..=count).all(|refused| refused_fault(alloc, refused) == Some(FactFault::Memory))
+    );
 }
 
 const BAD: &[&[u8]] = &[
@@ -51,9 +48,8 @@ const BAD: &[&[u8]] = &[
 
 #[test]
 fn a_bad_line_asks_for_no_memory(rt: HostRuntime) {
-    for line in BAD {
-        assert_eq!(&rt; growths(rt.alloc(), line), 0);
-    }
+    let alloc = rt.alloc();
+    assert!(rt; BAD.iter().all(|line| growths(alloc, line) == 0));
 }
 
 /// Whether the octets are those of before where `Memory` is answered, and else the whole line behind them. Gives which.

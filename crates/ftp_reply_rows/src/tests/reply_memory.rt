@@ -3,7 +3,6 @@ use super::common::{hears, reply_of, reply_with, texts_are};
 use ftp_refusing::Refusing;
 use ftp_reply::{Reader, Reply, ReplyFault, quoted_of, write};
 use std::alloc::{Allocator, Global};
-use std::test::Fail;
 
 const LONG: [u8; 400] = [b'x'; 400];
 
@@ -51,16 +50,27 @@ fn wanted<A: Allocator + Clone>(alloc: A) -> Option<u64> {
     None
 }
 
+/// How many growths a growing reply asks for; nothing where it is not of these lines.
+fn growths_of_lines(alloc: Global) -> Option<u64> {
+    let heap = Refusing::new(alloc, 0);
+    match wanted(&heap) {
+        Some(0) => Some(0u64.wrapping_sub(heap.left())),
+        _ => None,
+    }
+}
+
+/// Whether memory is wanted once where one of so many growths is refused.
+fn is_wanted(alloc: Global, refused: u64, growths: u64) -> bool {
+    let heap = Refusing::new(alloc, refused);
+    wanted(&heap) == Some(u64::from(refused <= growths))
+}
+
 #[test]
 fn each_growth_of_a_reader_refused_in_turn(rt: HostRuntime) {
-    let heap = Refusing::new(rt.alloc(), 0);
-    assert!(rt; wanted(&heap) == Some(0));
-    let growths = 0u64.wrapping_sub(heap.left());
+    let alloc = rt.alloc();
+    let growths = growths_of_lines(alloc).unwrap_or(0);
     assert!(rt; 1 <= growths && growths < 20);
-    for refused in 1..20u64 {
-        let heap = Refusing::new(rt.alloc(), refused);
-        assert!(rt; wanted(&heap) == Some(u64::from(refused <= growths)));
-    }
+    assert!(rt; (1..20u64).all(|refused| is_wanted(alloc, refused, growths)));
 }
 
 /// The length of the path that a reply quotes, or why there is none.
@@ -71,34 +81,57 @@ fn path_len<A: Allocator>(alloc: A, reply: &Reply<Global>) -> Result<usize, Repl
     }
 }
 
-#[test]
-fn each_growth_of_a_path_refused_in_turn(rt: HostRuntime) -> Result<(), Fail> {
-    let reply = reply_of(
-        rt.alloc(),
-        b"257 \"/a-path-of-more-than-eight-octets\" created",
-    )
-    .ok_or("no reply")?;
-    let memory = Err(ReplyFault::Memory);
-    let heap = Refusing::new(rt.alloc(), 0);
-    assert!(rt; path_len(&heap, &reply) == Ok(33));
-    let growths = 0u64.wrapping_sub(heap.left());
-    assert!(rt; 1 <= growths && growths < 20);
-    for refused in 1..20u64 {
-        let heap = Refusing::new(rt.alloc(), refused);
-        let expected = if refused <= growths { memory } else { Ok(33) };
-        assert!(rt; path_len(&heap, &reply) == expected);
+/// The length of the path that a line quotes, where this growth is refused, and how many growths are left then.
+fn path_len_of(
+    alloc: Global,
+    line: &[u8],
+    refused: u64,
+) -> Option<(Result<usize, ReplyFault>, u64)> {
+    let reply = reply_of(alloc, line)?;
+    let heap = Refusing::new(alloc, refused);
+    let len = path_len(&heap, &reply);
+    Some((len, heap.left()))
+}
+
+const LONG_PATH: &[u8] = b"257 \"/a-path-of-more-than-eight-octets\" created";
+
+/// How many growths the path asks for; nothing where it is not read.
+fn growths_of_path(alloc: Global) -> Option<u64> {
+    match path_len_of(alloc, LONG_PATH, 0) {
+        Some((Ok(33), left)) => Some(0u64.wrapping_sub(left)),
+        _ => None,
     }
-    Ok(())
+}
+
+/// Whether the path is wanted for memory where one of so many growths is refused.
+fn is_refused(alloc: Global, refused: u64, growths: u64) -> bool {
+    match path_len_of(alloc, LONG_PATH, refused) {
+        Some((Err(ReplyFault::Memory), _)) => refused <= growths,
+        Some((Ok(33), _)) => refused > growths,
+        _ => false,
+    }
 }
 
 #[test]
-fn want_of_memory_comes_after_no_path(rt: HostRuntime) -> Result<(), Fail> {
-    let none = reply_of(rt.alloc(), b"257 \"/a-path-of-more-than-eight-octets").ok_or("no reply")?;
-    let heap = Refusing::new(rt.alloc(), 1);
-    assert!(rt; path_len(&heap, &none) == Err(ReplyFault::NoPath));
-    let other = reply_of(rt.alloc(), b"257 \"/\xC3\" created").ok_or("no reply")?;
-    assert!(rt; path_len(&heap, &other) == Err(ReplyFault::NoPath));
-    Ok(())
+fn each_growth_of_a_path_refused_in_turn(rt: HostRuntime) {
+    let alloc = rt.alloc();
+    let growths = growths_of_path(alloc).unwrap_or(0);
+    assert!(rt; 1 <= growths && growths < 20);
+    assert!(rt; (1..20u64).all(|refused| is_refused(alloc, refused, growths)));
+}
+
+/// Whether a line quotes no path, with the first growth refused.
+fn has_no_path(alloc: Global, line: &[u8]) -> bool {
+    matches!(
+        path_len_of(alloc, line, 1),
+        Some((Err(ReplyFault::NoPath), _))
+    )
+}
+
+#[test]
+fn want_of_memory_comes_after_no_path(rt: HostRuntime) {
+    assert!(rt; has_no_path(rt.alloc(), b"257 \"/a-path-of-more-than-eight-octets"));
+    assert!(rt; has_no_path(rt.alloc(), b"257 \"/\xC3\" created"));
 }
 
 /// Whether the reply could be written, and the octets then.
@@ -115,17 +148,35 @@ const OF_FOUR: &[&[u8]] = &[
     b"end",
 ];
 
-#[test]
-fn each_growth_of_a_written_reply_refused_in_turn(rt: HostRuntime) -> Result<(), Fail> {
-    let reply = reply_with(rt.alloc(), 211, OF_FOUR).ok_or("no reply")?;
-    let heap = Refusing::new(rt.alloc(), 0);
-    assert!(rt; put(&heap, &reply) == (true, 56));
-    let growths = 0u64.wrapping_sub(heap.left());
-    assert!(rt; 1 <= growths && growths < 20);
-    for refused in 1..20u64 {
-        let heap = Refusing::new(rt.alloc(), refused);
-        let wrote = refused > growths;
-        assert!(rt; put(&heap, &reply) == (wrote, if wrote { 56 } else { 0 }));
+/// How many octets a reply of four lines is written as, where this growth is refused, and how many growths are left then.
+fn written(alloc: Global, refused: u64) -> Option<(bool, usize, u64)> {
+    let reply = reply_with(alloc, 211, OF_FOUR)?;
+    let heap = Refusing::new(alloc, refused);
+    let (wrote, len) = put(&heap, &reply);
+    Some((wrote, len, heap.left()))
+}
+
+/// How many growths the written reply asks for; nothing where it is not written.
+fn growths_of_written(alloc: Global) -> Option<u64> {
+    match written(alloc, 0) {
+        Some((true, 56, left)) => Some(0u64.wrapping_sub(left)),
+        _ => None,
     }
-    Ok(())
+}
+
+/// Whether the reply is written whole, or nothing of it where one of so many growths is refused.
+fn is_whole_or_none(alloc: Global, refused: u64, growths: u64) -> bool {
+    match written(alloc, refused) {
+        Some((true, 56, _)) => refused > growths,
+        Some((false, 0, _)) => refused <= growths,
+        _ => false,
+    }
+}
+
+#[test]
+fn each_growth_of_a_written_reply_refused_in_turn(rt: HostRuntime) {
+    let alloc = rt.alloc();
+    let growths = growths_of_written(alloc).unwrap_or(0);
+    assert!(rt; 1 <= growths && growths < 20);
+    assert!(rt; (1..20u64).all(|refused| is_whole_or_none(alloc, refused, growths)));
 }

@@ -1,8 +1,7 @@
 //! Replies as they are written, and the faults as they are printed.
 use super::common::reply_with;
 use ftp_reply::{Reply, ReplyFault, write};
-use std::alloc::Global;
-use std::test::Fail;
+use std::alloc::{AllocError, Global};
 
 const WRITTEN: &[(u16, &[&[u8]], &[u8])] = &[
     (200, &[b"Ok"], b"200 Ok"),
@@ -52,15 +51,21 @@ fn written_as_rfc_959_section_4_2(rt: HostRuntime) {
     );
 }
 
-#[test]
-fn a_reply_by_its_parts(rt: HostRuntime) -> Result<(), Fail> {
-    let mut reply = Reply::new(rt.alloc(), 250, b"Listing")?;
+/// Whether a reply of three lines, line by line, has their text.
+fn is_built(alloc: Global) -> Result<bool, AllocError> {
+    let mut reply = Reply::new(alloc, 250, b"Listing")?;
     reply.push(b" Type=dir; /a")?;
     reply.push(b"End")?;
-    assert!(rt; reply.text() == b"Listing\n Type=dir; /a\nEnd".as_slice());
-    assert!(rt; reply.lines.octets() == 23);
-    assert!(rt; reply.lines.get(3).is_none());
-    Ok(())
+    Ok(
+        reply.text() == b"Listing\n Type=dir; /a\nEnd".as_slice()
+            && reply.lines.octets() == 23
+            && reply.lines.get(3).is_none(),
+    )
+}
+
+#[test]
+fn a_reply_by_its_parts(rt: HostRuntime) {
+    assert!(rt; is_built(rt.alloc()) == Ok(true));
 }
 
 /// Whether the fault is printed so.
