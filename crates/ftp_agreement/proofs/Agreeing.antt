@@ -1,15 +1,21 @@
 -- What follows is agreement, and where nothing is in flight nothing is left open.
-use Rattle.std.proofs.Common.{◌≡◌, ◌⊎◌, inl, inr, ℕ, ◌+◌, ◌<◌, List, [], ◌∷◌, ◌++◌, length, Option, Some, None, refl, sym, ap, subst, ◌∙◌, arith}
+use Rattle.std.proofs.Common.{◌≡◌, ◌⊎◌, inl, inr, ℕ, ◌+◌, ◌<◌, List, [], ◌∷◌, ◌++◌, length, Option, Some, None, refl, sym, ap, subst, ◌∙◌, append-nil, arith}
 use Rattle.ftp_direct.specs.Direct.{State, answer}
 use Rattle.ftp_operation.specs.Answer.{Said}
 use Rattle.ftp_tree.specs.Tree.{Table}
-use Rattle.ftp_server_machine.specs.Machine.{Reading}
-use Rattle.ftp_world.specs.Agreement.{Order, Single, Item, state_after, Agrees, WorldAgrees}
+use Rattle.ftp_operation.specs.declared.op.Op.{Op}
+use Rattle.ftp_server_machine.specs.Machine.{Reading, IsReading}
+use Rattle.ftp_world.specs.Agreement.{Order, Single, Item, state_after, ItemHolds, Agrees, WorldAgrees}
+use Rattle.ftp_world.specs.Outcome.{Whole}
 use Rattle.ftp_world.specs.World.{World, Mark}
 use Rattle.ftp_dialogues.specs.Dialogue.{Ends}
+use Rattle.ftp_dialogues.specs.Fetches.{fetch}
 use Rattle.ftp_dialogues.specs.Login.{AtFree, AtOperation}
 use Rattle.ftp_dialogues.specs.Stage.{rest}
 use Rattle.ftp_agreement.specs.Follows.{Told, IsFree, IsUnder, Phase, Follows}
+use Rattle.ftp_agreement.specs.Runs.{IsFetchingOn, IsTrailing, Runs}
+use Rattle.ftp_agreement.proofs.FetchParting.{parts}
+use Rattle.ftp_agreement.proofs.FetchTold.{few_links, closed_is, closed_at, marks_at, reported}
 use Rattle.ftp_agreement.proofs.Items.{state_more, before_more, one_more}
 use Rattle.ftp_agreement.proofs.Phases.{whole_item, whole_holds, length-more}
 use Rattle.ftp_agreement.proofs.Still.{IsSeen, seen, IsMoving, free_set, operation_on}
@@ -78,3 +84,45 @@ follows_agrees read from begun w h = by_phase h.phase
     by_phase (inr l) =
         subst (λ cutoff. Agrees from begun w.marks cutoff w.reports w.far.session.table) (sym l.cut_is)
         (told_agrees from begun w.marks (Some l.cutoff) w.reports l.now w.far.session.table l.told l.table)
+
+-- ---- a download
+
+-- an operation that is whole, whatever its marks
+marked_item : Op (List ℕ) → ℕ → List Mark → Item
+marked_item op moment own = record { moment = moment; first = record { op = op; outcome = Whole; marks = own }; more = [] }
+
+fetching_agrees : (read : Reading) (from : State) (begun : List Order) (w : World) → (on : IsFetchingOn read from begun w) → Agrees from begun w.marks None w.reports w.far.session.table
+unfolding marked_item
+fetching_agrees read from begun w on =
+    let f = on.fetching in
+    let op : Op (List ℕ) = fetch f.offset f.text f.how in
+    let item : Item = marked_item op f.moment f.own in
+    let p = parts read from begun w on in
+    let holds : ItemHolds (state_after from f.told.items) (Single op f.moment) f.own None (length f.done) item = record {
+      is_of = (refl, refl, refl);
+      holds = (record { can_be = tt; allowed = tt; few = few_links f.offset f.text f.how f.own p.few }, tt);
+      marked = append-nil f.own;
+    } in
+    let fewer : length w.reports < length (f.done ++ Single op f.moment ∷ []) = omega (arith, f.told.all, length-more f.done (Single op f.moment)) in
+    subst (λ b. Agrees from b w.marks None w.reports w.far.session.table) (sym f.begun_is)
+    (subst (λ marks. Agrees from (f.done ++ Single op f.moment ∷ []) marks None w.reports w.far.session.table) (sym f.marks_are) (record {
+      items = f.told.items ++ item ∷ [];
+      hold = one_more w.reports from 0 (length f.done) f.done f.marks None f.told.items (Single op f.moment) f.own item f.told.all f.told.hold
+          (let e : length f.done ≡ 0 + length f.done = omega arith in e) holds;
+      map_is = inr (fewer, p.table ∙ ap (λ s. s.table) (f.told.now_is ∙ sym (before_more from f.told.items item refl)));
+    }))
+
+trailing_agrees : (read : Reading) (reads : IsReading read) (from : State) (begun : List Order) (w : World) → (t : IsTrailing from begun w) → Agrees from begun w.marks None w.reports w.far.session.table
+trailing_agrees read reads from begun w t =
+    let told : Told from begun (closed_at read reads from begun w t).marks None (closed_at read reads from begun w t).reports t.now =
+    subst (λ marks. Told from begun marks None (closed_at read reads from begun w t).reports t.now) (sym (marks_at read reads from begun w t)) (reported read reads from begun w t [] (omega arith)) in
+    subst (λ u. Agrees from begun u.marks None u.reports u.far.session.table) (sym (closed_is read reads from begun w t))
+    (told_agrees from begun (closed_at read reads from begun w t).marks None (closed_at read reads from begun w t).reports t.now (closed_at read reads from begun w t).far.session.table told
+    t.stands.here.steady.table)
+
+pub runs_agree : (read : Reading) (reads : IsReading read) (from : State) (begun : List Order) (w : World) → Runs read from begun w → WorldAgrees from begun w
+runs_agree read reads from begun w (inl h) = follows_agrees read from begun w h
+runs_agree read reads from begun w (inr (inl on)) =
+    subst (λ cutoff. Agrees from begun w.marks cutoff w.reports w.far.session.table) (sym on.fetching.linked.cutoff) (fetching_agrees read from begun w on)
+runs_agree read reads from begun w (inr (inr t)) =
+    subst (λ cutoff. Agrees from begun w.marks cutoff w.reports w.far.session.table) (sym t.linked.cutoff) (trailing_agrees read reads from begun w t)

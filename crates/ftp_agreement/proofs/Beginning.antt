@@ -1,12 +1,13 @@
 -- A fair beginning is a login with no operation, from a sound state.
-use Rattle.std.proofs.Common.{◌≡◌, inl, ℕ, ◌≤◌, Bool, true, false, not, ◌&&◌, ◌||◌, List, [], ◌∷◌, ◌++◌, length, Option, Some, None, refl, sym, ap, subst, ◌∙◌, append-nil, cond}
+use Rattle.std.proofs.Common.{◌≡◌, inl, ℕ, ◌+◌, ◌≤◌, Bool, true, false, not, ◌&&◌, ◌||◌, List, [], ◌∷◌, ◌++◌, length, Option, Some, None, refl, sym, ap, subst, ◌∙◌, append-nil, arith, cond}
 use Rattle.std.specs.Prelude.{IsTrue, nat_le, is_none, if◌then◌else◌}
 use Rattle.std.specs.FinMap as fin
 use Rattle.std.specs.FinMap.Entries.{find as find_entry}
-use Rattle.std.specs.List.{find, list_all, list_any}
+use Rattle.std.specs.List.{find, list_all, list_any, sum_by}
 use Rattle.std.specs.Option.{option_map}
 use Rattle.std.specs.Ordering.{eq_by_cmp}
 use Rattle.std.proofs.lemmas.Bool.{and_parts, leb-true}
+use Rattle.std.proofs.lemmas.List.Sums.{sum_by-cons}
 use Rattle.std.proofs.lemmas.Slice.Eq.{bytes_eq-Decides}
 use Rattle.ftp_command.specs.Argument.{IsName, IsPassword}
 use Rattle.ftp_ends.specs.Reply.{reply_octets}
@@ -14,10 +15,10 @@ use Rattle.ftp_login.specs.Login.{is_login_octet}
 use Rattle.ftp_operation.specs.Account.{Account, has_user, are_distinct, are_apart, accounts_refusal, passes, knows, login_root, is_user, is_password}
 use Rattle.ftp_operation.specs.declared.account.AccountsFault.TheVariants.{SameUser, NestedRoots}
 use Rattle.ftp_path.specs.Path.{Names, fits, path_cmp, text_of}
-use Rattle.ftp_tree.specs.Tree.{Node, Dir, File, Table, IsTree, node_at}
+use Rattle.ftp_tree.specs.Tree.{Node, Dir, File, Table, IsTree, node_at, octets_in, length_of, total_limit}
 use Rattle.ftp_tree.proofs.LawLemmas.{get-node, under-stands}
 use Rattle.ftp_tree.proofs.PartLemmas.{parts-trees}
-use Rattle.ftp_direct.specs.Direct.{start as direct_start, is_directory}
+use Rattle.ftp_direct.specs.Direct.{start as direct_start, is_directory, part}
 use Rattle.ftp_server_machine.specs.Login.{is_open, open_root}
 use Rattle.ftp_server_machine.specs.Machine.{Reading}
 use Rattle.ftp_server_machine.specs.Replies.{fixed_reply}
@@ -118,20 +119,53 @@ early_entry path (row ∷ rows) octets moment all is =
     by_node Dir sound e = absurd (cc)
     by_node (File other at) sound e = let same : at ≡ moment = cc in subst (λ m. m ≤ last_second) same (leb-true at last_second sound)
 
+-- no file is longer than all of them together
+short_entry : (path : Names) (rows : List (Names × Node)) (octets : List ℕ) (moment : ℕ) → find_entry path_cmp path rows ≡ Some (File octets moment)
+    → length octets ≤ sum_by (λ entry. length_of entry.1) rows
+short_entry path [] octets moment is = absurd (cc)
+short_entry path (row ∷ rows) octets moment is =
+    let all : sum_by (λ (e : Names × Node). length_of e.1) (row ∷ rows) ≡ length_of row.1 + sum_by (λ (e : Names × Node). length_of e.1) rows = sum_by-cons (λ (e : Names × Node). length_of e.1) row rows in
+    by_bool (eq_by_cmp path_cmp path row.0)
+    (λ e.
+    let here : length_of row.1 ≡ length octets = by_node row.1 (sym (ap (λ b. cond b (Some row.1) (find_entry path_cmp path rows)) e) ∙ is) in
+    let first : length octets ≤ sum_by (λ (e : Names × Node). length_of e.1) (row ∷ rows) = omega (arith, all, here) in
+    first)
+    (λ e.
+    let rest = short_entry path rows octets moment (sym (ap (λ b. cond b (Some row.1) (find_entry path_cmp path rows)) e) ∙ is) in
+    let later : length octets ≤ sum_by (λ (e : Names × Node). length_of e.1) (row ∷ rows) = omega (arith, all, rest) in
+    later)
+  where
+    by_node : (node : Node) → Some node ≡ Some (File octets moment) → length_of node ≡ length octets
+    by_node Dir e = absurd (cc)
+    by_node (File other at) e = let same : other ≡ octets = cc in ap length same
+
+short_file : (table : Table) (path : Names) (octets : List ℕ) (moment : ℕ) → octets_in table ≤ total_limit → node_at table path ≡ Some (File octets moment) → length octets ≤ total_limit
+unfolding octets_in
+short_file table path octets moment few is =
+    let short = short_entry path (fin.entries table) octets moment (get-node table path ∙ is) in
+    omega (arith, short, few)
+
 root_is_path : is_path [] ≡ true
 unfolding fits text_of
 root_is_path = refl
 
-sound_start : (table : Table) (root : Option Names) → IsTree table → list_all is_sound_entry (fin.entries table) ≡ true → IsSound (direct_start table root)
-sound_start table None tree all = record {
+sound_start : (table : Table) (root : Option Names) → IsTree table → list_all is_sound_entry (fin.entries table) ≡ true → octets_in (part (direct_start table root)) ≤ total_limit
+    → IsSound (direct_start table root)
+sound_start table None tree all few = record {
   cwd = root_is_path;
   tree = λ known. absurd (cc);
-  moments = λ path octets moment is. early_entry path (fin.entries table) octets moment all (get-node table path ∙ sym (under-stands table [] path) ∙ is);
+  files = λ path octets moment is. (
+    early_entry path (fin.entries table) octets moment all (get-node table path ∙ sym (under-stands table [] path) ∙ is),
+    short_file (part (direct_start table None)) path octets moment few is,
+  );
 }
-sound_start table (Some root) tree all = record {
+sound_start table (Some root) tree all few = record {
   cwd = root_is_path;
   tree = λ known. parts-trees.taking table root tree (a_directory (node_at table root) known);
-  moments = λ path octets moment is. early_entry (root ++ path) (fin.entries table) octets moment all (get-node table (root ++ path) ∙ sym (under-stands table root path) ∙ is);
+  files = λ path octets moment is. (
+    early_entry (root ++ path) (fin.entries table) octets moment all (get-node table (root ++ path) ∙ sym (under-stands table root path) ∙ is),
+    short_file (part (direct_start table (Some root))) path octets moment few is,
+  );
 }
   where
     a_directory : (node : Option Node) → is_directory node ≡ true → node ≡ Some Dir
@@ -149,7 +183,7 @@ begins_follow read b fair = record {
     record { control = refl; cutoff = refl },
     inl (record {
       now = state_of b;
-      sound = sound_start b.table (login_root b.accounts b.user b.pass) fair.tree fair.entries;
+      sound = sound_start b.table (login_root b.accounts b.user b.pass) fair.tree fair.entries fair.octets;
       told = record { items = []; all = refl; hold = tt; now_is = refl };
       stands = record {
         base = world_of b;
@@ -185,6 +219,7 @@ begins_follow read b fair = record {
         facts = refl;
         table = sym table_is;
         access = refl;
+        meets = record { peer = refl; here = refl; typed = fair.far_typed; all_ways = refl };
         leads_to = ap (λ table. direct_start table (login_root b.accounts b.user b.pass)) (sym table_is);
         opens = λ root found. opens_as b.accounts b.user b.pass root fair.accounts found;
       };

@@ -21,11 +21,12 @@ use Rattle.ftp_world.specs.Agreement.{Order, Single}
 use Rattle.ftp_world.specs.Events.{operation_begins}
 use Rattle.ftp_world.specs.Serving.{after_event}
 use Rattle.ftp_world.specs.World.{World, Mark}
-use Rattle.ftp_dialogues.specs.Dialogue.{Stands, IsSound, HasNoTransfer, resting}
-use Rattle.ftp_dialogues.specs.Login.{Place, Greets, AsksUser, WantsPass, AsksPass, Answers, standing_of, way_of, IsAccessOf, Logging, AtFree, AtOperation}
-use Rattle.ftp_dialogues.specs.Operations.{LeadsTo}
+use Rattle.ftp_dialogues.specs.Dialogue.{Passes, Stands, Ends, resting}
+use Rattle.ftp_dialogues.specs.Fetches.{IsDialogue}
+use Rattle.ftp_dialogues.specs.Login.{Place, Greets, AsksUser, WantsPass, AsksPass, Answers, standing_of, way_of, IsAccessOf, Logging, AtFree, IsOnWay}
+use Rattle.ftp_dialogues.specs.Operations.{LeadsBy}
 use Rattle.ftp_dialogues.specs.Stage.{calm, still, Way, Asking, Answering, rest, AreWritten}
-use Rattle.ftp_dialogues.proofs.Theorems.{each-leads}
+use Rattle.ftp_dialogues.proofs.Refusing.{dialogue-leads}
 use Rattle.ftp_agreement.specs.Cut.{Cut, Flows, FlowsRow, Fits, coming, world_at, StandsAt}
 use Rattle.ftp_agreement.specs.Follows.{Told, IsFree, IsLinked, IsUnlinked, Follows}
 use Rattle.ftp_agreement.proofs.Keeps.{line_is_some, anew}
@@ -79,6 +80,7 @@ logging_with state way job moment n f l = record {
     facts = l.logs.facts;
     table = l.logs.table;
     access = access_at l.place state moment (with_job job n) f (access_job l.place state job n f l.logs.access);
+    meets = record { peer = l.logs.meets.peer; here = l.logs.meets.here; typed = l.logs.meets.typed; all_ways = l.logs.meets.all_ways };
     leads_to = l.logs.leads_to;
     opens = l.logs.opens;
   };
@@ -86,6 +88,7 @@ logging_with state way job moment n f l = record {
 
 stands_at_moment : (state : State) (moment : ℕ) (n : Near) (f : Far) → Stands state n f → Stands state n (at_moment moment f)
 stands_at_moment state moment n f s = record {
+  meets = record { peer = s.meets.peer; here = s.meets.here; typed = s.meets.typed; all_ways = s.meets.all_ways };
   far = record { aside = s.far.aside; closing = s.far.closing; life = s.far.life };
   sees = s.sees;
   settings = s.settings;
@@ -148,12 +151,12 @@ waits_at job moment marks b (Answering rows) c fits =
     ap (λ v. record (world_at b (Answering rows) c) { far = at_moment moment (record (still b.far) { owed = c.owed }); near = v; marks = marks })
     (row_with job b.near rows c.held (coming c) fits.0 fits.1)
 
-module _ (read : Reading) (reads : IsReading read) (from : State) (begun : List Order) (op : Op (List ℕ)) (moment : ℕ) (alone : can_be_sent op ≡ true → HasNoTransfer op) where
+module _ (read : Reading) (reads : IsReading read) (from : State) (begun : List Order) (op : Op (List ℕ)) (moment : ℕ) where
   -- ---- one that can be sent
 
-  begins_login : (now : State) (w : World) → can_be_sent op ≡ true → (s : StandsAt (AtFree now) w) → Logging now s.way s.base.near s.base.far
-      → StandsAt (AtOperation read now op (answer now op moment)) (operation_begins op moment w)
-  begins_login now w can s logging =
+  begins_login : (now : State) (Along Goal : Near → Far → Type 0) (w : World) → can_be_sent op ≡ true → (s : StandsAt (AtFree now) w) → Logging now s.way s.base.near s.base.far
+      → StandsAt (IsOnWay read now op Along Goal) (operation_begins op moment w)
+  begins_login now Along Goal w can s logging =
       let marks : List (List Mark) = w.marks ++ [] ∷ [] in
       let begin : World → World = λ u. record u { far = far.clocked moment u.far; near = with_job (Waiting op) u.near; marks = marks } in
       let standing : w.near.standing ≡ standing_of logging.place = (seen (AtFree now) w s).standing ∙ logging.logs.standing in
@@ -167,13 +170,13 @@ module _ (read : Reading) (reads : IsReading read) (from : State) (begun : List 
         here = inl (logging_with now s.way (Waiting op) moment s.base.near s.base.far logging, refl);
       }
 
-  begins_rest : (now : State) (w : World) → can_be_sent op ≡ true → IsSound now → (s : StandsAt (AtFree now) w) → s.way ≡ rest → s.base.near ≡ resting s.base.near → Stands now s.base.near s.base.far
-      → StandsAt (AtOperation read now op (answer now op moment)) (operation_begins op moment w)
+  begins_rest : (now : State) (Along Goal : Near → Far → Type 0) (w : World) → ((n : Near) (f : Far) → Stands now n f → LeadsBy read Along Goal op n f) → can_be_sent op ≡ true → (s : StandsAt (AtFree now) w) → s.way ≡ rest → s.base.near ≡ resting s.base.near → Stands now s.base.near s.base.far
+      → StandsAt (IsOnWay read now op Along Goal) (operation_begins op moment w)
   unfolding far.clocked
-  begins_rest now w can sound s way entered stands =
+  begins_rest now Along Goal w leads can s way entered stands =
       let b : World = s.base in
       let f : Far = at_moment moment b.far in
-      let on : LeadsTo read now op (answer now op moment) b.near f = each-leads read now op moment b.near f reads (alone can) can sound (stands_at_moment now moment b.near b.far stands) in
+      let on : LeadsBy read Along Goal op b.near f = leads b.near f (stands_at_moment now moment b.near b.far stands) in
       let marks : List (List Mark) = w.marks ++ [] ∷ [] in
       let begin : World → World = λ u. record u { far = far.clocked moment u.far; near = near.starts op u.near; marks = marks } in
       let start : near.starts op (calm b.near) ≡ record (calm on.near) { owed = written_line on.text } =
@@ -188,13 +191,13 @@ module _ (read : Reading) (reads : IsReading read) (from : State) (begun : List 
         here = inr (on.left, on.leads);
       }
 
-  begins_stands : (now : State) (w : World) → can_be_sent op ≡ true → IsSound now → (s : StandsAt (AtFree now) w) → AtFree now s.way s.base.near s.base.far
-      → StandsAt (AtOperation read now op (answer now op moment)) (operation_begins op moment w)
-  begins_stands now w can sound s (inl (logging, idle)) = begins_login now w can s logging
-  begins_stands now w can sound s (inr (way, entered, stands)) = begins_rest now w can sound s way entered stands
+  pub begins_stands : (now : State) (Along Goal : Near → Far → Type 0) (w : World) → ((n : Near) (f : Far) → Stands now n f → LeadsBy read Along Goal op n f) → can_be_sent op ≡ true
+      → (s : StandsAt (AtFree now) w) → AtFree now s.way s.base.near s.base.far → StandsAt (IsOnWay read now op Along Goal) (operation_begins op moment w)
+  begins_stands now Along Goal w leads can s (inl (logging, idle)) = begins_login now Along Goal w can s logging
+  begins_stands now Along Goal w leads can s (inr (way, entered, stands)) = begins_rest now Along Goal w leads can s way entered stands
 
-  begins_sent : (w : World) → can_be_sent op ≡ true → IsUnlinked w → IsLinked w → IsFree from begun w → Follows read from (begun ++ Single op moment ∷ []) (after_event (operation_begins op moment w))
-  begins_sent w can unlinked linked f = follows_after read from (begun ++ Single op moment ∷ []) (operation_begins op moment w) (record {
+  begins_sent : (w : World) → can_be_sent op ≡ true → IsUnlinked w → IsLinked w → (f : IsFree from begun w) → IsDialogue f.now op → Follows read from (begun ++ Single op moment ∷ []) (after_event (operation_begins op moment w))
+  begins_sent w can unlinked linked f alone = follows_after read from (begun ++ Single op moment ∷ []) (operation_begins op moment w) (record {
     unlinked = record { link = unlinked.link; to_server = unlinked.to_server; to_client = unlinked.to_client };
     phase = inl (
       record { control = linked.control; cutoff = linked.cutoff },
@@ -208,9 +211,10 @@ module _ (read : Reading) (reads : IsReading read) (from : State) (begun : List 
         now = f.now;
         sound = f.sound;
         told = f.told;
-        alone = alone can;
+        alone = alone;
         sent = can;
-        stands = begins_stands f.now w can f.sound f.stands f.stands.here;
+        stands = begins_stands f.now (Passes f.now.table (answer f.now op moment).1.table) (Ends (answer f.now op moment)) w
+            (λ n g stands. dialogue-leads read f.now op moment n g reads alone can f.sound stands) can f.stands f.stands.here;
       }),
     );
   })
@@ -289,9 +293,9 @@ module _ (read : Reading) (reads : IsReading read) (from : State) (begun : List 
         phase = inl (record { control = linked.control; cutoff = linked.cutoff }, inl free);
       })
 
-  pub begins_free : (w : World) → IsUnlinked w → IsLinked w → IsFree from begun w → Follows read from (begun ++ Single op moment ∷ []) (after_event (operation_begins op moment w))
-  begins_free w unlinked linked f = by_sent (can_be_sent op) refl
+  pub begins_free : (w : World) → IsUnlinked w → IsLinked w → (f : IsFree from begun w) → (can_be_sent op ≡ true → IsDialogue f.now op) → Follows read from (begun ++ Single op moment ∷ []) (after_event (operation_begins op moment w))
+  begins_free w unlinked linked f alone = by_sent (can_be_sent op) refl
     where
       by_sent : (b : Bool) → can_be_sent op ≡ b → Follows read from (begun ++ Single op moment ∷ []) (after_event (operation_begins op moment w))
-      by_sent true can = begins_sent w can unlinked linked f
+      by_sent true can = begins_sent w can unlinked linked f (alone can)
       by_sent false cannot = begins_refused w cannot unlinked linked f

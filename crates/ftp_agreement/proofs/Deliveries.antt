@@ -9,14 +9,19 @@ use Rattle.ftp_world.specs.Events.{ControlToServer, ControlToClient, pulled, pus
 use Rattle.ftp_world.specs.World.{World, Mark}
 use Rattle.ftp_dialogues.specs.Login.{AtFree, AtOperation}
 use Rattle.ftp_dialogues.specs.Stage.{Way, Asking, Answering, Turns}
-use Rattle.ftp_agreement.specs.Cut.{Cut, world_at, StandsAt}
+use Rattle.ftp_agreement.specs.Cut.{Cut, world_at, of_ends, StandsAt, Goes}
 use Rattle.ftp_agreement.specs.Follows.{Told, IsLost, IsLinked, Phase, Follows}
 use Rattle.ftp_agreement.proofs.Keeps.{no_pull_to_server, no_pull_to_client, no_push_to_server, no_push_to_client, pulls_to_server, pulls_to_client, pushes_to_server, pushes_to_client}
 use Rattle.ftp_agreement.proofs.Phases.{HasFollowed, turns_free, turns_under, follows_after}
 
+-- ---- a predicate on both ends
+
+pub ends_go : (read : Reading) (At : Way → Near → Far → Type 0) → Turns read At → Goes read (of_ends At)
+ends_go read At turns = record { asked = λ text b here. turns.asked text b.near b.far here; told = λ reply more b here. turns.told reply more b.near b.far here }
+
 -- ---- what is lent is of no matter
 
-taken_at : (b : World) (way : Way) (c : Cut) (octets : List ℕ) → record (world_at b way c) { taken = octets } ≡ world_at (record b { taken = octets }) way c
+pub taken_at : (b : World) (way : Way) (c : Cut) (octets : List ℕ) → record (world_at b way c) { taken = octets } ≡ world_at (record b { taken = octets }) way c
 taken_at b (Asking text) c octets = refl
 taken_at b (Answering rows) c octets = refl
 
@@ -109,7 +114,7 @@ module _ (read : Reading) (reads : IsReading read) (from : State) (begun : List 
   pulled_server n w h =
       moves_follow read from begun w (pulled ControlToServer w n) reads
       (record { marks = refl; reports = refl; control = refl; cutoff = refl; link = refl; to_server = refl; to_client = refl })
-      (λ At turns s. pulls_to_server read At turns n w s)
+      (λ At turns s. pulls_to_server read (of_ends At) (ends_go read At turns) n w s)
       (λ l. subst (IsLost from begun) (sym (no_pull_to_server n w l.near.owed)) l)
       h
 
@@ -117,7 +122,7 @@ module _ (read : Reading) (reads : IsReading read) (from : State) (begun : List 
   pulled_client n w h =
       moves_follow read from begun w (pulled ControlToClient w n) reads
       (record { marks = refl; reports = refl; control = refl; cutoff = refl; link = refl; to_server = refl; to_client = refl })
-      (λ At turns s. pulls_to_client read At turns n w s)
+      (λ At turns s. pulls_to_client read (of_ends At) (ends_go read At turns) n w s)
       (λ l. subst (IsLost from begun) (sym (no_pull_to_client n w l.far.owed l.far.waiting)) l)
       h
 
@@ -125,7 +130,7 @@ module _ (read : Reading) (reads : IsReading read) (from : State) (begun : List 
   pushed_server n w h =
       moves_follow read from begun w (pushed read ControlToServer n w) reads
       (record { marks = refl; reports = refl; control = refl; cutoff = refl; link = refl; to_server = refl; to_client = refl })
-      (λ At turns s. pushes_to_server read At turns n w s)
+      (λ At turns s. pushes_to_server read (of_ends At) (ends_go read At turns) n w s)
       (λ l. subst (IsLost from begun) (sym (no_push_to_server read n w l.to_server)) l)
       h
 
@@ -133,7 +138,7 @@ module _ (read : Reading) (reads : IsReading read) (from : State) (begun : List 
   pushed_client n w h =
       moves_follow read from begun w (pushed read ControlToClient n w) reads
       (record { marks = refl; reports = refl; control = refl; cutoff = refl; link = refl; to_server = refl; to_client = refl })
-      (λ At turns s. pushes_to_client read At turns n w s)
+      (λ At turns s. pushes_to_client read (of_ends At) (ends_go read At turns) n w s)
       (λ l. subst (IsLost from begun) (sym (no_push_to_client read n w l.to_client)) l)
       h
 

@@ -1,7 +1,6 @@
 -- Every event keeps what follows, and so every list of them.
-use Rattle.std.proofs.Common.{◌≡◌, ◌⊎◌, inl, inr, ℕ, ◌==◌, List, [], ◌∷◌, ◌++◌, Bool, true, false, not, ◌&&◌, ◌||◌, None, refl, sym, ap, subst, ◌∙◌, append-nil, append_assoc}
+use Rattle.std.proofs.Common.{◌≡◌, ◌⊎◌, inl, inr, ℕ, ◌==◌, List, [], ◌++◌, Bool, true, false, not, ◌&&◌, ◌||◌, None, refl, sym, ap, subst, ◌∙◌, append-nil}
 use Rattle.std.specs.Prelude.{IsTrue, if◌then◌else◌}
-use Rattle.ftp_operation.specs.declared.op.Op.{Op}
 use Rattle.ftp_direct.specs.Direct.{State, answer}
 use Rattle.ftp_client_machine.specs.Calls as near
 use Rattle.ftp_client_machine.specs.Calls.{is_busy_job, report_of, report_of_job}
@@ -13,18 +12,16 @@ use Rattle.ftp_server_machine.specs.Machine.{Reading, IsReading}
 use Rattle.ftp_server_machine.specs.View.{Transfer}
 use Rattle.ftp_server_machine.specs.declared.session.DataConnection.{DataConnection}
 use Rattle.ftp_server_machine.specs.declared.session.DataConnection.TheVariants as FarData
-use Rattle.ftp_world.specs.Agreement.{Order, Single, Leads, begun_by}
-use Rattle.ftp_world.specs.Events.{ControlToServer, ControlToClient, DataToServer, DataToClient, Event, Deliver, Open, Refuse, End, Break, EndControl, Next, Upload, Happens, can_happen, can_begin, operation_begins, ends_control, is_asked_for, is_gone, has_octets, is_left_by_near, is_left_by_far, is_parted}
+use Rattle.ftp_world.specs.Agreement.{Order, begun_by}
+use Rattle.ftp_world.specs.Events.{ControlToServer, ControlToClient, DataToServer, DataToClient, Event, Deliver, Open, Refuse, End, Break, EndControl, Next, Upload, Happens, can_happen, ends_control, is_asked_for, is_gone, has_octets, is_left_by_near, is_left_by_far, is_parted}
 use Rattle.ftp_world.specs.Serving.{after_event}
 use Rattle.ftp_world.specs.World.{World}
 use Rattle.ftp_dialogues.specs.Dialogue.{is_aside, Ends}
 use Rattle.ftp_dialogues.specs.Login.{AtOperation}
 use Rattle.ftp_dialogues.specs.Stage.{rest}
 use Rattle.ftp_agreement.specs.Follows.{IsUnder, IsLost, IsUnlinked, Phase, Follows}
-use Rattle.ftp_agreement.specs.Laws.{IsPlain, ArePlain}
-use Rattle.ftp_agreement.proofs.Begins.{begins_free}
 use Rattle.ftp_agreement.proofs.Deliveries.{delivers_server, delivers_client, holds_lent}
-use Rattle.ftp_agreement.proofs.Parting.{parts_from_free, parts_from_under, begins_lost}
+use Rattle.ftp_agreement.proofs.Parting.{parts_from_free, parts_from_under}
 use Rattle.ftp_agreement.proofs.Phases.{HasFollowed, free_still}
 use Rattle.ftp_agreement.proofs.Still.{IsSeen, seen, IsStill, IsMoving, still_as, near_wants, operation_on, told_waits}
 
@@ -45,7 +42,7 @@ given_none (FarData.Asked asked) aside = refl
 given_none (FarData.Opening transfer way) aside = refl
 given_none (FarData.Transferring transfer) aside = absurd (cc)
 
-and_false : (b : Bool) → (b && false) ≡ false
+pub and_false : (b : Bool) → (b && false) ≡ false
 and_false true = refl
 and_false false = refl
 
@@ -53,7 +50,7 @@ and_false false = refl
 nothing_wanted : (wants : Wants) → is_wanted Want.Nothing wants ≡ false
 nothing_wanted wants = refl
 
-still_data : (w : World) → IsStill w → HasNoData w
+pub still_data : (w : World) → IsStill w → HasNoData w
 still_data w s = record {
   near_gives = rw (s.near.closing, s.near.connection) refl;
   far_gives = ap (λ (b : Bool). far.given_by (if b then FarData.Free else w.far.session.connection)) s.far.closing ∙ given_none w.far.session.connection s.far.aside;
@@ -102,11 +99,11 @@ under_busy read from begun w u = by_place (operation_on read u.now u.op (answer 
     by_place (inl moving) = ap is_busy_job like.job ∙ moving.busy
     by_place (inr ends) = ap is_busy_job (like.job ∙ ap (λ v. v.job) ends.1.near)
 
-both_false : (due queue : List ℕ) (a b c : Bool) → due ≡ [] → queue ≡ [] → ((has_octets due && a) || (b && has_octets queue && c)) ≡ false
+pub both_false : (due queue : List ℕ) (a b c : Bool) → due ≡ [] → queue ≡ [] → ((has_octets due && a) || (b && has_octets queue && c)) ≡ false
 both_false due queue a b c none empty =
     ap (λ l. (has_octets l && a) || (b && has_octets queue && c)) none ∙ ap (λ l. b && has_octets l && c) empty ∙ ap (λ (d : Bool). d && c) (and_false b)
 
-never : (b : Bool) → b ≡ false → IsTrue b → ⊥
+pub never : (b : Bool) → b ≡ false → IsTrue b → ⊥
 never b is holds = let e : true ≡ false = sym holds ∙ is in cc
 
 not_left_near : (read : Reading) (from : State) (begun : List Order) (w : World) → Phase read from begun w → is_left_by_near w.control ≡ false
@@ -117,6 +114,12 @@ not_left_far : (read : Reading) (from : State) (begun : List Order) (w : World) 
 not_left_far read from begun w (inl (l, open_phase)) = ap is_left_by_far l.control
 not_left_far read from begun w (inr l) = ap is_left_by_far l.control
 
+-- nothing is begun
+abbrev pub IsNoBeginning : Event → Type 0
+IsNoBeginning (Next op moment) = ⊥
+IsNoBeginning (Upload upload moment) = ⊥
+IsNoBeginning event = Unit {0}
+
 module _ (read : Reading) (reads : IsReading read) (from : State) where
   abbrev Holds : List Order → World → Type 0
   Holds begun w = Follows read from begun w
@@ -125,24 +128,11 @@ module _ (read : Reading) (reads : IsReading read) (from : State) where
   lent : (begun : List Order) (w : World) → Holds begun w → HasFollowed read from begun (record w { taken = [] })
   lent begun w h = holds_lent read reads from begun w (record { unlinked = h.unlinked; phase = h.phase })
 
-  lent_again : (begun : List Order) (w : World) → Holds begun w → Holds begun (record w { taken = [] })
+  pub lent_again : (begun : List Order) (w : World) → Holds begun w → Holds begun (record w { taken = [] })
   lent_again begun w h = let l = lent begun w h in record { unlinked = l.unlinked; untold = h.untold; phase = l.phase }
 
   same : (begun : List Order) (w : World) → Holds begun w → Holds (begun ++ []) w
   same begun w h = subst (λ l. Holds l w) (sym (append-nil begun)) h
-
-  next_follows : (begun : List Order) (op : Op (List ℕ)) (moment : ℕ) (w new : World) → IsPlain (Next op moment) → Holds begun w → Happens read (Next op moment) w true new
-      → Holds (begun ++ Single op moment ∷ []) new
-  next_follows begun op moment w new plain h e =
-      let u : World = record w { taken = [] } in
-      let hu = lent_again begun w h in
-      subst (Holds (begun ++ Single op moment ∷ [])) (sym e.1) (by_phase u hu.unlinked e.0 hu.phase)
-    where
-      by_phase : (u : World) → IsUnlinked u → IsTrue (can_begin u) → Phase read from begun u → Holds (begun ++ Single op moment ∷ []) (after_event (operation_begins op moment u))
-      by_phase u unlinked can (inl (l, inl f)) = begins_free read reads from begun op moment plain u unlinked l f
-      by_phase u unlinked can (inl (l, inr under)) =
-          absurd (never (can_begin u) (ap (λ (b : Bool). not b && is_gone u.link && not (is_asked_for u)) (under_busy read from begun u under)) can)
-      by_phase u unlinked can (inr l) = begins_lost read from begun op moment u unlinked l
 
   ends_follows : (begun : List Order) (w new : World) → Holds begun w → Happens read EndControl w true new → Holds begun new
   ends_follows begun w new h e =
@@ -155,7 +145,7 @@ module _ (read : Reading) (reads : IsReading read) (from : State) where
       by_phase u unlinked untold can (inl (l, inr under)) = parts_from_under read from begun u unlinked untold under
       by_phase u unlinked untold can (inr l) = absurd (never _ (ap (λ c. not (is_parted c)) l.control) can)
 
-  happens : (begun : List Order) (event : Event) (w new : World) → IsPlain event → Holds begun w → Happens read event w true new → Holds (begun ++ begun_by event true) new
+  pub happens : (begun : List Order) (event : Event) (w new : World) → IsNoBeginning event → Holds begun w → Happens read event w true new → Holds (begun ++ begun_by event true) new
   happens begun (Deliver ControlToServer count) w new plain h e = same begun new (delivers_server read reads from begun _ count _ new (lent begun w h) e.1)
   happens begun (Deliver ControlToClient count) w new plain h e = same begun new (delivers_client read reads from begun _ count _ new (lent begun w h) e.1)
   happens begun (Deliver DataToServer count) w new plain h e =
@@ -170,30 +160,5 @@ module _ (read : Reading) (reads : IsReading read) (from : State) where
   happens begun (End DataToClient) w new plain h e = absurd (never _ (rw h.unlinked.link refl) e.0)
   happens begun Break w new plain h e = absurd (never _ (rw h.unlinked.link refl) e.0)
   happens begun EndControl w new plain h e = same begun new (ends_follows begun w new h e)
-  happens begun (Next op moment) w new plain h e = next_follows begun op moment w new plain h e
+  happens begun (Next op moment) w new plain h e = absurd plain
   happens begun (Upload upload moment) w new plain h e = absurd plain
-
-  none_begun : (event : Event) → begun_by event false ≡ []
-  none_begun (Deliver queue count) = refl
-  none_begun Open = refl
-  none_begun Refuse = refl
-  none_begun (End queue) = refl
-  none_begun Break = refl
-  none_begun EndControl = refl
-  none_begun (Next op moment) = refl
-  none_begun (Upload upload moment) = refl
-
-  step : (begun : List Order) (event : Event) (possible : Bool) (w new : World) → IsPlain event → Holds begun w → Happens read event w possible new → Holds (begun ++ begun_by event possible) new
-  step begun event true w new plain h e = happens begun event w new plain h e
-  step begun event false w new plain h e =
-      subst (Holds (begun ++ begun_by event false)) (sym e.1) (subst (λ l. Holds (begun ++ l) w) (sym (none_begun event)) (same begun w h))
-
-  -- every list
-  pub follows_leads : (before : List Order) (events : List Event) (begun : List Order) (w new : World) → ArePlain events → Holds before w → Leads read w events begun new
-      → Holds (before ++ begun) new
-  follows_leads before [] begun w new plain h leads =
-      subst (Holds (before ++ begun)) (sym leads.1) (subst (λ l. Holds (before ++ l) w) (sym leads.0) (same before w h))
-  follows_leads before (event ∷ events) begun w new plain h leads =
-      let here = step before event leads.0 w leads.1 plain.0 h leads.3 in
-      let behind = follows_leads (before ++ begun_by event leads.0) events leads.2 leads.1 new plain.1 here leads.5 in
-      subst (λ l. Holds l new) (append_assoc before (begun_by event leads.0) leads.2 ∙ ap (λ l. before ++ l) (sym leads.4)) behind

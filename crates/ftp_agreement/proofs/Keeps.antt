@@ -18,8 +18,8 @@ use Rattle.ftp_server_machine.specs.View.{View as Far}
 use Rattle.ftp_server_machine.proofs.CommandsInFlight as commands
 use Rattle.ftp_world.specs.Events.{ControlToServer, ControlToClient, pulled, pushed}
 use Rattle.ftp_world.specs.World.{World}
-use Rattle.ftp_dialogues.specs.Stage.{calm, still, Way, Asking, Answering, row_octets, AreWritten, line_octets, IsAlone, behind, FarTurn, NearTurn, Turns}
-use Rattle.ftp_agreement.specs.Cut.{Cut, Flows, FlowsRow, Fits, coming, world_at, StandsAt}
+use Rattle.ftp_dialogues.specs.Stage.{calm, still, Way, Asking, Answering, row_octets, AreWritten, line_octets, IsAlone, behind, FarTurn, NearTurn}
+use Rattle.ftp_agreement.specs.Cut.{Cut, Flows, FlowsRow, Fits, coming, world_at, PlacedAt, Goes}
 use Rattle.ftp_agreement.proofs.Chunks.{both_empty, IsAll, hears_some}
 
 -- ---- a unit has an octet, and is owed whole
@@ -109,13 +109,13 @@ far_held : (read : Reading) (f : Far) (text held more : List ℕ) (octet : ℕ) 
     → hears read (still f) held ≡ only_heard (still f) held
 far_held read f text held more octet is whole = (commands.line_is_heard read text (still f) is refl).cut held more octet whole
 
-module _ (read : Reading) (At : Way → Near → Far → Type 0) (turns : Turns read At) where
+module _ (read : Reading) (At : Way → World → Type 0) (goes : Goes read At) where
   abbrev pub Keeps : World → Type 0
-  Keeps w = StandsAt At w
+  Keeps w = PlacedAt At w
 
   -- ---- octets that move
 
-  pulls_to_server_at : (n : ℕ) (b : World) (way : Way) (c : Cut) → Fits way c → At way b.near b.far → Keeps (pulled ControlToServer (world_at b way c) n)
+  pulls_to_server_at : (n : ℕ) (b : World) (way : Way) (c : Cut) → Fits way c → At way b → Keeps (pulled ControlToServer (world_at b way c) n)
   pulls_to_server_at n b (Asking text) c fits here =
       record { base = b; way = Asking text; cut = moves n c; is = refl; fits = moves_fit n (Asking text) c fits; here = here }
   pulls_to_server_at n b (Answering rows) c fits here = record {
@@ -130,7 +130,7 @@ module _ (read : Reading) (At : Way → Near → Far → Type 0) (turns : Turns 
   pub pulls_to_server : (n : ℕ) (w : World) → Keeps w → Keeps (pulled ControlToServer w n)
   pulls_to_server n w s = subst (λ u. Keeps (pulled ControlToServer u n)) (sym s.is) (pulls_to_server_at n s.base s.way s.cut s.fits s.here)
 
-  pulls_to_client_at : (n : ℕ) (b : World) (way : Way) (c : Cut) → Fits way c → At way b.near b.far → Keeps (pulled ControlToClient (world_at b way c) n)
+  pulls_to_client_at : (n : ℕ) (b : World) (way : Way) (c : Cut) → Fits way c → At way b → Keeps (pulled ControlToClient (world_at b way c) n)
   unfolding gives_control
   pulls_to_client_at n b (Asking text) c fits here =
       record { base = b; way = Asking text; cut = c; is = no_pull_to_client n (world_at b (Asking text) c) refl refl; fits = fits; here = here }
@@ -144,10 +144,10 @@ module _ (read : Reading) (At : Way → Near → Far → Type 0) (turns : Turns 
 
   -- the last octet of a line
   line_heard : (n : ℕ) (b : World) (text : List ℕ) (c : Cut) → IsLine text → Flows (written_line text) c.held (coming c) []
-      → IsAll (written_line text) c.held (take n c.moving) (drop n c.moving ++ c.owed) [] → At (Asking text) b.near b.far
+      → IsAll (written_line text) c.held (take n c.moving) (drop n c.moving ++ c.owed) [] → At (Asking text) b
       → Keeps (pushed read ControlToServer n (world_at b (Asking text) c))
   line_heard n b text c is flow all here =
-      let t : FarTurn read b.far text = (turns.asked text b.near b.far here).0 in
+      let t : FarTurn read b.far text = (goes.asked text b here).0 in
       let empty = both_empty all.more (drop n c.moving ++ c.owed) all.left in
       let none = both_empty (drop n c.moving) c.owed empty.1 in
       let last : take n c.moving ≡ all.last = all.heard ∙ ap (λ l. all.last ++ l) empty.0 ∙ append-nil all.last in
@@ -162,14 +162,14 @@ module _ (read : Reading) (At : Way → Near → Far → Type 0) (turns : Turns 
         cut = record { held = []; moving = []; owed = row_octets t.replies };
         is = λ i. record b { near = record (calm b.near) { owed = none.1 i }; far = far i; control_to_server = none.0 i; control_to_client = [] };
         fits = (t.fine, row_anew t.replies t.fine);
-        here = (turns.asked text b.near b.far here).1;
+        here = (goes.asked text b here).1;
       }
 
   -- the octets that were heard, and those that are left
   pushed_coming : (n : ℕ) (c : Cut) → coming c ≡ take n c.moving ++ (drop n c.moving ++ c.owed)
   pushed_coming n c = ap (λ l. l ++ c.owed) (sym (take-append-drop n c.moving)) ∙ append_assoc (take n c.moving) (drop n c.moving) c.owed
 
-  pushes_to_server_at : (n : ℕ) (b : World) (way : Way) (c : Cut) → Fits way c → At way b.near b.far → Keeps (pushed read ControlToServer n (world_at b way c))
+  pushes_to_server_at : (n : ℕ) (b : World) (way : Way) (c : Cut) → Fits way c → At way b → Keeps (pushed read ControlToServer n (world_at b way c))
   pushes_to_server_at n b (Asking text) c fits here =
       elim (hears_some (written_line text) c.held (take n c.moving) (drop n c.moving ++ c.owed) [] (subst (λ l. Flows (written_line text) c.held l []) (pushed_coming n c) fits.1)) [
         | inl more ↦ record {
@@ -202,7 +202,7 @@ module _ (read : Reading) (At : Way → Near → Far → Type 0) (turns : Turns 
     control_to_client = ys;
   }
 
-  row_heard : (rows : List Reply) (b : World) (held xs ys owed : List ℕ) → AreWritten rows → FlowsRow rows held (xs ++ (ys ++ owed)) → At (Answering rows) b.near b.far
+  row_heard : (rows : List Reply) (b : World) (held xs ys owed : List ℕ) → AreWritten rows → FlowsRow rows held (xs ++ (ys ++ owed)) → At (Answering rows) b
       → Keeps (hearing b held xs ys owed)
   row_heard [] b held xs ys owed fine flow here =
       let none = both_empty xs (ys ++ owed) flow.1 in
@@ -229,11 +229,11 @@ module _ (read : Reading) (At : Way → Near → Far → Type 0) (turns : Turns 
       fits = (fine, front);
       here = here;
     }
-    | inr all ↦ by_line (λ u more_xs flows at. row_heard more u [] more_xs ys owed fine.1 flows at) all (turns.told reply more b.near b.far here)
+    | inr all ↦ by_line (λ u more_xs flows at. row_heard more u [] more_xs ys owed fine.1 flows at) all (goes.told reply more b here)
   ]
     where
-      by_line : ((u : World) (more_xs : List ℕ) → FlowsRow more [] (more_xs ++ (ys ++ owed)) → At (Answering more) u.near u.far → Keeps (hearing u [] more_xs ys owed))
-          → (all : IsAll (reply_octets reply) held xs (ys ++ owed) (row_octets more)) → ((t : NearTurn b.near reply more) × At (behind t.line more) t.near b.far)
+      by_line : ((u : World) (more_xs : List ℕ) → FlowsRow more [] (more_xs ++ (ys ++ owed)) → At (Answering more) u → Keeps (hearing u [] more_xs ys owed))
+          → (all : IsAll (reply_octets reply) held xs (ys ++ owed) (row_octets more)) → ((t : NearTurn b.near reply more) × At (behind t.line more) (record b { near = t.near }))
           → Keeps (hearing b held xs ys owed)
       by_line others all next = by_turn next.0.line refl
         where
@@ -254,7 +254,7 @@ module _ (read : Reading) (At : Way → Near → Far → Type 0) (turns : Turns 
               ap (λ v. record (hearing b held xs ys owed) { near = v }) (heard ∙ ap (λ l. near.hears (record (calm t.near) { owed = line_octets l }) all.more) none) in
               subst Keeps (sym is)
               (others (record b { near = t.near }) all.more (again more fine.1 all.left)
-              (subst (λ l. At (behind l more) t.near b.far) none next.1))
+              (subst (λ l. At (behind l more) (record b { near = t.near })) none next.1))
             where
               again : (rows : List Reply) → AreWritten rows → all.more ++ (ys ++ owed) ≡ row_octets rows → FlowsRow rows [] (all.more ++ (ys ++ owed))
               again rows fine left = subst (FlowsRow rows []) (sym left) (row_anew rows fine)
@@ -270,10 +270,10 @@ module _ (read : Reading) (At : Way → Near → Far → Type 0) (turns : Turns 
                 cut = record { held = []; moving = []; owed = written_line text };
                 is = λ i. record b { near = near i; far = record (still b.far) { owed = empty.1 i }; control_to_server = []; control_to_client = empty.0 i };
                 fits = (alone.0, subst (λ l. Flows (written_line text) [] l []) (append-nil (written_line text)) (anew (written_line text) [] (line_is_some text)));
-                here = subst (λ l. At (behind l more) t.near b.far) some next.1;
+                here = subst (λ l. At (behind l more) (record b { near = t.near })) some next.1;
               }
 
-  pushes_to_client_at : (n : ℕ) (b : World) (way : Way) (c : Cut) → Fits way c → At way b.near b.far → Keeps (pushed read ControlToClient n (world_at b way c))
+  pushes_to_client_at : (n : ℕ) (b : World) (way : Way) (c : Cut) → Fits way c → At way b → Keeps (pushed read ControlToClient n (world_at b way c))
   pushes_to_client_at n b (Asking text) c fits here =
       record { base = b; way = Asking text; cut = c; is = no_push_to_client read n (world_at b (Asking text) c) refl; fits = fits; here = here }
   pushes_to_client_at n b (Answering rows) c fits here =

@@ -9,5 +9,17 @@ pub mod Parting
 pub mod Events
 pub mod Agreeing
 pub mod Quiet
+pub mod Fates
 pub mod Beginning
 pub mod Theorems
+pub mod FetchTurns
+pub mod FetchLink
+pub mod FetchEvents
+pub mod FetchData
+pub mod FetchServed
+pub mod FetchTold
+pub mod FetchRuns
+pub mod FetchParting
+pub mod FetchBegins
+pub mod Running
+pub mod FetchQuiet

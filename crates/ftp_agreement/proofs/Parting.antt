@@ -52,7 +52,7 @@ lost_near job n = record n {
 abbrev pub cut_far : Bool → Far → Far
 cut_far closing f = record f { session = record (session_cut f.session) { closing = closing }; waiting = None; owed = [] }
 
-near_fails : (s : Standing) (n : Near) → is_sound s ≡ true
+pub near_fails : (s : Standing) (n : Near) → is_sound s ≡ true
     → fails_by s Failures.Lost n ≡ record (silent (dropped n)) { standing = Standings.Failed Failures.Lost; job = failed_job Lost n.job; run = None }
 near_fails Standings.Greeting n sound = refl
 near_fails Standings.User n sound = refl
@@ -114,13 +114,13 @@ after_idle w waits gone idle =
     ap after_event (ends_is w waits ∙ ap (λ job. lost_world (failed_job Lost job) (session_cut w.far.session).closing w) idle)
     ∙ ap collected (lost_is_served Idle (session_cut w.far.session).closing w gone)
 
-after_busy : (w : World) → IsStill w → w.link ≡ Gone → failed_job Lost w.near.job ≡ Answered Lost
+pub after_busy : (w : World) → IsStill w → w.link ≡ Gone → failed_job Lost w.near.job ≡ Answered Lost
     → after_event (ends_control w) ≡ record (lost_world Idle false w) { reports = w.reports ++ Lost ∷ [] }
 after_busy w waits gone lost =
     ap after_event (ends_is w waits ∙ ap (λ job. lost_world job (session_cut w.far.session).closing w) lost)
     ∙ ap collected (lost_is_served (Answered Lost) (session_cut w.far.session).closing w gone)
 
-busy_lost : (job : Job) → is_busy_job job ≡ true → report_of_job job ≡ None → failed_job Lost job ≡ Answered Lost
+pub busy_lost : (job : Job) → is_busy_job job ≡ true → report_of_job job ≡ None → failed_job Lost job ≡ Answered Lost
 busy_lost Idle busy untold = absurd (cc)
 busy_lost (Waiting op) busy untold = refl
 busy_lost (Doing op step) busy untold = refl
@@ -151,7 +151,7 @@ told_lost from done marks cutoff reports now part op moment t can allowed = reco
 }
 
 -- the control connection ends behind all of them
-told_cut : (from : State) (done : List Order) (marks : List (List Mark)) (cutoff : ℕ) (reports : List Said) (now : State) → length done ≤ cutoff
+pub told_cut : (from : State) (done : List Order) (marks : List (List Mark)) (cutoff : ℕ) (reports : List Said) (now : State) → length done ≤ cutoff
     → Told from done marks None reports now → Told from done marks (Some cutoff) reports now
 told_cut from done marks cutoff reports now early t = record {
   items = t.items;
@@ -160,16 +160,16 @@ told_cut from done marks cutoff reports now early t = record {
   now_is = t.now_is;
 }
 
-marks_are_all : (from : State) (done : List Order) (marks : List (List Mark)) (cutoff : Option ℕ) (reports : List Said) (now : State) → Told from done marks cutoff reports now
+pub marks_are_all : (from : State) (done : List Order) (marks : List (List Mark)) (cutoff : Option ℕ) (reports : List Said) (now : State) → Told from done marks cutoff reports now
     → length marks ≡ length done
 marks_are_all from done marks cutoff reports now t = marks_of_each reports from 0 done marks cutoff t.items t.all t.hold
 
 -- ---- the end, by what is under way
 
-near_lost : (n : Near) → NearLost (lost_near Idle n)
+pub near_lost : (n : Near) → NearLost (lost_near Idle n)
 near_lost n = record { standing = refl; job = refl; connection = refl; closing = refl; owed = refl }
 
-far_lost : (f : Far) → FarLost (cut_far false f)
+pub far_lost : (f : Far) → FarLost (cut_far false f)
 far_lost f = record { life = refl; closing = refl; connection = refl; waiting = refl; owed = refl }
 
 parts_free : (from : State) (begun : List Order) (w : World) → IsFree from begun w → IsLost from begun (lost_world Idle false w)

@@ -10,7 +10,8 @@ use Rattle.ftp_world.specs.Agreement.{Order}
 use Rattle.ftp_world.specs.Claims.{IsAnswered}
 use Rattle.ftp_world.specs.Events.{ControlToServer, ControlToClient, IsQuiet, can_begin, has_octets, is_gone, is_asked_for}
 use Rattle.ftp_world.specs.World.{World}
-use Rattle.ftp_dialogues.specs.Dialogue.{NearWaits, FarWaits, Ends}
+use Rattle.ftp_server_machine.specs.declared.session.Life.TheVariants as Lives
+use Rattle.ftp_dialogues.specs.Dialogue.{Ends}
 use Rattle.ftp_dialogues.specs.Login.{AtFree, AtOperation}
 use Rattle.ftp_dialogues.specs.Stage.{calm, Way, Asking, Answering, rest}
 use Rattle.ftp_agreement.specs.Cut.{Cut, Fits, coming, world_at}
@@ -20,7 +21,7 @@ use Rattle.ftp_agreement.proofs.Still.{IsLike, row_like, IsSeen, seen, IsMoving,
 
 -- ---- an octet that can move
 
-can_move_now : (a b c : Bool) → a ≡ true → ((a && (true || b)) || c) ≡ true
+pub can_move_now : (a b c : Bool) → a ≡ true → ((a && (true || b)) || c) ≡ true
 can_move_now true b c e = refl
 can_move_now false b c e = absurd (cc)
 
@@ -28,7 +29,7 @@ can_take_now : (a b c : Bool) → b ≡ true → c ≡ true → (a || (true && b
 can_take_now true b c one other = refl
 can_take_now false b c one other = λ i. true && one i && other i
 
-never : (b : Bool) → b ≡ true → b ≡ false → ⊥
+pub never : (b : Bool) → b ≡ true → b ≡ false → ⊥
 never b is other = let e : true ≡ false = sym is ∙ other in cc
 
 -- of octets that are to come, some are owed or some are in the queue
@@ -36,7 +37,7 @@ some_octets : (moving owed : List ℕ) (octet : ℕ) (more : List ℕ) → movin
 some_octets [] owed octet more is = inl (ap has_octets is)
 some_octets (x ∷ moving) owed octet more is = inr refl
 
-quiet_at : (b : World) (way : Way) (c : Cut) → Fits way c → NearWaits b.near → FarWaits b.far → way ≢ rest → IsQuiet (world_at b way c) → ⊥
+pub quiet_at : (b : World) (way : Way) (c : Cut) → Fits way c → is_sound b.near.standing ≡ true → b.far.session.life ≡ Lives.Running → way ≢ rest → IsQuiet (world_at b way c) → ⊥
 quiet_at b (Asking text) c fits waits free some quiet =
     elim (some_octets c.moving c.owed fits.1.octet (fits.1.more ++ []) fits.1.is) [
       | inl owes ↦ never _ (can_move_now (has_octets c.owed) (nat_lt (length c.moving) 0) _ owes) (quiet.moved ControlToServer 0)
@@ -44,7 +45,7 @@ quiet_at b (Asking text) c fits waits free some quiet =
     ]
   where
     hears : machine.may_hear (world_at b (Asking text) c).far ≡ true
-    hears = ap (λ life. is_running life && true && nat_le 0 4096) free.life
+    hears = ap (λ life. is_running life && true && nat_le 0 4096) free
 quiet_at b (Answering []) c fits waits free some quiet = some refl
 quiet_at b (Answering (reply ∷ more)) c fits waits free some quiet =
     elim (some_octets c.moving c.owed fits.1.octet _ fits.1.is) [
@@ -56,7 +57,7 @@ quiet_at b (Answering (reply ∷ more)) c fits waits free some quiet =
     like = row_like b.near (reply ∷ more) c.held (coming c) fits.0 fits.1
 
     hears : near.may_hear (near.hears (calm b.near) c.held) ≡ true
-    hears = (λ i. is_sound (like.standing i) && nat_le (length (like.owed i)) 1024) ∙ ap (λ b. b && true) waits.sound
+    hears = (λ i. is_sound (like.standing i) && nat_le (length (like.owed i)) 1024) ∙ ap (λ b. b && true) waits
 
 -- ---- so nothing is left open
 
@@ -69,7 +70,7 @@ under_moves read from begun w u untold quiet = by_place (operation_on read u.now
     by_place : IsMoving u.now.table (answer u.now u.op u.moment).1.table u.stands.way u.stands.base.near u.stands.base.far
         ⊎ ((u.stands.way ≡ rest) × Ends (answer u.now u.op u.moment) u.stands.base.near u.stands.base.far) → ⊥
     by_place (inl moving) =
-        quiet_at u.stands.base u.stands.way u.stands.cut u.stands.fits moving.set.near moving.set.far moving.some (subst IsQuiet u.stands.is quiet)
+        quiet_at u.stands.base u.stands.way u.stands.cut u.stands.fits moving.set.near.sound moving.set.far.life moving.some (subst IsQuiet u.stands.is quiet)
     by_place (inr ends) = let e : None ≡ Some (answer u.now u.op u.moment).0 = sym untold ∙ ap report_of_job (like.job ∙ ap (λ v. v.job) ends.1.near) in cc
 
 begins_freely : (w : World) → is_busy_job w.near.job ≡ false → is_gone w.link ≡ true → is_asked_for w ≡ false → IsTrue (can_begin w)

@@ -20,7 +20,7 @@ use Rattle.ftp_world.specs.World.{World}
 use Rattle.ftp_dialogues.specs.Stage.{calm, Way, Asking, Answering, rest, AreWritten, Leads}
 use Rattle.ftp_dialogues.specs.Dialogue.{NearWaits, FarWaits, is_aside, Passes, Ends, resting, told}
 use Rattle.ftp_dialogues.specs.Login.{Place, Greets, AsksUser, WantsPass, AsksPass, Answers, standing_of, way_of, LogsIn, AtFree, AtOperation}
-use Rattle.ftp_agreement.specs.Cut.{Cut, FlowsRow, Fits, coming, world_at, StandsAt}
+use Rattle.ftp_agreement.specs.Cut.{Cut, FlowsRow, Fits, coming, world_at, PlacedAt, of_ends, StandsAt}
 use Rattle.ftp_agreement.proofs.Chunks.{both_empty}
 
 -- ---- nothing is wanted
@@ -103,8 +103,11 @@ seen_at b (Answering rows) c fits =
     let like = row_like b.near rows c.held (coming c) fits.0 fits.1 in
     record { standing = like.standing; job = like.job; run = like.run; connection = like.connection; closing = like.closing; session = refl; waiting = refl }
 
+pub seen_placed : (At : Way → World → Type 0) (w : World) → (s : PlacedAt At w) → IsSeen s.base w
+seen_placed At w s = subst (IsSeen s.base) (sym s.is) (seen_at s.base s.way s.cut s.fits)
+
 pub seen : (At : Way → Near → Far → Type 0) (w : World) → (s : StandsAt At w) → IsSeen s.base w
-seen At w s = subst (IsSeen s.base) (sym s.is) (seen_at s.base s.way s.cut s.fits)
+seen At w s = seen_placed (of_ends At) w s
 
 pub still_as : (b w : World) → IsSeen b w → NearWaits b.near → FarWaits b.far → IsStill w
 still_as b w seen near far = record {
@@ -186,7 +189,7 @@ leads_on read before result (suc left) (Asking text) n f leads =
     no_line : Asking text ≡ rest → ⊥
     no_line e = let f : true ≡ false = ap is_some_way e in cc
 
-way_some : (place : Place) (n : Near) (way : Way) → way ≡ way_of place n → way ≢ rest
+pub way_some : (place : Place) (n : Near) (way : Way) → way ≡ way_of place n → way ≢ rest
 way_some place n way is e = let f : true ≡ false = sym (place_some place) ∙ ap is_some_way (sym is ∙ e) in cc
   where
     place_some : (place : Place) → is_some_way (way_of place n) ≡ true
@@ -212,9 +215,12 @@ operation_on read state op result way n f (inr (left, leads)) = leads_on read st
 abbrev pub no_octets : Cut
 no_octets = record { held = []; moving = []; owed = [] }
 
-pub rest_world : (At : Way → Near → Far → Type 0) (w : World) → (s : StandsAt At w) → s.way ≡ rest → w ≡ world_at s.base rest no_octets
-rest_world At w s way =
+pub rest_placed : (At : Way → World → Type 0) (w : World) → (s : PlacedAt At w) → s.way ≡ rest → w ≡ world_at s.base rest no_octets
+rest_placed At w s way =
     let both : (w ≡ world_at s.base rest s.cut) × Fits rest s.cut = subst (λ v. (w ≡ world_at s.base v s.cut) × Fits v s.cut) way (s.is, s.fits) in
     let none = both_empty s.cut.moving s.cut.owed both.1.1.1 in
     let empty : s.cut ≡ no_octets = λ i. record { held = both.1.1.0 i; moving = none.0 i; owed = none.1 i } in
     both.0 ∙ ap (world_at s.base rest) empty
+
+pub rest_world : (At : Way → Near → Far → Type 0) (w : World) → (s : StandsAt At w) → s.way ≡ rest → w ≡ world_at s.base rest no_octets
+rest_world At w s way = rest_placed (of_ends At) w s way

@@ -1,5 +1,5 @@
--- The claims, for lists whose operations have no transfer.
-use Rattle.std.proofs.Common.{Bool, true, false, List, [], ◌∷◌, ◌++◌, refl, sym, subst}
+-- The claims, for lists whose operations have no transfer or are passive downloads.
+use Rattle.std.proofs.Common.{inl, Bool, true, false, List, [], ◌∷◌, ◌++◌, refl, sym, subst}
 use Rattle.ftp_server_machine.specs.Machine.{Reading, IsReading}
 use Rattle.ftp_world.specs.Agreement.{Order, Single, Tries, AreSingle, Agrees, WorldAgrees, Leads, begun_by}
 use Rattle.ftp_world.specs.Claims.{Beginning, IsFair, state_of, world_of}
@@ -7,25 +7,25 @@ use Rattle.ftp_world.specs.Events.{Event, Deliver, Open, Refuse, End, Break, End
 use Rattle.ftp_world.specs.World.{World}
 use Rattle.ftp_world.proofs.AgreementLemmas.{unmarked_is_direct}
 use Rattle.ftp_world.proofs.HonestLemmas.{leads_clean}
-use Rattle.ftp_agreement.specs.Follows.{Follows}
+use Rattle.ftp_agreement.specs.Runs.{Runs}
 use Rattle.ftp_agreement.specs.Laws.{IsPlain, ArePlain, PlainAgrees, PlainIsAnswered, PlainHeadline}
-use Rattle.ftp_agreement.proofs.Agreeing.{follows_agrees}
+use Rattle.ftp_agreement.proofs.Agreeing.{runs_agree}
 use Rattle.ftp_agreement.proofs.Beginning.{begins_follow}
-use Rattle.ftp_agreement.proofs.Events.{follows_leads}
-use Rattle.ftp_agreement.proofs.Quiet.{follows_answered}
+use Rattle.ftp_agreement.proofs.FetchQuiet.{runs_answered}
+use Rattle.ftp_agreement.proofs.Running.{runs_lead}
 
-plain_follows : (read : Reading) → IsReading read → (b : Beginning) → IsFair b → (events : List Event) (begun : List Order) (w : World)
-    → Leads read (world_of b) events begun w → ArePlain events → Follows read (state_of b) begun w
-plain_follows read reads b fair events begun w leads plain =
-    follows_leads read reads (state_of b) [] events begun (world_of b) w plain (begins_follow read b fair) leads
+plain_runs : (read : Reading) → IsReading read → (b : Beginning) → IsFair b → (events : List Event) (begun : List Order) (w : World)
+    → Leads read (world_of b) events begun w → ArePlain events → Runs read (state_of b) begun w
+plain_runs read reads b fair events begun w leads plain =
+    runs_lead read reads (state_of b) [] events begun (world_of b) w plain (inl (begins_follow read b fair)) leads
 
 pub plain-agrees : PlainAgrees
 plain-agrees read reads b fair events begun w timed leads plain =
-    follows_agrees read (state_of b) begun w (plain_follows read reads b fair events begun w leads plain)
+    runs_agree read reads (state_of b) begun w (plain_runs read reads b fair events begun w leads plain)
 
 pub plain-is-answered : PlainIsAnswered
 plain-is-answered read reads b fair events begun w timed leads plain quiet =
-    follows_answered read (state_of b) begun w (plain_follows read reads b fair events begun w leads plain) quiet
+    runs_answered read reads (state_of b) begun w (plain_runs read reads b fair events begun w leads plain) quiet
 
 -- ---- the headline
 

@@ -6,9 +6,10 @@ use Rattle.ftp_ends.specs.Reply.{Reply, reply_octets}
 use Rattle.ftp_client_machine.specs.Calls as near
 use Rattle.ftp_client_machine.specs.View.{View as Near}
 use Rattle.ftp_server_machine.specs.InFlight.{only_heard}
+use Rattle.ftp_server_machine.specs.Machine.{Reading}
 use Rattle.ftp_server_machine.specs.View.{View as Far}
 use Rattle.ftp_world.specs.World.{World}
-use Rattle.ftp_dialogues.specs.Stage.{calm, still, Way, Asking, Answering, row_octets, AreWritten}
+use Rattle.ftp_dialogues.specs.Stage.{calm, still, Way, Asking, Answering, row_octets, AreWritten, FarTurn, NearTurn, behind}
 
 -- the octets that are on their way: those that the receiver has heard of the first unit, those in the queue, those that the sender
 -- owes
@@ -53,11 +54,25 @@ world_at b (Answering replies) c = record b {
   control_to_client = c.moving;
 }
 
--- a world whose ends are so, with this on its way
-pub record StandsAt (At : Way → Near → Far → Type 0) (w : World) : Type 0 where
+-- a world whose base is so, with this on its way
+pub record PlacedAt (At : Way → World → Type 0) (w : World) : Type 0 where
   pub base : World
   pub way : Way
   pub cut : Cut
   pub is : w ≡ world_at base way cut
   pub fits : Fits way cut
-  pub here : At way base.near base.far
+  pub here : At way base
+
+-- where it depends on both ends alone
+abbrev pub of_ends : (Way → Near → Far → Type 0) → Way → World → Type 0
+of_ends At way b = At way b.near b.far
+
+-- a world whose ends are so, with this on its way
+abbrev pub StandsAt : (Way → Near → Far → Type 0) → World → Type 0
+StandsAt At w = PlacedAt (of_ends At) w
+
+-- each turn of an end leads to such a base again
+pub record Goes (read : Reading) (At : Way → World → Type 0) : Type 0 where
+  pub asked : (text : List ℕ) (b : World) → At (Asking text) b → (t : FarTurn read b.far text) × At (Answering t.replies) (record b { far = t.far })
+  pub told : (reply : Reply) (more : List Reply) (b : World) → At (Answering (reply ∷ more)) b
+      → (t : NearTurn b.near reply more) × At (behind t.line more) (record b { near = t.near })

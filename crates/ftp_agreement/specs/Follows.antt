@@ -16,7 +16,8 @@ use Rattle.ftp_server_machine.specs.declared.session.DataConnection.TheVariants 
 use Rattle.ftp_server_machine.specs.declared.session.Life.TheVariants as Lives
 use Rattle.ftp_world.specs.Agreement.{Order, Single, Item, state_after, ItemsHold}
 use Rattle.ftp_world.specs.World.{World, Mark, Stands, Parted, Gone}
-use Rattle.ftp_dialogues.specs.Dialogue.{IsSound, HasNoTransfer}
+use Rattle.ftp_dialogues.specs.Dialogue.{IsSound}
+use Rattle.ftp_dialogues.specs.Fetches.{IsDialogue}
 use Rattle.ftp_dialogues.specs.Login.{AtFree, AtOperation}
 use Rattle.ftp_agreement.specs.Cut.{StandsAt}
 
@@ -45,7 +46,7 @@ pub record IsUnder (read : Reading) (from : State) (begun : List Order) (w : Wor
   pub now : State
   pub sound : IsSound now
   pub told : Told from done marks None w.reports now
-  pub alone : HasNoTransfer op
+  pub alone : IsDialogue now op
   pub sent : can_be_sent op ≡ true
   pub stands : StandsAt (AtOperation read now op (answer now op moment)) w
 

@@ -2,3 +2,5 @@
 pub mod Cut
 pub mod Follows
 pub mod Laws
+pub mod Stages
+pub mod Runs

@@ -1,7 +1,9 @@
-//! Laws of a session: functions that do nothing, whose contracts are the claims of `ftp_world` for the operations without a transfer.
+//! Laws of a session: functions that do nothing, whose contracts are the claims of `ftp_world` for operations without a transfer and
+//! passive downloads.
 ghost use Rattle.ftp_agreement.specs.Laws.{PlainAgrees, PlainHeadline, PlainIsAnswered};
 
-/// After every event of every list whose operations have no transfer, reports and map agree with the operations that were begun.
+/// After every event of every list whose operations have no transfer or are passive downloads, reports and map agree with the operations
+/// that were begun.
 pub fn plain_lists_agree()
     ensures { PlainAgrees }
 {}

@@ -12,3 +12,6 @@ pub mod LoginTurns
 pub mod Telling
 pub mod Theorems
 pub mod Commuting
+pub mod PortTexts
+pub mod Fetching
+pub mod Refusing

@@ -8,7 +8,6 @@ use Rattle.ftp_command.specs.declared.command.Command.{Command}
 use Rattle.ftp_command.specs.declared.command.Command.TheVariants as Commands
 use Rattle.ftp_ends.specs.Reply.{Reply}
 use Rattle.ftp_operation.specs.Account.{login_root}
-use Rattle.ftp_operation.specs.Answer.{Said}
 use Rattle.ftp_operation.specs.declared.op.Op.{Op}
 use Rattle.ftp_path.specs.Path.{Names}
 use Rattle.ftp_tree.specs.Tree.{node_at}
@@ -29,9 +28,9 @@ use Rattle.ftp_server_machine.specs.declared.session.Access.TheVariants as Acces
 use Rattle.ftp_command.proofs.CarriedLemmas.{carried}
 use Rattle.ftp_server_machine.proofs.RepliesWritten.{replies_are_written}
 use Rattle.ftp_dialogues.specs.Stage.{calm, Way, Asking, Answering, rest, FarTurn, NearTurn, behind, Leads, Turns}
-use Rattle.ftp_dialogues.specs.Dialogue.{is_aside, FarWaits, Sees, Passes, Stands, Ends, resting}
-use Rattle.ftp_dialogues.specs.Login.{Place, Greets, AsksUser, WantsPass, AsksPass, Answers, last_text, way_of, standing_of, IsAccessOf, LogsIn, Logging, AtFree, AtOperation}
-use Rattle.ftp_dialogues.specs.Operations.{LeadsTo}
+use Rattle.ftp_dialogues.specs.Dialogue.{is_aside, FarWaits, Meets, Sees, Stands, resting}
+use Rattle.ftp_dialogues.specs.Login.{Place, Greets, AsksUser, WantsPass, AsksPass, Answers, last_text, way_of, standing_of, IsAccessOf, LogsIn, Logging, AtFree, IsOnWay}
+use Rattle.ftp_dialogues.specs.Operations.{LeadsBy}
 use Rattle.ftp_dialogues.proofs.ServerTurns.{aside_idle, cleared, decides, decides_free, far_turn_is}
 use Rattle.ftp_dialogues.proofs.Exchanges.{IsSent, with_session}
 
@@ -41,21 +40,21 @@ abbrev is_asking : Way → Bool
 is_asking (Asking text) = true
 is_asking (Answering replies) = false
 
-no_asking : (text : List ℕ) (replies : List Reply) → Asking text ≡ Answering replies → ⊥
+pub no_asking : (text : List ℕ) (replies : List Reply) → Asking text ≡ Answering replies → ⊥
 no_asking text replies e = let f : true ≡ false = ap is_asking e in cc
 
 abbrev has_reply : Way → Bool
 has_reply (Answering (reply ∷ replies)) = true
 has_reply way = false
 
-no_reply : (reply : Reply) (more : List Reply) → Answering (reply ∷ more) ≡ rest → ⊥
+pub no_reply : (reply : Reply) (more : List Reply) → Answering (reply ∷ more) ≡ rest → ⊥
 no_reply reply more e = let f : true ≡ false = ap has_reply e in cc
 
 abbrev text_in : Way → List ℕ
 text_in (Asking text) = text
 text_in (Answering replies) = []
 
-asked_text : {text other : List ℕ} → Asking text ≡ Asking other → text ≡ other
+pub asked_text : {text other : List ℕ} → Asking text ≡ Asking other → text ≡ other
 asked_text e = ap text_in e
 
 abbrev first_in : Reply → Way → Reply
@@ -113,13 +112,14 @@ record IsLoginStep (old new : Session) : Type 0 where
   settings : new.settings ≡ old.settings
   facts : new.facts ≡ old.facts
   table : new.table ≡ old.table
+  all_ways : new.only_extended ≡ old.only_extended
 
 same_admits : (root : Names) (s : Session) → IsLoginStep s (logs_in root s).0
 same_admits root s = by_directory (is_directory (node_at s.table root)) refl
   where
     by_directory : (b : Bool) → is_directory (node_at s.table root) ≡ b → IsLoginStep s (admits b root s).0
-    by_directory true is = record { connection = refl; closing = refl; life = refl; settings = refl; facts = refl; table = refl }
-    by_directory false is = record { connection = refl; closing = refl; life = refl; settings = refl; facts = refl; table = refl }
+    by_directory true is = record { connection = refl; closing = refl; life = refl; settings = refl; facts = refl; table = refl; all_ways = refl }
+    by_directory false is = record { connection = refl; closing = refl; life = refl; settings = refl; facts = refl; table = refl; all_ways = refl }
 
 far_steps : (f : Far) (new : Session) → IsLoginStep (cleared f) new → FarWaits f → FarWaits (with_session new f)
 far_steps f new same waits = record {
@@ -143,6 +143,12 @@ logs_at state before after n next f new logs is same access = record {
   facts = same.facts ∙ logs.facts;
   table = same.table ∙ logs.table;
   access = access;
+  meets = record {
+    peer = ap (λ v. v.peer) is ∙ logs.meets.peer;
+    here = ap (λ v. v.here) is ∙ logs.meets.here;
+    typed = logs.meets.typed;
+    all_ways = same.all_ways ∙ logs.meets.all_ways;
+  };
   leads_to = logs.leads_to ∙ ap (λ v. direct_start state.table (login_root f.footing.accounts v.user v.pass)) (sym is);
   opens = λ root found. ap (λ v. login_root f.footing.accounts v.user v.pass) is ∙ logs.opens root (ap (λ v. open_root f.footing.accounts v.user) (sym is) ∙ found);
 }
@@ -182,7 +188,7 @@ user_turn read state n f reads logs = by_open (open_root f.footing.accounts n.us
     by_open None none =
         login_turn read state AsksUser WantsPass (Commands.User n.user) Texts.PasswordNeeded n f (record (logged_out (cleared f)) { access = Accesses.AwaitsPass n.user })
         reads sent logs refl refl (decides_free (Commands.User n.user) f refl ∙ ap (λ root. user_named root n.user (cleared f)) none)
-        (record { connection = refl; closing = refl; life = refl; settings = refl; facts = refl; table = refl }) refl
+        (record { connection = refl; closing = refl; life = refl; settings = refl; facts = refl; table = refl; all_ways = refl }) refl
     by_open (Some root) is =
         let a = admits_as state root (cleared f) logs.table (logs.leads_to ∙ ap (direct_start state.table) (logs.opens root is)) in
         login_turn read state AsksUser (Answers a.admitted false) (Commands.User n.user) (last_text a.admitted) n f (logs_in root (cleared f)).0
@@ -206,7 +212,7 @@ pass_turn_is read state n f reads logs = by_root (login_root f.footing.accounts 
         let starts : state ≡ direct_start state.table None = logs.leads_to ∙ ap (direct_start state.table) none in
         login_turn read state AsksPass (Answers false true) (Commands.Pass n.pass) Texts.LoginRefused n f (logged_out (cleared f))
         reads sent logs refl refl (awaited ∙ ap (λ root. checked root (cleared f)) none)
-        (record { connection = refl; closing = refl; life = refl; settings = refl; facts = refl; table = refl })
+        (record { connection = refl; closing = refl; life = refl; settings = refl; facts = refl; table = refl; all_ways = refl })
         (record {
           table = logs.table;
           known = sym (ap (λ s. s.known) starts);
@@ -230,8 +236,12 @@ last_heard false true n is = ap (λ s. stand_answered s Negative 530 (codes "Log
 last_heard false false n is = ap (λ s. stand_answered s Negative 530 (codes "Login refused" ∷ []) (calm n)) is
 
 -- both ends behind the login
-stands_behind : (state : State) (admitted to_pass : Bool) (n next : Near) (f : Far) → LogsIn state (Answers admitted to_pass) n f → next.settings ≡ n.settings → Stands state next f
-stands_behind state admitted to_pass n next f logs same = record { far = logs.far; sees = logs.access; settings = logs.settings ∙ sym same; facts = logs.facts }
+stands_behind : (state : State) (admitted to_pass : Bool) (n next : Near) (f : Far) → LogsIn state (Answers admitted to_pass) n f → next.settings ≡ n.settings
+    → Meets next f → Stands state next f
+stands_behind state admitted to_pass n next f logs same meets = record { meets = meets; far = logs.far; sees = logs.access; settings = logs.settings ∙ sym same; facts = logs.facts }
+
+meets_at_rest : (n : Near) (f : Far) → Meets n f → Meets (resting n) f
+meets_at_rest n f meets = record { peer = meets.peer; here = meets.here; typed = meets.typed; all_ways = meets.all_ways }
 
 -- a place of the login that is not the last: its reply is heard, and a line is sent
 record NextPlace (state : State) (n : Near) (f : Far) (reply : Reply) : Type 0 where
@@ -243,7 +253,7 @@ record NextPlace (state : State) (n : Near) (f : Far) (reply : Reply) : Type 0 w
   job : near.job ≡ n.job
 
 session_same : (f : Far) → IsLoginStep (cleared f) f.session
-session_same f = record { connection = refl; closing = refl; life = refl; settings = refl; facts = refl; table = refl }
+session_same f = record { connection = refl; closing = refl; life = refl; settings = refl; facts = refl; table = refl; all_ways = refl }
 
 greeting_heard : (state : State) (n : Near) (f : Far) → LogsIn state Greets n f → NextPlace state n f (fixed_reply Texts.Ready)
 unfolding answered
@@ -340,20 +350,20 @@ free_turns read state reads = record { asked = asked_free; told = told_free }
                 ∙ entered_is n Idle ends.logs.connection ends.logs.closing ends.logs.run;
             fine = tt;
           },
-          inr (ap Answering none, refl, stands_behind state ends.admitted ends.to_pass n (resting n) f ends.logs refl),
+          inr (ap Answering none, refl, stands_behind state ends.admitted ends.to_pass n (resting n) f ends.logs refl (meets_at_rest n f ends.logs.meets)),
         )
     told_free reply more n f (inr (way, entered, stands)) = absurd (no_reply reply more way)
 
 -- ---- an operation
 
-pub operation_turns : (read : Reading) (state : State) (op : Op (List ℕ)) (result : Said × State) → IsReading read
-    → ((n : Near) (f : Far) → Stands state n f → LeadsTo read state op result n f) → Turns read (AtOperation read state op result)
-operation_turns read state op result reads leads_on = record { asked = asked_op; told = told_op }
+pub operation_turns : (read : Reading) (state : State) (op : Op (List ℕ)) (Along Goal : Near → Far → Type 0) → IsReading read
+    → ((n : Near) (f : Far) → Stands state n f → LeadsBy read Along Goal op n f) → Turns read (IsOnWay read state op Along Goal)
+operation_turns read state op Along Goal reads leads_on = record { asked = asked_op; told = told_op }
   where
     At : Way → Near → Far → Type 0
-    At way n f = AtOperation read state op result way n f
+    At way n f = IsOnWay read state op Along Goal way n f
 
-    asked_leads : (left : ℕ) (text : List ℕ) (n : Near) (f : Far) → Leads read (Passes state.table result.1.table) (Ends result) left (Asking text) n f
+    asked_leads : (left : ℕ) (text : List ℕ) (n : Near) (f : Far) → Leads read Along Goal left (Asking text) n f
         → (t : FarTurn read f text) × At (Answering t.replies) n t.far
     asked_leads zero text n f leads = absurd leads
     asked_leads (suc left) text n f leads = (leads.1, inr (left, leads.2))
@@ -365,7 +375,7 @@ operation_turns read state op result reads leads_on = record { asked = asked_op;
     asked_op text n f (inr (left, leads)) = asked_leads left text n f leads
 
     told_leads : (left : ℕ) (reply : Reply) (more : List Reply) (n : Near) (f : Far)
-        → Leads read (Passes state.table result.1.table) (Ends result) left (Answering (reply ∷ more)) n f → (t : NearTurn n reply more) × At (behind t.line more) t.near f
+        → Leads read Along Goal left (Answering (reply ∷ more)) n f → (t : NearTurn n reply more) × At (behind t.line more) t.near f
     told_leads zero reply more n f leads = absurd leads
     told_leads (suc left) reply more n f leads = (leads.1, inr (left, leads.2))
 
@@ -378,7 +388,7 @@ operation_turns read state op result reads leads_on = record { asked = asked_op;
         by_next none (inl next) =
             (record { near = next.near; line = Some next.line; is = next.is; fine = (next.fine, none) }, inl (next.logging, next.job ∙ waiting))
         by_next none (inr ends) =
-            let on : LeadsTo read state op result n f = leads_on n f (stands_behind state ends.admitted ends.to_pass n n f ends.logs refl) in (
+            let on : LeadsBy read Along Goal op n f = leads_on n f (stands_behind state ends.admitted ends.to_pass n n f ends.logs refl ends.logs.meets) in (
               record {
                 near = on.near;
                 line = Some on.text;

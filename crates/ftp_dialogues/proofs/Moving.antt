@@ -30,7 +30,7 @@ use Rattle.ftp_dialogues.proofs.Paths.{quoted-reads}
 -- ---- what the direct run leaves of a session
 
 keeps_direct : (f : Far) (state : State) → Keeps f.session (as_direct state (cleared f))
-keeps_direct f state = record { connection = refl; closing = refl; life = refl; settings = refl; facts = refl }
+keeps_direct f state = record { connection = refl; closing = refl; life = refl; settings = refl; facts = refl; all_ways = refl }
 
 -- a change of the map and of the current directory alone
 record IsMove (old new : State) : Type 0 where

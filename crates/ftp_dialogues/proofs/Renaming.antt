@@ -109,7 +109,7 @@ module _ (read : Reading) (text new : List ℕ) (reads : IsReading read) (first 
   source_refused why decided =
       by_source (Refused (code_of why), state) 2
       (last_exchange read state.table (Ops.Rename text new) Steps.Source (Commands.Rnfr text) (Refused (code_of why), state) n f (cleared f) sent_source stands.far
-      stands.sees.table stands.settings stands.facts (keeps_cleared f) (sees_cleared state f stands.sees)
+      stands.sees.table stands.settings stands.facts stands.meets (keeps_cleared f) (sees_cleared state f stands.sees)
       (refused_exchange (Ops.Rename text new) Steps.Source (Commands.Rnfr text) why n f refl decided))
 
   -- the session behind an RNFR that was taken
@@ -117,7 +117,7 @@ module _ (read : Reading) (text new : List ℕ) (reads : IsReading read) (first 
   noted = record (cleared f) { pending = Pendings.Rename (path_of (cleared f) text) }
 
   noted_keeps : Keeps f.session noted
-  noted_keeps = record { connection = refl; closing = refl; life = refl; settings = refl; facts = refl }
+  noted_keeps = record { connection = refl; closing = refl; life = refl; settings = refl; facts = refl; all_ways = refl }
 
   same_direct : state.known ≡ true → direct_of (cleared f) ≡ state
   same_direct known = direct_is state (cleared f) (sees_cleared state f stands.sees) known
@@ -175,17 +175,18 @@ module _ (read : Reading) (text new : List ℕ) (reads : IsReading read) (first 
       (record { near = record { sound = refl; connection = refl; closing = refl }; far = later; busy = refl; untold = refl; table = inl stands.sees.table })
       (carried (Commands.Rnto new) tt second, refl)
       (last_exchange read state.table (Ops.Rename text new) Steps.Last (Commands.Rnto new) result n (with_session noted f) after sent_target later stands.sees.table
-      stands.settings stands.facts keeps sees x))
+      stands.settings stands.facts
+      (record { peer = stands.meets.peer; here = stands.meets.here; typed = stands.meets.typed; all_ways = stands.meets.all_ways }) keeps sees x))
 
   target_refused : (why : Refusal) → state.known ≡ true → source_why state text ≡ None → target_why state text new ≡ Some why → To (Refused (code_of why), state)
   target_refused why known none is =
-      by_target (Refused (code_of why), state) (cleared f) known none (record { connection = refl; closing = refl; life = refl; settings = refl; facts = refl })
+      by_target (Refused (code_of why), state) (cleared f) known none (record { connection = refl; closing = refl; life = refl; settings = refl; facts = refl; all_ways = refl })
       (sees_cleared state f stands.sees)
       (refused_exchange (Ops.Rename text new) Steps.Last (Commands.Rnto new) why n (with_session noted f) refl (target_decided known (Some why) is))
 
   target_done : state.known ≡ true → source_why state text ≡ None → target_why state text new ≡ None → To (done state (Ops.Rename text new) 0)
   target_done known none is =
-      by_target (done state (Ops.Rename text new) 0) renamed known none (record { connection = refl; closing = refl; life = refl; settings = refl; facts = refl })
+      by_target (done state (Ops.Rename text new) 0) renamed known none (record { connection = refl; closing = refl; life = refl; settings = refl; facts = refl; all_ways = refl })
       (record { table = refl; known = stands.sees.known; root = stands.sees.root; cwd = refl })
       (record {
         kind = Replies.Fixed Texts.Done;

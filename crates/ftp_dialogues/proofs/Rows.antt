@@ -22,7 +22,7 @@ use Rattle.ftp_server_machine.specs.View.{Session, View as Far, direct_of, all_f
 use Rattle.ftp_server_machine.specs.Walk.{refusal_text}
 use Rattle.ftp_server_machine.specs.declared.reply.ReplyKind.TheVariants as Replies
 use Rattle.ftp_dialogues.specs.Stage.{calm, Asking, Leads}
-use Rattle.ftp_dialogues.specs.Dialogue.{is_aside, FarWaits, Sees, Passes, Ends, doing, told}
+use Rattle.ftp_dialogues.specs.Dialogue.{is_aside, FarWaits, Meets, Sees, Passes, Ends, doing, told}
 use Rattle.ftp_dialogues.proofs.ServerTurns.{cleared, decides}
 use Rattle.ftp_dialogues.proofs.Exchanges.{IsSent, with_session, Exchange, exchange, near_refused_is}
 
@@ -34,6 +34,7 @@ pub record Keeps (old new : Session) : Type 0 where
   pub life : new.life ≡ old.life
   pub settings : new.settings ≡ old.settings
   pub facts : new.facts ≡ old.facts
+  pub all_ways : new.only_extended ≡ old.only_extended
 
 pub waits_on : (f : Far) (new : Session) → Keeps f.session new → FarWaits f → FarWaits (with_session new f)
 waits_on f new keeps waits = record {
@@ -43,7 +44,7 @@ waits_on f new keeps waits = record {
 }
 
 pub keeps_cleared : (f : Far) → Keeps f.session (cleared f)
-keeps_cleared f = record { connection = refl; closing = refl; life = refl; settings = refl; facts = refl }
+keeps_cleared f = record { connection = refl; closing = refl; life = refl; settings = refl; facts = refl; all_ways = refl }
 
 pub sees_cleared : (state : State) (f : Far) → Sees state f.session → Sees state (cleared f)
 sees_cleared state f s = record { table = s.table; known = s.known; root = s.root; cwd = s.cwd }
@@ -55,10 +56,10 @@ direct_is state s sees known = λ i. record { table = sees.table i; root = sees.
 -- ---- the last exchange of an operation
 
 pub last_exchange : (read : Reading) (before : Table) (op : Op (List ℕ)) (step : Step) (command : Command (List ℕ)) (result : Said × State) (n : Near) (f : Far) (after : Session)
-    → IsSent read command → FarWaits f → (f.session.table ≡ before) → f.session.settings ≡ n.settings → f.session.facts ≡ all_facts
+    → IsSent read command → FarWaits f → (f.session.table ≡ before) → f.session.settings ≡ n.settings → f.session.facts ≡ all_facts → Meets n f
     → Keeps f.session after → Sees result.1 after → Exchange command (doing op step n) (told result.0 n) None f after
     → Leads read (Passes before result.1.table) (Ends result) 2 (Asking (line_of command)) (doing op step n) f
-last_exchange read before op step command result n f after sent waits table settings facts keeps sees x =
+last_exchange read before op step command result n f after sent waits table settings facts meets keeps sees x =
     let later : FarWaits (with_session after f) = waits_on f after keeps waits in
     exchange read (Passes before result.1.table) (Ends result) 0 command (doing op step n) (told result.0 n) None f after sent waits later x
     (record { near = record { sound = refl; connection = refl; closing = refl }; far = waits; busy = refl; untold = refl; table = inl table })
@@ -66,12 +67,18 @@ last_exchange read before op step command result n f after sent waits table sett
     tt
     (record {
       near = refl;
-      stands = record { far = later; sees = sees; settings = keeps.settings ∙ settings; facts = keeps.facts ∙ facts };
+      stands = record {
+        meets = record { peer = meets.peer; here = meets.here; typed = meets.typed; all_ways = keeps.all_ways ∙ meets.all_ways };
+        far = later;
+        sees = sees;
+        settings = keeps.settings ∙ settings;
+        facts = keeps.facts ∙ facts;
+      };
     })
 
 -- ---- a refusal
 
-tells_code : (why : Refusal) → reply_code (refusal_text why) ≡ code_of why
+pub tells_code : (why : Refusal) → reply_code (refusal_text why) ≡ code_of why
 tells_code Refusals.LocalFault = refl
 tells_code Refusals.NoRoom = refl
 tells_code Refusals.BadArgument = refl
@@ -81,7 +88,7 @@ tells_code Refusals.Unavailable = refl
 tells_code Refusals.TooMuch = refl
 tells_code Refusals.BadName = refl
 
-is_negative : (why : Refusal) → verdict_of (reply_code (refusal_text why)) ≡ Negative
+pub is_negative : (why : Refusal) → verdict_of (reply_code (refusal_text why)) ≡ Negative
 is_negative Refusals.LocalFault = refl
 is_negative Refusals.NoRoom = refl
 is_negative Refusals.BadArgument = refl

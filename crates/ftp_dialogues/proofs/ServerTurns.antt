@@ -60,6 +60,15 @@ far_obeys command f other idle =
     ap (λ (b : Bool). if b && is_transferring f.session.connection then aborted (still f) else later v) other in
     first ∙ ap (λ (b : Bool). if not b && has_room v then obeyed (Asks command) (still f) else v) idle
 
+-- whatever comes of it, before its last octet is given
+pub far_hears : (read : Reading) (command : Command (List ℕ)) (f : Far) (turn : Turn) → IsReading read → IsTyped command → IsStated command → is_abor (Asks command) ≡ false
+    → is_connection_busy f.session.connection ≡ false → decides command f ≡ turn
+    → heard_line (read (line_of command)) (still f) ≡ given_out turn.0.connection (turned turn (still f))
+unfolding obeyed
+far_hears read command f turn reads typed stated other idle is =
+    ap (λ heard. heard_line heard (still f)) (reads_stated read command reads typed stated) ∙ far_obeys command f other idle
+    ∙ ap (λ (t : Turn). given_out t.0.connection (turned t (still f))) is
+
 -- and where no data connection comes of it, its turn is all
 far_turned : (command : Command (List ℕ)) (f : Far) (turn : Turn) → is_abor (Asks command) ≡ false → is_connection_busy f.session.connection ≡ false
     → decides command f ≡ turn → is_connection_busy turn.0.connection ≡ false

@@ -58,6 +58,7 @@ far_set settings f = with_session (session_set settings (cleared f)) f
 
 stands_set : (state : State) (settings : Representation) (n : Near) (f : Far) → Stands state n f → Stands state (near_set settings n) (far_set settings f)
 stands_set state settings n f stands = record {
+  meets = record { peer = stands.meets.peer; here = stands.meets.here; typed = stands.meets.typed; all_ways = stands.meets.all_ways };
   far = record { aside = stands.far.aside; closing = stands.far.closing; life = stands.far.life };
   sees = record { table = stands.sees.table; known = stands.sees.known; root = stands.sees.root; cwd = stands.sees.cwd };
   settings = refl;

@@ -67,7 +67,7 @@ module _ (read : Reading) (op : Op (List ℕ)) (accepted : Session → Turn) (si
     left = 2;
     begins_so = λ job. single.begins_so job n;
     line = single.line;
-    leads = last_exchange read state.table op Steps.Last (own_command op) result n f after single.sent stands.far stands.sees.table stands.settings stands.facts keeps sees x;
+    leads = last_exchange read state.table op Steps.Last (own_command op) result n f after single.sent stands.far stands.sees.table stands.settings stands.facts stands.meets keeps sees x;
   }
 
   refused_leads : (why : Refusal) → decides (own_command op) f ≡ (cleared f, Replies.Fixed (refusal_text why)) → LeadsTo read state op (chosen (Some why) state (done state op 0)) n f

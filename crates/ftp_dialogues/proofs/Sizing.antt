@@ -79,7 +79,7 @@ stamp-early state path sound = by_node (node_at (part state) path) refl
     by_node : (node : Option Node) → node_at (part state) path ≡ node → unwrap_or (of_node moment_of node) 0 ≤ last_second
     by_node None is = omega arith
     by_node (Some Dir) is = omega arith
-    by_node (Some (File octets moment)) is = sound.moments path octets moment is
+    by_node (Some (File octets moment)) is = (sound.files path octets moment is).0
 
 modified_accepts : (text : List ℕ) (state : State) (moment : ℕ) (n : Near) (f : Far) → IsSound state → Stands state n f → state.known ≡ true
     → Accepts (Ops.Modified text) (done state (Ops.Modified text) moment) n f (cleared f, Replies.Stamp (moment_digits (stamp_of (cleared f) text)))
@@ -155,7 +155,7 @@ module _ (read : Reading) (text : List ℕ) (how : How) (reads : IsReading read)
         placed_so = λ job. refl;
         line = carried (Commands.Size text) tt is;
         leads = last_exchange read state.table (Ops.Size text how) Steps.Last (Commands.Size text) (Number count, state) n f (cleared f) sent stands.far stands.sees.table
-            stands.settings stands.facts (keeps_cleared f) (sees_cleared state f stands.sees)
+            stands.settings stands.facts stands.meets (keeps_cleared f) (sees_cleared state f stands.sees)
             (record {
               kind = Replies.Size count;
               reply = reply_of 213 (decimal count);
@@ -174,7 +174,7 @@ module _ (read : Reading) (text : List ℕ) (how : How) (reads : IsReading read)
         placed_so = λ job. refl;
         line = carried (Commands.Size text) tt is;
         leads = last_exchange read state.table (Ops.Size text how) Steps.Last (Commands.Size text) (chosen (Some why) state (done state (Ops.Size text how) 0)) n f (cleared f) sent stands.far stands.sees.table
-            stands.settings stands.facts (keeps_cleared f) (sees_cleared state f stands.sees)
+            stands.settings stands.facts stands.meets (keeps_cleared f) (sees_cleared state f stands.sees)
             (refused_exchange (Ops.Size text how) Steps.Last (Commands.Size text) why n f refl (size_decided n f stands set (Some why) some));
       })
 
@@ -188,7 +188,7 @@ module _ (read : Reading) (text : List ℕ) (how : How) (reads : IsReading read)
 -- ---- a login that is not known: the first command is refused
 
 module _ (read : Reading) (op : Op (List ℕ)) (reads : IsReading read) (state : State) (n : Near) (f : Far) (stands : Stands state n f) (unknown : state.known ≡ false) where
-  refused_at : (step : Step) (command : Command (List ℕ)) → IsSent read command → is_free command ≡ false → is_transfer command ≡ false → awaits_reply step ≡ true
+  pub refused_at : (step : Step) (command : Command (List ℕ)) → IsSent read command → is_free command ≡ false → is_transfer command ≡ false → awaits_reply step ≡ true
       → ((job : Job) → placed op step (record (calm (resting n)) { job = job }) ≡ record (calm (doing op step n)) { owed = written_line (line_of command) })
       → LeadsFrom read (Passes state.table state.table) (Ends (Refused 530, state)) op step n f
   refused_at step command sent free transfer awaits placed_so = record {
@@ -197,7 +197,7 @@ module _ (read : Reading) (op : Op (List ℕ)) (reads : IsReading read) (state :
     left = 2;
     placed_so = placed_so;
     line = carried command sent.typed sent.stated;
-    leads = last_exchange read state.table op step command (Refused 530, state) n f (cleared f) sent stands.far stands.sees.table stands.settings stands.facts
+    leads = last_exchange read state.table op step command (Refused 530, state) n f (cleared f) sent stands.far stands.sees.table stands.settings stands.facts stands.meets
         (keeps_cleared f) (sees_cleared state f stands.sees)
         (refused_exchange op step command Refusals.NotLoggedIn n f awaits (decides_unknown command f (stands.sees.known ∙ unknown) free transfer));
   }

@@ -1,5 +1,5 @@
 -- Each operation without a transfer leaves a sound state sound.
-use Rattle.std.proofs.Common.{◌≡◌, ◌≤◌, ℕ, Bool, true, false, List, ◌++◌, length, drop, Option, Some, None, refl, sym, ap, subst, ◌∙◌, cond}
+use Rattle.std.proofs.Common.{◌≡◌, ℕ, Bool, true, false, List, ◌++◌, length, drop, Option, Some, None, refl, sym, ap, subst, ◌∙◌, cond}
 use Rattle.std.specs.Prelude.{IsTrue, if◌then◌else◌}
 use Rattle.std.specs.Ordering.{eq_by_cmp}
 use Rattle.ftp_operation.specs.Answer.{BadOperation}
@@ -17,38 +17,36 @@ use Rattle.ftp_direct.specs.Direct.{State, answer, changed, chosen, done, named,
 use Rattle.ftp_direct.specs.declared.refusal.Refusal.{Refusal}
 use Rattle.ftp_direct.specs.declared.refusal.Refusal.TheVariants as Refusals
 use Rattle.ftp_server_machine.specs.Told.{is_path}
-use Rattle.ftp_world.specs.Claims.{last_second}
-use Rattle.ftp_dialogues.specs.Dialogue.{IsSound, HasNoTransfer}
+use Rattle.ftp_dialogues.specs.Dialogue.{IsFine, IsSound, HasNoTransfer}
 use Rattle.ftp_dialogues.specs.Operations.{EachStaysSound}
 use Rattle.ftp_dialogues.proofs.Moving.{within-limits}
 use Rattle.ftp_dialogues.proofs.Renaming.{none_there, none_limited, none_name, first_none, source_why, target_why, same_target, direct_by_source}
 
--- ---- moments of a map
+-- ---- files of a map
 
--- each file has a moment
-abbrev HaveMoments : Table → Type 0
-HaveMoments table = (path : Names) (octets : List ℕ) (moment : ℕ) → node_at table path ≡ Some (File octets moment) → moment ≤ last_second
+abbrev HasFineFiles : Table → Type 0
+HasFineFiles table = (path : Names) (octets : List ℕ) (moment : ℕ) → node_at table path ≡ Some (File octets moment) → IsFine octets moment
 
 by_bool : {P : Type 0} (b : Bool) → (b ≡ true → P) → (b ≡ false → P) → P
 by_bool true one other = one refl
 by_bool false one other = other refl
 
-moments-made : (table : Table) (path : Names) → HaveMoments table → HaveMoments (made table path)
+files-made : (table : Table) (path : Names) → HasFineFiles table → HasFineFiles (made table path)
 unfolding made
-moments-made table path have other octets moment is =
+files-made table path have other octets moment is =
     by_bool (eq_by_cmp path_cmp other path)
     (λ e. absurd (let f : Some Dir ≡ Some (File octets moment) = sym (at-insert table path Dir other ∙ ap (λ b. cond b (Some Dir) (node_at table other)) e) ∙ is in cc))
     (λ e. have other octets moment (sym (at-insert table path Dir other ∙ ap (λ b. cond b (Some Dir) (node_at table other)) e) ∙ is))
 
-moments-removed : (table : Table) (path : Names) → HaveMoments table → HaveMoments (removed table path)
+files-removed : (table : Table) (path : Names) → HasFineFiles table → HasFineFiles (removed table path)
 unfolding removed
-moments-removed table path have other octets moment is =
+files-removed table path have other octets moment is =
     by_bool (eq_by_cmp path_cmp other path)
     (λ e. absurd (let f : None ≡ Some (File octets moment) = sym (at-remove table path other ∙ ap (λ b. cond b None (node_at table other)) e) ∙ is in cc))
     (λ e. have other octets moment (sym (at-remove table path other ∙ ap (λ b. cond b None (node_at table other)) e) ∙ is))
 
-moments-moved : (table : Table) (from to : Names) → IsTree table → rename_refusal table from to ≡ None → HaveMoments table → HaveMoments (moved table from to)
-moments-moved table from to tree none have other octets moment is =
+files-moved : (table : Table) (from to : Names) → IsTree table → rename_refusal table from to ≡ None → HasFineFiles table → HasFineFiles (moved table from to)
+files-moved table from to tree none have other octets moment is =
     let all = rename-moves table from to tree none in
     by_bool (is_within to other)
     (λ e.
@@ -61,17 +59,17 @@ moments-moved table from to tree none have other octets moment is =
 
 -- ---- a change of what the account sees
 
-change-sound : (state : State) (new : Table) → IsSound state → IsTree new → HaveMoments new → IsSound (changed state new)
+change-sound : (state : State) (new : Table) → IsSound state → IsTree new → HasFineFiles new → IsSound (changed state new)
 change-sound state new sound tree have =
     let same : part (changed state new) ≡ new = (parts-put state.table state.root new).taken in
     record {
       cwd = sound.cwd;
       tree = λ known. subst IsTree (sym same) tree;
-      moments = subst HaveMoments (sym same) have;
+      files = subst HasFineFiles (sym same) have;
     }
 
 moves-sound : (state : State) (cwd : Names) → IsSound state → IsTrue (is_path cwd) → IsSound (record state { cwd = cwd })
-moves-sound state cwd sound is = record { cwd = is; tree = sound.tree; moments = sound.moments }
+moves-sound state cwd sound is = record { cwd = is; tree = sound.tree; files = sound.files }
 
 -- ---- by operation
 
@@ -89,19 +87,19 @@ module _ (state : State) (moment : ℕ) (sound : IsSound state) (known : state.k
   make-sound text none =
       let can : make_refusal (part state) (named state text) ≡ None = none_limited (named state text) _ (none_there _ none) in
       change-sound state (made (part state) (named state text)) sound (changes-keep.making (part state) (named state text) (sound.tree known) can)
-      (moments-made (part state) (named state text) sound.moments)
+      (files-made (part state) (named state text) sound.files)
 
   remove-sound : (text : List ℕ) → Stays (Ops.RemoveDir text)
   remove-sound text none =
       let can : remove_refusal (part state) (named state text) ≡ None = first_none _ _ (none_limited (named state text) _ (none_there _ none)) in
       change-sound state (removed (part state) (named state text)) sound (changes-keep.removing (part state) (named state text) (sound.tree known) can)
-      (moments-removed (part state) (named state text) sound.moments)
+      (files-removed (part state) (named state text) sound.files)
 
   delete-sound : (text : List ℕ) → Stays (Ops.Delete text)
   delete-sound text none =
       let can : delete_refusal (part state) (named state text) ≡ None = none_limited (named state text) _ (none_there _ none) in
       change-sound state (removed (part state) (named state text)) sound (changes-keep.deleting (part state) (named state text) (sound.tree known) can)
-      (moments-removed (part state) (named state text) sound.moments)
+      (files-removed (part state) (named state text) sound.files)
 
   rename-sound : (text new : List ℕ) → Stays (Ops.Rename text new)
   rename-sound text new none = by_source (source_why state text) refl
@@ -114,7 +112,7 @@ module _ (state : State) (moment : ℕ) (sound : IsSound state) (known : state.k
           let can : rename_refusal (part state) (named state text) (named state new) ≡ None = none_limited (named state new) _ (none_name _ (target source)) in
           change-sound state (moved (part state) (named state text) (named state new)) sound
           (changes-keep.moving (part state) (named state text) (named state new) (sound.tree known) can)
-          (moments-moved (part state) (named state text) (named state new) (sound.tree known) can sound.moments)
+          (files-moved (part state) (named state text) (named state new) (sound.tree known) can sound.files)
       by_source (Some why) source = absurd (let f : Some why ≡ None = sym (direct_by_source state text new (Some why) source) ∙ none in cc)
 
   done-sound : (op : Op (List ℕ)) → HasNoTransfer op → can_be_sent op ≡ true → Stays op

@@ -114,7 +114,7 @@ early-at state path sound = by_node (node_at (part state) path) refl
     by_node : (node : Option Node) → node_at (part state) path ≡ node → IsEarly (unwrap_or node Dir)
     by_node None is = tt
     by_node (Some Dir) is = tt
-    by_node (Some (File octets moment)) is = sound.moments path octets moment is
+    by_node (Some (File octets moment)) is = (sound.files path octets moment is).0
 
 entry-reads : (state : State) (path : Names) → IsSound state → IsPathText (text_of path)
     → entry_value (listed_line all_facts (entry_at (part state) path (text_of path))) ≡ Some (entry_at (part state) path (text_of path))

@@ -3,6 +3,7 @@ use Rattle.std.proofs.lemmas.Bool.{and_parts}
 use Rattle.ftp_operation.specs.Operation.{is_path_text}
 use Rattle.ftp_operation.specs.declared.op.Op.TheVariants as Ops
 use Rattle.ftp_direct.specs.Direct.{answer}
+use Rattle.ftp_dialogues.specs.Dialogue.{Passes, Ends}
 use Rattle.ftp_dialogues.specs.Laws.{OperationLeads}
 use Rattle.ftp_dialogues.specs.Operations.{EachLeadsAsRun}
 use Rattle.ftp_dialogues.proofs.LoginTurns.{operation_turns}
@@ -36,4 +37,4 @@ each-leads read state (Ops.Names path how) moment n f reads alone can sound stan
 
 pub operation-leads : OperationLeads
 operation-leads read state op moment reads alone can sound =
-    operation_turns read state op (answer state op moment) reads (λ n f stands. each-leads read state op moment n f reads alone can sound stands)
+    operation_turns read state op (Passes state.table (answer state op moment).1.table) (Ends (answer state op moment)) reads (λ n f stands. each-leads read state op moment n f reads alone can sound stands)

@@ -1,11 +1,12 @@
 -- An operation without a transfer: what both ends hold while it is under way, and what it leads to. No data connection stands or is
 -- wanted.
-use Rattle.std.specs.Prelude.{◌≡◌, ◌⊎◌, ℕ, ◌≤◌, Bool, true, false, List, Some, None, IsTrue}
+use Rattle.std.specs.Prelude.{◌≡◌, ◌⊎◌, ℕ, ◌≤◌, Bool, true, false, List, length, Some, None, IsTrue}
+use Rattle.ftp_endpoint.specs.Written.{IsTypedHost}
 use Rattle.ftp_operation.specs.Answer.{Said}
 use Rattle.ftp_operation.specs.declared.op.Op.{Op}
 use Rattle.ftp_path.specs.Path.{Names}
 use Rattle.ftp_direct.specs.Direct.{State, part}
-use Rattle.ftp_tree.specs.Tree.{Table, File, IsTree, node_at}
+use Rattle.ftp_tree.specs.Tree.{Table, File, IsTree, node_at, total_limit}
 use Rattle.ftp_client_machine.specs.Calls.{is_sound, is_busy_job, report_of}
 use Rattle.ftp_client_machine.specs.Plan.{how_of}
 use Rattle.ftp_client_machine.specs.View.{View as Near, Idle, Doing, Told}
@@ -68,8 +69,16 @@ resting n = record n { standing = Standings.Entered; job = Idle; run = None; con
 abbrev pub doing : Op (List ℕ) → Step → Near → Near
 doing op step n = record n { standing = Standings.Entered; job = Doing op step; run = None; connection = NearData.Free; closing = false }
 
+-- each end is the other's peer, and EPSV ALL was never sent
+pub record Meets (n : Near) (f : Far) : Type 0 where
+  pub peer : n.peer ≡ f.footing.here
+  pub here : n.here ≡ f.footing.peer
+  pub typed : IsTypedHost f.footing.here
+  pub all_ways : f.session.only_extended ≡ false
+
 -- the server is in this state, with all facts in force, and the client knows its settings
 pub record Stands (state : State) (n : Near) (f : Far) : Type 0 where
+  pub meets : Meets n f
   pub far : FarWaits f
   pub sees : Sees state f.session
   pub settings : f.session.settings ≡ n.settings
@@ -82,11 +91,15 @@ pub record Ends (result : Said × State) (n : Near) (f : Far) : Type 0 where
 
 -- ---- states that a session can come to
 
--- the current directory is a path, and what the account sees is a tree whose files have moments
+-- a file has a moment, and no more octets than a map may have
+abbrev pub IsFine : List ℕ → ℕ → Type 0
+IsFine octets moment = (moment ≤ last_second) × (length octets ≤ total_limit)
+
+-- the current directory is a path, and what the account sees is a tree of such files
 pub record IsSound (state : State) : Type 0 where
   pub cwd : IsTrue (is_path state.cwd)
   pub tree : state.known ≡ true → IsTree (part state)
-  pub moments : (path : Names) (octets : List ℕ) (moment : ℕ) → node_at (part state) path ≡ Some (File octets moment) → moment ≤ last_second
+  pub files : (path : Names) (octets : List ℕ) (moment : ℕ) → node_at (part state) path ≡ Some (File octets moment) → IsFine octets moment
 
 -- ---- the operations
 

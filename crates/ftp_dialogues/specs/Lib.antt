@@ -5,3 +5,4 @@ pub mod Operations
 pub mod Login
 pub mod Laws
 pub mod Downloads
+pub mod Fetches

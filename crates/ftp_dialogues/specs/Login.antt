@@ -21,7 +21,7 @@ use Rattle.ftp_server_machine.specs.declared.reply.Text.{Text}
 use Rattle.ftp_server_machine.specs.declared.reply.Text.TheVariants as Texts
 use Rattle.ftp_server_machine.specs.declared.session.Access.TheVariants as Accesses
 use Rattle.ftp_dialogues.specs.Stage.{Way, Asking, Answering, rest, Leads}
-use Rattle.ftp_dialogues.specs.Dialogue.{FarWaits, Sees, Passes, Stands, Ends, resting}
+use Rattle.ftp_dialogues.specs.Dialogue.{FarWaits, Meets, Sees, Passes, Stands, Ends, resting}
 
 -- what is on its way: the greeting, USER, the 331, PASS, or the last reply, to USER or to PASS
 pub data Place : Type 0 where
@@ -74,6 +74,7 @@ pub record LogsIn (state : State) (place : Place) (n : Near) (f : Far) : Type 0 
   pub facts : f.session.facts ≡ all_facts
   pub table : f.session.table ≡ state.table
   pub access : IsAccessOf place state n f
+  pub meets : Meets n f
   pub leads_to : state ≡ direct_start state.table (login_root f.footing.accounts n.user n.pass)
   pub opens : (root : Names) → open_root f.footing.accounts n.user ≡ Some root → login_root f.footing.accounts n.user n.pass ≡ Some root
 
@@ -90,8 +91,10 @@ abbrev pub AtFree : State → Way → Near → Far → Type 0
 AtFree state way n f =
     (Logging state way n f × (n.job ≡ Idle)) ⊎ ((way ≡ rest) × (n ≡ resting n) × Stands state n f)
 
--- an operation waits for the end of the login, or is under way to this answer and this state
+-- an operation waits for the end of the login, or is under way to a goal, with something that holds all along
+abbrev pub IsOnWay : Reading → State → Op (List ℕ) → (Along Goal : Near → Far → Type 0) → Way → Near → Far → Type 0
+IsOnWay read state op Along Goal way n f = (Logging state way n f × (n.job ≡ Waiting op)) ⊎ ((left : ℕ) × Leads read Along Goal left way n f)
+
+-- it is under way to this answer and this state
 abbrev pub AtOperation : Reading → State → Op (List ℕ) → Said × State → Way → Near → Far → Type 0
-AtOperation read state op result way n f =
-    (Logging state way n f × (n.job ≡ Waiting op))
-    ⊎ ((left : ℕ) × Leads read (Passes state.table result.1.table) (Ends result) left way n f)
+AtOperation read state op result way n f = IsOnWay read state op (Passes state.table result.1.table) (Ends result) way n f

@@ -14,14 +14,18 @@ use Rattle.ftp_server_machine.specs.View.{View as Far}
 use Rattle.ftp_dialogues.specs.Stage.{calm, Asking, Leads}
 use Rattle.ftp_dialogues.specs.Dialogue.{Passes, Stands, Ends, IsSound, HasNoTransfer, resting}
 
--- the client begins with a line, and some turns lead to this answer and this state, with the map before or behind it all along
-pub record LeadsTo (read : Reading) (state : State) (op : Op (List ℕ)) (result : Said × State) (n : Near) (f : Far) : Type 0 where
+-- the client begins with a line, and some turns lead to a goal, with something that holds all along
+pub record LeadsBy (read : Reading) (Along Goal : Near → Far → Type 0) (op : Op (List ℕ)) (n : Near) (f : Far) : Type 0 where
   pub near : Near
   pub text : List ℕ
   pub left : ℕ
   pub begins_so : (job : Job) → begins op (record (calm (resting n)) { job = job }) ≡ record (calm near) { owed = written_line text }
   pub line : IsLine text
-  pub leads : Leads read (Passes state.table result.1.table) (Ends result) left (Asking text) near f
+  pub leads : Leads read Along Goal left (Asking text) near f
+
+-- the goal is this answer and this state, with the map before or behind it all along
+abbrev pub LeadsTo : Reading → State → Op (List ℕ) → Said × State → Near → Far → Type 0
+LeadsTo read state op result n f = LeadsBy read (Passes state.table result.1.table) (Ends result) op n f
 
 -- so it is of every such operation that can be sent, with the answer of the direct run
 abbrev pub EachLeadsAsRun : Type 0

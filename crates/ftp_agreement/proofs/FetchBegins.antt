@@ -1,0 +1,63 @@
+-- A download begins, of a login that is known.
+use Rattle.std.proofs.Common.{◌≡◌, ℕ, true, List, [], ◌∷◌, ◌++◌, Option, refl, sym, ap, ◌∙◌}
+use Rattle.ftp_operation.specs.Operation.{can_be_sent}
+use Rattle.ftp_operation.specs.declared.op.How.{How}
+use Rattle.ftp_operation.specs.declared.op.Op.{Op}
+use Rattle.ftp_direct.specs.Direct.{State}
+use Rattle.ftp_server_machine.specs.Machine.{Reading, IsReading}
+use Rattle.ftp_world.specs.Agreement.{Order, Single}
+use Rattle.ftp_world.specs.Events.{operation_begins}
+use Rattle.ftp_world.specs.Serving.{after_event}
+use Rattle.ftp_world.specs.World.{World}
+use Rattle.ftp_dialogues.specs.Dialogue.{Passes}
+use Rattle.ftp_dialogues.specs.Fetches.{IsPassive, PortIsAsked, fetch}
+use Rattle.ftp_dialogues.specs.Stage.{Way, Asking, Answering}
+use Rattle.ftp_dialogues.proofs.Fetching.{fetch_leads}
+use Rattle.ftp_agreement.specs.Cut.{Cut, world_at}
+use Rattle.ftp_agreement.specs.Follows.{IsFree, IsLinked, IsUnlinked}
+use Rattle.ftp_agreement.specs.Runs.{Runs}
+use Rattle.ftp_agreement.proofs.Begins.{begins_stands}
+use Rattle.ftp_agreement.proofs.FetchRuns.{fetch_after}
+use Rattle.ftp_agreement.proofs.FetchTurns.{arrives}
+
+pub begins_fetch : (read : Reading) (reads : IsReading read) (from : State) (begun : List Order) (offset : Option ℕ) (text : List ℕ) (how : How) (moment : ℕ) → IsPassive how
+    → (w : World) → can_be_sent (fetch offset text how) ≡ true → IsUnlinked w → IsLinked w → (f : IsFree from begun w) → f.now.known ≡ true
+    → Runs read from (begun ++ Single (fetch offset text how) moment ∷ []) (after_event (operation_begins (fetch offset text how) moment w))
+begins_fetch read reads from begun offset text how moment passive w can unlinked linked f known =
+    let op : Op (List ℕ) = fetch offset text how in
+    let new : World = operation_begins op moment w in
+    let s = begins_stands read reads from begun op moment f.now (Passes f.now.table f.now.table) (PortIsAsked f.now op how.representation) w
+    (λ n g stands. fetch_leads read f.now offset text how reads known passive n g stands) can f.stands f.stands.here in
+    let same = fields s.base s.way s.cut in
+    fetch_after read reads from (begun ++ Single op moment ∷ []) new (record {
+      done = begun;
+      marks = w.marks;
+      own = [];
+      offset = offset;
+      text = text;
+      how = how;
+      moment = moment;
+      begun_is = refl;
+      marks_are = refl;
+      now = f.now;
+      sound = f.sound;
+      known = known;
+      sent = can;
+      passive = passive;
+      told = f.told;
+      linked = record { control = linked.control; cutoff = linked.cutoff };
+      stands = record {
+        base = s.base;
+        way = s.way;
+        cut = s.cut;
+        is = s.is;
+        fits = s.fits;
+        here = arrives read reads f.now offset text how can f.sound known passive [] s.way s.base (sym same.0 ∙ sym (ap (λ u. u.link) s.is) ∙ unlinked.link)
+            (sym same.1 ∙ sym (ap (λ u. u.data_to_server) s.is) ∙ unlinked.to_server) (sym same.2 ∙ sym (ap (λ u. u.data_to_client) s.is) ∙ unlinked.to_client) refl s.here;
+      };
+    })
+  where
+    fields : (b : World) (way : Way) (c : Cut)
+        → ((world_at b way c).link ≡ b.link) × ((world_at b way c).data_to_server ≡ b.data_to_server) × ((world_at b way c).data_to_client ≡ b.data_to_client)
+    fields b (Asking line) c = (refl, refl, refl)
+    fields b (Answering rows) c = (refl, refl, refl)

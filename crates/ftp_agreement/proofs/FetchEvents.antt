@@ -1,0 +1,508 @@
+-- Openings, refusals, ends and breaks of the link lead a download from a stage to a stage.
+use Rattle.std.proofs.Common.{◌≡◌, inl, inr, ℕ, ◌≤◌, Bool, true, false, List, [], ◌∷◌, ◌++◌, length, Option, Some, None, refl, sym, ap, subst, ◌∙◌, append-nil, arith}
+use Rattle.ftp_nvt.specs.Lines.{written_line}
+use Rattle.ftp_command.specs.Line.{IsLine, line_of}
+use Rattle.ftp_command.specs.declared.command.Command.TheVariants as Commands
+use Rattle.ftp_command.proofs.CarriedLemmas.{carried}
+use Rattle.ftp_ends.specs.Decoder.{no_octets}
+use Rattle.ftp_ends.specs.Link.{same_host, is_connecting}
+use Rattle.ftp_ends.specs.Ear.{quiet}
+use Rattle.ftp_ends.specs.Reply.{Reply, reply_octets}
+use Rattle.ftp_direct.specs.declared.refusal.Refusal.{Refusal}
+use Rattle.ftp_operation.specs.Answer.{Said, Octets, Unopened as NotOpened}
+use Rattle.ftp_operation.specs.Operation.{can_be_sent}
+use Rattle.ftp_operation.specs.declared.op.How.{How}
+use Rattle.ftp_operation.specs.declared.op.Op.{Op}
+use Rattle.ftp_direct.specs.Direct.{State}
+use Rattle.ftp_client_machine.specs.Calls as near
+use Rattle.ftp_client_machine.specs.View.{View as Near}
+use Rattle.ftp_client_machine.specs.declared.client.DataConnection.TheVariants as NearData
+use Rattle.ftp_client_machine.specs.declared.client.Replied.TheVariants as Replies
+use Rattle.ftp_server_machine.specs.Calls as far
+use Rattle.ftp_server_machine.specs.Machine.{Reading, completed, later}
+use Rattle.ftp_server_machine.specs.Replies.{fixed_reply}
+use Rattle.ftp_server_machine.specs.View.{View as Far}
+use Rattle.ftp_server_machine.specs.declared.reply.ReplyKind.TheVariants as Kinds
+use Rattle.ftp_server_machine.specs.declared.reply.Text.TheVariants as Texts
+use Rattle.ftp_server_machine.specs.declared.session.DataConnection.TheVariants as FarData
+use Rattle.ftp_server_machine.specs.declared.session.Pending.TheVariants as Pendings
+use Rattle.ftp_server_machine.proofs.RepliesWritten.{replies_are_written}
+use Rattle.ftp_world.specs.Events.{DataToClient, is_gone, is_closed_by_far, link_breaks, link_opens, link_refused, refused_by, broken_by, told}
+use Rattle.ftp_world.specs.Outcome.{mark_in}
+use Rattle.ftp_world.specs.World.{World, Link, Gone, Opened, ClosedByFar, Mark, Broken, Refused, marked_last, with_mark, gone}
+use Rattle.ftp_dialogues.specs.Dialogue.{IsSound}
+use Rattle.ftp_dialogues.specs.Fetches.{fetch, fetching, leaving, linked, opened_job, opened_command, offset_pending, busy}
+use Rattle.ftp_dialogues.specs.Stage.{calm, still, Way, Asking, Answering, rest}
+use Rattle.ftp_dialogues.proofs.Fetching.{own_host}
+use Rattle.ftp_agreement.specs.Cut.{Cut, Flows as FlowsOf, Fits, world_at, PlacedAt}
+use Rattle.ftp_agreement.specs.Stages as Stages
+use Rattle.ftp_agreement.specs.Stages.{Sent, Granted, Denied, Heard, NoReply, OneReply, BothReplies, heard_by, Gap, Unclosed, Closed, Lost, Course, Giving, Given, Ended, Severed, Refusing, Unopened, replies_in, Carry, Restart, NoLink, PortAside, Stage, PortAsked, PortTold, Dials, Restarts, Retrieves, Carries, Answers, is_passing, Holds, AtFetch}
+use Rattle.ftp_agreement.proofs.Fates.{content, content_fares, judged_whole, judged_cut, cut_said, cut_fares, refused_link_fares, fetch_text, fetch_few}
+use Rattle.ftp_agreement.proofs.FetchLink.{Leads, FarLeads, near_acts, far_acts, both_act, fits_more, rest_breaks, near_ends, near_breaks, near_ends_all, near_breaks_all, far_linked, ready_breaks, giving_breaks}
+use Rattle.ftp_agreement.proofs.Keeps.{line_is_some, anew}
+use Rattle.ftp_agreement.proofs.Still.{no_octets as no_cut}
+
+-- ---- a world of a stage as its base with other ends
+
+with_ends : (b : World) (way : Way) (c : Cut) → World
+with_ends b way c = record b {
+  near = (world_at b way c).near;
+  far = (world_at b way c).far;
+  control_to_server = (world_at b way c).control_to_server;
+  control_to_client = (world_at b way c).control_to_client;
+}
+
+as_ends : (b : World) (way : Way) (c : Cut) → world_at b way c ≡ with_ends b way c
+unfolding with_ends
+as_ends b (Asking text) c = refl
+as_ends b (Answering rows) c = refl
+
+-- the base behind a break
+abbrev behind_break : Near → Far → World → World
+behind_break n f b =
+    record b { near = n; far = f; link = Gone; data_to_server = []; data_to_client = []; marks = marked_last (Broken b.came) b.marks }
+
+-- ---- a break
+
+opened_breaks : (b : World) (way : Way) (c : Cut) (n : Near) (f : Far) → Fits way c → b.link ≡ Opened → Leads near.data_fault b.near n → FarLeads far.data_fault b.far f
+    → link_breaks (world_at b way c) ≡ world_at (behind_break n f b) way c
+unfolding with_ends
+opened_breaks b way c n f fits is leads serves =
+    ap link_breaks (as_ends b way c)
+    ∙ ap (λ link. with_mark (Broken b.came) (gone (broken_by link (with_ends b way c)))) is
+    ∙ both_act b (behind_break n f b) way c (near.data_fault (world_at b way c).near) (far.data_fault (world_at b way c).far)
+    (near_acts near.data_fault b (behind_break n f b) way c fits leads) (far_acts far.data_fault b (behind_break n f b) way c serves)
+
+left_breaks : (b : World) (way : Way) (c : Cut) (n : Near) → Fits way c → b.link ≡ ClosedByFar → Leads near.data_fault b.near n
+    → link_breaks (world_at b way c) ≡ world_at (behind_break n b.far b) way c
+unfolding with_ends
+left_breaks b way c n fits is leads =
+    ap link_breaks (as_ends b way c)
+    ∙ ap (λ link. with_mark (Broken b.came) (gone (broken_by link (with_ends b way c)))) is
+    ∙ both_act b (behind_break n b.far b) way c (near.data_fault (world_at b way c).near) (world_at b way c).far
+    (near_acts near.data_fault b (behind_break n b.far b) way c fits leads) (far_acts (λ f. f) b (behind_break n b.far b) way c (λ ear owed. refl))
+
+-- the server was giving: it owes a 426 more
+giving_break : (b : World) (rows more : List Reply) (c : Cut) (n : Near) (f : Far) → Fits (Answering rows) c → b.link ≡ Opened → Leads near.data_fault b.near n
+    → far.data_fault (record (still b.far) { owed = c.owed }) ≡ record (still f) { owed = c.owed ++ reply_octets (fixed_reply Texts.Broken) }
+    → link_breaks (world_at b (Answering rows) c) ≡ world_at (behind_break n f b) (Answering more) (record c { owed = c.owed ++ reply_octets (fixed_reply Texts.Broken) })
+giving_break b rows more c n f fits is leads serves =
+    ap (λ link. with_mark (Broken b.came) (gone (broken_by link (world_at b (Answering rows) c)))) is
+    ∙ (λ i. record (behind_break n f b) { near = near_acts near.data_fault b (behind_break n f b) (Answering rows) c fits leads i; far = serves i; control_to_server = []; control_to_client = c.moving })
+
+-- ---- the end
+
+left_ends : (b : World) (way : Way) (c : Cut) (n : Near) → Fits way c → Leads near.data_end b.near n
+    → told DataToClient (world_at b way c) ≡ world_at (record b { near = n; link = Gone; data_to_server = []; data_to_client = [] }) way c
+unfolding with_ends
+left_ends b way c n fits leads =
+    let to : World = record b { near = n; link = Gone; data_to_server = []; data_to_client = [] } in
+    ap (told DataToClient) (as_ends b way c)
+    ∙ both_act b to way c (near.data_end (world_at b way c).near) (world_at b way c).far
+    (near_acts near.data_end b to way c fits leads) (far_acts (λ f. f) b to way c (λ ear owed. refl))
+
+module _ (read : Reading) (state : State) (offset : Option ℕ) (text : List ℕ) (how : How)
+    (can : can_be_sent (fetch offset text how) ≡ true) (sound : IsSound state) (known : state.known ≡ true) (own : List Mark) where
+  abbrev At : List Mark → Way → World → Type 0
+  At own way b = AtFetch state offset text how read own way b
+
+  abbrev Stands : List Mark → Stage → Way → World → Type 0
+  Stands own stage way b = Holds state offset text how own stage way b
+
+  abbrev op : Op (List ℕ)
+  op = fetch offset text how
+
+  abbrev near_at : Stage → Near → Near
+  near_at stage n = Stages.near_at state offset text how stage n
+
+  -- a world placed at a stage
+  placed : (own : List Mark) (w b : World) (way : Way) (c : Cut) (stage : Stage) → w ≡ world_at b way c → Fits way c → Stands own stage way b → PlacedAt (At own) w
+  placed own w b way c stage is fits h = record { base = b; way = way; cut = c; is = is; fits = fits; here = inr (stage, h) }
+
+  marked_so : (mark : Mark) → own ≡ [] → own ++ mark ∷ [] ≡ mark ∷ []
+  marked_so mark is = ap (λ l. l ++ mark ∷ []) is
+
+  broken_so : (b : World) (came : List ℕ) → own ≡ [] → b.came ≡ length came → own ++ Broken b.came ∷ [] ≡ Broken (length came) ∷ []
+  broken_so b came is counted = marked_so (Broken b.came) is ∙ ap (λ n. Broken n ∷ []) counted
+
+  abbrev Breaks : Way → World → Cut → Type 0
+  Breaks way b c = PlacedAt (At (own ++ Broken b.came ∷ [])) (link_breaks (world_at b way c))
+
+  rest_broken : (at : ℕ) (restart : Restart) (way : Way) (b : World) (c : Cut) → Fits way c → Stands own (Restarts at restart true) way b → Breaks way b c
+  rest_broken at restart way b c fits h =
+      let n : Near = near_at (Restarts at restart false) b.near in
+      let f : Far = far_linked (linked FarData.Free false (Stages.pending_at state offset text how (Restarts at restart true)) b.far.session) b.far in
+      placed (own ++ Broken b.came ∷ []) _ (behind_break n f b) way c (Restarts at restart false)
+      (opened_breaks b way c n f fits h.link (subst (λ v. Leads near.data_fault v n) (sym h.near) (rest_breaks at text how b.near))
+      (ready_breaks b.far (Stages.pending_at state offset text how (Restarts at restart true)) h.session)) fits
+      (record {
+        near = refl;
+        session = by_restart restart;
+        steady = h.steady;
+        link = refl;
+        to_server = refl;
+        to_client = refl;
+        came = h.came;
+        marked = marked_so (Broken b.came) h.marked ∙ ap (λ k. Broken k ∷ []) h.came;
+        way_is = h.way_is;
+        fine = h.fine;
+      })
+    where
+      by_restart : (restart : Restart)
+          → linked FarData.Free false (Stages.pending_at state offset text how (Restarts at restart true)) b.far.session
+          ≡ linked FarData.Free false (Stages.pending_at state offset text how (Restarts at restart false)) b.far.session
+      by_restart Sent = refl
+      by_restart Granted = refl
+      by_restart (Denied why) = refl
+
+  retr_broken : (way : Way) (b : World) (c : Cut) → Fits way c → Stands own (Retrieves true) way b → Breaks way b c
+  retr_broken way b c fits h =
+      let n : Near = near_at (Retrieves false) b.near in
+      let f : Far = far_linked (linked FarData.Free false (offset_pending offset) b.far.session) b.far in
+      placed (own ++ Broken b.came ∷ []) _ (behind_break n f b) way c (Retrieves false)
+      (opened_breaks b way c n f fits h.link (subst (λ v. Leads near.data_fault v n) (sym h.near) (near_breaks offset text how how.representation [] b.near false))
+      (ready_breaks b.far (offset_pending offset) h.session)) fits
+      (record {
+        near = refl;
+        session = refl;
+        steady = h.steady;
+        link = refl;
+        to_server = refl;
+        to_client = refl;
+        came = h.came;
+        marked = marked_so (Broken b.came) h.marked ∙ ap (λ k. Broken k ∷ []) h.came;
+        way_is = h.way_is;
+        fine = h.fine;
+      })
+
+  abbrev carry : Course → (came queue : List ℕ) → Stage
+  carry course came queue = Carries (record { course = course; came = came; queue = queue })
+
+  giving_broken : (begun : Bool) (octet : ℕ) (more came queue : List ℕ) (b : World) (c : Cut) → Fits (Answering (replies_in (Giving begun octet more))) c
+      → Stands own (carry (Giving begun octet more) came queue) (Answering (replies_in (Giving begun octet more))) b → Breaks (Answering (replies_in (Giving begun octet more))) b c
+  giving_broken begun octet more came queue b c fits h =
+      let n : Near = near_at (carry (Severed begun) came []) b.near in
+      let f : Far = far_linked (linked FarData.Free false Pendings.Nothing b.far.session) b.far in
+      placed (own ++ Broken b.came ∷ []) _ (behind_break n f b) (Answering (replies_in (Severed begun))) (record c { owed = c.owed ++ reply_octets (fixed_reply Texts.Broken) })
+      (carry (Severed begun) came [])
+      (giving_break b (replies_in (Giving begun octet more)) (replies_in (Severed begun)) c n f fits h.link
+      (subst (λ v. Leads near.data_fault v n) (sym h.near) (near_breaks offset text how how.representation came b.near begun))
+      (giving_breaks b.far Pendings.Nothing octet more h.session quiet c.owed)) (by_begun begun fits)
+      (record {
+        near = refl;
+        session = refl;
+        steady = h.steady;
+        link = refl;
+        to_server = refl;
+        to_client = refl;
+        came = h.came;
+        marked = broken_so b came h.marked h.came;
+        way_is = refl;
+        fine = (h.fine.0, ((queue ++ octet ∷ more, h.fine.1), refl));
+      })
+    where
+      by_begun : (begun : Bool) → Fits (Answering (replies_in (Giving begun octet more))) c
+          → Fits (Answering (replies_in (Severed begun))) (record c { owed = c.owed ++ reply_octets (fixed_reply Texts.Broken) })
+      by_begun false fits = fits_more (fixed_reply Texts.Opens ∷ []) (fixed_reply Texts.Broken) c (replies_are_written b.far.session (Kinds.Fixed Texts.Broken) (fixed_reply Texts.Broken) tt refl) fits
+      by_begun true fits = fits_more [] (fixed_reply Texts.Broken) c (replies_are_written b.far.session (Kinds.Fixed Texts.Broken) (fixed_reply Texts.Broken) tt refl) fits
+
+  -- the server had closed the link
+  given_broken : (begun : Bool) (came queue : List ℕ) (way : Way) (b : World) (c : Cut) → Fits way c
+      → Stands own (carry (Given (heard_by begun) true) came queue) way b → way ≡ Answering (replies_in (Ended begun false)) → Breaks way b c
+  given_broken begun came queue way b c fits h same =
+      let n : Near = near_at (carry (Ended begun false) came []) b.near in
+      placed (own ++ Broken b.came ∷ []) _ (behind_break n b.far b) way c (carry (Ended begun false) came [])
+      (left_breaks b way c n fits h.link (subst (λ v. Leads near.data_fault v n) (sym h.near) (near_breaks offset text how how.representation came b.near begun))) fits
+      (record {
+        near = refl;
+        session = h.session;
+        steady = h.steady;
+        link = refl;
+        to_server = refl;
+        to_client = refl;
+        came = h.came;
+        marked = broken_so b came h.marked h.came;
+        way_is = same;
+        fine = (h.fine.0, ((queue, h.fine.1), refl));
+      })
+
+  given_all_broken : (came queue : List ℕ) (way : Way) (b : World) (c : Cut) → Fits way c → Stands own (carry (Given BothReplies true) came queue) way b → Breaks way b c
+  given_all_broken came queue way b c fits h =
+      let n : Near = near_at (Answers (cut_said state offset text how came) NoLink) b.near in
+      let marked : own ++ Broken b.came ∷ [] ≡ Broken (length came) ∷ [] = broken_so b came h.marked h.came in
+      placed (own ++ Broken b.came ∷ []) _ (behind_break n b.far b) way c (Answers (cut_said state offset text how came) NoLink)
+      (left_breaks b way c n fits h.link (subst (λ v. Leads near.data_fault v n) (sym h.near)
+      (near_breaks_all offset text how how.representation came b.near (cut_said state offset text how came) (judged_cut state offset text how 226 came (inl refl))))) fits
+      (record {
+        near = refl;
+        session = h.session;
+        steady = h.steady;
+        link = refl;
+        to_server = refl;
+        to_client = refl;
+        came = tt;
+        marked = subst (λ l. length l ≤ 1) (sym marked) (omega arith);
+        way_is = h.way_is;
+        fine = cut_fares state offset text how (own ++ Broken b.came ∷ []) came can known h.fine.0.1 h.fine.0.0 (queue, h.fine.1) marked;
+      })
+
+  refusing_broken : (why : Refusal) (came queue : List ℕ) (way : Way) (b : World) (c : Cut) → Fits way c → Stands own (carry (Refusing why Closed) came queue) way b → Breaks way b c
+  refusing_broken why came queue way b c fits h =
+      let n : Near = near_at (carry (Refusing why (Lost false)) came []) b.near in
+      placed (own ++ Broken b.came ∷ []) _ (behind_break n b.far b) way c (carry (Refusing why (Lost false)) came [])
+      (left_breaks b way c n fits h.link (subst (λ v. Leads near.data_fault v n) (sym h.near) (near_breaks offset text how how.representation came b.near false))) fits
+      (record {
+        near = refl;
+        session = h.session;
+        steady = h.steady;
+        link = refl;
+        to_server = refl;
+        to_client = refl;
+        came = h.came;
+        marked = broken_so b came h.marked h.came;
+        way_is = h.way_is;
+        fine = (h.fine.0, (h.fine.1.0, refl));
+      })
+
+  -- a link that stands breaks
+  no_link : (link : Link) → link ≡ Gone → is_gone link ≡ false → ⊥
+  no_link link is some = let e : true ≡ false = sym (ap is_gone is) ∙ some in cc
+
+  carry_breaks : (course : Course) (came queue : List ℕ) (way : Way) (b : World) (c : Cut) → Fits way c → Stands own (carry course came queue) way b
+      → is_passing (carry course came queue) ≡ false → is_gone b.link ≡ false → Breaks way b c
+  carry_breaks (Giving begun octet more) came queue way b c fits h stays some =
+      let T : Way → Type 0 = λ way. Fits way c → Stands own (carry (Giving begun octet more) came queue) way b → Breaks way b c in
+      subst T (sym h.way_is) (giving_broken begun octet more came queue b c) fits h
+  carry_breaks (Given heard false) came queue way b c fits h stays some = absurd (cc)
+  carry_breaks (Given NoReply true) came queue way b c fits h stays some = given_broken false came queue way b c fits h h.way_is
+  carry_breaks (Given OneReply true) came queue way b c fits h stays some = given_broken true came queue way b c fits h h.way_is
+  carry_breaks (Given BothReplies true) came queue way b c fits h stays some = given_all_broken came queue way b c fits h
+  carry_breaks (Ended begun clean) came queue way b c fits h stays some = absurd (no_link b.link h.link some)
+  carry_breaks (Severed begun) came queue way b c fits h stays some = absurd (no_link b.link h.link some)
+  carry_breaks (Refusing why Unclosed) came queue way b c fits h stays some = absurd (cc)
+  carry_breaks (Refusing why Closed) came queue way b c fits h stays some = refusing_broken why came queue way b c fits h
+  carry_breaks (Refusing why (Lost clean)) came queue way b c fits h stays some = absurd (no_link b.link h.link some)
+  carry_breaks Unopened came queue way b c fits h stays some = absurd (no_link b.link h.link some)
+
+  pub stage_breaks : (stage : Stage) (way : Way) (b : World) (c : Cut) → Fits way c → Stands own stage way b → is_passing stage ≡ false → is_gone b.link ≡ false → Breaks way b c
+  stage_breaks (PortAsked closing) way b c fits h stays some = absurd (cc)
+  stage_breaks (PortTold port) way b c fits h stays some = absurd (no_link b.link h.link some)
+  stage_breaks (Dials port) way b c fits h stays some = absurd (no_link b.link h.link some)
+  stage_breaks (Restarts at restart true) way b c fits h stays some = rest_broken at restart way b c fits h
+  stage_breaks (Restarts at restart false) way b c fits h stays some = absurd (no_link b.link h.link some)
+  stage_breaks (Retrieves true) way b c fits h stays some = retr_broken way b c fits h
+  stage_breaks (Retrieves false) way b c fits h stays some = absurd (no_link b.link h.link some)
+  stage_breaks (Carries y) way b c fits h stays some = carry_breaks y.course y.came y.queue way b c fits h stays some
+  stage_breaks (Answers said leaves) way b c fits h stays some = absurd (cc)
+
+  -- ---- the client is told that the server has closed the link
+
+  abbrev EndsAt : Way → World → Cut → Type 0
+  EndsAt way b c = PlacedAt (At own) (told DataToClient (world_at b way c))
+
+  all_came : (came queue wire : List ℕ) → queue ≡ [] → came ++ queue ≡ wire → came ≡ wire
+  all_came came queue wire empty is = sym (append-nil came) ∙ ap (λ q. came ++ q) (sym empty) ∙ is
+
+  given_ended : (begun : Bool) (came queue : List ℕ) (way : Way) (b : World) (c : Cut) → Fits way c
+      → Stands own (carry (Given (heard_by begun) true) came queue) way b → way ≡ Answering (replies_in (Ended begun true)) → queue ≡ [] → EndsAt way b c
+  given_ended begun came queue way b c fits h same empty =
+      let n : Near = near_at (carry (Ended begun true) came []) b.near in
+      placed own _ (record b { near = n; link = Gone; data_to_server = []; data_to_client = [] }) way c (carry (Ended begun true) came [])
+      (left_ends b way c n fits (subst (λ v. Leads near.data_end v n) (sym h.near) (near_ends offset text how how.representation came b.near begun))) fits
+      (record {
+        near = refl;
+        session = h.session;
+        steady = h.steady;
+        link = refl;
+        to_server = refl;
+        to_client = refl;
+        came = h.came;
+        marked = h.marked;
+        way_is = same;
+        fine = (h.fine.0, all_came came queue _ empty h.fine.1, refl);
+      })
+
+  given_all_ended : (came queue : List ℕ) (way : Way) (b : World) (c : Cut) → Fits way c → Stands own (carry (Given BothReplies true) came queue) way b → queue ≡ [] → EndsAt way b c
+  given_all_ended came queue way b c fits h empty =
+      let said : Said = Octets (content state offset text how) in
+      let n : Near = near_at (Answers said NoLink) b.near in
+      placed own _ (record b { near = n; link = Gone; data_to_server = []; data_to_client = [] }) way c (Answers said NoLink)
+      (left_ends b way c n fits (subst (λ v. Leads near.data_end v n) (sym h.near)
+      (near_ends_all offset text how how.representation came b.near said
+      (judged_whole state offset text how came (mark_in (no_octets how.representation) None came) sound (all_came came queue _ empty h.fine.1))))) fits
+      (record {
+        near = refl;
+        session = h.session;
+        steady = h.steady;
+        link = refl;
+        to_server = refl;
+        to_client = refl;
+        came = tt;
+        marked = subst (λ l. length l ≤ 1) (sym h.marked) (omega arith);
+        way_is = h.way_is;
+        fine = content_fares state offset text how own can known h.fine.0.1;
+      })
+
+  refusing_ended : (why : Refusal) (came queue : List ℕ) (way : Way) (b : World) (c : Cut) → Fits way c → Stands own (carry (Refusing why Closed) came queue) way b → EndsAt way b c
+  refusing_ended why came queue way b c fits h =
+      let n : Near = near_at (carry (Refusing why (Lost true)) came []) b.near in
+      placed own _ (record b { near = n; link = Gone; data_to_server = []; data_to_client = [] }) way c (carry (Refusing why (Lost true)) came [])
+      (left_ends b way c n fits (subst (λ v. Leads near.data_end v n) (sym h.near) (near_ends offset text how how.representation came b.near false))) fits
+      (record {
+        near = refl;
+        session = h.session;
+        steady = h.steady;
+        link = refl;
+        to_server = refl;
+        to_client = refl;
+        came = h.came;
+        marked = h.marked;
+        way_is = h.way_is;
+        fine = (h.fine.0, (h.fine.1.0, refl));
+      })
+
+  not_left : (link : Link) (other : Link) → link ≡ other → is_closed_by_far other ≡ false → is_closed_by_far link ≡ true → ⊥
+  not_left link other is none some = let e : true ≡ false = sym some ∙ ap is_closed_by_far is ∙ none in cc
+
+  pub stage_ends : (stage : Stage) (way : Way) (b : World) (c : Cut) → Fits way c → Stands own stage way b → is_closed_by_far b.link ≡ true → is_passing stage ≡ false → b.data_to_client ≡ []
+      → EndsAt way b c
+  stage_ends (PortAsked closing) way b c fits h left stays empty = absurd (cc)
+  stage_ends (PortTold port) way b c fits h left stays empty = absurd (not_left b.link _ h.link refl left)
+  stage_ends (Dials port) way b c fits h left stays empty = absurd (not_left b.link _ h.link refl left)
+  stage_ends (Restarts at restart true) way b c fits h left stays empty = absurd (not_left b.link _ h.link refl left)
+  stage_ends (Restarts at restart false) way b c fits h left stays empty = absurd (not_left b.link _ h.link refl left)
+  stage_ends (Retrieves true) way b c fits h left stays empty = absurd (not_left b.link _ h.link refl left)
+  stage_ends (Retrieves false) way b c fits h left stays empty = absurd (not_left b.link _ h.link refl left)
+  stage_ends (Carries y) way b c fits h left stays empty = by_course y.course y.came y.queue h stays
+    where
+      by_course : (course : Course) (came queue : List ℕ) → Stands own (carry course came queue) way b → is_passing (carry course came queue) ≡ false → EndsAt way b c
+      by_course (Giving begun octet more) came queue h stays = absurd (not_left b.link _ h.link refl left)
+      by_course (Given heard false) came queue h stays = absurd (cc)
+      by_course (Given NoReply true) came queue h stays = given_ended false came queue way b c fits h h.way_is (sym h.to_client ∙ empty)
+      by_course (Given OneReply true) came queue h stays = given_ended true came queue way b c fits h h.way_is (sym h.to_client ∙ empty)
+      by_course (Given BothReplies true) came queue h stays = given_all_ended came queue way b c fits h (sym h.to_client ∙ empty)
+      by_course (Ended begun clean) came queue h stays = absurd (not_left b.link _ h.link refl left)
+      by_course (Severed begun) came queue h stays = absurd (not_left b.link _ h.link refl left)
+      by_course (Refusing why Unclosed) came queue h stays = absurd (cc)
+      by_course (Refusing why Closed) came queue h stays = refusing_ended why came queue way b c fits h
+      by_course (Refusing why (Lost clean)) came queue h stays = absurd (not_left b.link _ h.link refl left)
+      by_course Unopened came queue h stays = absurd (not_left b.link _ h.link refl left)
+  stage_ends (Answers said leaves) way b c fits h left stays empty = absurd (cc)
+
+  -- ---- the link opens, or is refused
+
+  module _ (port : ℕ) (w b : World) (way : Way) (c : Cut) (is : w ≡ world_at b rest no_cut) (h : Stands own (Dials port) way b) where
+    -- the client behind the opening, and the line that it sends
+    opened_near : Near
+    opened_near = busy (opened_job offset text how) NearData.Open b.near
+
+    opens_near : near.data_opened b.far.footing.here (calm b.near) ≡ record (calm opened_near) { owed = written_line (line_of (opened_command offset text)) }
+    unfolding near.data_opened opened_near
+    opens_near = ap (λ v. near.data_opened b.far.footing.here (calm v)) h.near ∙ by_offset offset
+      where
+        by_offset : (offset : Option ℕ)
+            → near.data_opened b.far.footing.here (calm (Stages.near_at state offset text how (Dials port) b.near))
+            ≡ record (calm (busy (opened_job offset text how) NearData.Open b.near)) { owed = written_line (line_of (opened_command offset text)) }
+        by_offset None = refl
+        by_offset (Some at) = refl
+
+    opened_far : Far
+    opened_far = far_linked (linked FarData.Ready false Pendings.Nothing b.far.session) b.far
+
+    peer_is : same_host b.near.here b.far.footing.peer ≡ true
+    peer_is = ap (λ host. same_host host b.far.footing.peer) h.steady.here ∙ own_host b.far.footing.peer
+
+    opens_far : far.data_opened b.near.here (still b.far) ≡ still opened_far
+    unfolding far.data_opened opened_far
+    opens_far =
+        ap (λ s. far.data_opened b.near.here (still (far_linked s b.far))) h.session
+        ∙ ap (λ mine. later (completed (far.opens FarData.Passive mine (still (far_linked (linked FarData.Passive false Pendings.Nothing b.far.session) b.far))))) peer_is
+
+    opened_base : World
+    opened_base = record b { near = opened_near; far = opened_far; link = Opened; came = 0 }
+
+    opened_is : link_opens w ≡ world_at opened_base (Asking (line_of (opened_command offset text))) (record { held = []; moving = []; owed = written_line (line_of (opened_command offset text)) })
+    unfolding opened_base
+    opened_is =
+        ap link_opens is
+        ∙ (λ i. record opened_base { near = opens_near i; far = opens_far i; control_to_server = []; control_to_client = [] })
+
+    refused_near : near.data_refused (calm b.near) ≡ calm (leaving NotOpened false b.near)
+    unfolding near.data_refused
+    refused_near = ap (λ v. near.data_refused (calm v)) h.near
+
+    connects : is_connecting (near.wants (calm b.near)) ≡ true
+    unfolding near.wants
+    connects = ap (λ v. is_connecting (near.wants (calm v))) h.near
+
+    refused_base : World
+    refused_base = record b { near = leaving NotOpened false b.near; marks = marked_last Refused b.marks }
+
+    refused_is : link_refused w ≡ world_at refused_base rest no_cut
+    unfolding refused_base
+    refused_is =
+        ap link_refused is
+        ∙ ap (λ (q : Bool). with_mark Refused (refused_by q (world_at b rest no_cut))) connects
+        ∙ ap (λ v. record (world_at b rest no_cut) { near = v; marks = marked_last Refused b.marks }) refused_near
+
+    pub refused_placed : PlacedAt (At (own ++ Refused ∷ [])) (link_refused w)
+    unfolding refused_base
+    refused_placed = placed (own ++ Refused ∷ []) (link_refused w) refused_base rest no_cut (Answers NotOpened PortAside) refused_is (tt, (refl, refl)) (record {
+      near = refl;
+      session = h.session;
+      steady = h.steady;
+      link = h.link;
+      to_server = h.to_server;
+      to_client = h.to_client;
+      came = tt;
+      marked = subst (λ l. length l ≤ 1) (sym (marked_so Refused h.marked)) (omega arith);
+      way_is = refl;
+      fine = refused_link_fares state offset text how (own ++ Refused ∷ []) (marked_so Refused h.marked);
+    })
+
+    opened_line : IsLine (line_of (opened_command offset text))
+    opened_line = by_offset offset refl
+      where
+        by_offset : (o : Option ℕ) → offset ≡ o → IsLine (line_of (opened_command offset text))
+        by_offset None e = subst (λ o. IsLine (line_of (opened_command o text))) (sym e) (carried (Commands.Retr text) tt (fetch_text offset text how can))
+        by_offset (Some at) e = subst (λ o. IsLine (line_of (opened_command o text))) (sym e) (carried (Commands.Rest at) tt (fetch_few offset text how can at e))
+
+    opened_at : (stage : Stage) → Stands own stage (Asking (line_of (opened_command offset text))) opened_base → PlacedAt (At own) (link_opens w)
+    opened_at stage holds =
+        let line : List ℕ = written_line (line_of (opened_command offset text)) in
+        placed own (link_opens w) opened_base (Asking (line_of (opened_command offset text))) (record { held = []; moving = []; owed = line }) stage opened_is
+        (opened_line, subst (λ l. FlowsOf line [] l []) (append-nil line) (anew line [] (line_is_some (line_of (opened_command offset text))))) holds
+
+    pub opened_placed : PlacedAt (At own) (link_opens w)
+    unfolding opened_base opened_near opened_far
+    opened_placed = by_offset offset refl
+      where
+        by_offset : (o : Option ℕ) → offset ≡ o → PlacedAt (At own) (link_opens w)
+        by_offset None e = opened_at (Retrieves true) (record {
+          near = ap (λ job. busy job NearData.Open b.near) (retrieving offset e);
+          session = ap (λ o. linked FarData.Ready false o b.far.session) (sym (ap offset_pending e));
+          steady = h.steady;
+          link = refl;
+          to_server = h.to_server;
+          to_client = h.to_client;
+          came = refl;
+          marked = h.marked;
+          way_is = ap (λ o. Asking (line_of (opened_command o text))) e;
+          fine = subst (Stages.IsPlaced state offset text how) (sym e) tt;
+        })
+          where
+            retrieving : (o : Option ℕ) → o ≡ None → opened_job o text how ≡ fetching (fetch o text how) Replies.Nothing how.representation []
+            retrieving None is = refl
+            retrieving (Some at) is = absurd (cc)
+        by_offset (Some at) e = opened_at (Restarts at Sent true) (record {
+          near = ap (λ o. busy (opened_job o text how) NearData.Open b.near) e;
+          session = refl;
+          steady = h.steady;
+          link = refl;
+          to_server = h.to_server;
+          to_client = h.to_client;
+          came = refl;
+          marked = h.marked;
+          way_is = ap (λ o. Asking (line_of (opened_command o text))) e;
+          fine = (e, tt);
+        })

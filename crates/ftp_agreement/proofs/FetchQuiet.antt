@@ -1,0 +1,143 @@
+-- While a download is under way something can happen: octets can move, a link can open, or an end is still to be told.
+use Rattle.std.proofs.Common.{◌≡◌, ◌≢◌, inl, inr, ℕ, Bool, true, false, not, ◌&&◌, ◌||◌, List, [], ◌∷◌, length, refl, sym, ap, subst, ◌∙◌}
+use Rattle.std.specs.Prelude.{nat_lt}
+use Rattle.ftp_ends.specs.Link.{is_wanted}
+use Rattle.ftp_ends.specs.Reply.{Reply}
+use Rattle.ftp_ends.specs.declared.link.Wants.TheVariants as Want
+use Rattle.ftp_direct.specs.Direct.{State}
+use Rattle.ftp_client_machine.specs.Calls as near
+use Rattle.ftp_client_machine.specs.Calls.{is_sound}
+use Rattle.ftp_server_machine.specs.Calls as far
+use Rattle.ftp_server_machine.specs.Machine.{Reading, IsReading}
+use Rattle.ftp_world.specs.Agreement.{Order}
+use Rattle.ftp_world.specs.Claims.{IsAnswered}
+use Rattle.ftp_world.specs.Events.{DataToServer, DataToClient, IsQuiet, has_octets, is_closed_by_far, is_gone}
+use Rattle.ftp_world.specs.World.{World}
+use Rattle.ftp_dialogues.specs.Stage.{Way, Asking, Answering, rest}
+use Rattle.ftp_dialogues.proofs.LoginTurns.{no_asking, no_reply}
+use Rattle.ftp_agreement.specs.Cut.{Cut, world_at, PlacedAt}
+use Rattle.ftp_agreement.specs.Runs.{IsFetching, IsFetchingOn, Runs}
+use Rattle.ftp_agreement.specs.Stages as Stages
+use Rattle.ftp_agreement.specs.Stages.{Course, Giving, Given, Ended, Severed, Refusing, Unopened, Unclosed, Closed, Lost, NoReply, OneReply, BothReplies, Sent, Granted, Denied, Stage, PortAsked, PortTold, Dials, Restarts, Retrieves, Carries, Answers, Holds, AtFetch, IsLasting}
+use Rattle.ftp_agreement.proofs.FetchServed.{near_form, far_form, moves_on}
+use Rattle.ftp_agreement.proofs.FetchTold.{closed_is}
+use Rattle.ftp_agreement.proofs.Quiet.{can_move_now, follows_answered, never, quiet_at}
+use Rattle.ftp_agreement.proofs.Still.{IsSeen, seen_placed}
+
+module _ (read : Reading) (from : State) (begun : List Order) (w : World) (on : IsFetchingOn read from begun w) (quiet : IsQuiet w) where
+  abbrev f : IsFetching read from begun w
+  f = on.fetching
+
+  abbrev At : Way → World → Type 0
+  At way b = AtFetch f.now f.offset f.text f.how read f.own way b
+
+  abbrev s : PlacedAt At w
+  s = on.fetching.stands
+
+  seen : IsSeen s.base w
+  seen = seen_placed At w s
+
+  abbrev Stood : Stage → Type 0
+  Stood stage = Holds f.now f.offset f.text f.how f.own stage s.way s.base
+
+  -- octets of the control connection are on their way
+  moves : (stage : Stage) → Stood stage → is_sound s.base.near.standing ≡ true → s.way ≢ rest → ⊥
+  moves stage h sound some = quiet_at s.base s.way s.cut s.fits sound (ap (λ s. s.life) h.session) some (subst IsQuiet s.is quiet)
+
+  line_some : (line : List ℕ) → s.way ≡ Asking line → s.way ≢ rest
+  line_some line is e = no_asking line [] (sym is ∙ e)
+
+  rows_some : (reply : Reply) (more : List Reply) → s.way ≡ Answering (reply ∷ more) → s.way ≢ rest
+  rows_some reply more is e = no_reply reply more (sym is ∙ e)
+
+  abbrev carry : Course → (came queue : List ℕ) → Stage
+  carry course came queue = Carries (record { course = course; came = came; queue = queue })
+
+  link_is : (stage : Stage) → Stood stage → w.link ≡ Stages.link_at f.now f.offset f.text f.how stage
+  link_is stage h = ap (λ u. u.link) s.is ∙ by_way s.way s.cut ∙ h.link
+    where
+      by_way : (way : Way) (c : Cut) → (world_at s.base way c).link ≡ s.base.link
+      by_way (Asking line) c = refl
+      by_way (Answering rows) c = refl
+
+  queue_is : (stage : Stage) → Stood stage → w.data_to_client ≡ Stages.queue_at f.now f.offset f.text f.how stage
+  queue_is stage h = ap (λ u. u.data_to_client) s.is ∙ by_way s.way s.cut ∙ h.to_client
+    where
+      by_way : (way : Way) (c : Cut) → (world_at s.base way c).data_to_client ≡ s.base.data_to_client
+      by_way (Asking line) c = refl
+      by_way (Answering rows) c = refl
+
+  -- the server gives
+  giving_moves : (octet : ℕ) (more came queue : List ℕ) → Stood (carry (Giving true octet more) came queue) → ⊥
+  giving_moves octet more came queue h =
+      let due : far.to_give w.far ≡ octet ∷ more = ap (λ v. far.given_by (far.connection_of v)) (far_form s.base w seen _ false _ h.session) in
+      never _ (can_move_now (has_octets (far.to_give w.far)) (nat_lt (length w.data_to_client) 0) _ (ap has_octets due)) (quiet.moved DataToClient 0)
+
+  -- all was given, and the client is to be told of the end
+  given_moves : (came queue : List ℕ) → Stood (carry (Given BothReplies true) came queue) → ⊥
+  given_moves came queue h = by_queue queue (queue_is _ h)
+    where
+      receives : near.may_receive w.near ≡ true
+      receives = ap near.may_receive (near_form s.base w seen _ _ h.near)
+
+      none : far.to_give w.far ≡ []
+      none = ap (λ v. far.given_by (far.connection_of v)) (far_form s.base w seen _ false _ h.session)
+
+      by_queue : (queue : List ℕ) → w.data_to_client ≡ queue → ⊥
+      by_queue [] is =
+          never (is_closed_by_far w.link && not (has_octets w.data_to_client) && not (has_octets (far.to_give w.far)))
+          (λ i. is_closed_by_far (link_is _ h i) && not (has_octets (is i)) && not (has_octets (none i))) (quiet.ended DataToClient)
+      by_queue (octet ∷ more) is =
+          let take_one : (true && has_octets w.data_to_client && near.may_receive w.near) ≡ true = λ i. true && has_octets (is i) && receives i in
+          never _ (either (has_octets (far.to_give w.far) && (false || nat_lt (length w.data_to_client) 1)) _ take_one) (quiet.moved DataToClient 1)
+        where
+          either : (a b : Bool) → b ≡ true → (a || b) ≡ true
+          either true b is = refl
+          either false b is = is
+
+  -- the link can open
+  dials_open : (port : ℕ) → Stood (Dials port) → ⊥
+  unfolding near.wants
+  dials_open port h =
+      let connects : near.wants w.near ≡ Want.Connect (record { host = s.base.near.peer; port = port }) = ap near.wants (near_form s.base w seen _ _ h.near) in
+      let accepts : far.wants w.far ≡ Want.Accept = ap (λ s. far.wants (record w.far { session = s })) (far_form s.base w seen _ false _ h.session) in
+      never (is_gone w.link && is_wanted (near.wants w.near) (far.wants w.far)) (λ i. is_gone (link_is _ h i) && is_wanted (connects i) (accepts i)) quiet.opened
+
+  carry_moves : (course : Course) (came queue : List ℕ) → Stood (carry course came queue) → Stages.is_passing (carry course came queue) ≡ false → ⊥
+  carry_moves (Giving false octet more) came queue h lasts = moves _ h (ap (λ v. is_sound v.standing) h.near) (rows_some _ _ h.way_is)
+  carry_moves (Giving true octet more) came queue h lasts = giving_moves octet more came queue h
+  carry_moves (Given heard false) came queue h lasts = absurd (cc)
+  carry_moves (Given NoReply true) came queue h lasts = moves _ h (ap (λ v. is_sound v.standing) h.near) (rows_some _ _ h.way_is)
+  carry_moves (Given OneReply true) came queue h lasts = moves _ h (ap (λ v. is_sound v.standing) h.near) (rows_some _ _ h.way_is)
+  carry_moves (Given BothReplies true) came queue h lasts = given_moves came queue h
+  carry_moves (Ended false clean) came queue h lasts = moves _ h (ap (λ v. is_sound v.standing) h.near) (rows_some _ _ h.way_is)
+  carry_moves (Ended true clean) came queue h lasts = moves _ h (ap (λ v. is_sound v.standing) h.near) (rows_some _ _ h.way_is)
+  carry_moves (Severed false) came queue h lasts = moves _ h (ap (λ v. is_sound v.standing) h.near) (rows_some _ _ h.way_is)
+  carry_moves (Severed true) came queue h lasts = moves _ h (ap (λ v. is_sound v.standing) h.near) (rows_some _ _ h.way_is)
+  carry_moves (Refusing why Unclosed) came queue h lasts = absurd (cc)
+  carry_moves (Refusing why Closed) came queue h lasts = moves _ h (ap (λ v. is_sound v.standing) h.near) (rows_some _ _ h.way_is)
+  carry_moves (Refusing why (Lost clean)) came queue h lasts = moves _ h (ap (λ v. is_sound v.standing) h.near) (rows_some _ _ h.way_is)
+  carry_moves Unopened came queue h lasts = moves _ h (ap (λ v. is_sound v.standing) h.near) (rows_some _ _ h.way_is)
+
+  here_moves : (here : At s.way s.base) → IsLasting f.now f.offset f.text f.how read f.own s.way s.base here → ⊥
+  here_moves (inl l) lasts =
+      let m = moves_on read f.now f.offset f.text f.how f.own s.way s.base.near s.base.far l.on l.some in
+      quiet_at s.base s.way s.cut s.fits m.0.near.sound m.0.far.life l.some (subst IsQuiet s.is quiet)
+  here_moves (inr (PortAsked closing, h)) lasts = absurd (cc)
+  here_moves (inr (PortTold port, h)) lasts = moves _ h (ap (λ v. is_sound v.standing) h.near) (rows_some _ _ h.way_is)
+  here_moves (inr (Dials port, h)) lasts = dials_open port h
+  here_moves (inr (Restarts at Sent joined, h)) lasts = moves _ h (ap (λ v. is_sound v.standing) h.near) (line_some _ h.way_is)
+  here_moves (inr (Restarts at Granted joined, h)) lasts = moves _ h (ap (λ v. is_sound v.standing) h.near) (rows_some _ _ h.way_is)
+  here_moves (inr (Restarts at (Denied why) joined, h)) lasts = moves _ h (ap (λ v. is_sound v.standing) h.near) (rows_some _ _ h.way_is)
+  here_moves (inr (Retrieves joined, h)) lasts = moves _ h (ap (λ v. is_sound v.standing) h.near) (line_some _ h.way_is)
+  here_moves (inr (Carries c, h)) lasts = carry_moves c.course c.came c.queue h lasts
+  here_moves (inr (Answers said leaves, h)) lasts = absurd (cc)
+
+  pub fetch_moves : ⊥
+  fetch_moves = here_moves s.here on.lasts
+
+pub runs_answered : (read : Reading) → IsReading read → (from : State) (begun : List Order) (w : World) → Runs read from begun w → IsQuiet w → IsAnswered begun w
+runs_answered read reads from begun w (inl h) quiet = follows_answered read from begun w h quiet
+runs_answered read reads from begun w (inr (inl on)) quiet = absurd (fetch_moves read from begun w on quiet)
+runs_answered read reads from begun w (inr (inr t)) quiet =
+    absurd (let e : true ≡ false = (subst IsQuiet (closed_is read reads from begun w t) quiet).ended DataToServer in cc)

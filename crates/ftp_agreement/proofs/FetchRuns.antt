@@ -1,0 +1,369 @@
+-- Every event of the link and every delivery keeps what follows of a download.
+use Rattle.std.proofs.Common.{◌≡◌, ◌⊎◌, inl, inr, ℕ, ◌≤◌, Bool, true, false, List, [], ◌∷◌, ◌++◌, length, take, None, refl, sym, ap, subst, ◌∙◌, arith}
+use Rattle.ftp_direct.specs.Direct.{State}
+use Rattle.ftp_client_machine.specs.Calls as near
+use Rattle.ftp_ends.specs.Link.{is_connecting}
+use Rattle.ftp_server_machine.specs.Machine.{Reading, IsReading}
+use Rattle.ftp_world.specs.Agreement.{Order}
+use Rattle.ftp_world.specs.Events.{ControlToServer, ControlToClient, DataToClient, pulled, pushed, filled, DeliversBy, link_breaks, link_opens, link_refused, told, broken_by, refused_by, is_asked_for, is_gone, is_closed_by_far}
+use Rattle.ftp_world.specs.Serving.{after_event}
+use Rattle.ftp_world.specs.World.{World, Link, Gone, Opened, ClosedByNear, ClosedByFar, Mark, Broken, Refused, marked_last, with_mark, gone}
+use Rattle.ftp_dialogues.specs.Stage.{Way, Asking, Answering}
+use Rattle.ftp_agreement.specs.Cut.{Cut, Goes, world_at, PlacedAt}
+use Rattle.ftp_agreement.specs.Follows.{Told}
+use Rattle.ftp_agreement.specs.Runs.{IsFetching, IsFetchingOn, Runs}
+use Rattle.ftp_agreement.specs.Stages.{Course, Giving, Given, Ended, Severed, Refusing, Unopened, Unclosed, Closed, Lost, Stage, PortAsked, PortTold, Dials, Restarts, Retrieves, Carries, Answers, Holds, AtFetch, IsLasting}
+use Rattle.ftp_agreement.proofs.Deliveries.{taken_at}
+use Rattle.ftp_agreement.proofs.FetchData.{AtFlow, flow_pulls, flow_pushes, flow_is}
+use Rattle.ftp_agreement.proofs.FetchEvents.{stage_breaks, stage_ends, opened_placed, refused_placed}
+use Rattle.ftp_agreement.proofs.FetchServed.{Served, dials_or_none, lasting_stays, port_asked_serves, given_closes, refusing_closes}
+use Rattle.ftp_agreement.proofs.FetchTold.{answers_served, marks_last}
+use Rattle.ftp_agreement.proofs.FetchTurns.{fetch_goes}
+use Rattle.ftp_agreement.proofs.Keeps.{pulls_to_server, pulls_to_client, pushes_to_server, pushes_to_client}
+use Rattle.ftp_agreement.proofs.Still.{rest_placed}
+
+-- nothing was begun, marked, reported or left
+pub record IsKept (w new : World) : Type 0 where
+  pub marks : new.marks ≡ w.marks
+  pub reports : new.reports ≡ w.reports
+  pub control : new.control ≡ w.control
+  pub cutoff : new.cutoff ≡ w.cutoff
+
+module _ (read : Reading) (reads : IsReading read) (from : State) (begun : List Order) where
+  abbrev Fetching : World → Type 0
+  Fetching w = IsFetching read from begun w
+
+  abbrev At : (w : World) → Fetching w → Way → World → Type 0
+  At w f way b = AtFetch f.now f.offset f.text f.how read f.own way b
+
+  -- with other marks of its link
+  pub fetching_marked : (w new : World) (f : Fetching w) (own : List Mark) → new.marks ≡ f.marks ++ own ∷ [] → new.reports ≡ w.reports → new.control ≡ w.control → new.cutoff ≡ w.cutoff
+      → PlacedAt (λ way b. AtFetch f.now f.offset f.text f.how read own way b) new → Fetching new
+  fetching_marked w new f own marks reports control cutoff stands = record {
+    done = f.done;
+    marks = f.marks;
+    own = own;
+    offset = f.offset;
+    text = f.text;
+    how = f.how;
+    moment = f.moment;
+    begun_is = f.begun_is;
+    marks_are = marks;
+    now = f.now;
+    sound = f.sound;
+    known = f.known;
+    sent = f.sent;
+    passive = f.passive;
+    told = subst (λ reports. Told from f.done f.marks None reports f.now) (sym reports) f.told;
+    linked = record { control = control ∙ f.linked.control; cutoff = cutoff ∙ f.linked.cutoff };
+    stands = stands;
+  }
+
+  fetching_moved : (w new : World) (f : Fetching w) → IsKept w new → PlacedAt (At w f) new → Fetching new
+  fetching_moved w new f kept stands = fetching_marked w new f f.own (kept.marks ∙ f.marks_are) kept.reports kept.control kept.cutoff stands
+
+  -- ---- what is served behind an event
+
+  served_on : (w : World) (f : Fetching w) → Served read f.now f.offset f.text f.how f.own w (after_event w) → Runs read from begun (after_event w)
+  unfolding fetching_moved fetching_marked
+  served_on w f s = inr (inl (record {
+    fetching = fetching_moved w (after_event w) f (record { marks = s.marks; reports = s.reports; control = s.control; cutoff = s.cutoff }) s.placed;
+    lasts = s.lasts;
+  }))
+
+  lasts_on : (w : World) (f : Fetching w) → IsLasting f.now f.offset f.text f.how read f.own f.stands.way f.stands.base f.stands.here → Runs read from begun (after_event w)
+  lasts_on w f lasts =
+      subst (Runs read from begun) (sym (lasting_stays read f.now f.offset f.text f.how f.own w f.stands lasts)) (inr (inl (record { fetching = f; lasts = lasts })))
+
+  pub fetch_after : (w : World) → Fetching w → Runs read from begun (after_event w)
+  fetch_after w f = by_here f.stands.here refl
+    where
+      lasting : (here : At w f f.stands.way f.stands.base) → f.stands.here ≡ here → IsLasting f.now f.offset f.text f.how read f.own f.stands.way f.stands.base here → Runs read from begun (after_event w)
+      lasting here e lasts = lasts_on w f (subst (IsLasting f.now f.offset f.text f.how read f.own f.stands.way f.stands.base) (sym e) lasts)
+
+      by_course : (course : Course) (came queue : List ℕ)
+          → (h : Holds f.now f.offset f.text f.how f.own (Carries (record { course = course; came = came; queue = queue })) f.stands.way f.stands.base)
+          → f.stands.here ≡ inr (Carries (record { course = course; came = came; queue = queue }), h) → Runs read from begun (after_event w)
+      by_course (Giving started octet more) came queue h e = lasting _ e refl
+      by_course (Given heard false) came queue h e = served_on w f (given_closes read f.now f.offset f.text f.how f.own heard came queue w f.stands h)
+      by_course (Given heard true) came queue h e = lasting _ e refl
+      by_course (Ended started clean) came queue h e = lasting _ e refl
+      by_course (Severed started) came queue h e = lasting _ e refl
+      by_course (Refusing why Unclosed) came queue h e = served_on w f (refusing_closes read f.now f.offset f.text f.how f.own why came queue w f.stands h)
+      by_course (Refusing why Closed) came queue h e = lasting _ e refl
+      by_course (Refusing why (Lost clean)) came queue h e = lasting _ e refl
+      by_course Unopened came queue h e = lasting _ e refl
+
+      by_here : (here : At w f f.stands.way f.stands.base) → f.stands.here ≡ here → Runs read from begun (after_event w)
+      by_here (inl l) e = lasting (inl l) e tt
+      by_here (inr (PortAsked closing, h)) e =
+          served_on w f (port_asked_serves read f.now f.offset f.text f.how f.own closing w f.stands.base f.stands.way (rest_placed _ w f.stands h.way_is) h)
+      by_here (inr (PortTold port, h)) e = lasting _ e refl
+      by_here (inr (Dials port, h)) e = lasting _ e refl
+      by_here (inr (Restarts at restart joined, h)) e = lasting _ e refl
+      by_here (inr (Retrieves joined, h)) e = lasting _ e refl
+      by_here (inr (Carries c, h)) e = by_course c.course c.came c.queue h e
+      by_here (inr (Answers said leaves, h)) e = answers_served read from begun w f said leaves h
+
+  -- ---- octets of the control connection
+
+  goes_of : (w : World) (f : Fetching w) → Goes read (At w f)
+  goes_of w f = fetch_goes read reads f.now f.offset f.text f.how f.sent f.sound f.known f.passive f.own
+
+  no_change : (w : World) → IsKept w w
+  no_change w = record { marks = refl; reports = refl; control = refl; cutoff = refl }
+
+  pulled_server : (n : ℕ) (w : World) → Fetching w → Fetching (pulled ControlToServer w n)
+  pulled_server n w f =
+      fetching_moved w (pulled ControlToServer w n) f (record { marks = refl; reports = refl; control = refl; cutoff = refl }) (pulls_to_server read (At w f) (goes_of w f) n w f.stands)
+
+  pulled_client : (n : ℕ) (w : World) → Fetching w → Fetching (pulled ControlToClient w n)
+  pulled_client n w f =
+      fetching_moved w (pulled ControlToClient w n) f (record { marks = refl; reports = refl; control = refl; cutoff = refl }) (pulls_to_client read (At w f) (goes_of w f) n w f.stands)
+
+  pushed_server : (n : ℕ) (w : World) → Fetching w → Fetching (pushed read ControlToServer n w)
+  pushed_server n w f =
+      fetching_moved w (pushed read ControlToServer n w) f (record { marks = refl; reports = refl; control = refl; cutoff = refl }) (pushes_to_server read (At w f) (goes_of w f) n w f.stands)
+
+  pushed_client : (n : ℕ) (w : World) → Fetching w → Fetching (pushed read ControlToClient n w)
+  pushed_client n w f =
+      fetching_moved w (pushed read ControlToClient n w) f (record { marks = refl; reports = refl; control = refl; cutoff = refl }) (pushes_to_client read (At w f) (goes_of w f) n w f.stands)
+
+  filled_server : (counts : List ℕ) (w : World) → Fetching w → Fetching (filled ControlToServer w counts)
+  filled_server [] w f = f
+  filled_server (count ∷ counts) w f = filled_server counts (pulled ControlToServer w count) (pulled_server count w f)
+
+  filled_client : (counts : List ℕ) (w : World) → Fetching w → Fetching (filled ControlToClient w counts)
+  filled_client [] w f = f
+  filled_client (count ∷ counts) w f = filled_client counts (pulled ControlToClient w count) (pulled_client count w f)
+
+  -- what is lent is of no matter
+  holds_taken : (w : World) (f : Fetching w) (octets : List ℕ) (stage : Stage) (way : Way) (b : World) → Holds f.now f.offset f.text f.how f.own stage way b
+      → Holds f.now f.offset f.text f.how f.own stage way (record b { taken = octets })
+  holds_taken w f octets stage way b h = record {
+    near = h.near;
+    session = h.session;
+    steady = h.steady;
+    link = h.link;
+    to_server = h.to_server;
+    to_client = h.to_client;
+    came = h.came;
+    marked = h.marked;
+    way_is = h.way_is;
+    fine = h.fine;
+  }
+
+  here_taken : (w : World) (f : Fetching w) (octets : List ℕ) (way : Way) (b : World) → At w f way b → At w f way (record b { taken = octets })
+  here_taken w f octets way b (inl l) = inl (record { on = l.on; some = l.some; link = l.link; to_server = l.to_server; to_client = l.to_client; marked = l.marked })
+  here_taken w f octets way b (inr (stage, h)) = inr (stage, holds_taken w f octets stage way b h)
+
+  pub fetching_taken : (octets : List ℕ) (w : World) → Fetching w → Fetching (record w { taken = octets })
+  fetching_taken octets w f =
+      let lends : World → World = λ u. record u { taken = octets } in
+      fetching_moved w (record w { taken = octets }) f (record { marks = refl; reports = refl; control = refl; cutoff = refl })
+      (record {
+        base = record f.stands.base { taken = octets };
+        way = f.stands.way;
+        cut = f.stands.cut;
+        is = ap lends f.stands.is ∙ taken_at f.stands.base f.stands.way f.stands.cut octets;
+        fits = f.stands.fits;
+        here = here_taken w f octets f.stands.way f.stands.base f.stands.here;
+      })
+
+  lasts_taken : (octets : List ℕ) (w : World) (f : Fetching w) (here : At w f f.stands.way f.stands.base) → IsLasting f.now f.offset f.text f.how read f.own f.stands.way f.stands.base here
+      → IsLasting f.now f.offset f.text f.how read f.own f.stands.way (record f.stands.base { taken = octets }) (here_taken w f octets f.stands.way f.stands.base here)
+  unfolding here_taken
+  lasts_taken octets w f (inl l) lasts = lasts
+  lasts_taken octets w f (inr (stage, h)) lasts = lasts
+
+  pub fetching_on_taken : (octets : List ℕ) (w : World) → IsFetchingOn read from begun w → IsFetchingOn read from begun (record w { taken = octets })
+  unfolding fetching_taken fetching_moved fetching_marked
+  fetching_on_taken octets w f = record { fetching = fetching_taken octets w f.fetching; lasts = lasts_taken octets w f.fetching f.fetching.stands.here f.lasts }
+
+  pub fetch_delivers_server : (none : Bool) (count : ℕ) (w new : World) → Fetching w → DeliversBy none read ControlToServer count w new → Runs read from begun new
+  fetch_delivers_server true count w new f m = subst (Runs read from begun) (sym m.is) (fetch_after _ (pulled_server m.gave w f))
+  fetch_delivers_server false count w new f d =
+      let full = filled_server d.counts w f in
+      subst (Runs read from begun) (sym d.is)
+      (fetch_after _ (pushed_server d.taken _ (fetching_taken (take d.taken (filled ControlToServer w d.counts).control_to_server) (filled ControlToServer w d.counts) full)))
+
+  pub fetch_delivers_client : (none : Bool) (count : ℕ) (w new : World) → Fetching w → DeliversBy none read ControlToClient count w new → Runs read from begun new
+  fetch_delivers_client true count w new f m = subst (Runs read from begun) (sym m.is) (fetch_after _ (pulled_client m.gave w f))
+  fetch_delivers_client false count w new f d =
+      let full = filled_client d.counts w f in
+      subst (Runs read from begun) (sym d.is)
+      (fetch_after _ (pushed_client d.taken _ (fetching_taken (take d.taken (filled ControlToClient w d.counts).control_to_client) (filled ControlToClient w d.counts) full)))
+
+  -- ---- octets of the link
+
+  abbrev Flowing : (w : World) → Fetching w → World → Type 0
+  Flowing w f new = PlacedAt (AtFlow read f.now f.offset f.text f.how f.own) new
+
+  -- a world whose octets have moved
+  record Moved (w : World) (f : Fetching w) (new : World) : Type 0 where
+    flowing : Flowing w f new
+    kept : IsKept w new
+
+  moved_pulls : (n : ℕ) (w : World) (f : Fetching w) (u : World) → Moved w f u → Moved w f (pulled DataToClient u n)
+  moved_pulls n w f u m = record {
+    flowing = flow_pulls read f.now f.offset f.text f.how f.own n u m.flowing;
+    kept = record { marks = m.kept.marks; reports = m.kept.reports; control = m.kept.control; cutoff = m.kept.cutoff };
+  }
+
+  moved_filled : (counts : List ℕ) (w : World) (f : Fetching w) (u : World) → Moved w f u → Moved w f (filled DataToClient u counts)
+  moved_filled [] w f u m = m
+  moved_filled (count ∷ counts) w f u m = moved_filled counts w f (pulled DataToClient u count) (moved_pulls count w f u m)
+
+  moved_taken : (octets : List ℕ) (w : World) (f : Fetching w) (u : World) → Moved w f u → Moved w f (record u { taken = octets })
+  moved_taken octets w f u m =
+      let lends : World → World = λ v. record v { taken = octets } in
+      let s = m.flowing in
+      record {
+        flowing = record {
+          base = record s.base { taken = octets };
+          way = s.way;
+          cut = s.cut;
+          is = ap lends s.is ∙ taken_at s.base s.way s.cut octets;
+          fits = s.fits;
+          here = record {
+            course = s.here.course;
+            came = s.here.came;
+            queue = s.here.queue;
+            flows = s.here.flows;
+            holds = holds_taken w f octets (Carries (record { course = s.here.course; came = s.here.came; queue = s.here.queue })) s.way s.base s.here.holds;
+          };
+        };
+        kept = record { marks = m.kept.marks; reports = m.kept.reports; control = m.kept.control; cutoff = m.kept.cutoff };
+      }
+
+  moved_pushes : (n : ℕ) (w : World) (f : Fetching w) (u : World) → n ≤ length u.data_to_client → Moved w f u → Moved w f (pushed read DataToClient n u)
+  moved_pushes n w f u few m = record {
+    flowing = flow_pushes read f.now f.offset f.text f.how f.own n u few m.flowing;
+    kept = record { marks = m.kept.marks; reports = m.kept.reports; control = m.kept.control; cutoff = m.kept.cutoff };
+  }
+
+  moved_is : (w : World) (f : Fetching w) (u : World) → Moved w f u → Fetching u
+  moved_is w f u m = fetching_moved w u f m.kept (flow_is read f.now f.offset f.text f.how f.own u m.flowing)
+
+  pub fetch_delivers_data : (none : Bool) (count : ℕ) (w new : World) (f : Fetching w) → Flowing w f w → DeliversBy none read DataToClient count w new → Runs read from begun new
+  fetch_delivers_data true count w new f flowing m =
+      subst (Runs read from begun) (sym m.is) (fetch_after _ (moved_is w f _ (moved_pulls m.gave w f w (record { flowing = flowing; kept = no_change w }))))
+  fetch_delivers_data false count w new f flowing d =
+      let full = moved_filled d.counts w f w (record { flowing = flowing; kept = no_change w }) in
+      let lent = moved_taken (take d.taken (filled DataToClient w d.counts).data_to_client) w f (filled DataToClient w d.counts) full in
+      let few : d.taken ≤ length (filled DataToClient w d.counts).data_to_client = omega (arith, d.takes.within) in
+      subst (Runs read from begun) (sym d.is) (fetch_after _ (moved_is w f _ (moved_pushes d.taken w f _ few lent)))
+
+  -- ---- the link
+
+  base_link : (w : World) (f : Fetching w) → f.stands.base.link ≡ w.link
+  base_link w f = sym (ap (λ u. u.link) f.stands.is ∙ by_way f.stands.way f.stands.cut)
+    where
+      by_way : (way : Way) (c : Cut) → (world_at f.stands.base way c).link ≡ f.stands.base.link
+      by_way (Asking line) c = refl
+      by_way (Answering rows) c = refl
+
+  base_came : (w : World) (f : Fetching w) → f.stands.base.came ≡ w.came
+  base_came w f = sym (ap (λ u. u.came) f.stands.is ∙ by_way f.stands.way f.stands.cut)
+    where
+      by_way : (way : Way) (c : Cut) → (world_at f.stands.base way c).came ≡ f.stands.base.came
+      by_way (Asking line) c = refl
+      by_way (Answering rows) c = refl
+
+  base_queue : (w : World) (f : Fetching w) → f.stands.base.data_to_client ≡ w.data_to_client
+  base_queue w f = sym (ap (λ u. u.data_to_client) f.stands.is ∙ by_way f.stands.way f.stands.cut)
+    where
+      by_way : (way : Way) (c : Cut) → (world_at f.stands.base way c).data_to_client ≡ f.stands.base.data_to_client
+      by_way (Asking line) c = refl
+      by_way (Answering rows) c = refl
+
+  -- what a break leaves as it is
+  record IsBreak (w new : World) : Type 0 where
+    marks : new.marks ≡ marked_last (Broken w.came) w.marks
+    reports : new.reports ≡ w.reports
+    control : new.control ≡ w.control
+    cutoff : new.cutoff ≡ w.cutoff
+
+  breaks_by : (w : World) (link : Link) → IsBreak w (with_mark (Broken w.came) (gone (broken_by link w)))
+  breaks_by w Gone = record { marks = refl; reports = refl; control = refl; cutoff = refl }
+  breaks_by w Opened = record { marks = refl; reports = refl; control = refl; cutoff = refl }
+  breaks_by w ClosedByNear = record { marks = refl; reports = refl; control = refl; cutoff = refl }
+  breaks_by w ClosedByFar = record { marks = refl; reports = refl; control = refl; cutoff = refl }
+
+  pub fetch_breaks : (w : World) → IsFetchingOn read from begun w → is_gone w.link ≡ false → Runs read from begun (after_event (link_breaks w))
+  fetch_breaks w on some = by_here f.stands.here on.lasts
+    where
+      f : Fetching w
+      f = on.fetching
+
+      left : IsBreak w (link_breaks w)
+      left = breaks_by w w.link
+
+      marked : (link_breaks w).marks ≡ f.marks ++ (f.own ++ Broken f.stands.base.came ∷ []) ∷ []
+      marked =
+          left.marks ∙ ap (marked_last (Broken w.came)) f.marks_are ∙ marks_last (Broken w.came) f.marks f.own
+          ∙ ap (λ came. f.marks ++ (f.own ++ Broken came ∷ []) ∷ []) (sym (base_came w f))
+
+      by_here : (here : At w f f.stands.way f.stands.base) → IsLasting f.now f.offset f.text f.how read f.own f.stands.way f.stands.base here → Runs read from begun (after_event (link_breaks w))
+      by_here (inl l) lasts = absurd (let e : true ≡ false = sym (ap is_gone (sym (base_link w f) ∙ l.link)) ∙ some in cc)
+      by_here (inr (stage, h)) lasts =
+          let breaks = stage_breaks read f.now f.offset f.text f.how f.sent f.sound f.known f.own stage f.stands.way f.stands.base f.stands.cut f.stands.fits h lasts
+          (ap is_gone (base_link w f) ∙ some) in
+          let own : List Mark = f.own ++ Broken f.stands.base.came ∷ [] in
+          fetch_after (link_breaks w) (fetching_marked w (link_breaks w) f own marked left.reports left.control left.cutoff
+          (subst (λ u. PlacedAt (λ way b. AtFetch f.now f.offset f.text f.how read own way b) (link_breaks u)) (sym f.stands.is) breaks))
+
+  pub fetch_ends : (w : World) → IsFetchingOn read from begun w → is_closed_by_far w.link ≡ true → w.data_to_client ≡ [] → Runs read from begun (after_event (told DataToClient w))
+  fetch_ends w on left empty = by_here f.stands.here on.lasts
+    where
+      f : Fetching w
+      f = on.fetching
+
+      by_here : (here : At w f f.stands.way f.stands.base) → IsLasting f.now f.offset f.text f.how read f.own f.stands.way f.stands.base here → Runs read from begun (after_event (told DataToClient w))
+      by_here (inl l) lasts = absurd (let e : false ≡ true = sym (ap is_closed_by_far (sym (base_link w f) ∙ l.link)) ∙ left in cc)
+      by_here (inr (stage, h)) lasts =
+          let ends = stage_ends read f.now f.offset f.text f.how f.sent f.sound f.known f.own stage f.stands.way f.stands.base f.stands.cut f.stands.fits h
+          (ap is_closed_by_far (base_link w f) ∙ left) lasts (base_queue w f ∙ empty) in
+          fetch_after (told DataToClient w) (fetching_moved w (told DataToClient w) f (record { marks = refl; reports = refl; control = refl; cutoff = refl })
+          (subst (λ u. PlacedAt (At w f) (told DataToClient u)) (sym f.stands.is) ends))
+
+  -- what a refusal leaves as it is
+  record IsRefusal (w new : World) : Type 0 where
+    marks : new.marks ≡ marked_last Refused w.marks
+    reports : new.reports ≡ w.reports
+    control : new.control ≡ w.control
+    cutoff : new.cutoff ≡ w.cutoff
+
+  refuses_by : (w : World) (connects : Bool) → IsRefusal w (with_mark Refused (refused_by connects w))
+  refuses_by w true = record { marks = refl; reports = refl; control = refl; cutoff = refl }
+  refuses_by w false = record { marks = refl; reports = refl; control = refl; cutoff = refl }
+
+  pub fetch_opens : (w : World) → IsFetchingOn read from begun w → is_asked_for w ≡ true → Runs read from begun (after_event (link_opens w))
+  fetch_opens w on asks = by_dial (dials_or_none read f.now f.offset f.text f.how f.own w f.stands on.lasts)
+    where
+      f : Fetching w
+      f = on.fetching
+
+      by_dial : ((port : ℕ) × Holds f.now f.offset f.text f.how f.own (Dials port) f.stands.way f.stands.base) ⊎ (is_asked_for w ≡ false) → Runs read from begun (after_event (link_opens w))
+      by_dial (inl (port, h)) =
+          let is = rest_placed _ w f.stands h.way_is in
+          fetch_after (link_opens w) (fetching_moved w (link_opens w) f (record { marks = refl; reports = refl; control = refl; cutoff = refl })
+          (opened_placed read f.now f.offset f.text f.how f.sent f.sound f.known f.own port w f.stands.base f.stands.way f.stands.cut is h))
+      by_dial (inr none) = absurd (let e : true ≡ false = sym asks ∙ none in cc)
+
+  pub fetch_refuses : (w : World) → IsFetchingOn read from begun w → is_asked_for w ≡ true → Runs read from begun (after_event (link_refused w))
+  fetch_refuses w on asks = by_dial (dials_or_none read f.now f.offset f.text f.how f.own w f.stands on.lasts)
+    where
+      f : Fetching w
+      f = on.fetching
+
+      left : IsRefusal w (link_refused w)
+      left = refuses_by w (is_connecting (near.wants w.near))
+
+      by_dial : ((port : ℕ) × Holds f.now f.offset f.text f.how f.own (Dials port) f.stands.way f.stands.base) ⊎ (is_asked_for w ≡ false) → Runs read from begun (after_event (link_refused w))
+      by_dial (inl (port, h)) =
+          let is = rest_placed _ w f.stands h.way_is in
+          fetch_after (link_refused w) (fetching_marked w (link_refused w) f (f.own ++ Refused ∷ [])
+          (left.marks ∙ ap (marked_last Refused) f.marks_are ∙ marks_last Refused f.marks f.own) left.reports left.control left.cutoff
+          (refused_placed read f.now f.offset f.text f.how f.sent f.sound f.known f.own port w f.stands.base f.stands.way f.stands.cut is h))
+      by_dial (inr none) = absurd (let e : true ≡ false = sym asks ∙ none in cc)

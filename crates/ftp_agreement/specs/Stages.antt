@@ -1,0 +1,384 @@
+-- A world while a download over a passive data connection is under way: a stage says what both ends hold of it, how the link stands and
+-- what is on its way (RFC 959, sections 3.2 to 3.5 and 4.1.2).
+use Rattle.std.specs.Prelude.{◌≡◌, ◌≢◌, ◌⊎◌, ℕ, ◌<◌, ◌≤◌, Bool, true, false, List, [], ◌∷◌, ◌++◌, length, Option, Some, None}
+use mathlib.Core.Logic.{inl, inr}
+use Rattle.ftp_command.specs.Line.{line_of}
+use Rattle.ftp_command.specs.declared.command.Command.TheVariants as Commands
+use Rattle.ftp_endpoint.specs.declared.host.Host.{Host}
+use Rattle.ftp_ends.specs.Reply.{Reply}
+use Rattle.ftp_machine.specs.Machine.{IsFront}
+use Rattle.ftp_operation.specs.Answer.{Said}
+use Rattle.ftp_operation.specs.declared.op.How.{How}
+use Rattle.ftp_operation.specs.declared.op.Op.{Op}
+use Rattle.ftp_path.specs.Path.{Names}
+use Rattle.ftp_direct.specs.declared.refusal.Refusal.{Refusal}
+use Rattle.ftp_direct.specs.Direct.{State, offset_refusal, refusal}
+use Rattle.ftp_client_machine.specs.Plan.{is_extended}
+use Rattle.ftp_client_machine.specs.View.{View as Near, Doing}
+use Rattle.ftp_client_machine.specs.declared.client.DataConnection.{DataConnection as NearConnection}
+use Rattle.ftp_client_machine.specs.declared.client.DataConnection.TheVariants as NearData
+use Rattle.ftp_client_machine.specs.declared.client.Ending.{Ending}
+use Rattle.ftp_client_machine.specs.declared.client.Ending.TheVariants as Endings
+use Rattle.ftp_client_machine.specs.declared.client.Replied.{Replied}
+use Rattle.ftp_client_machine.specs.declared.client.Replied.TheVariants as Replies
+use Rattle.ftp_client_machine.specs.declared.client.Step.TheVariants as Steps
+use Rattle.ftp_server_machine.specs.Machine.{Reading}
+use Rattle.ftp_server_machine.specs.Replies.{fixed_reply}
+use Rattle.ftp_server_machine.specs.View.{Transfer}
+use Rattle.ftp_server_machine.specs.Walk.{refusal_text}
+use Rattle.ftp_server_machine.specs.declared.reply.Text.TheVariants as Texts
+use Rattle.ftp_server_machine.specs.declared.session.DataConnection.{DataConnection as FarConnection}
+use Rattle.ftp_server_machine.specs.declared.session.DataConnection.TheVariants as FarData
+use Rattle.ftp_server_machine.specs.declared.session.Pending.{Pending}
+use Rattle.ftp_server_machine.specs.declared.session.Pending.TheVariants as Pendings
+use Rattle.ftp_server_machine.specs.declared.session.Transfer.TheVariants as Transfers
+use Rattle.ftp_world.specs.Agreement.{Allows}
+use Rattle.ftp_world.specs.Outcome.{Outcome, CanBe, did}
+use Rattle.ftp_world.specs.World.{World, Link, Gone, Opened, ClosedByFar, Mark, Broken}
+use Rattle.ftp_dialogues.specs.Dialogue.{Passes}
+use Rattle.ftp_dialogues.specs.Fetches.{fetch, busy, fetching, leaving, linked, asked_of, port_reply, rest_reply, offset_pending, kept, IsSteady, PortIsAsked, fetched_wire, why_not}
+use Rattle.ftp_dialogues.specs.Login.{IsOnWay}
+use Rattle.ftp_dialogues.specs.Stage.{Way, Asking, Answering, rest}
+
+-- ---- the link
+
+-- open at both ends; the server is to close it; the server has closed it; or gone, as the client saw it end
+pub data Tie : Type 0 where
+  Joined Parting Left : Tie
+  Over : (ending : Ending) → Tie
+
+abbrev pub link_of : Tie → Link
+link_of Joined = Opened
+link_of Parting = Opened
+link_of Left = ClosedByFar
+link_of (Over ending) = Gone
+
+-- what the client holds of it
+abbrev pub near_link : Tie → NearConnection
+near_link Joined = NearData.Open
+near_link Parting = NearData.Open
+near_link Left = NearData.Open
+near_link (Over ending) = NearData.Over ending
+
+-- what the server holds of it: this, while it is open at both ends
+abbrev pub far_link : FarConnection Transfer → Tie → FarConnection Transfer
+far_link connection Joined = connection
+far_link connection tie = FarData.Free
+
+abbrev pub is_parting : Tie → Bool
+is_parting Parting = true
+is_parting tie = false
+
+-- before RETR is acted on the link is open, or it broke
+abbrev pub early_tie : Bool → Tie
+early_tie true = Joined
+early_tie false = Over Endings.Broken
+
+-- the mark of a break, when so many octets had come
+abbrev pub tie_marks : Tie → ℕ → List Mark
+tie_marks (Over Endings.Broken) came = Broken came ∷ []
+tie_marks tie came = []
+
+-- ---- how far a transfer is
+
+-- how far REST is: it is on its way, accepted, or refused
+pub data Restart : Type 0 where
+  Sent Granted : Restart
+  Denied : (why : Refusal) → Restart
+
+-- which replies to RETR the client has heard: none, the 150, or the 226 too
+pub data Heard : Type 0 where
+  NoReply OneReply BothReplies : Heard
+
+abbrev pub replied_of : Heard → Replied
+replied_of NoReply = Replies.Nothing
+replied_of OneReply = Replies.Begun
+replied_of BothReplies = Replies.Final 226
+
+-- none, or the 150
+abbrev pub heard_by : Bool → Heard
+heard_by false = NoReply
+heard_by true = OneReply
+
+-- how the link of a refused RETR stands: the server is to close it, has closed it, or it has ended, by that close or by a break
+pub data Gap : Type 0 where
+  Unclosed Closed : Gap
+  Lost : (clean : Bool) → Gap
+
+-- what comes of RETR. The server has these octets still to give, one at least, and the client has heard the 150 or not; all are given,
+-- and the link is to be closed or is; all were given, and the link has ended, by that close or by a break; the link broke while the server gave;
+-- RETR is refused; or the server had no link
+pub data Course : Type 0 where
+  Giving : (begun : Bool) → (octet : ℕ) → (more : List ℕ) → Course
+  Given : (heard : Heard) → (left : Bool) → Course
+  Ended : (begun : Bool) → (clean : Bool) → Course
+  Severed : (begun : Bool) → Course
+  Refusing : (why : Refusal) → (gap : Gap) → Course
+  Unopened : Course
+
+abbrev pub heard_of : Course → Heard
+heard_of (Giving begun octet more) = heard_by begun
+heard_of (Given heard left) = heard
+heard_of (Ended begun clean) = heard_by begun
+heard_of (Severed begun) = heard_by begun
+heard_of (Refusing why gap) = NoReply
+heard_of Unopened = NoReply
+
+-- an end of the link at the client
+abbrev pub ending_by : Bool → Ending
+ending_by true = Endings.Clean
+ending_by false = Endings.Broken
+
+abbrev pub gap_tie : Gap → Tie
+gap_tie Unclosed = Parting
+gap_tie Closed = Left
+gap_tie (Lost clean) = Over (ending_by clean)
+
+abbrev pub left_tie : Bool → Tie
+left_tie false = Parting
+left_tie true = Left
+
+abbrev pub tie_of : Course → Tie
+tie_of (Giving begun octet more) = Joined
+tie_of (Given heard left) = left_tie left
+tie_of (Ended begun clean) = Over (ending_by clean)
+tie_of (Severed begun) = Over Endings.Broken
+tie_of (Refusing why gap) = gap_tie gap
+tie_of Unopened = Over Endings.Broken
+
+-- a 150, where it was not heard, and then these
+abbrev pub behind_opening : Heard → List Reply → List Reply
+behind_opening NoReply more = fixed_reply Texts.Opens ∷ more
+behind_opening OneReply more = more
+behind_opening BothReplies more = []
+
+-- the replies that are still to be heard
+abbrev pub replies_in : Course → List Reply
+replies_in (Giving begun octet more) = behind_opening (heard_by begun) []
+replies_in (Given heard left) = behind_opening heard (fixed_reply Texts.Complete ∷ [])
+replies_in (Ended begun clean) = behind_opening (heard_by begun) (fixed_reply Texts.Complete ∷ [])
+replies_in (Severed begun) = behind_opening (heard_by begun) (fixed_reply Texts.Broken ∷ [])
+replies_in (Refusing why gap) = fixed_reply (refusal_text why) ∷ []
+replies_in Unopened = fixed_reply Texts.NoConnection ∷ []
+
+-- what the server holds of the link while it is open at both ends
+abbrev pub gives_on : Course → FarConnection Transfer
+gives_on (Giving begun octet more) = FarData.Transferring (Transfers.Download (octet ∷ more))
+gives_on course = FarData.Free
+
+-- behind RETR: the octets that came, and those on their way
+pub record Carry : Type 0 where
+  pub course : Course
+  pub came : List ℕ
+  pub queue : List ℕ
+
+-- how the client leaves its link, once it has told its answer: there is none; a port is listened at that nobody opens; it is open; the server
+-- has closed it; or the server is to close it too
+pub data Leaving : Type 0 where
+  NoLink PortAside LinkOpen LinkLeft LinkParting : Leaving
+
+abbrev pub is_to_close : Leaving → Bool
+is_to_close NoLink = false
+is_to_close PortAside = false
+is_to_close leaves = true
+
+abbrev pub far_leaves : Leaving → FarConnection Transfer
+far_leaves PortAside = FarData.Passive
+far_leaves LinkOpen = FarData.Ready
+far_leaves leaves = FarData.Free
+
+abbrev pub far_parting : Leaving → Bool
+far_parting LinkParting = true
+far_parting leaves = false
+
+abbrev pub link_left : Leaving → Link
+link_left NoLink = Gone
+link_left PortAside = Gone
+link_left LinkOpen = Opened
+link_left LinkLeft = ClosedByFar
+link_left LinkParting = Opened
+
+-- ---- the stages
+
+-- a port was asked for; it was told; the client dials it; REST is under way, over an open link or a broken one; RETR is on its way; RETR
+-- was acted on; the client has told its answer
+pub data Stage : Type 0 where
+  PortAsked : (closing : Bool) → Stage
+  PortTold : (port : ℕ) → Stage
+  Dials : (port : ℕ) → Stage
+  Restarts : (offset : ℕ) → (restart : Restart) → (joined : Bool) → Stage
+  Retrieves : (joined : Bool) → Stage
+  Carries : (carry : Carry) → Stage
+  Answers : (said : Said) → (leaves : Leaving) → Stage
+
+-- stages that do not outlast an event: closes, ports and reports are served behind it
+abbrev pub is_passing : Stage → Bool
+is_passing (PortAsked closing) = true
+is_passing (Carries carry) = is_parting (tie_of carry.course)
+is_passing (Answers said leaves) = true
+is_passing stage = false
+
+module _ (state : State) (offset : Option ℕ) (text : List ℕ) (how : How) where
+  abbrev pub fetched_op : Op (List ℕ)
+  fetched_op = fetch offset text how
+
+  -- the client
+  abbrev pub near_at : Stage → Near → Near
+  near_at (PortAsked closing) n = busy (Doing fetched_op Steps.Passive) NearData.Free n
+  near_at (PortTold port) n = busy (Doing fetched_op Steps.Passive) NearData.Free n
+  near_at (Dials port) n = busy (Doing fetched_op Steps.Connect) (NearData.Connecting (record { host = n.peer; port = port })) n
+  near_at (Restarts at restart joined) n = busy (Doing (fetch (Some at) text how) Steps.Restart) (near_link (early_tie joined)) n
+  near_at (Retrieves joined) n = busy (fetching fetched_op Replies.Nothing how.representation []) (near_link (early_tie joined)) n
+  near_at (Carries c) n = busy (fetching fetched_op (replied_of (heard_of c.course)) how.representation c.came) (near_link (tie_of c.course)) n
+  near_at (Answers said leaves) n = leaving said (is_to_close leaves) n
+
+  -- the server's data connection, by what the client asked for; whether it is to be closed; and what is pending for its next line
+  abbrev pub far_at : Stage → Bool → FarConnection Transfer
+  far_at (PortAsked closing) extended = FarData.Asked (asked_of extended)
+  far_at (PortTold port) extended = FarData.Passive
+  far_at (Dials port) extended = FarData.Passive
+  far_at (Restarts at restart joined) extended = far_link FarData.Ready (early_tie joined)
+  far_at (Retrieves joined) extended = far_link FarData.Ready (early_tie joined)
+  far_at (Carries c) extended = far_link (gives_on c.course) (tie_of c.course)
+  far_at (Answers said leaves) extended = far_leaves leaves
+
+  abbrev pub closing_at : Stage → Bool
+  closing_at (PortAsked closing) = closing
+  closing_at (Carries c) = is_parting (tie_of c.course)
+  closing_at (Answers said leaves) = far_parting leaves
+  closing_at stage = false
+
+  abbrev pub pending_at : Stage → Pending Names
+  pending_at (Restarts at Granted joined) = Pendings.Restart at
+  pending_at (Retrieves joined) = offset_pending offset
+  pending_at stage = Pendings.Nothing
+
+  abbrev pub link_at : Stage → Link
+  link_at (Restarts at restart joined) = link_of (early_tie joined)
+  link_at (Retrieves joined) = link_of (early_tie joined)
+  link_at (Carries c) = link_of (tie_of c.course)
+  link_at (Answers said leaves) = link_left leaves
+  link_at stage = Gone
+
+  -- what is on its way over the control connection, by what the client asked for and the server's host
+  abbrev pub rest_way : ℕ → Restart → Way
+  rest_way at Sent = Asking (line_of (Commands.Rest at))
+  rest_way at Granted = Answering (rest_reply at ∷ [])
+  rest_way at (Denied why) = Answering (fixed_reply (refusal_text why) ∷ [])
+
+  abbrev pub way_at : Stage → Bool → Host → Way
+  way_at (PortTold port) extended host = Answering (port_reply extended host port ∷ [])
+  way_at (Restarts at restart joined) extended host = rest_way at restart
+  way_at (Retrieves joined) extended host = Asking (line_of (Commands.Retr text))
+  way_at (Carries c) extended host = Answering (replies_in c.course)
+  way_at stage extended host = rest
+
+  -- octets of the link
+  abbrev pub queue_at : Stage → List ℕ
+  queue_at (Carries c) = c.queue
+  queue_at stage = []
+
+  -- how many have come, while they can come
+  abbrev pub CameAt : Stage → ℕ → Type 0
+  CameAt (Restarts at restart joined) count = count ≡ 0
+  CameAt (Retrieves joined) count = count ≡ 0
+  CameAt (Carries c) count = count ≡ length c.came
+  CameAt stage count = Unit {0}
+
+  -- the marks of the operation
+  abbrev pub MarkedAt : Stage → List Mark → Type 0
+  MarkedAt (Restarts at restart joined) own = own ≡ tie_marks (early_tie joined) 0
+  MarkedAt (Retrieves joined) own = own ≡ tie_marks (early_tie joined) 0
+  MarkedAt (Carries c) own = own ≡ tie_marks (tie_of c.course) (length c.came)
+  MarkedAt (Answers said LinkOpen) own = own ≡ []
+  MarkedAt (Answers said leaves) own = length own ≤ 1
+  MarkedAt stage own = own ≡ []
+
+  -- ---- what is so of each
+
+  -- the operation fared so that this is its answer
+  pub record Fared (own : List Mark) (said : Said) : Type 0 where
+    pub outcome : Outcome
+    pub can_be : CanBe outcome state fetched_op
+    pub allowed : (index : ℕ) → Allows outcome own None index
+    pub did_so : (moment : ℕ) → did outcome state fetched_op moment ≡ (said, state)
+
+  -- RETR is not refused, nor the operation in the direct run
+  abbrev pub IsTaken : Type 0
+  IsTaken = (why_not state offset text how ≡ None) × (refusal state fetched_op ≡ None)
+
+  -- and its text is this
+  abbrev pub wire : List ℕ
+  wire = fetched_wire state offset text how
+
+  -- a break leaves a front of the text
+  abbrev pub IsCutAt : List ℕ → List ℕ → Type 0
+  IsCutAt came queue = IsFront came wire × (queue ≡ [])
+
+  -- nothing came
+  abbrev pub IsEmpty : List ℕ → List ℕ → Type 0
+  IsEmpty came queue = (came ≡ []) × (queue ≡ [])
+
+  abbrev pub Flows : Course → (came queue : List ℕ) → Type 0
+  Flows (Giving begun octet more) came queue = IsTaken × (came ++ (queue ++ octet ∷ more) ≡ wire)
+  Flows (Given heard left) came queue = IsTaken × (came ++ queue ≡ wire)
+  Flows (Ended begun true) came queue = IsTaken × (came ≡ wire) × (queue ≡ [])
+  Flows (Ended begun false) came queue = IsTaken × IsCutAt came queue
+  Flows (Severed begun) came queue = IsTaken × IsCutAt came queue
+  Flows (Refusing why gap) came queue = (refusal state fetched_op ≡ Some why) × IsEmpty came queue
+  Flows Unopened came queue = IsEmpty came queue
+
+  -- REST, as the direct run has it
+  abbrev pub IsRestarted : ℕ → Restart → Type 0
+  IsRestarted at Sent = Unit {0}
+  IsRestarted at Granted = offset_refusal at how ≡ None
+  IsRestarted at (Denied why) = offset_refusal at how ≡ Some why
+
+  -- the offset was not refused
+  abbrev pub IsPlaced : Option ℕ → Type 0
+  IsPlaced None = Unit {0}
+  IsPlaced (Some at) = offset_refusal at how ≡ None
+
+  abbrev pub HasPort : ℕ → Type 0
+  HasPort port = (1 ≤ port) × (port < 65536)
+
+  abbrev pub FineAt : Stage → List Mark → Type 0
+  FineAt (PortAsked closing) own = Unit {0}
+  FineAt (PortTold port) own = HasPort port
+  FineAt (Dials port) own = Unit {0}
+  FineAt (Restarts at restart joined) own = (offset ≡ Some at) × IsRestarted at restart
+  FineAt (Retrieves joined) own = IsPlaced offset
+  FineAt (Carries c) own = Flows c.course c.came c.queue
+  FineAt (Answers said LinkOpen) own = (any : List Mark) → Fared any said
+  FineAt (Answers said leaves) own = Fared own said
+
+  -- a base world at a stage, with marks of the operation and with this on its way
+  pub record Holds (own : List Mark) (stage : Stage) (way : Way) (b : World) : Type 0 where
+    pub near : b.near ≡ near_at stage b.near
+    pub session : b.far.session ≡ linked (far_at stage (is_extended b.near fetched_op)) (closing_at stage) (pending_at stage) b.far.session
+    pub steady : IsSteady state how.representation (kept b.near b.far)
+    pub link : b.link ≡ link_at stage
+    pub to_server : b.data_to_server ≡ []
+    pub to_client : b.data_to_client ≡ queue_at stage
+    pub came : CameAt stage b.came
+    pub marked : MarkedAt stage own
+    pub way_is : way ≡ way_at stage (is_extended b.near fetched_op) b.near.peer
+    pub fine : FineAt stage own
+
+  -- the login, the settings and the command for a port are under way
+  pub record Leads (read : Reading) (own : List Mark) (way : Way) (b : World) : Type 0 where
+    pub on : IsOnWay read state fetched_op (Passes state.table state.table) (PortIsAsked state fetched_op how.representation) way b.near b.far
+    pub some : way ≢ rest
+    pub link : b.link ≡ Gone
+    pub to_server : b.data_to_server ≡ []
+    pub to_client : b.data_to_client ≡ []
+    pub marked : own ≡ []
+
+  -- how far the download is
+  abbrev pub AtFetch : Reading → List Mark → Way → World → Type 0
+  AtFetch read own way b = Leads read own way b ⊎ ((stage : Stage) × Holds own stage way b)
+
+  -- it outlasts an event
+  abbrev pub IsLasting : (read : Reading) (own : List Mark) (way : Way) (b : World) → AtFetch read own way b → Type 0
+  IsLasting read own way b (inl leads) = Unit {0}
+  IsLasting read own way b (inr (stage, holds)) = is_passing stage ≡ false

@@ -1,0 +1,363 @@
+-- A download over a passive data connection: what each end makes of each line and reply.
+use Rattle.std.proofs.Common.{◌≡◌, inl, ℕ, ◌<◌, ◌≤◌, ◌^◌, Bool, true, false, ◌||◌, List, [], ◌∷◌, ◌++◌, drop, Option, Some, None, refl, sym, ap, subst, ◌∙◌, append-nil}
+use Rattle.std.specs.Prelude.{if◌then◌else◌}
+use Rattle.std.specs.Option.{unwrap_or}
+use Rattle.std.proofs.lemmas.Cmp.{nat_list_eq_equiv}
+use Rattle.ftp_nvt.specs.Lines.{written_line}
+use Rattle.ftp_command.specs.Line.{line_of}
+use Rattle.ftp_command.specs.declared.command.Command.{Command}
+use Rattle.ftp_command.specs.declared.command.Command.TheVariants as Commands
+use Rattle.ftp_command.specs.declared.command.Passive.TheVariants as Passives
+use Rattle.ftp_command.proofs.CarriedLemmas.{carried}
+use Rattle.ftp_endpoint.specs.Written.{IsTypedHost, IsV4}
+use Rattle.ftp_endpoint.specs.declared.host.Host.{Host}
+use Rattle.ftp_endpoint.specs.declared.host.Host.TheVariants.{V4, V6}
+use Rattle.ftp_ends.specs.Decoder.{decoder_of, no_octets}
+use Rattle.ftp_ends.specs.Reply.{reply_octets}
+use Rattle.ftp_ends.specs.Link.{same_host, is_v6}
+use Rattle.ftp_operation.specs.Answer.{Said, Foreign, Refused, Unopened}
+use Rattle.ftp_operation.specs.declared.op.How.{How}
+use Rattle.ftp_operation.specs.declared.op.Op.{Op}
+use Rattle.ftp_path.specs.Path.{IsPathText, resolved}
+use Rattle.ftp_reply.specs.Lines.{Text as ReplyText}
+use Rattle.ftp_representation.specs.declared.representation.Representation.{Representation}
+use Rattle.ftp_direct.specs.declared.refusal.Refusal.{Refusal}
+use Rattle.ftp_direct.specs.declared.refusal.Refusal.TheVariants as Refusals
+use Rattle.ftp_direct.specs.Direct.{State, file_of, offset_refusal, or_refused, place_at, refused_file, refused_there}
+use Rattle.ftp_direct.specs.Refusal.{code_of}
+use Rattle.ftp_client_machine.specs.Dialogue.{answered, endpoint_named, finishes_read, judged, judged_reply, passive_named, port_named}
+use Rattle.ftp_client_machine.specs.Plan.{asked_settings, asks_extended, from_kind, how_of, is_extended, opening_of, passive_command}
+use Rattle.ftp_client_machine.specs.View.{View as Near, Doing, Receiving, stands}
+use Rattle.ftp_client_machine.specs.declared.client.Abort.TheVariants as Aborts
+use Rattle.ftp_client_machine.specs.declared.client.DataConnection.{DataConnection as NearConnection}
+use Rattle.ftp_client_machine.specs.declared.client.DataConnection.TheVariants as NearData
+use Rattle.ftp_client_machine.specs.declared.client.Ending.{Ending}
+use Rattle.ftp_client_machine.specs.declared.client.Ending.TheVariants as Endings
+use Rattle.ftp_client_machine.specs.declared.client.Replied.TheVariants as Replies
+use Rattle.ftp_client_machine.specs.declared.client.Step.{Step}
+use Rattle.ftp_client_machine.specs.declared.client.Step.TheVariants as Steps
+use Rattle.ftp_server_machine.specs.Endpoint.{forgotten, is_standing}
+use Rattle.ftp_server_machine.specs.Machine.{Reading, IsReading, given_out, heard_line, is_connection_busy, turned}
+use Rattle.ftp_server_machine.specs.Replies.{extended_text, fixed_reply, passive_text, tells}
+use Rattle.ftp_server_machine.specs.Texts.{code_of as reply_code}
+use Rattle.ftp_server_machine.specs.Transfer.{begin, file_wire, misplaced, place_of, rests, transfer_starts}
+use Rattle.ftp_server_machine.specs.View.{View as Far, Session, direct_of, how_in_force}
+use Rattle.ftp_server_machine.specs.Walk.{path_of, refusal_text}
+use Rattle.ftp_server_machine.specs.declared.reply.ReplyKind.TheVariants as Kinds
+use Rattle.ftp_server_machine.specs.declared.reply.Text.TheVariants as Texts
+use Rattle.ftp_server_machine.specs.declared.session.Asked.{Asked}
+use Rattle.ftp_server_machine.specs.declared.session.Asked.TheVariants as Asking
+use Rattle.ftp_server_machine.specs.declared.session.DataConnection.TheVariants as FarData
+use Rattle.ftp_server_machine.specs.declared.session.Pending.TheVariants as Pendings
+use Rattle.ftp_server_machine.specs.declared.session.Transfer.TheVariants as Transfers
+use Rattle.ftp_world.specs.Outcome.{mark_in}
+use Rattle.ftp_dialogues.specs.Dialogue.{FarWaits, Passes, Stands, doing}
+use Rattle.ftp_dialogues.specs.Fetches.{IsPassive, fetch, busy, fetching, leaving, asked_of, port_reply, rest_reply, offset_pending, kept, IsSteady, PortIsAsked, place_in_file, why_not, fetched_wire}
+use Rattle.ftp_dialogues.specs.Operations.{LeadsBy}
+use Rattle.ftp_dialogues.specs.Stage.{calm, still, row_octets, FarTurn}
+use Rattle.ftp_dialogues.proofs.Exchanges.{IsSent, with_session}
+use Rattle.ftp_dialogues.proofs.PortTexts.{passive-reads, extended-reads}
+use Rattle.ftp_dialogues.proofs.Rows.{is_negative, tells_code}
+use Rattle.ftp_dialogues.proofs.ServerTurns.{aside_idle, cleared, decides, decides_known, far_hears, far_turn_is}
+use Rattle.ftp_dialogues.proofs.Settings.{LeadsFrom, settings_lead}
+
+-- ---- a port is asked for
+
+steady_at : (state : State) (settings : Representation) (n : Near) (f : Far) → Stands state n f → state.known ≡ true → n.settings ≡ settings → IsSteady state settings (kept n f)
+steady_at state settings n f stands known set = record {
+  peer = stands.meets.peer;
+  here = stands.meets.here;
+  typed = stands.meets.typed;
+  all_ways = stands.meets.all_ways;
+  table = stands.sees.table;
+  known = known;
+  access = stands.sees.known ∙ known;
+  root = stands.sees.root known;
+  cwd = stands.sees.cwd;
+  settings_are = stands.settings ∙ set;
+  told = set;
+  facts = stands.facts;
+}
+
+-- the server's session behind it
+abbrev asking : Asked → Far → Session
+asking asked f = record (forgotten (cleared f)) { connection = FarData.Asked asked }
+
+is_v4 : (host : Host) → is_v6 host ≡ false → IsV4 host
+is_v4 (V4 octets) is = tt
+is_v4 (V6 octets) is = absurd (cc)
+
+neither : (one other : Bool) → (one || other) ≡ false → other ≡ false
+neither true other is = absurd (cc)
+neither false other is = is
+
+module _ (read : Reading) (reads : IsReading read) (state : State) (op : Op (List ℕ)) (settings : Representation) (known : state.known ≡ true) where
+  asks_turn : (command : Command (List ℕ)) (asked : Asked) (f : Far) → IsSent read command → FarWaits f → decides command f ≡ (asking asked f, Kinds.Nothing)
+      → FarTurn read f (line_of command)
+  asks_turn command asked f sent waits decided = record {
+    far = with_session (asking asked f) f;
+    replies = [];
+    is = far_hears read command f (asking asked f, Kinds.Nothing) reads sent.typed sent.stated sent.other (aside_idle f.session.connection waits.aside) decided;
+    fine = tt;
+  }
+
+  is_asked : (extended : Bool) (n : Near) (f : Far) → is_extended n op ≡ extended → Stands state n f → n.settings ≡ settings
+      → PortIsAsked state op settings (doing op Steps.Passive n) (with_session (asking (asked_of extended) f) f)
+  is_asked extended n f is stands set =
+      let steady = steady_at state settings n f stands known set in
+      record {
+        near = refl;
+        closing = f.session.closing || is_standing f.session.connection;
+        session = λ i. record (asking (asked_of extended) f) { connection = FarData.Asked (asked_of (sym is i)); life = stands.far.life i };
+        steady = steady;
+      }
+
+  along : (n : Near) (f : Far) → Stands state n f → Passes state.table state.table (doing op Steps.Passive n) f
+  along n f stands = record { near = record { sound = refl; connection = refl; closing = refl }; far = stands.far; busy = refl; untold = refl; table = inl stands.sees.table }
+
+  asks_by : (extended : Bool) (n : Near) (f : Far) → is_extended n op ≡ extended → Stands state n f → n.settings ≡ settings
+      → LeadsFrom read (Passes state.table state.table) (PortIsAsked state op settings) op Steps.Passive n f
+  unfolding asks_turn
+  asks_by true n f is stands set = record {
+    near = doing op Steps.Passive n;
+    text = line_of (Commands.Epsv Passives.Any);
+    left = 1;
+    placed_so = λ job. ap (λ extended. record (calm (doing op Steps.Passive n)) { owed = written_line (line_of (passive_command extended)) }) is;
+    line = carried (Commands.Epsv Passives.Any) tt tt;
+    leads = (
+      along n f stands,
+      asks_turn (Commands.Epsv Passives.Any) Asking.Epsv f (record { reads = reads; typed = tt; stated = tt; other = refl }) stands.far
+          (decides_known (Commands.Epsv Passives.Any) f (stands.sees.known ∙ known)),
+      is_asked true n f is stands set,
+    );
+  }
+  asks_by false n f is stands set = record {
+    near = doing op Steps.Passive n;
+    text = line_of Commands.Pasv;
+    left = 1;
+    placed_so = λ job. ap (λ extended. record (calm (doing op Steps.Passive n)) { owed = written_line (line_of (passive_command extended)) }) is;
+    line = carried Commands.Pasv tt tt;
+    leads = (
+      along n f stands,
+      asks_turn Commands.Pasv Asking.Pasv f (record { reads = reads; typed = tt; stated = tt; other = refl }) stands.far
+          (decides_known Commands.Pasv f (stands.sees.known ∙ known)
+          ∙ ap (λ (b : Bool). if b then tells Texts.BadSequence (cleared f) else (if is_v6 f.footing.here then tells Texts.NoConnection (cleared f) else (asking Asking.Pasv f, Kinds.Nothing))) stands.meets.all_ways
+          ∙ ap (λ (b : Bool). if b then tells Texts.NoConnection (cleared f) else (asking Asking.Pasv f, Kinds.Nothing))
+          (ap is_v6 (sym stands.meets.peer) ∙ neither (asks_extended (how_of op)) (is_v6 n.peer) is)),
+      is_asked false n f is stands set,
+    );
+  }
+
+  pub asks_port : (n : Near) (f : Far) → Stands state n f → n.settings ≡ settings
+      → LeadsFrom read (Passes state.table state.table) (PortIsAsked state op settings) op Steps.Passive n f
+  asks_port n f stands set = asks_by (is_extended n op) n f refl stands set
+
+-- from the beginning of the operation on
+pub fetch_leads : (read : Reading) (state : State) (offset : Option ℕ) (text : List ℕ) (how : How) → IsReading read → state.known ≡ true → IsPassive how
+    → (n : Near) (f : Far) → Stands state n f
+    → LeadsBy read (Passes state.table state.table) (PortIsAsked state (fetch offset text how) how.representation) (fetch offset text how) n f
+fetch_leads read state offset text how reads known passive n f stands = by_offset offset
+  where
+    Goal : Option ℕ → Near → Far → Type 0
+    Goal offset n f = PortIsAsked state (fetch offset text how) how.representation n f
+
+    on : (offset : Option ℕ) → how_of (fetch offset text how) ≡ Some how → asked_settings (fetch offset text how) ≡ Some how.representation
+        → LeadsFrom read (Passes state.table state.table) (Goal offset) (fetch offset text how)
+        (from_kind n.settings how.representation (opening_of (how_of (fetch offset text how)) (fetch offset text how))) n f
+    on offset how_is asks =
+        settings_lead read state state.table (Goal offset) (fetch offset text how) reads known how.representation asks
+        (λ n f stands set.
+        let At : Step → Type 0 = λ step. LeadsFrom read (Passes state.table state.table) (Goal offset) (fetch offset text how) step n f in
+        let opening : Steps.Passive ≡ opening_of (how_of (fetch offset text how)) (fetch offset text how) =
+        sym (ap (λ h. opening_of h (fetch offset text how)) how_is ∙ ap (λ (b : Bool). if b then Steps.Listen else Steps.Passive) passive) in
+        subst At opening (asks_port read reads state (fetch offset text how) how.representation known n f stands set)) n f stands
+
+    by_offset : (offset : Option ℕ) → LeadsBy read (Passes state.table state.table) (Goal offset) (fetch offset text how) n f
+    by_offset None =
+        let l = on None refl refl in
+        record { near = l.near; text = l.text; left = l.left; begins_so = l.placed_so; line = l.line; leads = l.leads }
+    by_offset (Some offset) =
+        let l = on (Some offset) refl refl in
+        record { near = l.near; text = l.text; left = l.left; begins_so = l.placed_so; line = l.line; leads = l.leads }
+
+-- ---- the client: the port that the server told
+
+pub own_host : (host : Host) → same_host host host ≡ true
+own_host (V4 octets) = nat_list_eq_equiv.refl octets
+own_host (V6 octets) = nat_list_eq_equiv.refl octets
+
+module _ (op : Op (List ℕ)) (port : ℕ) (n : Near) where
+  pub port_is_told : (extended : Bool) → is_extended n op ≡ extended → IsTypedHost n.peer → 1 ≤ port → port < 65536
+      → answered (port_reply extended n.peer port).code (port_reply extended n.peer port).lines (calm (busy (Doing op Steps.Passive) NearData.Free n))
+      ≡ record (calm (busy (Doing op Steps.Connect) (NearData.Connecting (record { host = n.peer; port = port })) n)) { owed = [] }
+  unfolding answered
+  port_is_told true is typed some small =
+      ap (λ b. passive_named b op (extended_text port) (calm (busy (Doing op Steps.Passive) NearData.Free n))) is
+      ∙ ap (λ o. port_named o op (calm (busy (Doing op Steps.Passive) NearData.Free n))) (extended-reads port some small)
+  port_is_told false is typed some small =
+      ap (λ b. passive_named b op (passive_text (record { host = n.peer; port = port })) (calm (busy (Doing op Steps.Passive) NearData.Free n))) is
+      ∙ ap (λ o. endpoint_named o op (calm (busy (Doing op Steps.Passive) NearData.Free n)))
+      (passive-reads n.peer port (is_v4 n.peer (neither (asks_extended (how_of op)) (is_v6 n.peer) is)) typed small)
+      ∙ ap (λ (b : Bool). if b then record (calm (busy (Doing op Steps.Connect) (NearData.Connecting (record { host = n.peer; port = port })) n)) { owed = [] }
+      else finishes_read (Some Foreign) (calm (busy (Doing op Steps.Passive) NearData.Free n))) (own_host n.peer)
+
+-- ---- the client: REST
+
+pub rest_granted : (offset : ℕ) (text : List ℕ) (how : How) (connection : NearConnection) (texts : List ReplyText) (n : Near)
+    → answered 350 texts (calm (busy (Doing (fetch (Some offset) text how) Steps.Restart) connection n))
+    ≡ record (calm (busy (fetching (fetch (Some offset) text how) Replies.Nothing how.representation []) connection n)) { owed = written_line (line_of (Commands.Retr text)) }
+unfolding answered
+rest_granted offset text how connection texts n = refl
+
+pub rest_denied : (op : Op (List ℕ)) (why : Refusal) (connection : NearConnection) (texts : List ReplyText) (n : Near)
+    → answered (reply_code (refusal_text why)) texts (calm (busy (Doing op Steps.Restart) connection n))
+    ≡ record (calm (leaving (Refused (code_of why)) (stands connection) n)) { owed = [] }
+unfolding answered
+rest_denied op why connection texts n =
+    ap (λ v. judged_reply v (reply_code (refusal_text why)) texts (calm (busy (Doing op Steps.Restart) connection n))) (is_negative why)
+    ∙ ap (λ code. record (calm (leaving (Refused code) (stands connection) n)) { owed = [] }) (tells_code why)
+
+-- ---- the client: replies to RETR
+
+module _ (offset : Option ℕ) (text : List ℕ) (how : How) (settings : Representation) (came : List ℕ) (n : Near) where
+  pub begins_over : (ending : Ending) (texts : List ReplyText)
+      → answered 150 texts (calm (busy (fetching (fetch offset text how) Replies.Nothing settings came) (NearData.Over ending) n))
+      ≡ record (calm (busy (fetching (fetch offset text how) Replies.Begun settings came) (NearData.Over ending) n)) { owed = [] }
+  unfolding answered
+  begins_over ending texts = refl
+
+  pub ends_over : (ending : Ending) (code : ℕ) (said : Said) (texts : List ReplyText)
+      → judged ending Aborts.Unsent 226 (fetch offset text how) (Receiving (decoder_of settings came) (mark_in (no_octets settings) None came)) ≡ Some said
+      → answered 226 texts (calm (busy (fetching (fetch offset text how) Replies.Begun settings came) (NearData.Over ending) n)) ≡ record (calm (leaving said false n)) { owed = [] }
+  unfolding answered
+  ends_over ending code said texts is =
+      ap (λ o. finishes_read o (calm (busy (fetching (fetch offset text how) (Replies.Final 226) settings came) (NearData.Over ending) n))) is
+
+  pub breaks_over : (said : Said) (texts : List ReplyText)
+      → judged Endings.Broken Aborts.Unsent 426 (fetch offset text how) (Receiving (decoder_of settings came) (mark_in (no_octets settings) None came)) ≡ Some said
+      → answered 426 texts (calm (busy (fetching (fetch offset text how) Replies.Begun settings came) (NearData.Over Endings.Broken) n)) ≡ record (calm (leaving said false n)) { owed = [] }
+  unfolding answered
+  breaks_over said texts is =
+      ap (λ o. finishes_read o (calm (busy (fetching (fetch offset text how) (Replies.Final 426) settings came) (NearData.Over Endings.Broken) n))) is
+
+  -- the link that it gave up is no other to close
+  as_it_stood : (said : Said) (b : Bool) → record (calm (leaving said (b || false) n)) { owed = [] } ≡ record (calm (leaving said b n)) { owed = [] }
+  as_it_stood said true = refl
+  as_it_stood said false = refl
+
+  pub denied : (why : Refusal) (connection : NearConnection) (texts : List ReplyText)
+      → answered (reply_code (refusal_text why)) texts (calm (busy (fetching (fetch offset text how) Replies.Nothing settings came) connection n))
+      ≡ record (calm (leaving (Refused (code_of why)) (stands connection) n)) { owed = [] }
+  unfolding answered
+  denied Refusals.LocalFault connection texts = as_it_stood (Refused (code_of Refusals.LocalFault)) (stands connection)
+  denied Refusals.NoRoom connection texts = as_it_stood (Refused (code_of Refusals.NoRoom)) (stands connection)
+  denied Refusals.BadArgument connection texts = as_it_stood (Refused (code_of Refusals.BadArgument)) (stands connection)
+  denied Refusals.BadParameter connection texts = as_it_stood (Refused (code_of Refusals.BadParameter)) (stands connection)
+  denied Refusals.NotLoggedIn connection texts = as_it_stood (Refused (code_of Refusals.NotLoggedIn)) (stands connection)
+  denied Refusals.Unavailable connection texts = as_it_stood (Refused (code_of Refusals.Unavailable)) (stands connection)
+  denied Refusals.TooMuch connection texts = as_it_stood (Refused (code_of Refusals.TooMuch)) (stands connection)
+  denied Refusals.BadName connection texts = as_it_stood (Refused (code_of Refusals.BadName)) (stands connection)
+
+  pub unopened : (connection : NearConnection) (texts : List ReplyText)
+      → answered 425 texts (calm (busy (fetching (fetch offset text how) Replies.Nothing settings came) connection n)) ≡ record (calm (leaving Unopened (stands connection) n)) { owed = [] }
+  unfolding answered
+  unopened connection texts = as_it_stood Unopened (stands connection)
+
+-- while the link is open, by the offset
+pub begins_open : (offset : Option ℕ) (text : List ℕ) (how : How) (settings : Representation) (came : List ℕ) (n : Near) (texts : List ReplyText)
+    → answered 150 texts (calm (busy (fetching (fetch offset text how) Replies.Nothing settings came) NearData.Open n))
+    ≡ record (calm (busy (fetching (fetch offset text how) Replies.Begun settings came) NearData.Open n)) { owed = [] }
+unfolding answered
+begins_open None text how settings came n texts = refl
+begins_open (Some offset) text how settings came n texts = refl
+
+pub ends_open : (offset : Option ℕ) (text : List ℕ) (how : How) (settings : Representation) (came : List ℕ) (n : Near) (texts : List ReplyText)
+    → answered 226 texts (calm (busy (fetching (fetch offset text how) Replies.Begun settings came) NearData.Open n))
+    ≡ record (calm (busy (fetching (fetch offset text how) (Replies.Final 226) settings came) NearData.Open n)) { owed = [] }
+unfolding answered
+ends_open None text how settings came n texts = refl
+ends_open (Some offset) text how settings came n texts = refl
+
+-- ---- the server: REST
+
+-- its session while these octets are to be given
+abbrev pub giving : List ℕ → Far → Session
+giving wire f = record (cleared f) { connection = FarData.Transferring (Transfers.Download wire) }
+
+-- what the direct run sees of a steady session
+same_direct : (state : State) (settings : Representation) (n : Near) (f : Far) → IsSteady state settings (kept n f) → direct_of (cleared f) ≡ state
+same_direct state settings n f steady = λ i. record { table = steady.table i; root = steady.root i; cwd = steady.cwd i; known = sym steady.known i }
+
+module _ (read : Reading) (reads : IsReading read) (state : State) (how : How) (n : Near) (f : Far) (steady : IsSteady state how.representation (kept n f))
+    (idle : is_connection_busy f.session.connection ≡ false) where
+  rest_decided : (offset : ℕ) (why : Option Refusal) → offset_refusal offset how ≡ why → decides (Commands.Rest offset) f ≡ rests why offset (cleared f)
+  rest_decided offset why is =
+      decides_known (Commands.Rest offset) f steady.access
+      ∙ ap (λ settings. rests (offset_refusal offset (how_in_force settings)) offset (cleared f)) steady.settings_are
+      ∙ ap (λ w. rests w offset (cleared f)) is
+
+  pub granted_turn : (offset : ℕ) → offset < 10 ^ 18 → offset_refusal offset how ≡ None
+      → heard_line (read (line_of (Commands.Rest offset))) (still f)
+      ≡ record (still (with_session (record (cleared f) { pending = Pendings.Restart offset }) f)) { owed = row_octets (rest_reply offset ∷ []) }
+  granted_turn offset few none =
+      far_turn_is read (Commands.Rest offset) f (record (cleared f) { pending = Pendings.Restart offset }) (Kinds.Restarting offset) (rest_reply offset)
+      reads tt few refl idle (rest_decided offset None none) idle refl
+
+  pub denied_turn : (offset : ℕ) (why : Refusal) → offset < 10 ^ 18 → offset_refusal offset how ≡ Some why
+      → heard_line (read (line_of (Commands.Rest offset))) (still f) ≡ record (still (with_session (cleared f) f)) { owed = row_octets (fixed_reply (refusal_text why) ∷ []) }
+  denied_turn offset why few some =
+      far_turn_is read (Commands.Rest offset) f (cleared f) (Kinds.Fixed (refusal_text why)) (fixed_reply (refusal_text why))
+      reads tt few refl idle (rest_decided offset (Some why) some) idle refl
+
+  -- ---- the server: RETR
+
+  module _ (offset : Option ℕ) (text : List ℕ) (path : IsPathText text) (pending : f.session.pending ≡ offset_pending offset) where
+    place_is : (offset : Option ℕ) → place_of (offset_pending offset) (path_of (cleared f) text) (cleared f) ≡ place_in_file state offset text how
+    place_is None = refl
+    place_is (Some offset) =
+        λ i. place_at (same_direct state how.representation n f steady i) (resolved (steady.cwd i) text) (how_in_force (steady.settings_are i)) offset
+
+    retr_decided : (why : Option Refusal) → why_not state offset text how ≡ why
+        → decides (Commands.Retr text) f ≡ transfer_starts why (Transfers.Download (fetched_wire state offset text how)) (cleared f)
+    retr_decided why is =
+        let place : place_of f.session.pending (path_of (cleared f) text) (cleared f) ≡ place_in_file state offset text how =
+        ap (λ p. place_of p (path_of (cleared f) text) (cleared f)) pending ∙ place_is offset in
+        decides_known (Commands.Retr text) f steady.access
+        ∙ (λ i. transfer_starts (or_refused (refused_file (same_direct state how.representation n f steady i) text) (refused_there (misplaced (place i))))
+        (Transfers.Download (file_wire (steady.settings_are i) (unwrap_or (place i) 0) (drop (unwrap_or (place i) 0) (file_of (same_direct state how.representation n f steady i) text)))) (cleared f))
+        ∙ ap (λ w. transfer_starts w (Transfers.Download (fetched_wire state offset text how)) (cleared f)) is
+
+    pub refuses_turn : (why : Refusal) → why_not state offset text how ≡ Some why
+        → heard_line (read (line_of (Commands.Retr text))) (still f) ≡ record (still (with_session (forgotten (cleared f)) f)) { owed = row_octets (fixed_reply (refusal_text why) ∷ []) }
+    refuses_turn why is =
+        far_turn_is read (Commands.Retr text) f (forgotten (cleared f)) (Kinds.Fixed (refusal_text why)) (fixed_reply (refusal_text why))
+        reads tt path refl idle (retr_decided (Some why) is) refl refl
+
+    pub unopens_turn : why_not state offset text how ≡ None → f.session.connection ≡ FarData.Free
+        → heard_line (read (line_of (Commands.Retr text))) (still f) ≡ record (still (with_session (cleared f) f)) { owed = row_octets (fixed_reply Texts.NoConnection ∷ []) }
+    unopens_turn none free =
+        far_turn_is read (Commands.Retr text) f (cleared f) (Kinds.Fixed Texts.NoConnection) (fixed_reply Texts.NoConnection)
+        reads tt path refl idle
+        (retr_decided None none ∙ ap (λ c. begin c (Transfers.Download (fetched_wire state offset text how)) (cleared f)) free) idle refl
+
+    begins_by : why_not state offset text how ≡ None → f.session.connection ≡ FarData.Ready
+        → heard_line (read (line_of (Commands.Retr text))) (still f)
+        ≡ given_out (FarData.Transferring (Transfers.Download (fetched_wire state offset text how))) (turned (giving (fetched_wire state offset text how) f, Kinds.Fixed Texts.Opens) (still f))
+    begins_by none ready =
+        far_hears read (Commands.Retr text) f (giving (fetched_wire state offset text how) f, Kinds.Fixed Texts.Opens) reads tt path refl idle
+        (retr_decided None none ∙ ap (λ c. begin c (Transfers.Download (fetched_wire state offset text how)) (cleared f)) ready)
+
+    pub gives_turn : (octet : ℕ) (more : List ℕ) → why_not state offset text how ≡ None → f.session.connection ≡ FarData.Ready → fetched_wire state offset text how ≡ octet ∷ more
+        → heard_line (read (line_of (Commands.Retr text))) (still f) ≡ record (still (with_session (giving (octet ∷ more) f) f)) { owed = row_octets (fixed_reply Texts.Opens ∷ []) }
+    gives_turn octet more none ready some =
+        begins_by none ready
+        ∙ ap (λ l. given_out (FarData.Transferring (Transfers.Download l)) (turned (giving l f, Kinds.Fixed Texts.Opens) (still f))) some
+        ∙ ap (λ l. record (still (with_session (giving (octet ∷ more) f) f)) { owed = l }) (sym (append-nil _))
+
+    pub gave_turn : why_not state offset text how ≡ None → f.session.connection ≡ FarData.Ready → fetched_wire state offset text how ≡ []
+        → heard_line (read (line_of (Commands.Retr text))) (still f)
+        ≡ record (still (with_session (forgotten (giving [] f)) f)) { owed = row_octets (fixed_reply Texts.Opens ∷ fixed_reply Texts.Complete ∷ []) }
+    gave_turn none ready empty =
+        begins_by none ready
+        ∙ ap (λ l. given_out (FarData.Transferring (Transfers.Download l)) (turned (giving l f, Kinds.Fixed Texts.Opens) (still f))) empty
+        ∙ ap (λ l. record (still (with_session (forgotten (giving [] f)) f)) { owed = reply_octets (fixed_reply Texts.Opens) ++ l }) (sym (append-nil _))

@@ -1,0 +1,185 @@
+-- A download over a passive data connection, Get or GetFrom: what both ends hold while it is under way (RFC 959, sections 3.2 to 3.5 and
+-- 4.1.2; RFC 2428; RFC 3659, section 5).
+use Rattle.std.specs.Prelude.{◌≡◌, ◌⊎◌, ℕ, Bool, true, false, drop, List, [], ◌++◌, codes, decimal, Option, Some, None, if◌then◌else◌}
+use Rattle.std.specs.Option.{unwrap_or}
+use Rattle.ftp_command.specs.declared.command.Command.{Command}
+use Rattle.ftp_command.specs.declared.command.Command.TheVariants as Commands
+use Rattle.ftp_endpoint.specs.Written.{IsTypedHost}
+use Rattle.ftp_endpoint.specs.declared.host.Host.{Host}
+use Rattle.ftp_ends.specs.Decoder.{no_octets, decoder_of}
+use Rattle.ftp_ends.specs.Reply.{Reply, reply_of}
+use Rattle.ftp_operation.specs.declared.op.How.{How}
+use Rattle.ftp_operation.specs.declared.op.Op.{Op}
+use Rattle.ftp_operation.specs.declared.op.Op.TheVariants as Ops
+use Rattle.ftp_path.specs.Path.{Names}
+use Rattle.ftp_representation.specs.declared.representation.Representation.{Representation}
+use Rattle.ftp_tree.specs.Tree.{Table}
+use Rattle.ftp_direct.specs.declared.refusal.Refusal.{Refusal}
+use Rattle.ftp_direct.specs.Direct.{State, file_of, named, or_refused, place_at, refused_file, refused_there}
+use Rattle.ftp_client_machine.specs.Plan.{is_extended}
+use Rattle.ftp_client_machine.specs.View.{View as Near, Job, Doing, Transferring, Told, Receiving}
+use Rattle.ftp_client_machine.specs.declared.client.Abort.TheVariants as Aborts
+use Rattle.ftp_client_machine.specs.declared.client.DataConnection.{DataConnection as NearConnection}
+use Rattle.ftp_client_machine.specs.declared.client.DataConnection.TheVariants as NearData
+use Rattle.ftp_client_machine.specs.declared.client.Replied.{Replied}
+use Rattle.ftp_client_machine.specs.declared.client.Replied.TheVariants as Replies
+use Rattle.ftp_client_machine.specs.declared.client.Standing.TheVariants as Standings
+use Rattle.ftp_client_machine.specs.declared.client.Step.TheVariants as Steps
+use Rattle.ftp_operation.specs.Answer.{Said}
+use Rattle.ftp_server_machine.specs.Act.{is_in}
+use Rattle.ftp_server_machine.specs.Replies.{extended_text, passive_text}
+use Rattle.ftp_server_machine.specs.Transfer.{file_wire, misplaced}
+use Rattle.ftp_server_machine.specs.View.{View as Far, Session, Transfer, all_facts}
+use Rattle.ftp_server_machine.specs.declared.session.Access.{Access}
+use Rattle.ftp_server_machine.specs.declared.session.Asked.{Asked}
+use Rattle.ftp_server_machine.specs.declared.session.Asked.TheVariants as Asking
+use Rattle.ftp_server_machine.specs.declared.session.DataConnection.{DataConnection as FarConnection}
+use Rattle.ftp_server_machine.specs.declared.session.DataConnection.TheVariants as FarData
+use Rattle.ftp_server_machine.specs.declared.session.Facts.{Facts}
+use Rattle.ftp_server_machine.specs.declared.session.Life.TheVariants as Lives
+use Rattle.ftp_server_machine.specs.declared.session.Pending.{Pending}
+use Rattle.ftp_server_machine.specs.declared.session.Pending.TheVariants as Pendings
+use Rattle.ftp_world.specs.Outcome.{mark_in}
+use Rattle.ftp_dialogues.specs.Dialogue.{HasNoTransfer}
+
+-- ---- the operation
+
+-- the client opens its link
+abbrev pub IsPassive : How → Type 0
+IsPassive how = how.active ≡ false
+
+-- a download of a file over such a link
+abbrev pub IsFetch : Op (List ℕ) → Type 0
+IsFetch (Ops.Get text how) = IsPassive how
+IsFetch (Ops.GetFrom text offset how) = IsPassive how
+IsFetch other = ⊥
+
+-- an operation that is a dialogue alone: it has no transfer, or is refused before its link is asked for, as nobody is logged in
+abbrev pub IsDialogue : State → Op (List ℕ) → Type 0
+IsDialogue state op = HasNoTransfer op ⊎ (IsFetch op × (state.known ≡ false))
+
+-- both in one, by the offset
+abbrev pub fetch : Option ℕ → List ℕ → How → Op (List ℕ)
+fetch None text how = Ops.Get text how
+fetch (Some offset) text how = Ops.GetFrom text offset how
+
+-- ---- the client
+
+-- it has entered, and has this job and this link
+abbrev pub busy : Job → NearConnection → Near → Near
+busy job connection n = record n { standing = Standings.Entered; job = job; run = None; connection = connection; closing = false }
+
+-- the job whose command was sent: replies that came, and octets that came
+abbrev pub fetching : Op (List ℕ) → Replied → Representation → List ℕ → Job
+fetching op replied settings came =
+    Transferring op (record { replied = replied; abort = Aborts.Unsent; flow = Receiving (decoder_of settings came) (mark_in (no_octets settings) None came) })
+
+-- it has told this, and its link is to be closed or not
+abbrev pub leaving : Said → Bool → Near → Near
+leaving said closing n = record n { standing = Standings.Entered; job = Told said; run = None; connection = NearData.Free; closing = closing }
+
+-- the first job and the first command behind the opening: REST where there is an offset, else RETR
+abbrev pub opened_job : Option ℕ → List ℕ → How → Job
+opened_job None text how = fetching (fetch None text how) Replies.Nothing how.representation []
+opened_job (Some offset) text how = Doing (fetch (Some offset) text how) Steps.Restart
+
+abbrev pub opened_command : Option ℕ → List ℕ → Command (List ℕ)
+opened_command None text = Commands.Retr text
+opened_command (Some offset) text = Commands.Rest offset
+
+-- ---- the server
+
+-- a session with this data connection, which is to be closed or not, and with this pending for the next line
+abbrev pub linked : FarConnection Transfer → Bool → Pending Names → Session → Session
+linked connection closing pending s = record s { connection = connection; closing = closing; pending = pending; life = Lives.Running }
+
+-- EPSV or PASV was heard
+abbrev pub asked_of : Bool → Asked
+asked_of extended = if extended then Asking.Epsv else Asking.Pasv
+
+-- the reply to it, once there is a port
+abbrev pub port_reply : Bool → Host → ℕ → Reply
+port_reply true host port = reply_of 229 (extended_text port)
+port_reply false host port = reply_of 227 (passive_text (record { host = host; port = port }))
+
+-- REST is accepted
+abbrev pub rest_reply : ℕ → Reply
+rest_reply offset = reply_of 350 (codes "Restarting at " ++ decimal offset)
+
+-- what REST left for RETR
+abbrev pub offset_pending : Option ℕ → Pending Names
+offset_pending None = Pendings.Nothing
+offset_pending (Some offset) = Pendings.Restart offset
+
+-- ---- what no turn changes
+
+-- hosts, settings and what the direct run sees
+pub record Kept : Type 0 where
+  pub near_here : Host
+  pub near_peer : Host
+  pub near_settings : Representation
+  pub far_here : Host
+  pub far_peer : Host
+  pub table : Table
+  pub access : Access (List ℕ)
+  pub root : Names
+  pub cwd : Names
+  pub far_settings : Representation
+  pub facts : Facts
+  pub only_extended : Bool
+
+abbrev pub kept : Near → Far → Kept
+kept n f = record {
+  near_here = n.here;
+  near_peer = n.peer;
+  near_settings = n.settings;
+  far_here = f.footing.here;
+  far_peer = f.footing.peer;
+  table = f.session.table;
+  access = f.session.access;
+  root = f.session.root;
+  cwd = f.session.cwd;
+  far_settings = f.session.settings;
+  facts = f.session.facts;
+  only_extended = f.session.only_extended;
+}
+
+-- each end is the other's peer; the server is in this state, logged in, with these settings and all facts in force
+pub record IsSteady (state : State) (settings : Representation) (k : Kept) : Type 0 where
+  pub peer : k.near_peer ≡ k.far_here
+  pub here : k.near_here ≡ k.far_peer
+  pub typed : IsTypedHost k.far_here
+  pub all_ways : k.only_extended ≡ false
+  pub table : k.table ≡ state.table
+  pub known : state.known ≡ true
+  pub access : is_in k.access ≡ true
+  pub root : k.root ≡ state.root
+  pub cwd : k.cwd ≡ state.cwd
+  pub settings_are : k.far_settings ≡ settings
+  pub told : k.near_settings ≡ settings
+  pub facts : k.facts ≡ all_facts
+
+-- the settings are made, and the server was asked for a port
+pub record PortIsAsked (state : State) (op : Op (List ℕ)) (settings : Representation) (n : Near) (f : Far) : Type 0 where
+  pub near : n ≡ busy (Doing op Steps.Passive) NearData.Free n
+  pub closing : Bool
+  pub session : f.session ≡ linked (FarData.Asked (asked_of (is_extended n op))) closing Pendings.Nothing f.session
+  pub steady : IsSteady state settings (kept n f)
+
+-- ---- what is sent, and why nothing is
+
+-- where a download begins in its file, if there is such a place
+abbrev pub place_in_file : State → Option ℕ → List ℕ → How → Option ℕ
+place_in_file state None text how = Some 0
+place_in_file state (Some offset) text how = place_at state (named state text) how offset
+
+-- why RETR is refused
+abbrev pub why_not : State → Option ℕ → List ℕ → How → Option Refusal
+why_not state offset text how = or_refused (refused_file state text) (refused_there (misplaced (place_in_file state offset text how)))
+
+-- the octets of the link
+abbrev pub wire_from : State → List ℕ → How → ℕ → List ℕ
+wire_from state text how place = file_wire how.representation place (drop place (file_of state text))
+
+abbrev pub fetched_wire : State → Option ℕ → List ℕ → How → List ℕ
+fetched_wire state offset text how = wire_from state text how (unwrap_or (place_in_file state offset text how) 0)
