@@ -47,6 +47,7 @@ pub data Tie : Type 0 where
   Joined Parting Left : Tie
   Over : (ending : Ending) → Tie
 
+-- the link of the world
 abbrev pub link_of : Tie → Link
 link_of Joined = Opened
 link_of Parting = Opened
@@ -65,6 +66,7 @@ abbrev pub far_link : FarConnection Transfer → Tie → FarConnection Transfer
 far_link connection Joined = connection
 far_link connection tie = FarData.Free
 
+-- the server is to close it
 abbrev pub is_parting : Tie → Bool
 is_parting Parting = true
 is_parting tie = false
@@ -90,6 +92,7 @@ pub data Restart : Type 0 where
 pub data Heard : Type 0 where
   NoReply OneReply BothReplies : Heard
 
+-- as the client holds them
 abbrev pub replied_of : Heard → Replied
 replied_of NoReply = Replies.Nothing
 replied_of OneReply = Replies.Begun
@@ -116,6 +119,7 @@ pub data Course : Type 0 where
   Refusing : (why : Refusal) → (gap : Gap) → Course
   Unopened : Course
 
+-- what the client has heard in each course
 abbrev pub heard_of : Course → Heard
 heard_of (Giving begun octet more) = heard_by begun
 heard_of (Given heard left) = heard
@@ -129,15 +133,18 @@ abbrev pub ending_by : Bool → Ending
 ending_by true = Endings.Clean
 ending_by false = Endings.Broken
 
+-- as a link
 abbrev pub gap_tie : Gap → Tie
 gap_tie Unclosed = Parting
 gap_tie Closed = Left
 gap_tie (Lost clean) = Over (ending_by clean)
 
+-- the server is to close the link, or has closed it
 abbrev pub left_tie : Bool → Tie
 left_tie false = Parting
 left_tie true = Left
 
+-- how the link stands in each course
 abbrev pub tie_of : Course → Tie
 tie_of (Giving begun octet more) = Joined
 tie_of (Given heard left) = left_tie left
@@ -177,20 +184,24 @@ pub record Carry : Type 0 where
 pub data Leaving : Type 0 where
   NoLink PortAside LinkOpen LinkLeft LinkParting : Leaving
 
+-- the client has something to close
 abbrev pub is_to_close : Leaving → Bool
 is_to_close NoLink = false
 is_to_close PortAside = false
 is_to_close leaves = true
 
+-- what the server still holds of the link
 abbrev pub far_leaves : Leaving → FarConnection Transfer
 far_leaves PortAside = FarData.Passive
 far_leaves LinkOpen = FarData.Ready
 far_leaves leaves = FarData.Free
 
+-- the server has something to close
 abbrev pub far_parting : Leaving → Bool
 far_parting LinkParting = true
 far_parting leaves = false
 
+-- the link of the world
 abbrev pub link_left : Leaving → Link
 link_left NoLink = Gone
 link_left PortAside = Gone
@@ -219,6 +230,7 @@ is_passing (Answers said leaves) = true
 is_passing stage = false
 
 module _ (state : State) (offset : Option ℕ) (text : List ℕ) (how : How) where
+  -- the operation
   abbrev pub fetched_op : Op (List ℕ)
   fetched_op = fetch offset text how
 
@@ -232,7 +244,7 @@ module _ (state : State) (offset : Option ℕ) (text : List ℕ) (how : How) whe
   near_at (Carries c) n = busy (fetching fetched_op (replied_of (heard_of c.course)) how.representation c.came) (near_link (tie_of c.course)) n
   near_at (Answers said leaves) n = leaving said (is_to_close leaves) n
 
-  -- the server's data connection, by what the client asked for; whether it is to be closed; and what is pending for its next line
+  -- the server's data connection, by what the client asked for
   abbrev pub far_at : Stage → Bool → FarConnection Transfer
   far_at (PortAsked closing) extended = FarData.Asked (asked_of extended)
   far_at (PortTold port) extended = FarData.Passive
@@ -242,17 +254,20 @@ module _ (state : State) (offset : Option ℕ) (text : List ℕ) (how : How) whe
   far_at (Carries c) extended = far_link (gives_on c.course) (tie_of c.course)
   far_at (Answers said leaves) extended = far_leaves leaves
 
+  -- whether it is to be closed
   abbrev pub closing_at : Stage → Bool
   closing_at (PortAsked closing) = closing
   closing_at (Carries c) = is_parting (tie_of c.course)
   closing_at (Answers said leaves) = far_parting leaves
   closing_at stage = false
 
+  -- what is pending for the server's next line
   abbrev pub pending_at : Stage → Pending Names
   pending_at (Restarts at Granted joined) = Pendings.Restart at
   pending_at (Retrieves joined) = offset_pending offset
   pending_at stage = Pendings.Nothing
 
+  -- the link of the world
   abbrev pub link_at : Stage → Link
   link_at (Restarts at restart joined) = link_of (early_tie joined)
   link_at (Retrieves joined) = link_of (early_tie joined)
@@ -266,6 +281,7 @@ module _ (state : State) (offset : Option ℕ) (text : List ℕ) (how : How) whe
   rest_way at Granted = Answering (rest_reply at ∷ [])
   rest_way at (Denied why) = Answering (fixed_reply (refusal_text why) ∷ [])
 
+  -- the line or the replies of each stage
   abbrev pub way_at : Stage → Bool → Host → Way
   way_at (PortTold port) extended host = Answering (port_reply extended host port ∷ [])
   way_at (Restarts at restart joined) extended host = rest_way at restart
@@ -307,7 +323,7 @@ module _ (state : State) (offset : Option ℕ) (text : List ℕ) (how : How) whe
   abbrev pub IsTaken : Type 0
   IsTaken = (why_not state offset text how ≡ None) × (refusal state fetched_op ≡ None)
 
-  -- and its text is this
+  -- its text
   abbrev pub wire : List ℕ
   wire = fetched_wire state offset text how
 
@@ -319,6 +335,7 @@ module _ (state : State) (offset : Option ℕ) (text : List ℕ) (how : How) whe
   abbrev pub IsEmpty : List ℕ → List ℕ → Type 0
   IsEmpty came queue = (came ≡ []) × (queue ≡ [])
 
+  -- the octets that came and those on their way, with those still to be given, are the text; where the link broke, those that came are a front of it
   abbrev pub Flows : Course → (came queue : List ℕ) → Type 0
   Flows (Giving begun octet more) came queue = IsTaken × (came ++ (queue ++ octet ∷ more) ≡ wire)
   Flows (Given heard left) came queue = IsTaken × (came ++ queue ≡ wire)
@@ -339,9 +356,11 @@ module _ (state : State) (offset : Option ℕ) (text : List ℕ) (how : How) whe
   IsPlaced None = Unit {0}
   IsPlaced (Some at) = offset_refusal at how ≡ None
 
+  -- a port that can be told
   abbrev pub HasPort : ℕ → Type 0
   HasPort port = (1 ≤ port) × (port < 65536)
 
+  -- all of these, by stage
   abbrev pub FineAt : Stage → List Mark → Type 0
   FineAt (PortAsked closing) own = Unit {0}
   FineAt (PortTold port) own = HasPort port

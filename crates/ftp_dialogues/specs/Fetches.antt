@@ -83,6 +83,7 @@ abbrev pub opened_job : Option ℕ → List ℕ → How → Job
 opened_job None text how = fetching (fetch None text how) Replies.Nothing how.representation []
 opened_job (Some offset) text how = Doing (fetch (Some offset) text how) Steps.Restart
 
+-- the command of that job
 abbrev pub opened_command : Option ℕ → List ℕ → Command (List ℕ)
 opened_command None text = Commands.Retr text
 opened_command (Some offset) text = Commands.Rest offset
@@ -128,6 +129,7 @@ pub record Kept : Type 0 where
   pub facts : Facts
   pub only_extended : Bool
 
+-- of both ends
 abbrev pub kept : Near → Far → Kept
 kept n f = record {
   near_here = n.here;
@@ -181,5 +183,6 @@ why_not state offset text how = or_refused (refused_file state text) (refused_th
 abbrev pub wire_from : State → List ℕ → How → ℕ → List ℕ
 wire_from state text how place = file_wire how.representation place (drop place (file_of state text))
 
+-- from the place where the download begins
 abbrev pub fetched_wire : State → Option ℕ → List ℕ → How → List ℕ
 fetched_wire state offset text how = wire_from state text how (unwrap_or (place_in_file state offset text how) 0)
