@@ -13,7 +13,6 @@ use ftp_server_machine::{Heard, ReplyKind};
 use ftp_session::{Footing, Session};
 use ftp_tree::MemTree;
 use std::alloc::{AllocError, Allocator, Global};
-use std::test::Fail;
 
 /// A line without its end, and the octets of the reply.
 pub(crate) type Row = (&'static [u8], &'static [u8]);
@@ -107,21 +106,29 @@ fn owes<A: Allocator>(mut output: Output<A>, wanted: &[u8]) -> bool {
     output.len() == 0 && wanted.len() == count && wanted == &room[..count]
 }
 
-/// Whether a session answers a line so. A port that was asked for is forgotten first.
+/// Whether a session answers a line so.
 pub(crate) fn answers<A: Allocator + Copy>(
     footing: &Footing<A>,
     session: &mut Session<A, MemTree<A>, Idle>,
     line: &[u8],
     reply: &[u8],
 ) -> Result<bool, AllocError> {
+    let kind = decided(footing, session, line)?;
+    let output = said(session.alloc, session, &kind)?;
+    Ok(owes(output, reply))
+}
+
+/// What a session decides on a line. A port that was asked for is forgotten first.
+fn decided<A: Allocator + Copy>(
+    footing: &Footing<A>,
+    session: &mut Session<A, MemTree<A>, Idle>,
+    line: &[u8],
+) -> Result<ReplyKind<Path<A>>, AllocError> {
     if session.is_busy() {
         session.forget();
     }
     let heard = heard(session.alloc, line);
-    match session.decide(footing, heard) {
-        Ok(kind) => Ok(owes(said(session.alloc, session, &kind)?, reply)),
-        Err(_) => Err(AllocError),
-    }
+    session.decide(footing, heard).ok().ok_or(AllocError)
 }
 
 /// The place of the first line that a session answers otherwise.
@@ -139,7 +146,7 @@ pub(crate) fn first_other(
 }
 
 /// Whether a new session over the root alone answers these lines so.
-pub(crate) fn all_answer(alloc: Global, here: Host, rows: &[Row]) -> Result<bool, Fail> {
+pub(crate) fn all_answer(alloc: Global, here: Host, rows: &[Row]) -> Result<bool, AllocError> {
     let footing = footing(alloc, here)?;
     let mut session = Session::new(alloc, MemTree::new(alloc));
     Ok(first_other(&footing, &mut session, rows)?.is_none())

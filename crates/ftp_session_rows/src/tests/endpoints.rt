@@ -4,8 +4,7 @@ use crate::Idle;
 use ftp_server_machine::{DataConnection, Pending};
 use ftp_session::Session;
 use ftp_tree::MemTree;
-use std::alloc::Global;
-use std::test::Fail;
+use std::alloc::{AllocError, Global};
 
 /// PORT to another host or to a port below 1024 is refused; after EPSV ALL each of PORT, EPRT and PASV is.
 const OVER_IPV4: &'static [Row] = &[
@@ -41,15 +40,13 @@ const OVER_IPV6: &'static [Row] = &[
 ];
 
 #[test]
-fn over_ipv4(rt: HostRuntime) -> Result<(), Fail> {
-    assert!(&rt; all_answer(rt.alloc(), HERE, OVER_IPV4)?);
-    Ok(())
+fn over_ipv4(rt: HostRuntime) {
+    assert!(&rt; all_answer(rt.alloc(), HERE, OVER_IPV4) == Ok(true));
 }
 
 #[test]
-fn over_ipv6(rt: HostRuntime) -> Result<(), Fail> {
-    assert!(&rt; all_answer(rt.alloc(), HERE_V6, OVER_IPV6)?);
-    Ok(())
+fn over_ipv6(rt: HostRuntime) {
+    assert!(&rt; all_answer(rt.alloc(), HERE_V6, OVER_IPV6) == Ok(true));
 }
 
 /// An endpoint that is refused leaves none; REST stands for one line alone.
@@ -60,18 +57,23 @@ const FOREIGN: &'static [Row] = &[
     (b"REST 5", b"350 Restarting at 5\r\n"),
 ];
 
-#[test]
-fn what_is_left_of_an_endpoint_and_a_place(rt: HostRuntime) -> Result<(), Fail> {
-    let alloc = rt.alloc();
+const NEXT: &'static [Row] = &[(b"NOOP", b"200 Ok\r\n")];
+
+/// Whether the endpoint is gone and the place is kept for one line alone.
+fn is_left_so(alloc: Global) -> Result<bool, AllocError> {
     let footing = footing(alloc, HERE)?;
     let mut session: Session<Global, MemTree<Global>, Idle> = Session::new(
         alloc,
         MemTree::new(alloc),
     );
-    assert!(&rt; first_other(&footing, &mut session, FOREIGN)?.is_none());
-    assert!(&rt; matches!(session.connection, DataConnection::Free));
-    assert!(&rt; matches!(session.pending, Pending::Restart(5)));
-    assert!(&rt; first_other(&footing, &mut session, &[(b"NOOP", b"200 Ok\r\n")])?.is_none());
-    assert!(&rt; matches!(session.pending, Pending::Nothing));
-    Ok(())
+    let refused = first_other(&footing, &mut session, FOREIGN)?.is_none();
+    let free = matches!(session.connection, DataConnection::Free);
+    let kept = matches!(session.pending, Pending::Restart(5));
+    let next = first_other(&footing, &mut session, NEXT)?.is_none();
+    Ok(refused && free && kept && next && matches!(session.pending, Pending::Nothing))
+}
+
+#[test]
+fn what_is_left_of_an_endpoint_and_a_place(rt: HostRuntime) {
+    assert!(&rt; is_left_so(rt.alloc()) == Ok(true));
 }

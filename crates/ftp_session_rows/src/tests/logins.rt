@@ -1,6 +1,5 @@
 //! Who is logged in, and the order of decisions (RFC 959, sections 4.1.1 and 5.4).
 use super::dialogue::{HERE, Row, all_answer};
-use std::test::Fail;
 
 const PASSWORD: &'static [Row] = &[
     (b"PWD", b"530 Not logged in\r\n"),
@@ -52,19 +51,16 @@ const FREE: &'static [Row] = &[
 ];
 
 #[test]
-fn a_login_with_a_password(rt: HostRuntime) -> Result<(), Fail> {
-    assert!(&rt; all_answer(rt.alloc(), HERE, PASSWORD)?);
-    Ok(())
+fn a_login_with_a_password(rt: HostRuntime) {
+    assert!(&rt; all_answer(rt.alloc(), HERE, PASSWORD) == Ok(true));
 }
 
 #[test]
-fn a_login_without_one(rt: HostRuntime) -> Result<(), Fail> {
-    assert!(&rt; all_answer(rt.alloc(), HERE, OPEN)?);
-    Ok(())
+fn a_login_without_one(rt: HostRuntime) {
+    assert!(&rt; all_answer(rt.alloc(), HERE, OPEN) == Ok(true));
 }
 
 #[test]
-fn before_a_login(rt: HostRuntime) -> Result<(), Fail> {
-    assert!(&rt; all_answer(rt.alloc(), HERE, FREE)?);
-    Ok(())
+fn before_a_login(rt: HostRuntime) {
+    assert!(&rt; all_answer(rt.alloc(), HERE, FREE) == Ok(true));
 }

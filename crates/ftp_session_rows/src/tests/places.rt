@@ -4,8 +4,7 @@ use crate::Idle;
 use ftp_facts::Moment;
 use ftp_session::Session;
 use ftp_tree::{Content, MemTree, Tree};
-use std::alloc::Global;
-use std::test::Fail;
+use std::alloc::{AllocError, Global};
 
 const DIRECTORIES: &'static [Row] = &[
     (b"USER anonymous", b"230 Logged in\r\n"),
@@ -74,47 +73,41 @@ const FILE: &'static [Row] = &[
 ];
 
 #[test]
-fn directories(rt: HostRuntime) -> Result<(), Fail> {
-    assert!(&rt; all_answer(rt.alloc(), HERE, DIRECTORIES)?);
-    Ok(())
+fn directories(rt: HostRuntime) {
+    assert!(&rt; all_answer(rt.alloc(), HERE, DIRECTORIES) == Ok(true));
 }
 
 #[test]
-fn renames(rt: HostRuntime) -> Result<(), Fail> {
-    assert!(&rt; all_answer(rt.alloc(), HERE, RENAMES)?);
-    Ok(())
+fn renames(rt: HostRuntime) {
+    assert!(&rt; all_answer(rt.alloc(), HERE, RENAMES) == Ok(true));
 }
 
-/// A tree with the file.
-fn tree_with_file(alloc: Global) -> Result<MemTree<Global>, Fail> {
-    let mut tree = MemTree::new(alloc);
+/// Puts the file into a tree.
+fn put_file(alloc: Global, tree: &mut MemTree<Global>) -> Result<bool, AllocError> {
     let mut content = Content::new(alloc);
     content.push(b"a\n")?;
     let top = path(alloc, b"/")?;
     let file = path(alloc, b"/f")?;
-    let moment = Moment { seconds: 1000 };
-    if tree.install(&top, &file, &mut content, moment).is_err() {
-        return Err("not installed".into());
-    }
-    Ok(tree)
+    Ok(
+        tree.install(&top, &file, &mut content, Moment { seconds: 1000 })
+            .is_ok(),
+    )
+}
+
+const LOGIN: &'static [Row] = &[(b"USER anonymous", b"230 Logged in\r\n")];
+
+/// Whether a session over a tree with the file answers as the rows say.
+fn all_of_file(alloc: Global) -> Result<bool, AllocError> {
+    let mut tree = MemTree::new(alloc);
+    let has_file = put_file(alloc, &mut tree)?;
+    let footing = footing(alloc, HERE)?;
+    let mut session: Session<Global, MemTree<Global>, Idle> = Session::new(alloc, tree);
+    let login = first_other(&footing, &mut session, LOGIN)?;
+    let file = first_other(&footing, &mut session, FILE)?;
+    Ok(has_file && login.is_none() && file.is_none())
 }
 
 #[test]
-fn what_is_asked_of_a_file(rt: HostRuntime) -> Result<(), Fail> {
-    let alloc = rt.alloc();
-    let footing = footing(alloc, HERE)?;
-    let mut session: Session<Global, MemTree<Global>, Idle> = Session::new(
-        alloc,
-        tree_with_file(alloc)?,
-    );
-    assert!(&rt;
-        first_other(
-            &footing,
-            &mut session,
-            &[(b"USER anonymous", b"230 Logged in\r\n")]
-        )?
-        .is_none()
-    );
-    assert!(&rt; first_other(&footing, &mut session, FILE)?.is_none());
-    Ok(())
+fn what_is_asked_of_a_file(rt: HostRuntime) {
+    assert!(&rt; all_of_file(rt.alloc()) == Ok(true));
 }

@@ -1,6 +1,5 @@
 //! The settings, OPTS and REST (RFC 959, section 4.1.2; RFC 2389; RFC 3659, sections 5 and 7).
 use super::dialogue::{HERE, Row, all_answer};
-use std::test::Fail;
 
 const FACTS: &'static [Row] = &[
     (
@@ -32,13 +31,11 @@ const PLACES: &'static [Row] = &[
 ];
 
 #[test]
-fn facts(rt: HostRuntime) -> Result<(), Fail> {
-    assert!(&rt; all_answer(rt.alloc(), HERE, FACTS)?);
-    Ok(())
+fn facts(rt: HostRuntime) {
+    assert!(&rt; all_answer(rt.alloc(), HERE, FACTS) == Ok(true));
 }
 
 #[test]
-fn places(rt: HostRuntime) -> Result<(), Fail> {
-    assert!(&rt; all_answer(rt.alloc(), HERE, PLACES)?);
-    Ok(())
+fn places(rt: HostRuntime) {
+    assert!(&rt; all_answer(rt.alloc(), HERE, PLACES) == Ok(true));
 }
