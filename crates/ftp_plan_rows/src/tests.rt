@@ -1,0 +1,3 @@
+mod answers;
+mod heard;
+mod sent;
