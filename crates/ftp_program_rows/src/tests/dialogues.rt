@@ -21,12 +21,24 @@ const PIECES: &[u32] = &[0, 1, 2, 7, 4096, 4_294_967_295];
 
 /// Whether it is answered so, whatever the pieces are.
 fn is_answered(alloc: Global, row: Row<'_>) -> bool {
-    PIECES.iter().all(|piece| answers(alloc, *piece, row))
+    for piece in PIECES {
+        if !answers(alloc, *piece, row) {
+            return false;
+        }
+    }
+    true
 }
 
 /// The number of the first row that is answered otherwise.
 fn wrong_row(alloc: Global, rows: &[Row<'static>]) -> Option<usize> {
-    rows.iter().position(|row| !is_answered(alloc, *row))
+    let mut at = 0usize;
+    for row in rows {
+        if !is_answered(alloc, *row) {
+            return Some(at);
+        }
+        at = at.saturating_add(1);
+    }
+    None
 }
 
 const WORKED: &[Row<'static>] = &[
@@ -223,12 +235,20 @@ fn growth(alloc: Global, refused: u64) -> (bool, u64) {
     )
 }
 
+/// Whether the talk is whole and asks for growths, and each that is refused breaks it off.
+fn all_growths_refused(alloc: Global) -> bool {
+    let (is_whole, left) = growth(alloc, 0);
+    for refused in 1..=0u64.wrapping_sub(left) {
+        if !growth(alloc, refused).0 {
+            return false;
+        }
+    }
+    is_whole && left != 0
+}
+
 #[test]
 fn each_growth_refused(rt: HostRuntime) {
-    let (is_whole, left) = growth(rt.alloc(), 0);
-    assert!(&rt; is_whole && left != 0);
-    let growths = 0u64.wrapping_sub(left);
-    assert!(rt; (1..=growths).all(|refused| growth(rt.alloc(), refused).0));
+    assert!(&rt; all_growths_refused(rt.alloc()));
 }
 
 /// Twelve reads of three octets give the whole talk.
@@ -239,9 +259,19 @@ fn read_failed(alloc: Global, fails_at: u32) -> bool {
     is_left(fails_at < 12, status, writer.as_slice())
 }
 
+/// Whether it ends so whichever of the first 20 reads fails.
+fn all_reads_failed(alloc: Global) -> bool {
+    for fails_at in 0..20u32 {
+        if !read_failed(alloc, fails_at) {
+            return false;
+        }
+    }
+    true
+}
+
 #[test]
 fn each_read_failed(rt: HostRuntime) {
-    assert!(rt; (0..20u32).all(|fails_at| read_failed(rt.alloc(), fails_at)));
+    assert!(&rt; all_reads_failed(rt.alloc()));
 }
 
 /// Each reply goes in writes of five octets, 21 in all, with an interrupted one between two.
@@ -252,7 +282,17 @@ fn write_failed(alloc: Global, fails_at: u32) -> bool {
     is_left(fails_at < 41, status, writer.taken())
 }
 
+/// Whether it ends so whichever of the first 60 writes fails.
+fn all_writes_failed(alloc: Global) -> bool {
+    for fails_at in 0..60u32 {
+        if !write_failed(alloc, fails_at) {
+            return false;
+        }
+    }
+    true
+}
+
 #[test]
 fn each_write_failed(rt: HostRuntime) {
-    assert!(rt; (0..60u32).all(|fails_at| write_failed(rt.alloc(), fails_at)));
+    assert!(&rt; all_writes_failed(rt.alloc()));
 }

@@ -20,12 +20,24 @@ const PIECES: &[usize] = &[1, 2, 3, 4096];
 
 /// Whether it is answered so, whatever the pieces are.
 fn is_answered(alloc: Global, row: Row<'_>) -> bool {
-    PIECES.iter().all(|most| answers(alloc, *most, row))
+    for most in PIECES {
+        if !answers(alloc, *most, row) {
+            return false;
+        }
+    }
+    true
 }
 
 /// The number of the first row that is answered otherwise.
 fn wrong_row(alloc: Global, rows: &[Row<'static>]) -> Option<usize> {
-    rows.iter().position(|row| !is_answered(alloc, *row))
+    let mut at = 0usize;
+    for row in rows {
+        if !is_answered(alloc, *row) {
+            return Some(at);
+        }
+        at = at.saturating_add(1);
+    }
+    None
 }
 
 /// The examples of docs/PROTOCOL.md.
@@ -123,12 +135,20 @@ fn growth(alloc: Global, refused: u64) -> (bool, u64) {
     )
 }
 
+/// Whether the listing is whole and asks for growths, and each that is refused breaks it off.
+fn all_growths_refused(alloc: Global) -> bool {
+    let (is_whole, left) = growth(alloc, 0);
+    for refused in 1..=0u64.wrapping_sub(left) {
+        if !growth(alloc, refused).0 {
+            return false;
+        }
+    }
+    is_whole && left != 0
+}
+
 #[test]
 fn each_growth_refused(rt: HostRuntime) {
-    let (is_whole, left) = growth(rt.alloc(), 0);
-    assert!(&rt; is_whole && left != 0);
-    let growths = 0u64.wrapping_sub(left);
-    assert!(rt; (1..=growths).all(|refused| growth(rt.alloc(), refused).0));
+    assert!(&rt; all_growths_refused(rt.alloc()));
 }
 
 /// Twelve reads of three octets give the listing, and one more its end.
@@ -139,9 +159,19 @@ fn read_failed(alloc: Global, fails_at: u32) -> bool {
     is_left(fails_at < 13, status, writer.as_slice())
 }
 
+/// Whether it ends so whichever of the first 20 reads fails.
+fn all_reads_failed(alloc: Global) -> bool {
+    for fails_at in 0..20u32 {
+        if !read_failed(alloc, fails_at) {
+            return false;
+        }
+    }
+    true
+}
+
 #[test]
 fn each_read_failed(rt: HostRuntime) {
-    assert!(rt; (0..20u32).all(|fails_at| read_failed(rt.alloc(), fails_at)));
+    assert!(&rt; all_reads_failed(rt.alloc()));
 }
 
 /// Each answer goes in writes of five octets, ten in all, with an interrupted one between two.
@@ -152,7 +182,17 @@ fn write_failed(alloc: Global, fails_at: u32) -> bool {
     is_left(fails_at < 19, status, writer.taken())
 }
 
+/// Whether it ends so whichever of the first 40 writes fails.
+fn all_writes_failed(alloc: Global) -> bool {
+    for fails_at in 0..40u32 {
+        if !write_failed(alloc, fails_at) {
+            return false;
+        }
+    }
+    true
+}
+
 #[test]
 fn each_write_failed(rt: HostRuntime) {
-    assert!(rt; (0..40u32).all(|fails_at| write_failed(rt.alloc(), fails_at)));
+    assert!(&rt; all_writes_failed(rt.alloc()));
 }

@@ -71,12 +71,24 @@ const PIECES: &[usize] = &[1, 2, 4095, 4096];
 
 /// Whether a file goes as its wire, whatever the pieces are.
 fn goes_as(alloc: Global, marks: bool, row: Row<'_>) -> bool {
-    PIECES.iter().all(|most| goes(alloc, marks, *most, row))
+    for most in PIECES {
+        if !goes(alloc, marks, *most, row) {
+            return false;
+        }
+    }
+    true
 }
 
 /// The number of the first row whose file goes otherwise.
 fn wrong_row(alloc: Global, marks: bool, rows: &[Row<'static>]) -> Option<usize> {
-    rows.iter().position(|row| !goes_as(alloc, marks, *row))
+    let mut at = 0usize;
+    for row in rows {
+        if !goes_as(alloc, marks, *row) {
+            return Some(at);
+        }
+        at = at.saturating_add(1);
+    }
+    None
 }
 
 #[test]
@@ -132,9 +144,19 @@ fn read_failed(alloc: Global, fails_at: u32) -> bool {
     is_left(fails_at < 6, status, writer.as_slice())
 }
 
+/// Whether it ends so whichever of the first 20 reads fails.
+fn all_reads_failed(alloc: Global) -> bool {
+    for fails_at in 0..20u32 {
+        if !read_failed(alloc, fails_at) {
+            return false;
+        }
+    }
+    true
+}
+
 #[test]
 fn each_read_failed(rt: HostRuntime) {
-    assert!(rt; (0..20u32).all(|fails_at| read_failed(rt.alloc(), fails_at)));
+    assert!(&rt; all_reads_failed(rt.alloc()));
 }
 
 /// The wire goes in ten writes of two octets, with an interrupted one between two.
@@ -145,9 +167,19 @@ fn write_failed(alloc: Global, fails_at: u32) -> bool {
     is_left(fails_at < 19, status, writer.taken())
 }
 
+/// Whether it ends so whichever of the first 60 writes fails.
+fn all_writes_failed(alloc: Global) -> bool {
+    for fails_at in 0..60u32 {
+        if !write_failed(alloc, fails_at) {
+            return false;
+        }
+    }
+    true
+}
+
 #[test]
 fn each_write_failed(rt: HostRuntime) {
-    assert!(rt; (0..60u32).all(|fails_at| write_failed(rt.alloc(), fails_at)));
+    assert!(&rt; all_writes_failed(rt.alloc()));
 }
 
 /// Whether a refused growth, if it is not 0, breaks the file off; and how many growths are left.
@@ -170,10 +202,18 @@ fn growth(alloc: Global, refused: u64) -> (bool, u64) {
     )
 }
 
+/// Whether the file is whole and asks for growths, and each that is refused breaks it off.
+fn all_growths_refused(alloc: Global) -> bool {
+    let (is_whole, left) = growth(alloc, 0);
+    for refused in 1..=0u64.wrapping_sub(left) {
+        if !growth(alloc, refused).0 {
+            return false;
+        }
+    }
+    is_whole && left != 0
+}
+
 #[test]
 fn each_growth_refused(rt: HostRuntime) {
-    let (is_whole, left) = growth(rt.alloc(), 0);
-    assert!(&rt; is_whole && left != 0);
-    let growths = 0u64.wrapping_sub(left);
-    assert!(rt; (1..=growths).all(|refused| growth(rt.alloc(), refused).0));
+    assert!(&rt; all_growths_refused(rt.alloc()));
 }

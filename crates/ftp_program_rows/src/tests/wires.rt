@@ -120,12 +120,24 @@ const PIECES: &[usize] = &[1, 2, 4096];
 
 /// Whether a wire is read as this file with this fault, whatever the pieces are.
 fn reads_as(alloc: Global, row: Row<'_>) -> bool {
-    PIECES.iter().all(|most| reads(alloc, *most, row))
+    for most in PIECES {
+        if !reads(alloc, *most, row) {
+            return false;
+        }
+    }
+    true
 }
 
 /// The number of the first wire that is read otherwise.
 fn wrong_row(alloc: Global, rows: &[Row<'static>]) -> Option<usize> {
-    rows.iter().position(|row| !reads_as(alloc, *row))
+    let mut at = 0usize;
+    for row in rows {
+        if !reads_as(alloc, *row) {
+            return Some(at);
+        }
+        at = at.saturating_add(1);
+    }
+    None
 }
 
 #[test]
@@ -140,8 +152,14 @@ fn files(rt: HostRuntime) {
 
 /// The number of the first file whose wire is read otherwise.
 fn wrong_wire(alloc: Global, rows: &[FileRow<'static>]) -> Option<usize> {
-    rows.iter()
-        .position(|row| !reads_as(alloc, (row.0, row.2, row.1, b"")))
+    let mut at = 0usize;
+    for row in rows {
+        if !reads_as(alloc, (row.0, row.2, row.1, b"")) {
+            return Some(at);
+        }
+        at = at.saturating_add(1);
+    }
+    None
 }
 
 #[test]
@@ -178,9 +196,19 @@ fn read_failed(alloc: Global, fails_at: u32) -> bool {
     is_left(fails_at < 7, status, writer.as_slice(), faults.as_slice())
 }
 
+/// Whether it ends so whichever of the first 20 reads fails.
+fn all_reads_failed(alloc: Global) -> bool {
+    for fails_at in 0..20u32 {
+        if !read_failed(alloc, fails_at) {
+            return false;
+        }
+    }
+    true
+}
+
 #[test]
 fn each_read_failed(rt: HostRuntime) {
-    assert!(rt; (0..20u32).all(|fails_at| read_failed(rt.alloc(), fails_at)));
+    assert!(&rt; all_reads_failed(rt.alloc()));
 }
 
 /// The file goes in seven writes of two octets, with an interrupted one between two.
@@ -200,9 +228,19 @@ fn write_failed(alloc: Global, fails_at: u32) -> bool {
         && is_left(breaks, status, writer.taken(), faults.as_slice())
 }
 
+/// Whether it ends so whichever of the first 60 writes fails.
+fn all_writes_failed(alloc: Global) -> bool {
+    for fails_at in 0..60u32 {
+        if !write_failed(alloc, fails_at) {
+            return false;
+        }
+    }
+    true
+}
+
 #[test]
 fn each_write_failed(rt: HostRuntime) {
-    assert!(rt; (0..60u32).all(|fails_at| write_failed(rt.alloc(), fails_at)));
+    assert!(&rt; all_writes_failed(rt.alloc()));
 }
 
 /// The fault's line goes in nine writes of two octets, with an interrupted one between two.
@@ -224,9 +262,19 @@ fn telling_failed(alloc: Global, fails_at: u32) -> bool {
     is_left(false, status, writer.as_slice(), faults.taken())
 }
 
+/// Whether it ends so whichever of the first 60 tellings fails.
+fn all_tellings_failed(alloc: Global) -> bool {
+    for fails_at in 0..60u32 {
+        if !telling_failed(alloc, fails_at) {
+            return false;
+        }
+    }
+    true
+}
+
 #[test]
 fn each_telling_failed(rt: HostRuntime) {
-    assert!(rt; (0..60u32).all(|fails_at| telling_failed(rt.alloc(), fails_at)));
+    assert!(&rt; all_tellings_failed(rt.alloc()));
 }
 
 /// Whether a refused growth, if it is not 0, breaks the wire off; and how many growths are left.
@@ -246,10 +294,18 @@ fn growth(alloc: Global, refused: u64) -> (bool, u64) {
     (is_so, heap.left())
 }
 
+/// Whether the wire is whole and asks for growths, and each that is refused breaks it off.
+fn all_growths_refused(alloc: Global) -> bool {
+    let (is_whole, left) = growth(alloc, 0);
+    for refused in 1..=0u64.wrapping_sub(left) {
+        if !growth(alloc, refused).0 {
+            return false;
+        }
+    }
+    is_whole && left != 0
+}
+
 #[test]
 fn each_growth_refused(rt: HostRuntime) {
-    let (is_whole, left) = growth(rt.alloc(), 0);
-    assert!(&rt; is_whole && left != 0);
-    let growths = 0u64.wrapping_sub(left);
-    assert!(rt; (1..=growths).all(|refused| growth(rt.alloc(), refused).0));
+    assert!(&rt; all_growths_refused(rt.alloc()));
 }
