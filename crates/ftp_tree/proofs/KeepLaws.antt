@@ -28,7 +28,7 @@ parent-none : parent [] ≡ []
 unfolding parent
 parent-none = refl
 
-parent-shorter : (name : List ℕ) (names : Names) → length (parent (name ∷ names)) < length (name ∷ names)
+pub parent-shorter : (name : List ℕ) (names : Names) → length (parent (name ∷ names)) < length (name ∷ names)
 unfolding parent
 parent-shorter name names = omega (arith, length-take (length (name ∷ names) - 1) (name ∷ names))
 

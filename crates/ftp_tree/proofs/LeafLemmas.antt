@@ -8,8 +8,7 @@ use Rattle.std.proofs.lemmas.List.{append-nil, length-append}
 use Rattle.ftp_path.specs.Path.{Names, is_within, parent, path_cmp}
 use Rattle.ftp_path.proofs.KeyLemmas.{within-append}
 use Rattle.ftp_path.proofs.PathLemmas.{parent-last}
-use Rattle.ftp_tree.specs.Tree.{Node, Dir, File, Table, IsTree, children, node_at, under, with_part, made, removed, installed, root_alone, make_refusal, file_refusal, delete_refusal, remove_answer, remove_refusal, room_answer, room_refusal, install_refusal}
-use Rattle.ftp_tree.specs.declared.fault.TreeFault.TheVariants.{Exists}
+use Rattle.ftp_tree.specs.Tree.{Node, Dir, File, Table, IsTree, children, node_at, under, with_part, made, removed, installed, root_alone, file_refusal, delete_refusal, remove_answer, remove_refusal, room_answer, room_refusal, install_refusal}
 use Rattle.ftp_tree.specs.Branch.{file_alone}
 use Rattle.std.specs.Prelude.{map}
 use Rattle.std.specs.List.{filter_map}
@@ -32,7 +31,7 @@ use Rattle.ftp_tree.proofs.EntryLemmas.{path_total}
 use Rattle.ftp_tree.proofs.KeepLaws.{at-insert, at-remove, is-dir, IsTree-insert, IsTree-remove}
 use Rattle.ftp_tree.proofs.LawLemmas.{apart, children-stand, false-where, parent-append, same, stands-above, under-stands}
 use Rattle.ftp_tree.proofs.PartLemmas.{as-part}
-use Rattle.ftp_tree.proofs.TableLemmas.{both-none, not-held, not-some}
+use Rattle.ftp_tree.proofs.TableLemmas.{both-none, not-some}
 use Rattle.ftp_tree.proofs.UnderLemmas.{children-under, insert-under, remove-under}
 
 -- what stands at the top of what is below a path
@@ -75,10 +74,10 @@ none-empty table path tree none name rest =
 
 -- ---- a node that has nothing below it
 
-itself : (path : Names) → eq_by_cmp path_cmp path path ≡ true
+pub itself : (path : Names) → eq_by_cmp path_cmp path path ≡ true
 itself path = ap is_eq (tied_itself path_total path)
 
-longer : (path : Names) (name : List ℕ) (rest : Names) → eq_by_cmp path_cmp (path ++ name ∷ rest) path ≡ false
+pub longer : (path : Names) (name : List ℕ) (rest : Names) → eq_by_cmp path_cmp (path ++ name ∷ rest) path ≡ false
 longer path name rest = false-where _ (λ equal. let long = ap length (same (path ++ name ∷ rest) path equal) in let all = length-append path (name ∷ rest) in absurd (omega arith))
 
 outside : (path other : Names) → is_within path other ≡ false → eq_by_cmp path_cmp other path ≡ false
@@ -114,10 +113,10 @@ pub record Keeps (new table : Table) : Type 0 where
   pub tree : IsTree new
   pub is : new ≡ table
 
-no-dir : (octets : List ℕ) (moment : ℕ) → ◌≡◌ {A = Option Node} (Some (File octets moment)) (Some Dir) → ⊥
+pub no-dir : (octets : List ℕ) (moment : ℕ) → ◌≡◌ {A = Option Node} (Some (File octets moment)) (Some Dir) → ⊥
 no-dir octets moment e = cc
 
-absent-dir : ◌≡◌ {A = Option Node} None (Some Dir) → ⊥
+pub absent-dir : ◌≡◌ {A = Option Node} None (Some Dir) → ⊥
 absent-dir e = cc
 
 -- where nothing is and a directory is above
@@ -125,7 +124,7 @@ record IsFree (table : Table) (root path : Names) : Type 0 where
   absent : node_at table (root ++ path) ≡ None
   above : node_at table (parent (root ++ path)) ≡ Some Dir
 
-parent-none : parent [] ≡ []
+pub parent-none : parent [] ≡ []
 unfolding parent
 parent-none = refl
 
@@ -137,13 +136,11 @@ free-from table root (name ∷ rest) none dir =
       above = ap (node_at table) (parent-append root name rest) ∙ sym (under-stands table root (parent (name ∷ rest))) ∙ dir;
     }
 
-pub made-at : (table new : Table) (root path names : Names) → IsTree table → make_refusal (under table root) path ≡ None → names ≡ root ++ path → new ≡ with_part table names root_alone
-    → Keeps new (with_part table root (made (under table root) path))
-unfolding make_refusal made root_alone
-made-at table new root path names tree none named is =
-    let parts = both-none _ _ none in
-    let place = both-none _ _ (both-none _ _ parts.1).0 in
-    let free = free-from table root path (not-some _ (not-held (is_some (node_at (under table root) path)) Exists parts.0)) (is-dir _ place.0) in
+pub made-at : (table new : Table) (root path names : Names) → IsTree table → node_at (under table root) path ≡ None → node_at (under table root) (parent path) ≡ Some Dir → names ≡ root ++ path
+    → new ≡ with_part table names root_alone → Keeps new (with_part table root (made (under table root) path))
+unfolding made root_alone
+made-at table new root path names tree none dir named is =
+    let free = free-from table root path none dir in
     let put = is ∙ ap (λ p. with_part table p (fin.insert fin.empty [] Dir)) named ∙ put-leaf table (root ++ path) Dir (none-absent table (root ++ path) tree free.absent) in
     record {
       tree = subst IsTree (sym put) (IsTree-insert table (root ++ path) Dir tree free.above (λ _. refl));

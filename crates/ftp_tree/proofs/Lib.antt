@@ -9,5 +9,6 @@ pub mod MoveLemmas
 pub mod NameLemmas
 pub mod PartLemmas
 pub mod PlaceLemmas
+pub mod PlacingLemmas
 pub mod TableLemmas
 pub mod UnderLemmas

@@ -8,6 +8,7 @@ pub mod laws;
 mod memory;
 mod node;
 mod place;
+mod placing;
 mod tree;
 
 pub use content::Content;

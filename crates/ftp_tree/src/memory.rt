@@ -33,8 +33,8 @@ const TOTAL_LIMIT: u128 = 67_108_864;
 /// A tree that is kept in memory. It has no device, so its count of device failures stays at 0.
 #[derive(Drop)]
 pub struct MemTree<A: Allocator + Copy> {
-    root: Node<A>,
-    alloc: A,
+    pub(crate) root: Node<A>,
+    pub(crate) alloc: A,
 }
 
 impl<A: Allocator + Copy> Model for MemTree<A> {
@@ -132,7 +132,7 @@ impl<A: Allocator + Copy> Tree<A> for MemTree<A> {
         if let Some(fault) = self.make_refusal(root, path) {
             return Err(fault);
         }
-        match self.put_dir(root, path) {
+        match self.make_place(root, path) {
             Ok(()) => Ok(()),
             Err(_) => Err(TreeFault::Memory),
         }
@@ -460,24 +460,6 @@ impl<A: Allocator + Copy> MemTree<A> {
         }
     }
 
-    /// Puts a directory where no refusal applies.
-    fn put_dir<B: Allocator, C: Allocator>(
-        &mut self,
-        root: &Path<B>,
-        path: &Path<C>,
-    ) -> Result<(), AllocError>
-        requires { make_refusal (under self.old root.now) path.now ≡ None }
-        ensures ok { OnOk result (self.new ≡ with_part self.old root.now (made (under self.old root.now) path.now)) }
-        ensures err { OnErr result (self.new ≡ self.old) }
-    {
-        let place = Joined::of(root, path);
-        let node = Node::dir(self.alloc);
-        let Ok(_) = self.root.put(self.alloc, place.key(), node) else {
-            return Err(AllocError);
-        };
-        Ok(())
-    }
-
     /// Puts a file where no refusal applies. Its octets are taken out of the content, unless memory is refused.
     fn put_file<B: Allocator, C: Allocator>(
         &mut self,
@@ -500,8 +482,8 @@ impl<A: Allocator + Copy> MemTree<A> {
         Ok(())
     }
 
-    /// Takes away what stands at a path, where no refusal applies to a file or to a directory there.
-    fn take_away<B: Allocator, C: Allocator>(&mut self, root: &Path<B>, path: &Path<C>)
+    /// Takes away what stands at a path, where no refusal applies to a file or to a directory there. Takes no memory.
+    pub fn take_away<B: Allocator, C: Allocator>(&mut self, root: &Path<B>, path: &Path<C>)
         requires { let part = under self.old root.now in (delete_refusal part path.now ≡ None) ⊎ (remove_refusal part path.now ≡ None) }
         ensures { self.new ≡ with_part self.old root.now (removed (under self.old root.now) path.now) }
     {
@@ -520,15 +502,8 @@ impl<A: Allocator + Copy> MemTree<A> {
         ensures ok { OnOk result (self.new ≡ with_part self.old root.now (moved (under self.old root.now) from.now to.now)) }
         ensures err { OnErr result (self.new ≡ self.old) }
     {
-        let old = Joined::of(root, from);
-        let new = Joined::of(root, to);
-        let Ok(_) = self.root.put(self.alloc, new.key(), Node::dir(self.alloc)) else {
-            return Err(AllocError);
-        };
-        // What is taken out is part of this count, so it fits again where it is put.
-        let _all = self.root.count();
-        let node = self.root.take_out(old.key()).unwrap();
-        self.root.put(self.alloc, new.key(), node).unwrap();
+        self.make_place(root, to)?;
+        self.move_over(root, from, to);
         Ok(())
     }
 }

@@ -1,0 +1,82 @@
+use Rattle.std.proofs.Common.{◌≡◌, ◌++◌, Option, Some, None, is_some, true, [], Result, Ok, OnOk, subst, sym, ap, ◌∙◌, arith}
+use Rattle.std.specs.FinMap as fin
+use Rattle.std.proofs.lemmas.Bool.{true≢false}
+use Rattle.ftp_path.specs.Kept.{names_of}
+use Rattle.ftp_tree.specs.Branch.{found}
+use Rattle.ftp_tree.specs.Tree.{Table, moved, node_at, octets_in, remove_refusal, removed, rename_refusal, under, with_part}
+use Rattle.ftp_tree.proofs.BranchLemmas.{empty-at}
+use Rattle.ftp_tree.proofs.PlaceLemmas.{some-key}
+use Rattle.ftp_tree.proofs.PlacingLemmas.{moves-over}
+use Rattle.ftp_tree.proofs.memory.MemTree.move_over.Goals as goal
+
+some-found : (part : Option Table) → is_some (node_at (found part) []) ≡ true → is_some part ≡ true
+some-found None some = absurd (true≢false (sym some ∙ ap is_some (empty-at [])))
+some-found (Some part) some = λ i. true
+
+at-ok : {X Y P : Type 0} (r : Result X Y) (x : X) → r ≡ Ok x → OnOk r P → P
+at-ok {P = P} r x is holds = subst (λ r. OnOk r P) is holds
+
+pub take_out-requires-clause-some : goal.take_out-requires-clause-some
+take_out-requires-clause-some g c =
+    let moves = moves-over c.self.inside.root c.args.root.now c.args.from.now c.args.to.now c.self.invariant
+    (ap (λ t. remove_refusal (under t c.args.root.now) c.args.to.now) c.self.view_is ∙ c.requires.loose)
+    (ap (λ t. rename_refusal (removed (under t c.args.root.now) c.args.to.now) c.args.from.now c.args.to.now) c.self.view_is ∙ c.requires.free) in
+    some-key c.key.result.now c.key.ensures.place (λ none. moves.some (sym (c.key.ensures.names ∙ c.of-old.ensures) ∙ none))
+
+pub unwrap-node-requires : goal.unwrap-node-requires
+unwrap-node-requires g c =
+    let moves = moves-over c.self.inside.root c.args.root.now c.args.from.now c.args.to.now c.self.invariant
+    (ap (λ t. remove_refusal (under t c.args.root.now) c.args.to.now) c.self.view_is ∙ c.requires.loose)
+    (ap (λ t. rename_refusal (removed (under t c.args.root.now) c.args.to.now) c.args.from.now c.args.to.now) c.self.view_is ∙ c.requires.free) in
+    let taken : found c.take_out.result ≡ under c.self.inside.root (c.args.root.now ++ c.args.from.now) = c.take_out.ensures.taken ∙ ap (under c.self.inside.root) (c.key.ensures.names ∙ c.of-old.ensures) in
+    some-found c.take_out.result (ap (λ t. is_some (node_at t [])) taken ∙ moves.top)
+
+pub put-requires-clause-stands : goal.put-requires-clause-stands
+put-requires-clause-stands g c =
+    let moves = moves-over c.self.inside.root c.args.root.now c.args.from.now c.args.to.now c.self.invariant
+    (ap (λ t. remove_refusal (under t c.args.root.now) c.args.to.now) c.self.view_is ∙ c.requires.loose)
+    (ap (λ t. rename_refusal (removed (under t c.args.root.now) c.args.to.now) c.args.from.now c.args.to.now) c.self.view_is ∙ c.requires.free) in
+    let taken : found c.take_out.result ≡ under c.self.inside.root (c.args.root.now ++ c.args.from.now) = c.take_out.ensures.taken ∙ ap (under c.self.inside.root) (c.key.ensures.names ∙ c.of-old.ensures) in
+    ap (λ t. is_some (node_at t [])) (ap found (sym c.unwrap-node.ensures) ∙ taken) ∙ moves.top
+
+pub unwrap-requires : goal.unwrap-requires
+unwrap-requires g c =
+    let moves = moves-over c.self.inside.root c.args.root.now c.args.from.now c.args.to.now c.self.invariant
+    (ap (λ t. remove_refusal (under t c.args.root.now) c.args.to.now) c.self.view_is ∙ c.requires.loose)
+    (ap (λ t. rename_refusal (removed (under t c.args.root.now) c.args.to.now) c.args.from.now c.args.to.now) c.self.view_is ∙ c.requires.free) in
+    let node : c.unwrap-node.result ≡ found c.take_out.result = ap found (sym c.unwrap-node.ensures) in
+    let left : c.take_out.new.self ≡ with_part c.self.inside.root (c.args.root.now ++ c.args.from.now) fin.empty =
+    c.take_out.ensures.left ∙ ap (λ p. with_part c.self.inside.root p fin.empty) (c.key.ensures.names ∙ c.of-old.ensures) in
+    let there : is_some (node_at c.take_out.new.self (names_of c.key-2.result.now)) ≡ true =
+    ap (λ t. is_some (node_at t (names_of c.key-2.result.now))) left
+    ∙ ap (λ p. is_some (node_at (with_part c.self.inside.root (c.args.root.now ++ c.args.from.now) fin.empty) p)) (c.key-2.ensures.names ∙ c.of-new.ensures) ∙ moves.there in
+    c.put.ensures.fits there
+    (omega (arith, c.take_out.ensures.counted.0, ap fin.len node, c.count-all.ensures.nodes, c.count-all.type_inv))
+    (omega (arith, c.take_out.ensures.counted.1, ap octets_in node, c.count-all.ensures.octets, c.count-all.type_inv))
+
+pub invariant_of-self : goal.invariant_of-self
+invariant_of-self g c =
+    let old = c.args.root.now ++ c.args.from.now in
+    let all = c.args.root.now ++ c.args.to.now in
+    let moves = moves-over c.self.inside.root c.args.root.now c.args.from.now c.args.to.now c.self.invariant
+    (ap (λ t. remove_refusal (under t c.args.root.now) c.args.to.now) c.self.view_is ∙ c.requires.loose)
+    (ap (λ t. rename_refusal (removed (under t c.args.root.now) c.args.to.now) c.args.from.now c.args.to.now) c.self.view_is ∙ c.requires.free) in
+    let taken : found c.take_out.result ≡ under c.self.inside.root old = c.take_out.ensures.taken ∙ ap (under c.self.inside.root) (c.key.ensures.names ∙ c.of-old.ensures) in
+    let left : c.take_out.new.self ≡ with_part c.self.inside.root old fin.empty = c.take_out.ensures.left ∙ ap (λ p. with_part c.self.inside.root p fin.empty) (c.key.ensures.names ∙ c.of-old.ensures) in
+    (moves.done _ (at-ok c.put.result c.unwrap.result c.unwrap.ensures c.put.ensures.ok
+    ∙ ap (λ p. with_part c.take_out.new.self p c.unwrap-node.result) (c.key-2.ensures.names ∙ c.of-new.ensures) ∙ ap (λ t. with_part t all c.unwrap-node.result) left
+    ∙ ap (with_part (with_part c.self.inside.root old fin.empty) all) (ap found (sym c.unwrap-node.ensures) ∙ taken))).tree
+
+pub returns : goal.returns
+returns g c =
+    let old = c.args.root.now ++ c.args.from.now in
+    let all = c.args.root.now ++ c.args.to.now in
+    let moves = moves-over c.self.inside.root c.args.root.now c.args.from.now c.args.to.now c.self.invariant
+    (ap (λ t. remove_refusal (under t c.args.root.now) c.args.to.now) c.self.view_is ∙ c.requires.loose)
+    (ap (λ t. rename_refusal (removed (under t c.args.root.now) c.args.to.now) c.args.from.now c.args.to.now) c.self.view_is ∙ c.requires.free) in
+    let taken : found c.take_out.result ≡ under c.self.inside.root old = c.take_out.ensures.taken ∙ ap (under c.self.inside.root) (c.key.ensures.names ∙ c.of-old.ensures) in
+    let left : c.take_out.new.self ≡ with_part c.self.inside.root old fin.empty = c.take_out.ensures.left ∙ ap (λ p. with_part c.self.inside.root p fin.empty) (c.key.ensures.names ∙ c.of-old.ensures) in
+    (moves.done _ (at-ok c.put.result c.unwrap.result c.unwrap.ensures c.put.ensures.ok
+    ∙ ap (λ p. with_part c.take_out.new.self p c.unwrap-node.result) (c.key-2.ensures.names ∙ c.of-new.ensures) ∙ ap (λ t. with_part t all c.unwrap-node.result) left
+    ∙ ap (with_part (with_part c.self.inside.root old fin.empty) all) (ap found (sym c.unwrap-node.ensures) ∙ taken))).is
+    ∙ ap (λ t. with_part t c.args.root.now (moved (removed (under t c.args.root.now) c.args.to.now) c.args.from.now c.args.to.now)) c.self.view_is

@@ -1,0 +1,41 @@
+use Rattle.std.proofs.Common.{◌≡◌, ◌⊎◌, None, Ok, OnOk, Result, [], length, is_some, subst, sym, ap, ◌∙◌, arith}
+use Rattle.std.specs.FinMap as fin
+use Rattle.ftp_path.specs.Kept.{names_of}
+use Rattle.ftp_tree.specs.Branch.{file_alone}
+use Rattle.ftp_tree.specs.Tree.{delete_refusal, installed, node_at, octets_in, remove_refusal, under, with_part}
+use Rattle.ftp_tree.proofs.BranchLemmas.{file-at, file-len, file-octets}
+use Rattle.ftp_tree.proofs.LawLemmas.{under-stands}
+use Rattle.ftp_tree.proofs.PlacingLemmas.{loose-stands, over-at}
+use Rattle.ftp_tree.proofs.memory.MemTree.put_over.Goals as goal
+
+at-ok : {X Y P : Type 0} (r : Result X Y) (x : X) → r ≡ Ok x → OnOk r P → P
+at-ok {P = P} r x is holds = subst (λ r. OnOk r P) is holds
+
+pub put-requires-clause-stands : goal.put-requires-clause-stands
+put-requires-clause-stands g c = ap (λ table. is_some (node_at table [])) c.file-node.ensures ∙ ap is_some (file-at c.take-octets.result c.args.moment.seconds [])
+
+pub unwrap-requires : goal.unwrap-requires
+unwrap-requires g c =
+    let free = subst (λ table. (delete_refusal (under table c.args.root.now) c.args.path.now ≡ None) ⊎ (remove_refusal (under table c.args.root.now) c.args.path.now ≡ None)) (sym c.self.view_is) c.requires.loose in
+    let nodes = ap fin.len c.file-node.ensures ∙ sym (file-len c.take-octets.result c.args.moment.seconds) in
+    let octets = ap octets_in c.file-node.ensures ∙ file-octets c.take-octets.result c.args.moment.seconds ∙ ap length c.take-octets.ensures.taken in
+    c.put.ensures.fits
+    (ap (λ p. is_some (node_at c.self.inside.root p)) (c.key.ensures.names ∙ c.of-place.ensures) ∙ ap is_some (sym (under-stands c.self.inside.root c.args.root.now c.args.path.now))
+    ∙ loose-stands (under c.self.inside.root c.args.root.now) c.args.path.now free)
+    (omega (arith, c.requires.nodes, ap fin.len c.self.view_is, nodes))
+    (omega (arith, c.requires.octets, ap octets_in c.self.view_is, octets))
+
+pub invariant_of-self : goal.invariant_of-self
+invariant_of-self g c =
+    let free = subst (λ table. (delete_refusal (under table c.args.root.now) c.args.path.now ≡ None) ⊎ (remove_refusal (under table c.args.root.now) c.args.path.now ≡ None)) (sym c.self.view_is) c.requires.loose in
+    (over-at c.self.inside.root _ c.args.root.now c.args.path.now _ c.args.content.now c.args.moment.seconds c.self.invariant free (c.key.ensures.names ∙ c.of-place.ensures)
+    (at-ok c.put.result c.unwrap.result c.unwrap.ensures c.put.ensures.ok
+    ∙ ap (with_part c.self.inside.root (names_of c.key.result.now)) (c.file-node.ensures ∙ ap (λ octets. file_alone octets c.args.moment.seconds) c.take-octets.ensures.taken))).tree
+
+pub returns-clause-file : goal.returns-clause-file
+returns-clause-file g c =
+    let free = subst (λ table. (delete_refusal (under table c.args.root.now) c.args.path.now ≡ None) ⊎ (remove_refusal (under table c.args.root.now) c.args.path.now ≡ None)) (sym c.self.view_is) c.requires.loose in
+    (over-at c.self.inside.root _ c.args.root.now c.args.path.now _ c.args.content.now c.args.moment.seconds c.self.invariant free (c.key.ensures.names ∙ c.of-place.ensures)
+    (at-ok c.put.result c.unwrap.result c.unwrap.ensures c.put.ensures.ok
+    ∙ ap (with_part c.self.inside.root (names_of c.key.result.now)) (c.file-node.ensures ∙ ap (λ octets. file_alone octets c.args.moment.seconds) c.take-octets.ensures.taken))).is
+    ∙ ap (λ table. with_part table c.args.root.now (installed (under table c.args.root.now) c.args.path.now c.args.content.now c.args.moment.seconds)) c.self.view_is
