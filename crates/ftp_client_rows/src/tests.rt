@@ -1,0 +1,3 @@
+mod logins;
+mod play;
+mod transfers;
