@@ -4,3 +4,4 @@ mod forms;
 mod frames;
 mod pieces;
 mod wires;
+mod words;

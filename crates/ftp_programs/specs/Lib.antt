@@ -6,3 +6,4 @@ pub mod Sending
 pub mod Direction
 pub mod Receiving
 pub mod WireReading
+pub mod Words

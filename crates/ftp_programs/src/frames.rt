@@ -1,5 +1,5 @@
 // A file to the octets of a data connection and back, between a reader and two writers.
-ghost use Rattle.std.specs.Prelude.{◌≡◌, ◌≢◌, ◌≤◌, ◌<◌, ◌^◌, ◌⊎◌, ◌+◌, ◌++◌, ℕ, List, [], Some, None, false, length, take, drop, vec_len, OnOk, OnErr};
+ghost use Rattle.std.specs.Prelude.{◌≡◌, ◌≢◌, ◌≤◌, ◌<◌, ◌^◌, ◌⊎◌, ◌+◌, ◌++◌, ℕ, List, [], Some, None, true, false, length, take, drop, vec_len, OnOk, OnErr};
 ghost use Rattle.std.specs.Io.KnownBytes.{Appends};
 ghost use Rattle.ftp_repr.specs.Items.{signs, given_signs};
 ghost use Rattle.ftp_repr.specs.Sending.{has_sent_end};
@@ -11,6 +11,7 @@ ghost use Rattle.ftp_framer.specs.Writing.{writer};
 ghost use Rattle.ftp_pieces.specs.Beginning.{AppendsFront};
 ghost use Rattle.ftp_programs.specs.Direction.{Goes, GoesFront};
 ghost use Rattle.ftp_programs.specs.Writes.{Writes};
+ghost use Rattle.ftp_programs.specs.declared.frames.Direction.TheVariants.{ToWire, ToFile};
 ghost use Rattle.ftp_programs.specs.Frame.{Frames, FramesFront, frame_text};
 ghost use Rattle.ftp_representation.specs.Representation.{form_of};
 
@@ -30,6 +31,20 @@ pub enum Direction {
     ToWire { marks: bool },
     /// A wire to its file. Restart markers are checked and dropped.
     ToFile,
+}
+
+impl Direction {
+    /// To the file where it is to be read, and else to the wire; markers that are asked for have no effect on a reading.
+    pub fn new(reads: bool, marks: bool) -> Direction
+        ensures reads { reads ≡ true → result ≡ ToFile }
+        ensures writes { reads ≡ false → result ≡ ToWire marks }
+    {
+        if reads {
+            Direction::ToFile
+        } else {
+            Direction::ToWire { marks }
+        }
+    }
 }
 
 /// A file that is being written, and what of its wire is made and not yet written.

@@ -5,7 +5,9 @@
 mod fact_lines;
 mod frames;
 mod receiving;
+mod words;
 
 pub use fact_lines::facts;
 pub use frames::{Direction, frame};
 pub use ftp_representation::Representation;
+pub use words::{number_of, representation_of};

@@ -1,14 +1,8 @@
 // The command line: one level of subcommands.
-ghost use Rattle.std.specs.Prelude.{◌<◌, ◌^◌};
-ghost use Rattle.std.specs.Option.{SomeIff};
-ghost use Rattle.std.specs.Str.Parse.{IsNumeral, digits_value};
-
 use crate::help;
 use crate::task::Task;
 use clap::{Arg, ArgAction, ArgMatches, Command};
-use ftp_mode::Mode;
-use ftp_programs::{Direction, Representation};
-use ftp_repr::{Kind, Structure};
+use ftp_programs::{Direction, Representation, number_of, representation_of};
 use std::alloc::{AllocError, Global};
 
 /// The words that the program knows.
@@ -70,52 +64,17 @@ pub fn task_of(matches: &ArgMatches<'_>) -> Option<Task> {
         Some(("facts", _)) => Some(Task::Facts),
         Some(("frame", inner)) => Some(Task::Frame {
             form: form_of(inner)?,
-            direction: direction_of(inner),
+            direction: Direction::new(inner.get_flag("read"), inner.get_flag("marks")),
         }),
         _ => None,
     }
 }
 
-/// Which way the file goes.
-fn direction_of(matches: &ArgMatches<'_>) -> Direction {
-    if matches.get_flag("read") {
-        return Direction::ToFile;
-    }
-    Direction::ToWire {
-        marks: matches.get_flag("marks"),
-    }
-}
-
-/// Type, structure and mode, each by its letter (RFC 959, section 5.3.2).
+/// Type, structure and mode, each by its letter.
 fn form_of(matches: &ArgMatches<'_>) -> Option<Representation> {
-    let kind = match matches.get_str("type") {
-        Some("A") => Kind::Ascii,
-        Some("I") => Kind::Image,
-        _ => return None,
-    };
-    let structure = match matches.get_str("stru") {
-        Some("F") => Structure::File,
-        Some("R") => Structure::Record,
-        _ => return None,
-    };
-    let mode = match matches.get_str("mode") {
-        Some("S") => Mode::Stream,
-        Some("B") => Mode::Block,
-        _ => return None,
-    };
-    Some(Representation {
-        kind,
-        structure,
-        mode,
-    })
-}
-
-/// A decimal number below 2^32, as it is written: digits alone, leading zeros read, no sign.
-fn number_of(text: &str) -> Option<u32>
-    ensures { SomeIff result (IsNumeral 10 text.now × (digits_value 10 text.now < 2 ^ 32)) (digits_value 10 text.now) }
-{
-    if text.starts_with('+') {
-        return None;
-    }
-    text.parse::<u32>().ok()
+    representation_of(
+        matches.get_str("type")?,
+        matches.get_str("stru")?,
+        matches.get_str("mode")?,
+    )
 }

@@ -4,8 +4,6 @@
 mod command_line;
 mod help;
 mod task;
-#[cfg(test)]
-mod word_tests;
 
 use anyhow::Result;
 use std::env;

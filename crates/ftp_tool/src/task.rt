@@ -8,7 +8,7 @@ use std::alloc::Allocator;
 use std::io::{Read, Write};
 
 /// What a command line asks for.
-#[derive(Clone, Copy, Debug, PartialEq, Eq)]
+#[derive(Clone, Copy)]
 pub enum Task {
     /// Answers the octets of a control connection, at most `piece` at a time.
     Dialogue {
