@@ -184,14 +184,19 @@ fn first_wrong_year() -> Option<u32> {
 
 #[test]
 fn every_day_from_1970_to_2199(rt: HostRuntime) {
-    assert_eq!(rt; first_wrong_year(), None);
+    assert!(rt; first_wrong_year().is_none());
 }
 
-fn is_century((year, number): &(u32, u32)) -> bool {
-    is_day(text_of(*year, 12, 31), *number)
+fn centuries_end() -> bool {
+    for (year, number) in CENTURIES {
+        if !is_day(text_of(*year, 12, 31), *number) {
+            return false;
+        }
+    }
+    true
 }
 
 #[test]
 fn the_last_day_of_each_century(rt: HostRuntime) {
-    assert!(rt; CENTURIES.iter().all(is_century));
+    assert!(rt; centuries_end());
 }

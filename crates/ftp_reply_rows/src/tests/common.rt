@@ -1,5 +1,5 @@
 //! Replies and lines for the tests.
-use ftp_reply::{Lines, Reader, Reply, ReplyFault};
+use ftp_reply::{Lines, Reader, Reply, ReplyFault, quoted_of};
 use std::alloc::{Allocator, Global};
 
 /// A reply from its line.
@@ -48,6 +48,18 @@ pub fn texts_are<A: Allocator>(reply: &Reply<A>, texts: &[&[u8]]) -> bool {
         }
     }
     true
+}
+
+/// Whether the path that a reply quotes is this one.
+pub fn quotes<A: Allocator>(
+    alloc: A,
+    reply: &Reply<Global>,
+    path: &[u8],
+) -> Result<bool, ReplyFault> {
+    match quoted_of(alloc, reply) {
+        Ok(read) => Ok(read.as_slice() == path),
+        Err(fault) => Err(fault),
+    }
 }
 
 /// A line of the mark and so many octets.

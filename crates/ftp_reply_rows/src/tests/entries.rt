@@ -109,7 +109,7 @@ fn first_wrong(alloc: Global) -> Option<&'static str> {
 
 #[test]
 fn lines_and_their_answers(rt: HostRuntime) {
-    assert_eq!(&rt; first_wrong(rt.alloc()), None);
+    assert!(rt; first_wrong(rt.alloc()).is_none());
 }
 
 const FAULTS: &[(FactFault, &str)] = &[
@@ -136,10 +136,18 @@ fn is_bad_name(alloc: Global, line: &[u8]) -> bool {
     }
 }
 
+fn are_bad_names(alloc: Global) -> bool {
+    for line in BAD_NAMES {
+        if !is_bad_name(alloc, line) {
+            return false;
+        }
+    }
+    true
+}
+
 #[test]
 fn names_that_are_no_path_text(rt: HostRuntime) {
-    let alloc = rt.alloc();
-    assert!(rt; BAD_NAMES.iter().all(|line| is_bad_name(alloc, line)));
+    assert!(rt; are_bad_names(rt.alloc()));
 }
 
 /// Whether the fault is printed so, both ways.
@@ -150,12 +158,16 @@ fn is_printed(alloc: Global, fault: FactFault, expected: &str) -> bool {
     }
 }
 
+fn are_printed(alloc: Global) -> bool {
+    for (fault, text) in FAULTS {
+        if !is_printed(alloc, *fault, text) {
+            return false;
+        }
+    }
+    true
+}
+
 #[test]
 fn faults_as_they_are_printed(rt: HostRuntime) {
-    let alloc = rt.alloc();
-    assert!(rt;
-        FAULTS
-            .iter()
-            .all(|(fault, text)| is_printed(alloc, *fault, text))
-    );
+    assert!(rt; are_printed(rt.alloc()));
 }

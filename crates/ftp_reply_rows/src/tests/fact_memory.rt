@@ -28,14 +28,20 @@ fn refused_fault(alloc: Global, refused: u64) -> Option<FactFault> {
     fault_of(&heap, LINE)
 }
 
+/// Whether each of three growths is refused.
+fn three_are_refused(alloc: Global) -> bool {
+    for refused in 1..=3u64 {
+        if refused_fault(alloc, refused) != Some(FactFault::Memory) {
+            return false;
+        }
+    }
+    true
+}
+
 #[test]
 fn reading_is_refused_memory(rt: HostRuntime) {
-    let count = growths(rt.alloc(), LINE);
-    assert_eq!(&rt; count, 3);
-    let alloc = rt.alloc();
-    assert!(&rt;
-        (1..=count).all(|refused| refused_fault(alloc, refused) == Some(FactFault::Memory))
-    );
+    assert!(rt; growths(rt.alloc(), LINE) == 3);
+    assert!(rt; three_are_refused(rt.alloc()));
 }
 
 const BAD: &[&[u8]] = &[
@@ -46,10 +52,18 @@ const BAD: &[&[u8]] = &[
     b"Type=y; \xC3",
 ];
 
+fn bad_lines_ask_for_none(alloc: Global) -> bool {
+    for line in BAD {
+        if growths(alloc, line) != 0 {
+            return false;
+        }
+    }
+    true
+}
+
 #[test]
 fn a_bad_line_asks_for_no_memory(rt: HostRuntime) {
-    let alloc = rt.alloc();
-    assert!(rt; BAD.iter().all(|line| growths(alloc, line) == 0));
+    assert!(rt; bad_lines_ask_for_none(rt.alloc()));
 }
 
 /// Whether the octets are those of before where `Memory` is answered, and else the whole line behind them. Gives which.

@@ -1,25 +1,21 @@
 //! Each growth refused in turn.
-use super::common::{hears, reply_of, reply_with, texts_are};
+use super::common::{hears, quotes, reply_of, reply_with, texts_are};
 use ftp_refusing::Refusing;
-use ftp_reply::{Reader, Reply, ReplyFault, quoted_of, write};
+use ftp_reply::{Reader, Reply, ReplyFault, write};
 use std::alloc::{Allocator, Global};
 
 const LONG: [u8; 400] = [b'x'; 400];
 
 const BEGUN: &[&[u8]] = &[b"211-x", &LONG];
 
-/// Hears a line, once more where memory was wanted, which is counted.
-fn hears_again<A: Allocator + Clone>(
-    reader: &mut Reader<A>,
-    line: &[u8],
-    wanted: &mut u64,
-) -> Option<bool> {
-    let mut answer = hears(reader, line);
-    if answer == Err(ReplyFault::Memory) {
-        *wanted = wanted.wrapping_add(1);
-        answer = hears(reader, line);
+/// Hears a line that ends no reply, once more where memory was wanted. Gives how often it was; nothing where the line
+/// is answered otherwise.
+fn hears_again<A: Allocator + Clone>(reader: &mut Reader<A>, line: &[u8]) -> Option<u64> {
+    match hears(reader, line) {
+        Ok(false) => Some(0),
+        Err(ReplyFault::Memory) if hears(reader, line) == Ok(false) => Some(1),
+        _ => None,
     }
-    answer.ok()
 }
 
 /// Whether the last line ends the reply, with all its texts.
@@ -36,9 +32,7 @@ fn wanted<A: Allocator + Clone>(alloc: A) -> Option<u64> {
     let mut reader = Reader::new(alloc);
     let mut wanted = 0u64;
     for line in BEGUN {
-        if hears_again(&mut reader, line, &mut wanted) != Some(false) {
-            return None;
-        }
+        wanted = wanted.wrapping_add(hears_again(&mut reader, line)?);
     }
     if is_ended(&mut reader) {
         return Some(wanted);
@@ -65,67 +59,67 @@ fn is_wanted(alloc: Global, refused: u64, growths: u64) -> bool {
     wanted(&heap) == Some(u64::from(refused <= growths))
 }
 
+fn reader_is_refused(alloc: Global) -> bool {
+    let growths = growths_of_lines(alloc).unwrap_or(0);
+    for refused in 1..20u64 {
+        if !is_wanted(alloc, refused, growths) {
+            return false;
+        }
+    }
+    1 <= growths && growths < 20
+}
+
 #[test]
 fn each_growth_of_a_reader_refused_in_turn(rt: HostRuntime) {
-    let alloc = rt.alloc();
-    let growths = growths_of_lines(alloc).unwrap_or(0);
-    assert!(rt; 1 <= growths && growths < 20);
-    assert!(rt; (1..20u64).all(|refused| is_wanted(alloc, refused, growths)));
+    assert!(rt; reader_is_refused(rt.alloc()));
 }
 
-/// The length of the path that a reply quotes, or why there is none.
-fn path_len<A: Allocator>(alloc: A, reply: &Reply<Global>) -> Result<usize, ReplyFault> {
-    match quoted_of(alloc, reply) {
-        Ok(path) => Ok(path.len()),
-        Err(fault) => Err(fault),
-    }
-}
+const LONG_PATH: &[u8] = b"/a-path-of-more-than-eight-octets";
 
-/// The length of the path that a line quotes, where this growth is refused, and how many growths are left then.
-fn path_len_of(
-    alloc: Global,
-    line: &[u8],
-    refused: u64,
-) -> Option<(Result<usize, ReplyFault>, u64)> {
-    let reply = reply_of(alloc, line)?;
+/// Whether the reply quotes the long path where this growth is refused.
+fn quotes_long(alloc: Global, reply: &Reply<Global>, refused: u64) -> Result<bool, ReplyFault> {
     let heap = Refusing::new(alloc, refused);
-    let len = path_len(&heap, &reply);
-    Some((len, heap.left()))
+    quotes(&heap, reply, LONG_PATH)
 }
 
-const LONG_PATH: &[u8] = b"257 \"/a-path-of-more-than-eight-octets\" created";
-
-/// How many growths the path asks for; nothing where it is not read.
-fn growths_of_path(alloc: Global) -> Option<u64> {
-    match path_len_of(alloc, LONG_PATH, 0) {
-        Some((Ok(33), left)) => Some(0u64.wrapping_sub(left)),
-        _ => None,
+/// How many growths the path asks for; none where it is not read.
+fn growths_of_path(alloc: Global, reply: &Reply<Global>) -> u64 {
+    let heap = Refusing::new(alloc, 0);
+    if quotes(&heap, reply, LONG_PATH) != Ok(true) {
+        return 0;
     }
+    0u64.wrapping_sub(heap.left())
 }
 
-/// Whether the path is wanted for memory where one of so many growths is refused.
-fn is_refused(alloc: Global, refused: u64, growths: u64) -> bool {
-    match path_len_of(alloc, LONG_PATH, refused) {
-        Some((Err(ReplyFault::Memory), _)) => refused <= growths,
-        Some((Ok(33), _)) => refused > growths,
-        _ => false,
+/// Whether memory is wanted for the path where one of its growths is refused.
+fn path_is_refused(alloc: Global, reply: &Reply<Global>) -> bool {
+    let growths = growths_of_path(alloc, reply);
+    for refused in 1..=growths {
+        if quotes_long(alloc, reply, refused) != Err(ReplyFault::Memory) {
+            return false;
+        }
+    }
+    1 <= growths && growths < 20 && quotes_long(alloc, reply, growths + 1) == Ok(true)
+}
+
+fn path_of_line_is_refused(alloc: Global) -> bool {
+    match reply_of(alloc, b"257 \"/a-path-of-more-than-eight-octets\" created") {
+        Some(reply) => path_is_refused(alloc, &reply),
+        None => false,
     }
 }
 
 #[test]
 fn each_growth_of_a_path_refused_in_turn(rt: HostRuntime) {
-    let alloc = rt.alloc();
-    let growths = growths_of_path(alloc).unwrap_or(0);
-    assert!(rt; 1 <= growths && growths < 20);
-    assert!(rt; (1..20u64).all(|refused| is_refused(alloc, refused, growths)));
+    assert!(rt; path_of_line_is_refused(rt.alloc()));
 }
 
 /// Whether a line quotes no path, with the first growth refused.
 fn has_no_path(alloc: Global, line: &[u8]) -> bool {
-    matches!(
-        path_len_of(alloc, line, 1),
-        Some((Err(ReplyFault::NoPath), _))
-    )
+    match reply_of(alloc, line) {
+        Some(reply) => quotes_long(alloc, &reply, 1) == Err(ReplyFault::NoPath),
+        None => false,
+    }
 }
 
 #[test]
@@ -173,10 +167,17 @@ fn is_whole_or_none(alloc: Global, refused: u64, growths: u64) -> bool {
     }
 }
 
+fn written_reply_is_refused(alloc: Global) -> bool {
+    let growths = growths_of_written(alloc).unwrap_or(0);
+    for refused in 1..20u64 {
+        if !is_whole_or_none(alloc, refused, growths) {
+            return false;
+        }
+    }
+    1 <= growths && growths < 20
+}
+
 #[test]
 fn each_growth_of_a_written_reply_refused_in_turn(rt: HostRuntime) {
-    let alloc = rt.alloc();
-    let growths = growths_of_written(alloc).unwrap_or(0);
-    assert!(rt; 1 <= growths && growths < 20);
-    assert!(rt; (1..20u64).all(|refused| is_whole_or_none(alloc, refused, growths)));
+    assert!(rt; written_reply_is_refused(rt.alloc()));
 }

@@ -43,12 +43,18 @@ fn is_written(alloc: Global, code: u16, texts: &[&[u8]], octets: &[u8]) -> bool 
     }
 }
 
+fn are_written(alloc: Global) -> bool {
+    for (code, texts, octets) in WRITTEN {
+        if !is_written(alloc, *code, texts, octets) {
+            return false;
+        }
+    }
+    true
+}
+
 #[test]
 fn written_as_rfc_959_section_4_2(rt: HostRuntime) {
-    let alloc = rt.alloc();
-    assert!(rt;
-        WRITTEN.iter().all(|(code, texts, octets)| is_written(alloc, *code, texts, octets))
-    );
+    assert!(rt; are_written(rt.alloc()));
 }
 
 /// Whether a reply of three lines, line by line, has their text.
@@ -76,12 +82,16 @@ fn is_printed(alloc: Global, fault: ReplyFault, text: &str) -> bool {
     }
 }
 
+fn are_printed(alloc: Global) -> bool {
+    for (fault, text) in FAULTS {
+        if !is_printed(alloc, *fault, text) {
+            return false;
+        }
+    }
+    true
+}
+
 #[test]
 fn faults_are_printed_with_their_numbers(rt: HostRuntime) {
-    let alloc = rt.alloc();
-    assert!(rt;
-        FAULTS
-            .iter()
-            .all(|(fault, text)| is_printed(alloc, *fault, text))
-    );
+    assert!(rt; are_printed(rt.alloc()));
 }
