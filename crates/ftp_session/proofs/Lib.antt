@@ -3,3 +3,4 @@ pub mod LineLemmas
 pub mod RefusedLemmas
 pub mod SessionLemmas
 pub mod ConcludeLemmas
+pub mod ActLemmas

@@ -66,8 +66,9 @@ impl<A: Allocator + Copy, T: Tree<A>, J: Moves<A, T>> Session<A, T, J> {
         ensures view { session_of T.table J.view self.new ≡ (if is_transfer then forgotten (session_of T.table J.view self.old) else session_of T.table J.view self.old) }
         ensures tree { self.new.tree ≡ self.old.tree }
     {
-        if is_transfer {
-            self.forget();
+        if !is_transfer {
+            return;
         }
+        self.forget();
     }
 }

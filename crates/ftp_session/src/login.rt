@@ -1,5 +1,5 @@
 // USER, PASS, REIN and QUIT (RFC 959, sections 4.1.1 and 5.4).
-ghost use Rattle.std.specs.Prelude.{◌≡◌, false};
+ghost use Rattle.std.specs.Prelude.{◌≡◌, [], false};
 ghost use Rattle.ftp_server_machine.specs.Login.{logged_out, logs_in, pass, quit, rein, user};
 
 use crate::session::{ALL_FACTS, DEFAULTS, Session};
@@ -15,15 +15,24 @@ use std::alloc::Allocator;
 impl<A: Allocator + Copy, T: Tree<A>, J: Moves<A, T>> Session<A, T, J> {
     ghost use Rattle.ftp_session.specs.Session.{Turns, has_transfer, session_of};
 
+    /// Who is logged in, and the root of his account, from now on; that root is the current directory.
+    fn enter(&mut self, access: Access<Text<A>>, root: Path<A>)
+        requires { has_transfer self.old.connection ≡ false }
+        ensures view { session_of T.table J.view self.new ≡ record (session_of T.table J.view self.old) { access = access; root = root; cwd = [] } }
+        ensures tree { self.new.tree ≡ self.old.tree }
+    {
+        self.access = access;
+        self.root = root;
+        self.cwd = Path::root(self.alloc);
+    }
+
     /// Nobody is logged in any longer.
     fn log_out(&mut self)
         requires { has_transfer self.old.connection ≡ false }
         ensures view { session_of T.table J.view self.new ≡ logged_out (session_of T.table J.view self.old) }
         ensures tree { self.new.tree ≡ self.old.tree }
     {
-        self.access = Access::Nobody;
-        self.root = Path::root(self.alloc);
-        self.cwd = Path::root(self.alloc);
+        self.enter(Access::Nobody, Path::root(self.alloc));
     }
 
     /// A login is done where a directory stands at the root of its account.
@@ -38,9 +47,7 @@ impl<A: Allocator + Copy, T: Tree<A>, J: Moves<A, T>> Session<A, T, J> {
         let Ok(root) = root.copy(self.alloc) else {
             return Err(Fault::Memory);
         };
-        self.root = root;
-        self.cwd = Path::root(self.alloc);
-        self.access = Access::Known;
+        self.enter(Access::Known, root);
         Ok(ReplyKind::Fixed(Says::LoggedIn))
     }
 
@@ -56,8 +63,7 @@ impl<A: Allocator + Copy, T: Tree<A>, J: Moves<A, T>> Session<A, T, J> {
         if let Some(root) = accounts.open_root(name.octets()) {
             return self.log_in(root);
         }
-        self.log_out();
-        self.access = Access::AwaitsPass(name);
+        self.enter(Access::AwaitsPass(name), Path::root(self.alloc));
         Ok(ReplyKind::Fixed(Says::PasswordNeeded))
     }
 
