@@ -2,7 +2,7 @@
 use Rattle.std.proofs.Common.{◌≡◌, ℕ, List, false, refl, ap}
 use Rattle.ftp_path.specs.Path.{Names}
 use Rattle.ftp_tree.specs.Tree.{Table, under}
-use Rattle.ftp_server_machine.specs.View.{Session, Transfer}
+use Rattle.ftp_server_machine.specs.View.{Transfer}
 use Rattle.ftp_server_machine.specs.declared.session.Access.{Access}
 use Rattle.ftp_server_machine.specs.declared.session.DataConnection.{DataConnection}
 use Rattle.ftp_server_machine.specs.declared.session.DataConnection.TheVariants as Data
