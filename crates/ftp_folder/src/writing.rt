@@ -1,0 +1,117 @@
+// Writing a file so that a crash leaves the old one or the new one.
+ghost use Rattle.std.specs.Prelude.{OnOk};
+ghost use Rattle.std.specs.Io.KnownBytes.{Appends};
+
+use ftp_facts::Moment;
+use ftp_tree::Content;
+use std::alloc::{AllocError, Allocator, Global};
+use std::fs::{FileTimes, Files, OpenFile, OpenOptions, Permissions};
+use std::io::{Error, ErrorKind, Write};
+use std::os::unix::fs::{OpenOptionsExt, PermissionsExt};
+use std::time::{Duration, SystemTime, UNIX_EPOCH};
+use std::{fs, io};
+
+/// What a file is called while it is written. The octet 127 is of no name of a tree, so no client can say it.
+pub(crate) const BESIDE: &str = ".ftp-writing\x7f";
+
+/// The permissions of a file that has no predecessor, less the umask, and while it takes the place of another.
+const NEW_MODE: u32 = 0o666;
+
+const OWN_MODE: u32 = 0o600;
+
+/// Writes a file beside its name, flushes it, and moves it over the name. It keeps the permissions of the file that it replaces.
+/// Where that fails, what was written beside is removed again.
+pub(crate) fn write_over<R: Files + AllocGlobal, A: Allocator>(
+    files: &R,
+    place: &str,
+    content: &Content<A>,
+    moment: Moment,
+) -> io::Result<()> {
+    let beside = beside(files.alloc(), place)?;
+    let written = write_beside(files, place, beside.as_str(), content, moment);
+    if written.is_err() {
+        let _gone = fs::remove_file(files, beside.as_str());
+    }
+    written
+}
+
+/// The place of the file that is written beside another.
+fn beside(alloc: Global, place: &str) -> Result<String<Global>, AllocError> {
+    let dir = match place.rsplit_once('/') {
+        Some((dir, _)) => dir,
+        None => ".",
+    };
+    let mut text = String::from_str(alloc, dir)?;
+    text.push_str("/")?;
+    text.push_str(BESIDE)?;
+    Ok(text)
+}
+
+fn write_beside<R: Files, A: Allocator>(
+    files: &R,
+    place: &str,
+    beside: &str,
+    content: &Content<A>,
+    moment: Moment,
+) -> io::Result<()> {
+    let kept = kept_mode(files, place)?;
+    let mut file = create(
+        files,
+        beside,
+        if kept.is_some() { OWN_MODE } else { NEW_MODE },
+    )?;
+    put_all(&mut file, content)?;
+    if let Some(mode) = kept {
+        file.set_permissions(Permissions::from_mode(mode))?;
+    }
+    file.set_times(FileTimes::new().set_modified(time_of(moment)?))?;
+    file.sync_all()?;
+    fs::rename(files, beside, place)
+}
+
+/// The permissions of the file that is replaced, if there is one.
+fn kept_mode<R: Files>(files: &R, place: &str) -> io::Result<Option<u32>> {
+    match fs::symlink_metadata(files, place) {
+        Ok(found) if found.is_file() => Ok(Some(found.permissions().mode() & 0o777)),
+        Ok(_) => Ok(None),
+        Err(error) if error.kind() == ErrorKind::NotFound => Ok(None),
+        Err(error) => Err(error),
+    }
+}
+
+/// Makes the file to be written; one that an interrupted write left goes first.
+fn create<R: Files>(files: &R, beside: &str, mode: u32) -> io::Result<R::File> {
+    let mut how = OpenOptions::new();
+    how.write(true).create_new(true).mode(mode);
+    match how.open(files, beside) {
+        Err(error) if error.kind() == ErrorKind::AlreadyExists => {
+            fs::remove_file(files, beside)?;
+            how.open(files, beside)
+        }
+        opened => opened,
+    }
+}
+
+/// Writes all octets of a content.
+fn put_all<W: Write, A: Allocator>(file: &mut W, content: &Content<A>) -> io::Result<()>
+    ensures { OnOk result (Appends (W.contents file.old) (W.contents file.new) content.now) }
+{
+    let mut at = 0u64;
+    for _ in 0..u64::MAX {
+        if at == content.len() {
+            return Ok(());
+        }
+        let piece = content.piece(at, usize::MAX);
+        file.write_all(piece)?;
+        at += piece.len() as u64;
+    }
+    Err(Error::from(ErrorKind::TimedOut))
+}
+
+/// The system's time of a moment.
+fn time_of(moment: Moment) -> io::Result<SystemTime> {
+    match UNIX_EPOCH.checked_add(Duration::from_secs(moment.seconds)) {
+        Some(time) => Ok(time),
+        None => Err(Error::from(ErrorKind::InvalidInput)),
+    }
+}
