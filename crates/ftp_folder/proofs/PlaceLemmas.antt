@@ -17,6 +17,7 @@ kept-components key names kept are = sym (ap (list_all is_component) are) ∙ ke
 pub below-of : (dir text : List ℕ) (root path : Names) → list_all is_component root ≡ true → list_all is_component path ≡ true
     → text ≡ dir ++ (joined root ++ joined path) → IsBelow dir text
 below-of dir text root path one two is = record {
-    names = root ++ path;
-    whole = is ∙ ap (λ t. dir ++ t) (sym (joined-append root path));
-    components = components-append root path one two }
+  names = root ++ path;
+  whole = is ∙ ap (λ t. dir ++ t) (sym (joined-append root path));
+  components = components-append root path one two;
+}

@@ -24,7 +24,7 @@ pub struct DiskFolder<R: Files + AllocGlobal + Clone + Drop> {
 impl<R: Files + AllocGlobal + Clone + Drop> DiskFolder<R> {
     /// The folder below a directory, which is the current one for an empty text. Nothing is looked at.
     pub fn new(files: R, dir: &str) -> Result<DiskFolder<R>, AllocError>
-        ensures { IfOk result (λ folder. folder.failures ≡ 0) }
+        ensures failures { IfOk result (λ folder. folder.failures ≡ 0) }
     {
         let dir = String::from_str(files.alloc(), if dir.is_empty() { "." } else { dir })?;
         Ok(DiskFolder {

@@ -1,6 +1,5 @@
 // Loading a folder into a tree.
-ghost use Rattle.std.specs.Prelude.{◌≡◌, ◌↔◌, ◌&&◌, IsTrue, IfOk};
-ghost use Rattle.ftp_path.specs.Path.{IsPathText, is_name};
+ghost use Rattle.std.specs.Prelude.{◌≡◌, IfOk};
 
 use crate::fault::{LoadFault, Reason};
 use crate::folder::DiskFolder;
@@ -29,7 +28,9 @@ const LAST_SECOND: u64 = 253_402_300_799;
 pub fn open<R: Files + AllocGlobal + Clone + Drop>(
     files: R,
     dir: &str,
-) -> Result<Mirror<Global, DiskFolder<R>>, LoadFault> {
+) -> Result<Mirror<Global, DiskFolder<R>>, LoadFault>
+    ensures failures { IfOk result (λ mirror. mirror.folder.failures ≡ 0) }
+{
     let tree = load(&files, dir)?;
     match DiskFolder::new(files, dir) {
         Ok(folder) => Ok(Mirror::new(tree, folder)),

@@ -14,6 +14,6 @@ returns-clause-below g c =
     let first : string_bytes c.push_names.new.place ≡ c.args.dir.now ++ joined root = search (rules, one) in
     let both : place ≡ (c.args.dir.now ++ joined root) ++ joined path = search (rules, first, two) in
     below-of c.args.dir.now place root path
-        (kept-components c.key.result.now root c.key.ensures.kept c.key.ensures.names)
-        (kept-components c.key-2.result.now path c.key-2.ensures.kept c.key-2.ensures.names)
-        (both ∙ append_assoc c.args.dir.now (joined root) (joined path))
+    (kept-components c.key.result.now root c.key.ensures.kept c.key.ensures.names)
+    (kept-components c.key-2.result.now path c.key-2.ensures.kept c.key-2.ensures.names)
+    (both ∙ append_assoc c.args.dir.now (joined root) (joined path))
