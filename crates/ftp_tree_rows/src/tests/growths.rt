@@ -48,11 +48,11 @@ fn change<'a>(
     tree: &mut MemTree<Heap<'a>>,
     change: &Change,
 ) -> Result<bool, TreeFault> {
-    match act(heap, tree, change.0, change.1) {
+    match act(heap, tree, change.0, &change.1) {
         Ok(()) => Ok(false),
         Err(TreeFault::Memory) => {
             only_if(stands(alloc, tree, change.2))?;
-            act(heap, tree, change.0, change.1)?;
+            act(heap, tree, change.0, &change.1)?;
             Ok(true)
         }
         Err(fault) => Err(fault),

@@ -56,13 +56,18 @@ const NAMES: &[(&[u8], &[u8])] = &[
     (b"/c", b""),
 ];
 
+fn all_are_names(alloc: Global, tree: &MemTree<Global>) -> bool {
+    for row in NAMES {
+        if are_names(alloc, tree, row) != Ok(true) {
+            return false;
+        }
+    }
+    true
+}
+
 #[test]
 fn names_come_in_the_order_of_their_octets(rt: HostRuntime) {
     let mut tree = MemTree::new(rt.alloc());
     assert!(&rt; all_answer(rt.alloc(), &mut tree, MAKES));
-    assert!(&rt;
-        NAMES
-            .iter()
-            .all(|row| are_names(rt.alloc(), &tree, row) == Ok(true))
-    );
+    assert!(&rt; all_are_names(rt.alloc(), &tree));
 }

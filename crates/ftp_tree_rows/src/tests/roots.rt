@@ -7,9 +7,13 @@ use std::alloc::Global;
 /// A root, a path below it, what is done there, and what that answers.
 type Below = (&'static [u8], &'static [u8], Step, Result<(), TreeFault>);
 
+fn answers_below(alloc: Global, tree: &mut MemTree<Global>, row: &Below) -> bool {
+    act_below(alloc, tree, row.0, row.1, &row.2) == row.3
+}
+
 fn all_answer_below(alloc: Global, tree: &mut MemTree<Global>, rows: &[Below]) -> bool {
     for row in rows {
-        if act_below(alloc, tree, row.0, row.1, row.2) != row.3 {
+        if !answers_below(alloc, tree, row) {
             return false;
         }
     }

@@ -108,7 +108,7 @@ pub(super) fn act<A: Allocator + Copy>(
     alloc: A,
     tree: &mut MemTree<A>,
     text: &[u8],
-    step: Step,
+    step: &Step,
 ) -> Result<(), TreeFault> {
     act_below(alloc, tree, b"/", text, step)
 }
@@ -119,7 +119,7 @@ pub(super) fn act_below<A: Allocator + Copy>(
     tree: &mut MemTree<A>,
     root: &[u8],
     text: &[u8],
-    step: Step,
+    step: &Step,
 ) -> Result<(), TreeFault> {
     let root = place(alloc, root)?;
     let path = place(alloc, text)?;
@@ -127,13 +127,18 @@ pub(super) fn act_below<A: Allocator + Copy>(
         Step::Make => tree.make_dir(&root, &path),
         Step::Remove => tree.remove_dir(&root, &path),
         Step::Delete => tree.delete(&root, &path),
-        Step::Install(count) => fill(alloc, tree, &root, &path, count),
+        Step::Install(count) => fill(alloc, tree, &root, &path, *count),
         Step::Rename(to) => call(alloc, tree, &root, &path, to),
-        Step::Kind(kind) => only_if(tree.kind(&root, &path) == kind),
-        Step::Size(size) => only_if(tree.size(&root, &path) == size),
-        Step::Room(room) => only_if(tree.room(&root, &path)? == room),
-        Step::Front(count) => has_front(alloc, tree, &root, &path, count),
+        Step::Kind(kind) => only_if(tree.kind(&root, &path) == *kind),
+        Step::Size(size) => only_if(tree.size(&root, &path) == *size),
+        Step::Room(room) => only_if(tree.room(&root, &path)? == *room),
+        Step::Front(count) => has_front(alloc, tree, &root, &path, *count),
     }
+}
+
+/// Whether a row answers as it says.
+fn answers<A: Allocator + Copy>(alloc: A, tree: &mut MemTree<A>, row: &Row) -> bool {
+    act(alloc, tree, row.0, &row.1) == row.2
 }
 
 /// Whether each row answers as it says.
@@ -142,8 +147,8 @@ pub(super) fn all_answer<A: Allocator + Copy>(
     tree: &mut MemTree<A>,
     rows: &[Row],
 ) -> bool {
-    for (text, step, expected) in rows {
-        if act(alloc, tree, text, *step) != *expected {
+    for row in rows {
+        if !answers(alloc, tree, row) {
             return false;
         }
     }
