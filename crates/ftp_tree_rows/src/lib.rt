@@ -1,4 +1,4 @@
-//! For tests alone: rows of trees and files.
+//! For tests alone: rows of texts, names and paths, and of trees and files.
 #![tactic(auto)]
 
 #[cfg(test)]

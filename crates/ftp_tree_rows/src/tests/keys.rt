@@ -51,9 +51,18 @@ fn is_kept(alloc: Global, row: &Key) -> Result<bool, PathFault> {
     Ok(copied && comes && has_keys(&path, row))
 }
 
+fn are_kept(alloc: Global) -> bool {
+    for row in KEYS {
+        if is_kept(alloc, row) != Ok(true) {
+            return false;
+        }
+    }
+    true
+}
+
 #[test]
 fn paths_by_their_names_joined(rt: HostRuntime) {
-    assert!(rt; KEYS.iter().all(|row| is_kept(rt.alloc(), row) == Ok(true)));
+    assert!(rt; are_kept(rt.alloc()));
 }
 
 /// Names that look alike, or are longer, in the order of their octets.
@@ -73,13 +82,18 @@ fn comes_first(alloc: Global, row: &(&[u8], &[u8])) -> Result<bool, PathFault> {
     Ok(order(first.key(), second.key()) == Ordering::Less)
 }
 
+fn are_in_order(alloc: Global) -> bool {
+    for row in IN_ORDER {
+        if comes_first(alloc, row) != Ok(true) {
+            return false;
+        }
+    }
+    true
+}
+
 #[test]
 fn names_in_utf8_come_by_their_octets(rt: HostRuntime) {
-    assert!(rt;
-        IN_ORDER
-            .iter()
-            .all(|row| comes_first(rt.alloc(), row) == Ok(true))
-    );
+    assert!(rt; are_in_order(rt.alloc()));
 }
 
 /// Two paths, whether the second is the first or below it, and what the first calls it: nothing where it does not.
@@ -116,13 +130,18 @@ fn is_below(alloc: Global, row: &Below) -> Result<bool, PathFault> {
     Ok(is_called(&above, &path, row.3) && is_within(above.key(), path.key()) == row.2)
 }
 
+fn are_below(alloc: Global) -> bool {
+    for row in BELOW {
+        if is_below(alloc, row) != Ok(true) {
+            return false;
+        }
+    }
+    true
+}
+
 #[test]
 fn what_is_below_a_path(rt: HostRuntime) {
-    assert!(rt;
-        BELOW
-            .iter()
-            .all(|row| is_below(rt.alloc(), row) == Ok(true))
-    );
+    assert!(rt; are_below(rt.alloc()));
 }
 
 /// The text of where a path leads once what stands at `from` is called `to`, if it is moved and within the limits then.
@@ -160,9 +179,18 @@ fn leads(alloc: Global, row: &Move) -> Result<bool, PathFault> {
     is_moved(alloc, &path, &old, &new, row.3).map_err(|_| PathFault::Memory)
 }
 
+fn are_moved(alloc: Global) -> bool {
+    for row in MOVES {
+        if leads(alloc, row) != Ok(true) {
+            return false;
+        }
+    }
+    true
+}
+
 #[test]
 fn where_a_path_is_moved(rt: HostRuntime) {
-    assert!(rt; MOVES.iter().all(|row| leads(rt.alloc(), row) == Ok(true)));
+    assert!(rt; are_moved(rt.alloc()));
 }
 
 /// How long the text of a path is once what stands at `from` is called `to`, if that is within the limits.
