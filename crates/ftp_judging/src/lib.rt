@@ -9,5 +9,5 @@ mod verdict;
 
 pub use carries::Carries;
 pub use judgement::judged;
-pub use value::answer_in;
+pub use value::{answer_in, entry_in};
 pub use verdict::{Verdict, is_refusal, verdict_of};

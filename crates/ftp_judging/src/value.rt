@@ -90,7 +90,7 @@ fn entry_answer<A: Allocator + Clone>(
 
 /// The entry that a line says, if it says one (RFC 3659, section 7.2).
 #[tactic(auto, using(crate::proofs::EntryLemmas::says_none))]
-pub(crate) fn entry_in<A: Allocator + Clone>(
+pub fn entry_in<A: Allocator + Clone>(
     line: &[u8],
     alloc: &A,
 ) -> Result<Option<Entry<A>>, AllocError>
