@@ -1,4 +1,2 @@
-pub mod RunLemmas
 pub mod HeardLemmas
-pub mod CarryLemmas
-pub mod OctetLemmas
+pub mod GivenLemmas

@@ -3,7 +3,7 @@ use Rattle.std.specs.Prelude.{ℕ, List}
 use Rattle.ftp_operation.specs.declared.op.Op.{Op}
 use Rattle.ftp_client_machine.specs.Failing.{Client as Seen}
 use Rattle.ftp_client_machine.specs.View.{Flow}
-use Rattle.ftp_client.specs.Client.{view_of}
+use Rattle.ftp_client_dialogue.specs.Client.{view_of}
 use Rattle.ftp_client.specs.declared.client.Client.{Client}
 
 -- what it holds, and how many growths were refused to it

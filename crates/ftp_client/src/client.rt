@@ -6,7 +6,7 @@ ghost use Rattle.ftp_client_machine.specs.Failing.{HearsIfRoom, Holds, HoldsIfRo
 ghost use Rattle.ftp_client_machine.specs.Tries.{over_breaks};
 ghost use Rattle.ftp_client_machine.specs.View as view;
 
-use crate::dialogue::Dialogue;
+use ftp_client_dialogue::Dialogue;
 use ftp_client_machine::client::Failure;
 use ftp_endpoint::Host;
 use ftp_ends::Wants;
@@ -113,7 +113,7 @@ impl<A: Allocator + Clone, F: Carries<A>> Client<A, F> {
         ensures now { Holds (client_of F.flow self.old) (client_of F.flow self.new) (gives_control result (client_of F.flow self.old).view) }
         ensures some { 0 < length room.old → 0 < length (client_of F.flow self.old).view.owed → 0 < result }
     {
-        self.dialogue.output.give(room)
+        self.dialogue.control_out(room)
     }
 
     /// The control connection ended.

@@ -1,20 +1,6 @@
-//! A client of FTP: its dialogue with a server, operation after operation, without input or output (RFC 959, sections 2.3 and 5.4).
+//! A client of FTP: the calls of its owner over its dialogue with a server, without input or output (RFC 959, sections 2.3 and 5.4).
 #![tactic(auto)]
 
-mod carrying;
 mod client;
-mod control;
-mod dialogue;
-mod finishing;
-mod link;
-mod login;
-mod octets;
-mod place;
-mod sending;
-mod starting;
-mod steps;
-mod transfer;
 
 pub use client::Client;
-pub use dialogue::Dialogue;
-pub use place::{Place, Transfer};

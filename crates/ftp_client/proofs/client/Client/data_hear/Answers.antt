@@ -3,9 +3,9 @@ use Rattle.std.specs.Prelude.{IsTrue}
 use Rattle.std.proofs.Math.Seq.{take-length}
 use Rattle.ftp_client_machine.specs.Calls.{is_sound, may_receive, receives}
 use Rattle.ftp_client_machine.specs.View.{View}
-use Rattle.ftp_client.specs.Client.{view_of}
-use Rattle.ftp_client.proofs.HeardLemmas.{short_alike}
-use Rattle.ftp_client.proofs.OctetLemmas.{may_receives, receives_stands, short_receives}
+use Rattle.ftp_client_dialogue.specs.Client.{view_of}
+use Rattle.ftp_client_dialogue.proofs.HeardLemmas.{short_alike}
+use Rattle.ftp_client_dialogue.proofs.OctetLemmas.{may_receives, receives_stands, short_receives}
 use Rattle.ftp_client.proofs.client.Client.data_hear.Goals as goal
 
 pub returns-in-Ok-clause-took : goal.returns-in-Ok-clause-took

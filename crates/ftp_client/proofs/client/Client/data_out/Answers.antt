@@ -3,9 +3,10 @@ use Rattle.std.specs.Prelude.{IsTrue}
 use Rattle.ftp_client_machine.specs.Calls.{is_sound}
 use Rattle.ftp_client_machine.specs.Dialogue.{carries_on}
 use Rattle.ftp_client_machine.specs.View.{View}
-use Rattle.ftp_client.specs.Client.{shorted, view_of}
-use Rattle.ftp_client.proofs.HeardLemmas.{err_at, ok_at, short_alike}
-use Rattle.ftp_client.proofs.OctetLemmas.{goes_on, goes_short}
+use Rattle.ftp_client_dialogue.specs.Client.{shorted, view_of}
+use Rattle.ftp_client.proofs.HeardLemmas.{err_at, ok_at}
+use Rattle.ftp_client_dialogue.proofs.HeardLemmas.{short_alike}
+use Rattle.ftp_client.proofs.GivenLemmas.{goes_on, goes_short}
 use Rattle.ftp_client.proofs.client.Client.data_out.Goals as goal
 
 pub returns-else-is_err-clause-now : goal.returns-else-is_err-clause-now

@@ -1,0 +1,41 @@
+-- Octets of the data connection that are given.
+use Rattle.std.proofs.Common.{◌≡◌, ◌∙◌, ℕ, List, refl, ap}
+use Rattle.ftp_operation.specs.declared.op.Op.{Op}
+use Rattle.ftp_client_machine.specs.Calls.{gives_data, goes_by, went}
+use Rattle.ftp_client_machine.specs.Dialogue.{carries_on}
+use Rattle.ftp_client_machine.specs.View.{View, Job, Idle, Waiting, Doing, Transferring, Told, Flow, Sending, Receiving, failed_job}
+use Rattle.ftp_operation.specs.Answer.{Memory}
+use Rattle.ftp_client_dialogue.specs.Client.{job_went, shorted}
+
+went_none : (flow : Flow) → went 0 flow ≡ flow
+went_none (Sending left mark) = refl
+went_none (Receiving decoder mark) = refl
+
+-- none that went out change nothing
+pub went_none_job : (job : Job) → job_went 0 job ≡ job
+went_none_job Idle = refl
+went_none_job (Waiting op) = refl
+went_none_job (Doing op step) = refl
+went_none_job (Transferring op transfer) = ap (λ flow. Transferring op (record transfer { flow = flow })) (went_none transfer.flow)
+went_none_job (Told answer) = refl
+
+goes_on_by : (count : ℕ) (job : Job) (v : View) → (let w : View = record v { job = job_went count job } in let u : View = record v { job = job } in carries_on w ≡ goes_by count job u)
+goes_on_by count Idle v = refl
+goes_on_by count (Waiting op) v = refl
+goes_on_by count (Doing op step) v = refl
+goes_on_by count (Transferring op transfer) v = refl
+goes_on_by count (Told answer) v = refl
+
+pub goes_on : (count : ℕ) (v : View) → (let w : View = record v { job = job_went count v.job } in carries_on w ≡ gives_data count v)
+unfolding gives_data
+goes_on count v = goes_on_by count v.job v
+
+short_went : (count : ℕ) (job : Job) → failed_job Memory (job_went count job) ≡ failed_job Memory job
+short_went count Idle = refl
+short_went count (Waiting op) = refl
+short_went count (Doing op step) = refl
+short_went count (Transferring op transfer) = refl
+short_went count (Told answer) = refl
+
+pub goes_short : (count : ℕ) (v : View) → (let w : View = record v { job = job_went count v.job } in shorted w ≡ shorted v)
+goes_short count v = ap (λ job. let w : View = record (shorted v) { job = job } in w) (short_went count v.job)

@@ -1,0 +1,5 @@
+pub mod RunLemmas
+pub mod StartLemmas
+pub mod HeardLemmas
+pub mod CarryLemmas
+pub mod OctetLemmas

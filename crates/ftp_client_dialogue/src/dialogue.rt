@@ -1,0 +1,38 @@
+// What a client holds, apart from the count of refused growths (RFC 959, sections 2.3 and 5.4).
+ghost use Rattle.std.specs.Prelude.{IsTrue};
+ghost use Rattle.ftp_client_machine.specs.Calls.{is_sound};
+ghost use Rattle.ftp_client_dialogue.specs.Calm.{is_under_way};
+
+use crate::place::Place;
+use ftp_client_machine::client::{DataConnection, Standing};
+use ftp_endpoint::Host;
+use ftp_facts::Text;
+use ftp_hearing::Hearing;
+use ftp_operation::{Login, Op};
+use ftp_plan::{Output, Run};
+use ftp_representation::Representation;
+use std::alloc::Allocator;
+
+/// A client as commands, replies and events change it.
+#[derive(Drop)]
+pub struct Dialogue<A: Allocator, F: Drop> {
+    pub(crate) alloc: A,
+    pub(crate) login: Login<A>,
+    pub(crate) here: Host,
+    pub(crate) peer: Host,
+    pub(crate) standing: Standing,
+    /// The operation that was begun last; before the first, `Where`.
+    pub(crate) op: Op<Text<A>>,
+    pub(crate) place: Place<A, F>,
+    /// The upload over breaks of which the operation is a part.
+    pub(crate) run: Option<Run<A>>,
+    /// The settings that the server accepted last.
+    pub(crate) settings: Representation,
+    pub(crate) connection: DataConnection,
+    /// Whether a link, or a port that is listened at, is to be closed.
+    pub(crate) closing: bool,
+    pub(crate) hearing: Hearing<A>,
+    pub(crate) output: Output<A>,
+    /// A client that has failed has no operation under way.
+    ghost calm: { IsTrue (is_under_way place) → IsTrue (is_sound standing) },
+}

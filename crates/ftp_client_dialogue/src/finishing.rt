@@ -1,0 +1,192 @@
+// How an operation ends, and how a client fails (RFC 959, section 5.4).
+ghost use Rattle.std.specs.Prelude.{◌≡◌, IfOk, IsTrue, OnErr, OnOk, option_map};
+ghost use Rattle.ftp_operation.specs.Answer.{said_of};
+ghost use Rattle.ftp_client_machine.specs.Calls.{is_sound};
+ghost use Rattle.ftp_client_machine.specs.Dialogue.{begins, finishes, finishes_by, finishes_read, next_with};
+ghost use Rattle.ftp_client_machine.specs.Tries.{run_at};
+ghost use Rattle.ftp_client_machine.specs.View.{done_with, dropped, failure_said, fails, stands, strange};
+ghost use Rattle.ftp_plan.specs.Tries.{next_op, run_in};
+
+use crate::dialogue::Dialogue;
+use crate::place::Place;
+use ftp_client_machine::client::{DataConnection, Failure, Standing, Step};
+use ftp_judging::Carries;
+use ftp_operation::Answer;
+use ftp_plan::{Next, is_size, next_in};
+use std::alloc::{AllocError, Allocator};
+
+impl<A: Allocator + Clone, F: Carries<A>> Dialogue<A, F> {
+    ghost use Rattle.ftp_client_dialogue.specs.Calm.{is_under_way};
+    ghost use Rattle.ftp_client_dialogue.specs.Client.{shorted, view_of};
+
+    /// What stands of the data connection is to be closed.
+    pub(crate) fn drop_link(&mut self)
+        ensures op { self.new.op ≡ self.old.op }
+        ensures link { view_of F.flow self.new ≡ dropped (view_of F.flow self.old) }
+    {
+        self.closing = self.closing || stands(self.connection);
+        self.connection = DataConnection::Free;
+    }
+
+    /// The operation is answered; no link of it is needed. A run goes on with its next operation.
+    pub(crate) fn finish(&mut self, answer: Answer<A>) -> Result<(), AllocError>
+        ensures ok { OnOk result (view_of F.flow self.new ≡ finishes (said_of answer) (view_of F.flow self.old)) }
+        ensures err { OnErr result (shorted (view_of F.flow self.new) ≡ shorted (view_of F.flow self.old)) }
+        ensures sound { OnErr result (IsTrue (is_sound self.new.standing)) }
+        ensures was { OnErr result (IsTrue (is_sound self.old.standing)) }
+    {
+        match &self.place {
+            Place::Idle | Place::Waiting | Place::Told(_) => {
+                self.tell(answer);
+                Ok(())
+            }
+            Place::Doing(_) | Place::Transferring(_) => self.finish_under_way(answer),
+        }
+    }
+
+    /// The answer stands until it is taken.
+    fn tell(&mut self, answer: Answer<A>)
+        ensures { view_of F.flow self.new ≡ done_with (said_of answer) (dropped (view_of F.flow self.old)) }
+    {
+        self.drop_link();
+        self.place = Place::Told(answer);
+        self.run = None;
+    }
+
+    /// The operation under way is answered.
+    fn finish_under_way(&mut self, answer: Answer<A>) -> Result<(), AllocError>
+        requires { IsTrue (is_under_way self.old.place) }
+        ensures ok { OnOk result (view_of F.flow self.new
+            ≡ finishes_by (next_with (view_of F.flow self.old).run self.old.op (said_of answer)) (said_of answer) (view_of F.flow self.old)) }
+        ensures err { OnErr result (shorted (view_of F.flow self.new) ≡ shorted (view_of F.flow self.old)) }
+        ensures sound { OnErr result (IsTrue (is_sound self.new.standing)) }
+    {
+        match self.next(&answer)? {
+            Next::Nothing => {
+                self.tell(answer);
+                Ok(())
+            }
+            Next::Again => self.try_again(),
+            Next::Other(op) => {
+                self.op = op;
+                self.try_again()
+            }
+        }
+    }
+
+    /// What follows the operation under way, where it is a part of a run.
+    fn next(&self, answer: &Answer<A>) -> Result<Next<A>, AllocError>
+        ensures { IfOk result (λ next. next_op self.now.op next ≡ next_with (view_of F.flow self.now).run self.now.op (said_of answer.now)) }
+    {
+        match &self.run {
+            None => Ok(Next::Nothing),
+            Some(run) => next_in(run, &self.op, answer, &self.alloc),
+        }
+    }
+
+    /// The next operation of a run begins.
+    fn try_again(&mut self) -> Result<(), AllocError>
+        requires { IsTrue (is_under_way self.old.place) }
+        ensures ok { OnOk result (view_of F.flow self.new
+            ≡ begins self.old.op (record (dropped (view_of F.flow self.old)) { run = option_map (run_at self.old.op) (view_of F.flow self.old).run })) }
+        ensures err { OnErr result (shorted (view_of F.flow self.new) ≡ shorted (view_of F.flow self.old)) }
+        ensures sound { OnErr result (IsTrue (is_sound self.new.standing)) }
+    {
+        self.drop_link();
+        self.place = Place::Doing(Step::Last);
+        self.count_try();
+        self.begin()
+    }
+
+    /// Every operation of a run but SIZE is a try.
+    fn count_try(&mut self)
+        ensures run { view_of F.flow self.new ≡ record (view_of F.flow self.old) { run = option_map (run_at self.old.op) (view_of F.flow self.old).run } }
+        ensures op { self.new.op ≡ self.old.op }
+        ensures standing { self.new.standing ≡ self.old.standing }
+    {
+        if is_size(&self.op) {
+            return;
+        }
+        if let Some(run) = &mut self.run {
+            run.left = run.left.saturating_sub(1);
+        }
+    }
+
+    /// The operation is answered with what was read, or what was said has no place.
+    pub(crate) fn finish_read(&mut self, answer: Option<Answer<A>>) -> Result<(), AllocError>
+        ensures ok { OnOk result (view_of F.flow self.new ≡ finishes_read (option_map said_of answer) (view_of F.flow self.old)) }
+        ensures err { OnErr result (shorted (view_of F.flow self.new) ≡ shorted (view_of F.flow self.old)) }
+        ensures sound { OnErr result (IsTrue (is_sound self.new.standing)) }
+        ensures was { OnErr result (IsTrue (is_sound self.old.standing)) }
+    {
+        match answer {
+            None => {
+                self.strange();
+                Ok(())
+            }
+            Some(answer) => self.finish(answer),
+        }
+    }
+
+    /// The server said what has no place.
+    pub(crate) fn strange(&mut self)
+        ensures { view_of F.flow self.new ≡ strange (view_of F.flow self.old) }
+    {
+        self.fail(Failure::Strange);
+    }
+
+    /// The client has failed for good: it sends and hears no more. A second failure changes nothing.
+    pub fn fail(&mut self, failure: Failure)
+        ensures { view_of F.flow self.new ≡ fails failure (view_of F.flow self.old) }
+    {
+        if !is_sound(self.standing) {
+            return;
+        }
+        self.drop_link();
+        self.output.clear();
+        self.run = None;
+        if self.is_under_way() {
+            self.place = Place::Told(failure_answer(failure));
+        }
+        self.standing = Standing::Failed(failure);
+    }
+
+    /// Whether an operation is under way.
+    fn is_under_way(&self) -> bool
+        ensures { result ≡ is_under_way self.now.place }
+    {
+        match &self.place {
+            Place::Idle | Place::Told(_) => false,
+            Place::Waiting | Place::Doing(_) | Place::Transferring(_) => true,
+        }
+    }
+}
+
+/// Whether a link, or a port that is listened at, stands.
+pub(crate) fn stands(connection: DataConnection) -> bool
+    ensures { result ≡ stands connection }
+{
+    match connection {
+        DataConnection::Listening(_) | DataConnection::Accepting(_) | DataConnection::Open => true,
+        DataConnection::Free | DataConnection::ListenWanted => false,
+        DataConnection::Connecting(_) | DataConnection::Over(_) => false,
+    }
+}
+
+/// Whether a client has not failed.
+pub(crate) fn is_sound(standing: Standing) -> bool
+    ensures { result ≡ is_sound standing }
+{
+    !matches!(standing, Standing::Failed(_))
+}
+
+/// The answer of every operation after a failure.
+pub(crate) fn failure_answer<A: Allocator>(failure: Failure) -> Answer<A>
+    ensures { said_of result ≡ failure_said failure }
+{
+    match failure {
+        Failure::Lost => Answer::Lost,
+        Failure::Strange => Answer::Strange,
+        Failure::Memory => Answer::Memory,
+    }
+}

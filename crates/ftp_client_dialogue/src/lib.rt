@@ -1,0 +1,19 @@
+//! What a client makes of replies, links and octets: its dialogue with a server, operation after operation, without input or output
+//! (RFC 959, sections 2.3 and 5.4).
+#![tactic(auto)]
+
+mod carrying;
+mod control;
+mod dialogue;
+mod finishing;
+mod link;
+mod login;
+mod octets;
+mod place;
+mod sending;
+mod starting;
+mod steps;
+mod transfer;
+
+pub use dialogue::Dialogue;
+pub use place::{Place, Transfer};

@@ -1,0 +1,87 @@
+// How far an operation has come (RFC 959, section 5.4).
+ghost use Rattle.std.specs.Prelude.{◌≡◌, ◌<◌, ◌≤◌, IfErr, IfOk, length, take};
+ghost use Rattle.ftp_operation.specs.Answer.{Memory};
+ghost use Rattle.ftp_client_machine.specs.View.{failed_job};
+
+use ftp_client_machine::client::{Abort, Replied, Step};
+use ftp_facts::Text;
+use ftp_judging::Carries;
+use ftp_operation::{Answer, Op};
+use std::alloc::Allocator;
+
+/// A transfer whose command was sent; `F` is what it carries.
+#[derive(Drop)]
+pub struct Transfer<F: Drop> {
+    pub replied: Replied,
+    pub abort: Abort,
+    pub flow: F,
+}
+
+/// How far the operation that was begun last has come.
+#[derive(Drop)]
+pub enum Place<A: Allocator, F: Drop> {
+    /// No operation is under way, and no answer waits.
+    Idle,
+    /// It waits for the end of the login.
+    Waiting,
+    /// This step is under way.
+    Doing(Step),
+    /// Its transfer's command was sent.
+    Transferring(Transfer<F>),
+    /// It is done, and its answer was not taken yet.
+    Told(Answer<A>),
+}
+
+impl<A: Allocator, F: Carries<A>> Place<A, F> {
+    ghost use Rattle.ftp_client_dialogue.specs.Calm.{is_under_way};
+    ghost use Rattle.ftp_client_dialogue.specs.Client.{JobNotYet, job_heard, job_left, job_noted, job_of, job_unsent, job_went};
+
+    /// Notes the mmmm of a 110 reply to an upload.
+    pub(crate) fn note(&mut self, op: &Op<Text<A>>, mark: Option<u64>)
+        ensures now { job_of F.flow op.now self.new ≡ job_noted mark (job_of F.flow op.now self.old) }
+        ensures calm { is_under_way self.new ≡ is_under_way self.old }
+    {
+        if let Place::Transferring(transfer) = self {
+            transfer.flow.note(op, mark);
+        }
+    }
+
+    /// Gives octets of an upload, and says how many.
+    pub(crate) fn give(&mut self, op: &Op<Text<A>>, room: &mut [u8]) -> usize
+        ensures within { (result ≤ length room.old) × (result ≤ length (job_left (job_of F.flow op.now self.old))) }
+        ensures gave { take result room.new ≡ take result (job_left (job_of F.flow op.now self.old)) }
+        ensures now { job_of F.flow op.now self.new ≡ job_went result (job_of F.flow op.now self.old) }
+        ensures some { 0 < length room.old → 0 < length (job_left (job_of F.flow op.now self.old)) → 0 < result }
+        ensures calm { is_under_way self.new ≡ is_under_way self.old }
+    {
+        match self {
+            Place::Transferring(transfer) => transfer.flow.give(op, room),
+            Place::Idle | Place::Waiting | Place::Doing(_) | Place::Told(_) => 0,
+        }
+    }
+
+    /// Takes octets of a download, and says how many. `Err` says behind how many of them memory was refused.
+    pub(crate) fn hear(&mut self, op: &Op<Text<A>>, piece: &[u8]) -> Result<usize, usize>
+        ensures heard { IfOk result (λ count. job_of F.flow op.now self.new ≡ job_heard (take count piece.now) (job_of F.flow op.now self.old)) }
+        ensures within { IfOk result (λ count. (count ≤ length piece.now) × JobNotYet (take count piece.now) (job_of F.flow op.now self.old)) }
+        ensures some { IfOk result (λ count. 0 < length piece.now → 0 < count) }
+        ensures refused { IfErr result (λ count. count < length piece.now) }
+        ensures short { failed_job Memory (job_of F.flow op.now self.new) ≡ failed_job Memory (job_of F.flow op.now self.old) }
+        ensures calm { is_under_way self.new ≡ is_under_way self.old }
+    {
+        match self {
+            Place::Transferring(transfer) => transfer.flow.hear(op, piece),
+            Place::Idle | Place::Waiting | Place::Doing(_) | Place::Told(_) => Ok(piece.len()),
+        }
+    }
+
+    /// Whether it is a transfer that sent no ABOR.
+    pub(crate) fn is_unsent(&self, op: &Op<Text<A>>) -> bool
+        ensures { result ≡ job_unsent (job_of F.flow op.now self.now) }
+    {
+        let Place::Transferring(transfer) = self else {
+            return false;
+        };
+        matches!(transfer.abort, Abort::Unsent)
+    }
+}
