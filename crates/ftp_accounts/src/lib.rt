@@ -1,0 +1,11 @@
+//! The accounts of a server, as a file says them: lines of user, password and root (RFC 959, section 4.1.1; the form is an own choice).
+#![tactic(auto)]
+
+mod fault;
+mod file;
+mod line;
+mod reading;
+
+pub use fault::{AccountsFileFault, LineFault};
+pub use file::load_accounts;
+pub use reading::read_accounts;
