@@ -1,0 +1,39 @@
+// What opens and closes data connections, and what tells the time.
+use ftp_endpoint::{Endpoint, Host};
+use ftp_facts::Moment;
+use std::io::{Read, Write};
+
+/// How the waiting for a data connection ended.
+#[derive(Drop)]
+pub enum Accepted<S: Drop> {
+    /// It came, from this host.
+    Came(S, Host),
+    /// The control connection has octets, or ended; the waiting may go on later.
+    Spoken,
+    /// It did not come, and does not any more.
+    Refused,
+}
+
+/// What opens data connections (RFC 959, section 3.2). Each call may fail; none of them may wait past the end of the control connection.
+pub trait Ports {
+    /// An open data connection; its read and its write end as failed where the control connection ended.
+    type Stream: Read + Write + Drop;
+
+    /// Listens at a port of its choice for one data connection.
+    fn listen(&mut self) -> Option<u16>;
+
+    /// Waits for the data connection at that port. Where `hears`, octets of the control connection end the waiting.
+    fn accept(&mut self, hears: bool) -> Accepted<Self::Stream>;
+
+    /// Opens a data connection to an endpoint.
+    fn connect(&mut self, endpoint: Endpoint) -> Option<Self::Stream>;
+
+    /// Closes a data connection and the port that is listened at, if there are any.
+    fn close(&mut self, stream: Option<Self::Stream>);
+}
+
+/// What tells the time.
+pub trait Watch {
+    /// The moment that it is.
+    fn moment(&mut self) -> Moment;
+}

@@ -1,0 +1,18 @@
+//! Real connections for a server: `Ports` of `ftp_drive` over sockets, the reader of a control connection, and the system's clock.
+//! One thread waits for the control connection and a data connection together (RFC 959, section 2.3).
+#![tactic(auto)]
+
+mod control;
+mod host;
+mod link;
+mod options;
+mod ports;
+mod wait;
+mod watch;
+
+pub use control::{ControlReader, say_goodbye};
+pub use host::host_of;
+pub use link::Link;
+pub use options::keep_alive;
+pub use ports::SocketPorts;
+pub use watch::SystemWatch;

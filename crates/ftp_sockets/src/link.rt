@@ -1,0 +1,87 @@
+// A data connection that does not outlast its control connection.
+use crate::wait::{For, Woke, wait};
+use ftp_pieces::TURNS;
+use std::io;
+use std::io::{Error, ErrorKind, Read, Write};
+use std::net::{Shutdown, TcpStream};
+
+/// The most reads of octets that came behind the end of a transfer.
+const LAST_READS: u32 = 4096;
+
+/// A data connection. A read or a write that would wait ends where the control connection does.
+#[derive(Drop)]
+pub struct Link<'a> {
+    control: &'a TcpStream,
+    stream: TcpStream,
+}
+
+/// The control connection ended before.
+fn lost() -> Error {
+    Error::from(ErrorKind::ConnectionAborted)
+}
+
+impl<'a> Link<'a> {
+    /// A data connection beside its control connection.
+    pub(crate) fn new(control: &'a TcpStream, stream: TcpStream) -> io::Result<Link<'a>> {
+        stream.set_nonblocking(true)?;
+        stream.set_nodelay(true)?;
+        Ok(Link { control, stream })
+    }
+
+    /// Sends nothing more: the peer finds the end behind all that was sent.
+    pub(crate) fn end(&self) -> io::Result<()> {
+        self.stream.shutdown(Shutdown::Write)
+    }
+
+    /// Reads what the peer sent too much, since a connection that is dropped with unread octets is reset, and loses what was sent. Waits
+    /// at most so many milliseconds for more.
+    pub(crate) fn finish(mut self, millis: i32) {
+        let mut rest = [0u8; 4096];
+        for _ in 0..LAST_READS {
+            match self.stream.read(&mut rest) {
+                Ok(0) => return,
+                Ok(_) => {}
+                Err(error) if error.kind() == ErrorKind::WouldBlock => {
+                    if wait(self.control, &self.stream, For::Octets, false, millis) != Woke::Ready {
+                        return;
+                    }
+                }
+                Err(_) => return,
+            }
+        }
+    }
+}
+
+impl<'a> Read for Link<'a> {
+    fn read(&mut self, room: &mut [u8]) -> io::Result<usize> {
+        for _ in 0..TURNS {
+            match self.stream.read(room) {
+                Err(error) if error.kind() == ErrorKind::WouldBlock => {}
+                other => return other,
+            }
+            if wait(self.control, &self.stream, For::Octets, false, -1) != Woke::Ready {
+                return Err(lost());
+            }
+        }
+        Err(lost())
+    }
+}
+
+impl<'a> Write for Link<'a> {
+    fn write(&mut self, octets: &[u8]) -> io::Result<usize> {
+        for _ in 0..TURNS {
+            match self.stream.write(octets) {
+                Err(error) if error.kind() == ErrorKind::WouldBlock => {}
+                other => return other,
+            }
+            if wait(self.control, &self.stream, For::Room, false, -1) != Woke::Ready {
+                return Err(lost());
+            }
+        }
+        Err(lost())
+    }
+
+    fn flush(&mut self) -> io::Result<()> {
+        Ok(())
+    }
+}

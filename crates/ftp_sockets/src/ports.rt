@@ -1,0 +1,140 @@
+// Data connections over real sockets.
+use crate::host::{addr_of, host_of};
+use crate::link::Link;
+use crate::wait::{For, Woke, wait};
+use ftp_drive::{Accepted, Ports};
+use ftp_endpoint::Endpoint;
+use ftp_pieces::TURNS;
+use std::io;
+use std::io::ErrorKind;
+use std::net::{IpAddr, Net, SocketAddr, TcpListener, TcpStream};
+
+/// How long an opening may take, in milliseconds.
+const OPENING_MILLIS: i32 = 30_000;
+
+/// Data connections beside one control connection.
+#[derive(Drop)]
+pub struct SocketPorts<'a, R: Net<Listener = TcpListener, Stream = TcpStream>> {
+    net: &'a R,
+    control: &'a TcpStream,
+    /// The address that the client reached.
+    here: IpAddr,
+    listener: Option<TcpListener>,
+    /// A connection that was ended, until what the peer sent too much is read.
+    leaving: Option<Link<'a>>,
+}
+
+impl<'a, R: Net<Listener = TcpListener, Stream = TcpStream>> SocketPorts<'a, R> {
+    /// Data connections beside this control connection, at the address that its client reached.
+    pub fn new(net: &'a R, control: &'a TcpStream) -> io::Result<SocketPorts<'a, R>> {
+        let here = control.local_addr()?.ip().to_canonical();
+        Ok(SocketPorts {
+            net,
+            control,
+            here,
+            listener: None,
+            leaving: None,
+        })
+    }
+
+    /// Waits at most so many milliseconds until the peer has ended the last data connection too.
+    pub fn finish(&mut self, millis: i32) {
+        self.listener = None;
+        if let Some(link) = self.leaving.take() {
+            link.finish(millis);
+        }
+    }
+
+    /// Listens at a port that the system chooses.
+    fn bind(&mut self) -> io::Result<u16> {
+        let listener = TcpListener::bind(self.net, SocketAddr::new(self.here, 0))?;
+        listener.set_nonblocking(true)?;
+        let port = listener.local_addr()?.port();
+        self.listener = Some(listener);
+        Ok(port)
+    }
+
+    /// Opens a connection; ends as failed where the control connection does.
+    fn open(&self, addr: SocketAddr) -> io::Result<Option<TcpStream>> {
+        let begun = mio::net::TcpStream::connect(self.net, addr)?;
+        if wait(self.control, &begun, For::Room, false, OPENING_MILLIS) != Woke::Ready {
+            return Ok(None);
+        }
+        match begun.take_error()? {
+            Some(error) => Err(error),
+            None => Ok(Some(TcpStream::from(begun))),
+        }
+    }
+
+    /// The connection that came, as a link.
+    fn linked(&mut self, stream: TcpStream, peer: SocketAddr) -> Accepted<Link<'a>> {
+        self.listener = None;
+        match Link::new(self.control, stream) {
+            Ok(link) => Accepted::Came(link, host_of(peer)),
+            Err(_) => Accepted::Refused,
+        }
+    }
+}
+
+/// What waiting at a port gave.
+#[derive(Drop)]
+enum Waited {
+    Came(TcpStream, SocketAddr),
+    Spoken,
+    Refused,
+}
+
+/// Waits at a port for a connection, or where `hears` for octets of the control connection.
+fn wait_at(listener: &TcpListener, control: &TcpStream, hears: bool) -> Waited {
+    for _ in 0..TURNS {
+        match listener.accept() {
+            Ok((stream, peer)) => return Waited::Came(stream, peer),
+            Err(error) if error.kind() == ErrorKind::WouldBlock => {}
+            Err(_) => return Waited::Refused,
+        }
+        match wait(control, listener, For::Octets, hears, -1) {
+            Woke::Ready => {}
+            Woke::Spoken => return Waited::Spoken,
+            Woke::Ended | Woke::TimeOver | Woke::Failed => return Waited::Refused,
+        }
+    }
+    Waited::Refused
+}
+
+impl<'a, R: Net<Listener = TcpListener, Stream = TcpStream>> Ports for SocketPorts<'a, R> {
+    type Stream = Link<'a>;
+
+    fn listen(&mut self) -> Option<u16> {
+        self.finish(0);
+        self.bind().ok()
+    }
+
+    fn accept(&mut self, hears: bool) -> Accepted<Link<'a>> {
+        let Some(listener) = &self.listener else {
+            return Accepted::Refused;
+        };
+        match wait_at(listener, self.control, hears) {
+            Waited::Came(stream, peer) => self.linked(stream, peer),
+            Waited::Spoken => Accepted::Spoken,
+            Waited::Refused => Accepted::Refused,
+        }
+    }
+
+    fn connect(&mut self, endpoint: Endpoint) -> Option<Link<'a>> {
+        self.finish(0);
+        match self.open(addr_of(endpoint)) {
+            Ok(Some(stream)) => Link::new(self.control, stream).ok(),
+            Ok(None) | Err(_) => None,
+        }
+    }
+
+    fn close(&mut self, stream: Option<Link<'a>>) {
+        self.finish(0);
+        let Some(link) = stream else {
+            return;
+        };
+        if link.end().is_ok() {
+            self.leaving = Some(link);
+        }
+    }
+}
