@@ -1,6 +1,6 @@
 -- A step, and then the line that waits.
 use Rattle.std.proofs.Common.{◌≡◌, ◌≢◌, ◌⊎◌, inl, inr, ℕ, List, Result, Ok, Err, OnOk, OnErr, sym, ap, subst, ◌∙◌}
-use Rattle.ftp_server_machine.specs.Failing.{AreHeard, Late}
+use Rattle.ftp_server_machine.specs.Failing.{AreHeard, Counts, Late}
 use Rattle.ftp_server_machine.specs.Far.{Acts, Hears, Server}
 use Rattle.ftp_server.specs.HearsTo.{AreHeardTo, HearsTo}
 use Rattle.ftp_server_machine.specs.Machine.{later}
@@ -29,3 +29,8 @@ took octets old new mid (Err x) heard lost view same moved = λ read is. record 
   may = λ e. absurd (moved e);
   failed = λ differ. subst (λ w. AreHeard read old.view octets w) (sym view) (lost read is);
 }
+
+-- where no count changed nothing failed
+pub unfailed : {T E P : Type 0} (old new : Counts) (r : Result T E) → OnErr r (new ≢ old) → OnOk r P → new ≡ old → P
+unfailed old new (Ok x) moved p same = p
+unfailed old new (Err x) moved p same = absurd (moved same)

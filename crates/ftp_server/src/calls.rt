@@ -1,5 +1,5 @@
 // The calls of a server: a step, and then the line that waits (RFC 959, sections 3.2 and 4.1).
-ghost use Rattle.std.specs.Prelude.{◌≡◌, ◌≢◌, ◌<◌, ◌≤◌, length, take, OnErr, OnOk};
+ghost use Rattle.std.specs.Prelude.{◌≡◌, ◌≢◌, ◌<◌, ◌≤◌, length, min, take, OnErr, OnOk};
 ghost use Rattle.ftp_server_machine.specs.Calls.{clock_step, close_step, control_end, control_step, listening_step, no_port_step, opened_step, refused_step};
 ghost use Rattle.ftp_server_machine.specs.Far.{Acts};
 ghost use Rattle.ftp_server.specs.Settled.{IsSettled};
@@ -81,6 +81,9 @@ impl<A: Allocator + Copy, T: Tree<A>, J: Moves<A, T>> Server<A, T, J> {
         ensures gave { take result room.new ≡ take result (view_of T.table J.view self.old).owed }
         ensures now { Acts (control_step result) (server_of T.table T.failures J.view self.old) (server_of T.table T.failures J.view self.new) }
         ensures some { 0 < length room.old → 0 < length (view_of T.table J.view self.old).owed → 0 < result }
+
+        // It gives all that is owed, or fills the room.
+        ensures most { result ≡ min (length room.old) (length (view_of T.table J.view self.old).owed) }
     {
         let count = self.output.give(room);
         self.settle();

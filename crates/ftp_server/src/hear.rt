@@ -4,7 +4,7 @@ ghost use Rattle.ftp_nvt.specs.Ear.{line_of};
 ghost use Rattle.ftp_server_machine.specs.Far.{Hears};
 ghost use Rattle.ftp_server_machine.specs.Failing.{ActingFails, AreHeard, LineIsHeard, OctetIsHeard};
 ghost use Rattle.ftp_server_machine.specs.Machine.{IsReading, MayHear, Reading, hears, hears_octet, heard_line, is_abor, is_abort, is_transferring, may_hear};
-ghost use Rattle.ftp_server.specs.HearsTo.{AreHeardTo, HearsTo};
+ghost use Rattle.ftp_server.specs.HearsTo.{AreHeardTo, HearsTo, IsMost};
 ghost use Rattle.ftp_session.specs.Line.{HeardPaths};
 ghost use Rattle.ftp_session.specs.Session.{has_transfer};
 
@@ -26,6 +26,9 @@ impl<A: Allocator + Copy, T: Tree<A>, J: Moves<A, T>> Server<A, T, J> {
         ensures within { result ≤ length piece.now }
         ensures took { Hears (take result piece.now) (server_of T.table T.failures J.view self.old) (server_of T.table T.failures J.view self.new) }
         ensures some { IsTrue (may_hear (view_of T.table J.view self.old)) → 0 < length piece.now → 0 < result }
+
+        // Where nothing failed it takes all of them, or as many as it may.
+        ensures most { counts_of T.failures self.new ≡ counts_of T.failures self.old → IsMost result piece.now (view_of T.table J.view self.new) }
     {
         let failures = self.session.tree.device_failures();
         let taken = self.hear_octets(piece);
@@ -93,6 +96,7 @@ impl<A: Allocator + Copy, T: Tree<A>, J: Moves<A, T>> Server<A, T, J> {
         ensures lost { OnErr result.outcome (AreHeardTo (take result.count piece.now) (view_of T.table J.view self.old) (view_of T.table J.view self.new)) }
         ensures refusals { self.new.refusals ≡ self.old.refusals }
         ensures some { may_hear (view_of T.table J.view self.old) ≡ true → 0 < length piece.now → 0 < result.count }
+        ensures most { OnOk result.outcome (IsMost result.count piece.now (view_of T.table J.view self.new)) }
     {
         let mut count = 0;
         for octet in piece {

@@ -1,7 +1,8 @@
-use Rattle.std.proofs.Common.{◌≡◌, ◌∙◌, sym, take}
+use Rattle.std.proofs.Common.{◌≡◌, ◌∙◌, subst, sym, take}
 use Rattle.ftp_server_machine.specs.Failing.{Counts}
-use Rattle.ftp_server.proofs.CallLemmas.{took}
+use Rattle.ftp_server.proofs.CallLemmas.{took, unfailed}
 use Rattle.ftp_server.proofs.HearLemmas.{on_both, on_err}
+use Rattle.ftp_server.specs.HearsTo.{IsMost}
 use Rattle.ftp_server.specs.Server.{counts_of, server_of, view_of}
 use Rattle.ftp_server.proofs.server.Server.hear.Goals as goal
 
@@ -15,3 +16,13 @@ returns-clause-took g c =
     r c.hear_octets-taken.ensures.done c.hear_octets-taken.ensures.lost c.count.ensures.view
     (on_both r (λ p q. p ∙ q) c.count.ensures.done c.hear_octets-taken.ensures.steady)
     (on_err r (λ h e. h (e ∙ sym same)) c.count.ensures.failed)
+
+pub returns-clause-most : goal.returns-clause-most
+returns-clause-most g c = λ fine.
+    let failures = g.T.Tree.failures in
+    let r = c.hear_octets-taken.result in let mid = c.hear_octets-taken.new.self in
+    let before : Counts = record { refusals = mid.refusals; failures = c.device_failures-failures.result } in
+    let same : before ≡ counts_of failures c.args.self.now = λ i. record { refusals = c.hear_octets-taken.ensures.refusals i; failures = c.device_failures-failures.ensures i } in
+    subst (λ w. IsMost r.count c.args.piece.now w) (sym c.count.ensures.view)
+    (unfailed (counts_of failures c.args.self.now) (counts_of failures c.count.new.self) r.outcome
+    (on_err r.outcome (λ h e. h (e ∙ sym same)) c.count.ensures.failed) c.hear_octets-taken.ensures.most fine)

@@ -1,4 +1,4 @@
-use Rattle.std.proofs.Common.{◌+◌, ◌∙◌, ap, arith, sym}
+use Rattle.std.proofs.Common.{◌+◌, ◌∙◌, ap, arith, inr, sym}
 use Rattle.ftp_server.proofs.HearLemmas.{of_ok, on_err, piece_lost, piece_more, some_taken}
 use Rattle.ftp_server.specs.Server.{view_of}
 use Rattle.ftp_server.proofs.server.Server.hear_octets.Goals as goal
@@ -30,3 +30,6 @@ returns-then-not-may_hear-clause-some g c = λ may some.
     let v = view_of g.T.Tree.table g.J.Moves.view c.args.self.now in let x = view_of g.T.Tree.table g.J.Moves.view c.loop-octet.self in
     some_taken c.loop-octet.octet-index c.loop-octet.count v x c.loop-octet.invariant.count c.loop-octet.invariant.first
     (sym c.may_hear.ensures ∙ c.if-not-may_hear.true) may
+
+pub returns-then-not-may_hear-clause-most : goal.returns-then-not-may_hear-clause-most
+returns-then-not-may_hear-clause-most g c = inr (sym c.may_hear.ensures ∙ c.if-not-may_hear.true)
