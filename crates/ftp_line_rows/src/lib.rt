@@ -1,4 +1,4 @@
-//! For tests alone: rows of control lines, of endpoints and of commands, and a caller's loop over an ear.
+//! For tests alone: rows of control lines, of endpoints, commands and replies, of entries and moments, and a caller's loop over an ear.
 #![tactic(auto)]
 
 mod caller;

@@ -1,4 +1,13 @@
+mod calendar;
 mod commands;
+mod common;
 mod ears;
 mod endpoints;
+mod entries;
+mod fact_memory;
+mod moments;
+mod replies;
+mod reply_memory;
+mod values;
+mod writing;
 mod written;

@@ -2,10 +2,9 @@
 ghost use Rattle.std.specs.Prelude.{◌<◌, ◌≤◌, length};
 
 use crate::events_in;
-use ftp_nvt::{Ear, Event, Heard, NvtFault};
+use ftp_nvt::{Ear, Event, NvtFault};
 use ftp_refusing::Refusing;
 use std::alloc::{AllocError, Global};
-use std::test::Fail;
 
 /// Octets, and what they say.
 type Row = (&'static [u8], &'static [u8]);
@@ -65,8 +64,8 @@ fn said(
 }
 
 /// Whether a row says the same cut once at this place, and then into pieces of this size.
-fn holds_cut(alloc: Global, limit: usize, row: Row, at: usize, size: usize) -> bool
-    requires front { at ≤ length row.0.now }
+fn holds_cut(alloc: Global, limit: usize, row: &Row, at: usize, size: usize) -> bool
+    requires front { at ≤ length row.now.0.now }
     requires some { 0 < size }
 {
     match said(alloc, limit, row.0, at, size) {
@@ -76,7 +75,7 @@ fn holds_cut(alloc: Global, limit: usize, row: Row, at: usize, size: usize) -> b
 }
 
 /// Whether a row says the same in every cutting.
-fn holds(alloc: Global, limit: usize, row: Row) -> bool {
+fn holds(alloc: Global, limit: usize, row: &Row) -> bool {
     for at in 0..=row.0.len() {
         let whole = holds_cut(alloc, limit, row, at, 64);
         let ones = holds_cut(alloc, limit, row, at, 1);
@@ -89,9 +88,14 @@ fn holds(alloc: Global, limit: usize, row: Row) -> bool {
     true
 }
 
-/// The number of the first row that is not so.
-fn wrong_row(alloc: Global, limit: usize, rows: &[Row]) -> Option<usize> {
-    rows.iter().position(|row| !holds(alloc, limit, *row))
+/// The octets of the first row that is not so.
+fn wrong_row(alloc: Global, limit: usize, rows: &[Row]) -> Option<&'static [u8]> {
+    for row in rows {
+        if !holds(alloc, limit, row) {
+            return Some(row.0);
+        }
+    }
+    None
 }
 
 /// Rows for a limit of ten octets.
@@ -161,35 +165,46 @@ fn spaced(alloc: Global, spaces: usize) -> Result<Vec<u8, Global>, AllocError> {
     Ok(octets)
 }
 
-fn heard(taken: usize, event: Event) -> Heard {
-    Heard { taken, event }
+/// Whether an ear hears these octets as one line of 1,022 octets.
+fn is_a_line(ear: &mut Ear<Global>, octets: &[u8]) -> bool {
+    let heard = ear.feed(octets);
+    heard.taken == 1_024 && heard.event == Event::Line && ear.line().len() == 1_022
+}
+
+/// Whether an ear hears these octets as a line that is too long, and two lines behind them.
+fn is_too_long(ear: &mut Ear<Global>, octets: &[u8]) -> bool {
+    let heard = ear.feed(octets);
+    heard.taken == 1_025 && heard.event == Event::TooLong && events_in(ear, b"NOOP\r\n\n") == 2
+}
+
+/// Whether a new ear for 1,024 octets hears NOOP with so many spaces behind it as one line, or as a line that is too long.
+fn is_heard(alloc: Global, spaces: usize, fits: bool) -> bool {
+    let Ok(octets) = spaced(alloc, spaces) else {
+        return false;
+    };
+    match Ear::new(alloc, 1_024) {
+        Ok(mut ear) if fits => is_a_line(&mut ear, &octets),
+        Ok(mut ear) => is_too_long(&mut ear, &octets),
+        Err(_) => false,
+    }
 }
 
 #[test]
-fn a_line_of_the_limit(rt: HostRuntime) -> Result<(), Fail> {
-    let octets = spaced(rt.alloc(), 1_018)?;
-    let mut ear = Ear::new(rt.alloc(), 1_024)?;
-    assert!(rt; ear.feed(&octets) == heard(1_024, Event::Line));
-    assert!(rt; ear.line().len() == 1_022);
-    Ok(())
+fn a_line_has_1024_octets_at_most(rt: HostRuntime) {
+    assert!(rt; is_heard(rt.alloc(), 1_018, true));
+    assert!(rt; is_heard(rt.alloc(), 1_019, false));
 }
 
-#[test]
-fn a_line_of_one_octet_more(rt: HostRuntime) -> Result<(), Fail> {
-    let octets = spaced(rt.alloc(), 1_019)?;
-    let mut ear = Ear::new(rt.alloc(), 1_024)?;
-    assert!(rt; ear.feed(&octets) == heard(1_025, Event::TooLong));
-    assert!(rt; events_in(&mut ear, b"NOOP\r\n\n") == 2);
-    Ok(())
-}
-
-#[test]
-fn memory_is_asked_for_once(rt: HostRuntime) -> Result<(), Fail> {
-    let none = Refusing::new(rt.alloc(), 1);
-    assert!(rt; Ear::new(&none, 8).err() == Some(NvtFault::Memory));
-    let heap = Refusing::new(rt.alloc(), 2);
+/// How many events an ear for eight octets gives, where this growth is refused, and how many growths are left then.
+fn events_with(alloc: Global, refused: u64) -> Result<(usize, u64), NvtFault> {
+    let heap = Refusing::new(alloc, refused);
     let mut ear = Ear::new(&heap, 8)?;
-    assert!(rt; events_in(&mut ear, b"1234567\n12345678\n\n") == 3);
-    assert!(rt; heap.left() == 1);
-    Ok(())
+    let events = events_in(&mut ear, b"1234567\n12345678\n\n");
+    Ok((events, heap.left()))
+}
+
+#[test]
+fn memory_is_asked_for_once(rt: HostRuntime) {
+    assert!(rt; events_with(rt.alloc(), 1) == Err(NvtFault::Memory));
+    assert!(rt; events_with(rt.alloc(), 2) == Ok((3, 1)));
 }

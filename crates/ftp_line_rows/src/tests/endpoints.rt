@@ -31,11 +31,38 @@ const PORTS: &[(&'static [u8], Option<u16>)] = &[
     (b"0", None),
 ];
 
+fn numbers_are_read() -> bool {
+    for row in NUMBERS {
+        if number(row.0) != row.1 {
+            return false;
+        }
+    }
+    true
+}
+
+fn octets_are_read() -> bool {
+    for row in OCTETS {
+        if octet(row.0) != row.1 {
+            return false;
+        }
+    }
+    true
+}
+
+fn ports_are_read() -> bool {
+    for row in PORTS {
+        if port(row.0) != row.1 {
+            return false;
+        }
+    }
+    true
+}
+
 #[test]
 fn numbers_at_their_limits(rt: HostRuntime) {
-    assert!(rt; NUMBERS.iter().all(|row| number(row.0) == row.1));
-    assert!(rt; OCTETS.iter().all(|row| octet(row.0) == row.1));
-    assert!(rt; PORTS.iter().all(|row| port(row.0) == row.1));
+    assert!(rt; numbers_are_read());
+    assert!(rt; octets_are_read());
+    assert!(rt; ports_are_read());
 }
 
 #[test]
@@ -61,10 +88,19 @@ const SIX: &[(&'static [u8], Option<Endpoint>)] = &[
     (b"10,0,0,9,7,138,", None),
 ];
 
+fn sixes_are_read() -> bool {
+    for row in SIX {
+        if six_numbers(row.0) != row.1 {
+            return false;
+        }
+    }
+    true
+}
+
 #[test]
 fn six_numbers_of_rfc_959(rt: HostRuntime) {
     assert!(rt; begins_with(b"10,0,0,9,007,138).", LOCAL, b")."));
-    assert!(rt; SIX.iter().all(|row| six_numbers(row.0) == row.1));
+    assert!(rt; sixes_are_read());
 }
 
 const IN_REPLIES: &[(&'static [u8], Option<u16>)] = &[
@@ -84,9 +120,18 @@ const IN_REPLIES: &[(&'static [u8], Option<u16>)] = &[
     (b"(00064460)", None),
 ];
 
+fn replies_are_read() -> bool {
+    for row in IN_REPLIES {
+        if port_in_front(row.0) != row.1 {
+            return false;
+        }
+    }
+    true
+}
+
 #[test]
 fn ports_of_extended_replies(rt: HostRuntime) {
-    assert!(rt; IN_REPLIES.iter().all(|row| port_in_front(row.0) == row.1));
+    assert!(rt; replies_are_read());
 }
 
 const REFUSED: &[(&'static [u8], EndpointFault)] = &[
@@ -112,13 +157,18 @@ const REFUSED: &[(&'static [u8], EndpointFault)] = &[
     (b"0101.2.3.4019300", EndpointFault::BadText),
 ];
 
+fn are_refused() -> bool {
+    for row in REFUSED {
+        if extended_endpoint(row.0) != Err(row.1) {
+            return false;
+        }
+    }
+    true
+}
+
 #[test]
 fn extended_addresses_that_are_refused(rt: HostRuntime) {
-    assert!(rt;
-        REFUSED
-            .iter()
-            .all(|row| extended_endpoint(row.0) == Err(row.1))
-    );
+    assert!(rt; are_refused());
 }
 
 const LAST: Endpoint = Endpoint {
@@ -134,13 +184,18 @@ const EXTENDED: &[(&'static [u8], Endpoint)] = &[
     (b":2:::1:1930:", LAST),
 ];
 
+fn are_read() -> bool {
+    for row in EXTENDED {
+        if extended_endpoint(row.0) != Ok(row.1) {
+            return false;
+        }
+    }
+    true
+}
+
 #[test]
 fn extended_addresses_of_rfc_2428(rt: HostRuntime) {
-    assert!(rt;
-        EXTENDED
-            .iter()
-            .all(|row| extended_endpoint(row.0) == Ok(row.1))
-    );
+    assert!(rt; are_read());
 }
 
 /// Extended addresses, and how each is written.
@@ -165,9 +220,18 @@ fn is_written(text: &[u8], expected: &[u8]) -> bool {
     }
 }
 
+fn are_written() -> bool {
+    for row in WRITTEN {
+        if !is_written(row.0, row.1) {
+            return false;
+        }
+    }
+    true
+}
+
 #[test]
 fn extended_addresses_as_they_are_written(rt: HostRuntime) {
-    assert!(rt; WRITTEN.iter().all(|row| is_written(row.0, row.1)));
+    assert!(rt; are_written());
 }
 
 #[test]

@@ -2,7 +2,6 @@
 use ftp_nvt::{NvtFault, put_line};
 use ftp_refusing::Refusing;
 use std::alloc::Global;
-use std::test::Fail;
 
 /// Texts, and how they are written.
 const WRITTEN: &[(&'static [u8], &'static [u8])] = &[
@@ -20,10 +19,18 @@ fn is_written(alloc: Global, text: &[u8], expected: &[u8]) -> bool {
     put_line(text, &mut out).is_ok() && out.as_slice() == expected
 }
 
+fn are_written(alloc: Global) -> bool {
+    for row in WRITTEN {
+        if !is_written(alloc, row.0, row.1) {
+            return false;
+        }
+    }
+    true
+}
+
 #[test]
 fn texts_are_written(rt: HostRuntime) {
-    let alloc = rt.alloc();
-    assert!(rt; WRITTEN.iter().all(|row| is_written(alloc, row.0, row.1)));
+    assert!(rt; are_written(rt.alloc()));
 }
 
 const TEXT: &[u8] = b"257 \"/\xFF\r\" is the current directory, and more than a growth";
@@ -38,14 +45,29 @@ fn is_kept(alloc: Global, refused: u64) -> bool {
         && out.as_slice() == b"220 Ready\r\n".as_slice()
 }
 
+/// How many growths the text behind a line asks for, with that of the line; none where it goes wrong.
+fn growths(alloc: Global) -> u64 {
+    let heap = Refusing::new(alloc, 0);
+    let Ok(mut out) = Vec::from_slice(&heap, b"220 Ready\r\n") else {
+        return 0;
+    };
+    if put_line(TEXT, &mut out).is_err() {
+        return 0;
+    }
+    0u64.wrapping_sub(heap.left())
+}
+
+fn each_is_kept(alloc: Global) -> bool {
+    let growths = growths(alloc);
+    for refused in 2..=growths {
+        if !is_kept(alloc, refused) {
+            return false;
+        }
+    }
+    growths > 2
+}
+
 #[test]
-fn each_growth_of_a_written_line_refused(rt: HostRuntime) -> Result<(), Fail> {
-    let heap = Refusing::new(rt.alloc(), 0);
-    let mut out = Vec::from_slice(&heap, b"220 Ready\r\n")?;
-    put_line(TEXT, &mut out)?;
-    let growths = 0u64.wrapping_sub(heap.left());
-    assert!(rt; growths > 2);
-    let alloc = rt.alloc();
-    assert!(rt; (2..=growths).all(|refused| is_kept(alloc, refused)));
-    Ok(())
+fn each_growth_of_a_written_line_refused(rt: HostRuntime) {
+    assert!(rt; each_is_kept(rt.alloc()));
 }

@@ -1,9 +1,0 @@
-mod calendar;
-mod common;
-mod entries;
-mod fact_memory;
-mod moments;
-mod replies;
-mod reply_memory;
-mod values;
-mod writing;
