@@ -10,6 +10,13 @@ use ftp_tree::Tree;
 use std::alloc::Allocator;
 use std::io::{Read, Write};
 
+/// Whether a data connection is open still.
+#[derive(Clone, Copy, Debug, PartialEq, Eq)]
+pub(crate) enum Link {
+    Open,
+    Ended,
+}
+
 /// Reads once from the data connection, and tells the server what came: octets, the end, or a break.
 pub(crate) fn receive<A, T, F, R, W, S, C>(
     server: &mut F,
@@ -17,7 +24,7 @@ pub(crate) fn receive<A, T, F, R, W, S, C>(
     stream: &mut S,
     watch: &mut C,
     room: &mut [u8],
-) -> Result<(), Failed>
+) -> Result<Link, Failed>
 where
     A: Allocator,
     T: Tree<A>,
@@ -31,17 +38,19 @@ where
         Ok(0) => {
             server.clock(watch.moment());
             server.data_end();
+            Ok(Link::Ended)
         }
         Ok(count) => {
             let (octets, _) = room.split_at(count);
             hand(server, control, octets)?;
+            Ok(Link::Open)
         }
         Err(Failed) => {
             server.clock(watch.moment());
             server.data_fault();
+            Ok(Link::Ended)
         }
     }
-    Ok(())
 }
 
 /// Hands octets of an upload to the server until it has taken them all or the upload is over, which drops the rest.
@@ -74,7 +83,7 @@ where
 }
 
 /// Writes to the data connection what the server gives for this room, and tells the server where that fails.
-pub(crate) fn send<A, T, F, S>(server: &mut F, stream: &mut S, room: &mut [u8])
+pub(crate) fn send<A, T, F, S>(server: &mut F, stream: &mut S, room: &mut [u8]) -> Link
 where
     A: Allocator,
     T: Tree<A>,
@@ -85,7 +94,9 @@ where
     let (octets, _) = room.split_at(count);
     if ftp_pieces::put(stream, octets).is_err() {
         server.data_fault();
+        return Link::Ended;
     }
+    Link::Open
 }
 
 /// Fills the room with the octets that the server gives, as far as they go; gives how many they are.

@@ -1,6 +1,6 @@
 // The drive: what the server wants is done, turn by turn.
 use crate::control::Control;
-use crate::data::{receive, send};
+use crate::data::{Link, receive, send};
 use crate::ports::{Accepted, Ports, Watch};
 use ftp_endpoint::Endpoint;
 use ftp_ends::Wants;
@@ -73,14 +73,9 @@ where
             Wants::CloseAll => return Ok(()),
             Wants::Nothing => attend(server, control, watch)?,
             Wants::Accept => accept(server, control, ports, watch, stream)?,
-            Wants::Receive => match stream {
-                Some(open) => receive(server, control, open, watch, &mut room)?,
-                None => server.data_fault(),
-            },
-            Wants::Send => match stream {
-                Some(open) => send(server, open, &mut room),
-                None => server.data_fault(),
-            },
+            Wants::Receive | Wants::Send => {
+                carry(server, control, ports, watch, stream, &mut room)?;
+            }
             Wants::Listen => listen(server, ports),
             Wants::Connect(endpoint) => connect(server, ports, stream, endpoint),
             Wants::CloseData => {
@@ -90,6 +85,40 @@ where
         }
     }
     Err(Failed)
+}
+
+/// Carries octets over the open data connection, one way or the other; closes it where it ended.
+fn carry<A, T, F, R, W, P, C>(
+    server: &mut F,
+    control: &mut Control<R, W>,
+    ports: &mut P,
+    watch: &mut C,
+    stream: &mut Option<P::Stream>,
+    room: &mut [u8],
+) -> Result<(), Failed>
+where
+    A: Allocator,
+    T: Tree<A>,
+    F: Far<A, T>,
+    R: Read + Drop,
+    W: Write + Drop,
+    P: Ports,
+    C: Watch,
+{
+    let Some(mut open) = stream.take() else {
+        server.data_fault();
+        return Ok(());
+    };
+    let link = if server.wants() == Wants::Send {
+        send(server, &mut open, room)
+    } else {
+        receive(server, control, &mut open, watch, room)?
+    };
+    match link {
+        Link::Open => *stream = Some(open),
+        Link::Ended => ports.close(Some(open)),
+    }
+    Ok(())
 }
 
 /// Hears the next octet of the control connection, which is read where all before were heard; tells the server of its end.

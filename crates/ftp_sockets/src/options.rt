@@ -6,16 +6,6 @@ use std::io;
 use std::io::Error;
 use std::os::fd::AsRawFd;
 
-/// A peer that vanished is noticed: the first probe goes after so many idle seconds, then one each `between`, and after `times` of them
-/// without an answer the connection has ended.
-pub fn keep_alive<S: AsRawFd>(stream: &S, idle: i32, between: i32, times: i32) -> io::Result<()> {
-    let (fd, socket, tcp) = (stream.as_raw_fd(), c::SOL_SOCKET, c::IPPROTO_TCP);
-    check(unsafe { c::setsockopt(fd, socket, c::SO_KEEPALIVE, &value(1), 4) })?;
-    check(unsafe { c::setsockopt(fd, tcp, c::TCP_KEEPIDLE, &value(idle), 4) })?;
-    check(unsafe { c::setsockopt(fd, tcp, c::TCP_KEEPINTVL, &value(between), 4) })?;
-    check(unsafe { c::setsockopt(fd, tcp, c::TCP_KEEPCNT, &value(times), 4) })
-}
-
 /// Whether a call of the system went well.
 fn check(status: i32) -> io::Result<()>
     ensures { IsOk result ↔ (pos 0 ≤ℤ status) }
@@ -32,4 +22,14 @@ fn value(number: i32) -> [u8; 16] {
     let mut value = [0u8; 16];
     value[..4].copy_from_slice(&number.to_ne_bytes());
     value
+}
+
+/// A peer that vanished is noticed: the first probe goes after so many idle seconds, then one each `between`, and after `times` of them
+/// without an answer the connection has ended.
+pub fn keep_alive<S: AsRawFd>(stream: &S, idle: i32, between: i32, times: i32) -> io::Result<()> {
+    let (fd, socket, tcp) = (stream.as_raw_fd(), c::SOL_SOCKET, c::IPPROTO_TCP);
+    check(unsafe { c::setsockopt(fd, socket, c::SO_KEEPALIVE, &value(1), 4) })?;
+    check(unsafe { c::setsockopt(fd, tcp, c::TCP_KEEPIDLE, &value(idle), 4) })?;
+    check(unsafe { c::setsockopt(fd, tcp, c::TCP_KEEPINTVL, &value(between), 4) })?;
+    check(unsafe { c::setsockopt(fd, tcp, c::TCP_KEEPCNT, &value(times), 4) })
 }
