@@ -1,2 +1,3 @@
 pub mod UploadLemmas
 pub mod DownloadLemmas
+pub mod ListingLemmas

@@ -1,3 +1,4 @@
 pub mod Flow
 pub mod Heard
+pub mod Listing
 pub mod Octets

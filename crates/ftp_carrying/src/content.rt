@@ -1,8 +1,10 @@
 // What the octets of a download answer (RFC 959, section 4.1.3; RFC 3659, section 7).
 ghost use Rattle.std.specs.Prelude.{◌≡◌, ◌≤◌, IfOk, length, option_map, take};
-ghost use Rattle.ftp_operation.specs.Answer.{said_of};
+ghost use Rattle.ftp_operation.specs.Answer.{Entries, Names, said_of};
+ghost use Rattle.ftp_facts.specs.Listing.{entries_value, names_value};
 ghost use Rattle.ftp_client_machine.specs.Octets.{content_answer};
 
+use crate::listing::{entries_in, names_in};
 use ftp_facts::Text;
 use ftp_operation::{Answer, Op};
 use std::alloc::{AllocError, Allocator};
@@ -16,9 +18,36 @@ pub(crate) fn content_in<A: Allocator + Clone>(
     ensures { IfOk result (λ answer. option_map said_of answer ≡ content_answer op.now octets.now) }
 {
     match op {
-        Op::List(_, _) | Op::Names(_, _) => Err(AllocError),
+        Op::List(_, _) => entries_answer(octets, alloc),
+        Op::Names(_, _) => names_answer(octets, alloc),
         Op::Peek(_, count, _) => Ok(Some(Answer::Octets(copy_of(first(octets, *count), alloc)?))),
         _ => Ok(Some(Answer::Octets(copy_of(octets, alloc)?))),
+    }
+}
+
+/// The entries of a machine listing.
+fn entries_answer<A: Allocator + Clone>(
+    octets: &[u8],
+    alloc: &A,
+) -> Result<Option<Answer<A>>, AllocError>
+    ensures { IfOk result (λ answer. option_map said_of answer ≡ option_map Entries (entries_value octets.now)) }
+{
+    match entries_in(octets, alloc)? {
+        Some(entries) => Ok(Some(Answer::Entries(entries))),
+        None => Ok(None),
+    }
+}
+
+/// The pathnames of a listing of names.
+fn names_answer<A: Allocator + Clone>(
+    octets: &[u8],
+    alloc: &A,
+) -> Result<Option<Answer<A>>, AllocError>
+    ensures { IfOk result (λ answer. option_map said_of answer ≡ option_map Names (names_value octets.now)) }
+{
+    match names_in(octets, alloc)? {
+        Some(names) => Ok(Some(Answer::Names(names))),
+        None => Ok(None),
     }
 }
 

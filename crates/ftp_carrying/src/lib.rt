@@ -5,6 +5,7 @@
 mod carrying;
 mod content;
 mod download;
+mod listing;
 mod upload;
 
 pub use carrying::Carrying;
