@@ -1,4 +1,5 @@
-//! For tests alone: rows of files and items for `ftp_repr`, and calls at which a clause of it decides the answer.
+//! For tests alone: rows of files, items and wires for `ftp_repr`, `ftp_framer`, `ftp_encoder` and `ftp_mode`, and calls at which a clause of
+//! `ftp_repr` decides the answer.
 #![tactic(auto)]
 
 #[cfg(test)]

@@ -1,7 +1,12 @@
+mod both_ways;
+mod encoding;
 mod parts;
+mod reading;
 mod receiving;
 mod refusals;
 mod sending;
 mod sizes;
 mod skipping;
+mod wires;
 mod words;
+mod writing;

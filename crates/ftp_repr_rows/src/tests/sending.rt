@@ -1,7 +1,6 @@
 use super::parts::{Part, add_parts, send_piece};
 use ftp_repr::{Item, Kind, Sender, Structure};
 use std::alloc::{AllocError, Global};
-use std::test::Fail;
 
 /// A file in a type and structure, and its items, by hand from RFC 959, sections 3.1.1.1 and 3.1.2.2.
 type Row<'a> = (Kind, Structure, &'a [u8], &'a [Item<'a>]);
@@ -144,7 +143,6 @@ fn first_wrong(alloc: Global) -> Result<Option<usize>, AllocError> {
 }
 
 #[test]
-fn files_are_sent_in_any_pieces(rt: HostRuntime) -> Result<(), Fail> {
-    assert_eq!(&rt; first_wrong(rt.alloc())?, None);
-    Ok(())
+fn files_are_sent_in_any_pieces(rt: HostRuntime) {
+    assert!(rt; first_wrong(rt.alloc()) == Ok(None));
 }

@@ -68,10 +68,18 @@ fn row_holds_by(alloc: Global, row: Row<'_>, sizes: &[usize]) -> bool {
         .all(|size| goes_as(alloc, how, file, wire, *size, *size))
 }
 
+fn all_are_written(alloc: Global) -> bool {
+    for row in WIRES {
+        if !row_holds(alloc, row) {
+            return false;
+        }
+    }
+    true
+}
+
 #[test]
 fn wires_of_small_files(rt: HostRuntime) {
-    let alloc = rt.alloc();
-    assert_eq!(&rt; WIRES.iter().position(|row| !row_holds(alloc, row)), None);
+    assert!(rt; all_are_written(rt.alloc()));
 }
 
 /// Appends a header and so many octets of the letter x.
@@ -135,11 +143,18 @@ fn goes_from(alloc: Global, how: How, start: u64, wire: &[u8]) -> bool {
     row_holds_by(alloc, (marked, b"xxxx", wire), &[1, 64])
 }
 
+fn starts_are_written(alloc: Global) -> bool {
+    for (start, wire) in STARTS {
+        if !goes_from(alloc, FILE_BLOCK, *start, wire) {
+            return false;
+        }
+    }
+    true
+}
+
 #[test]
 fn markers_count_from_a_start(rt: HostRuntime) {
-    let alloc = rt.alloc();
-    let wrong = STARTS.iter().position(|(start, wire)| !goes_from(alloc, FILE_BLOCK, *start, wire));
-    assert_eq!(&rt; wrong, None);
+    assert!(rt; starts_are_written(rt.alloc()));
 }
 
 /// Four octets in which a marker would stand, where none is written.
@@ -149,13 +164,18 @@ pub const UNMARKED: &[(How, &'static [u8])] = &[
     (RECORD_BLOCK, b"\x40\x00\x04xxxx"),
 ];
 
+fn unmarked_are_written(alloc: Global) -> bool {
+    for (how, wire) in UNMARKED {
+        if !goes_from(alloc, *how, 65_533, wire) {
+            return false;
+        }
+    }
+    true
+}
+
 #[test]
 fn markers_are_for_blocks_in_file_structure(rt: HostRuntime) {
-    let alloc = rt.alloc();
-    let wrong = UNMARKED
-        .iter()
-        .position(|(how, wire)| !goes_from(alloc, *how, 65_533, wire));
-    assert_eq!(&rt; wrong, None);
+    assert!(rt; unmarked_are_written(rt.alloc()));
 }
 
 /// Whether a record of 8,192 octets goes as one block.

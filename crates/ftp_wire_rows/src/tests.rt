@@ -1,5 +1,0 @@
-mod both_ways;
-mod encoding;
-mod reading;
-mod wires;
-mod writing;
