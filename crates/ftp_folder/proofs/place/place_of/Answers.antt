@@ -1,6 +1,5 @@
 use Rattle.std.proofs.Common.{rules, ◌≡◌, ◌∙◌, ◌++◌, append_assoc, string_bytes}
 use Rattle.ftp_path.specs.Path.{joined}
-use Rattle.ftp_folder.specs.Place.{IsBelow}
 use Rattle.ftp_folder.proofs.PlaceLemmas.{below-of, kept-components, kept-text}
 use Rattle.ftp_folder.proofs.place.place_of.Goals as goal
 
