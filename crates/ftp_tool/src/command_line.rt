@@ -1,5 +1,6 @@
 // The command line: one level of subcommands.
 use crate::help;
+use crate::serving::serve_command;
 use crate::task::Task;
 use clap::{Arg, ArgAction, ArgMatches, Command};
 use ftp_programs::{Direction, Representation, number_of, representation_of};
@@ -38,15 +39,16 @@ pub fn command<'a>(alloc: Global) -> Result<Command<'a>, AllocError> {
         .arg(read)?;
     Command::new(alloc, "ftp_tool")
         .version(help::VERSION)
-        .about("FTP without a socket, over standard input and output")
+        .about("an FTP server, and its parts over standard input and output")
         .subcommand_required(true)
         .subcommand(dialogue)?
         .subcommand(facts)?
-        .subcommand(frame)
+        .subcommand(frame)?
+        .subcommand(serve_command(alloc)?)
 }
 
 /// An option that has to be there.
-fn needed<'a>(alloc: Global, name: &'a str, values: &'a str) -> Arg<'a> {
+pub fn needed<'a>(alloc: Global, name: &'a str, values: &'a str) -> Arg<'a> {
     Arg::new(alloc, name)
         .long(name)
         .value_name(values)

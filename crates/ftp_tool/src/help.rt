@@ -29,3 +29,14 @@ Status: 0 done; 1 a wire had a fault or ended early; 2 bad command line; 3 a rea
 
 Example:
   printf 'a\\nb' | ftp_tool frame --type I --stru R --mode B | od -An -tx1";
+
+/// Behind the help of `serve`.
+pub const SERVE: &str = "\
+Loads the folder, and serves control connections one after another; what clients change is changed in the folder first.
+Who may log in: guest with the password secret, and anonymous without one; both may change all that is served. Everything goes in
+cleartext, passwords too.
+Output: listening on, the address and the port, once clients can connect.
+Status: 0 done; 2 bad command line; 3 the folder, the port or a session failed, or memory was refused.
+
+Example:
+  ftp_tool serve --port 2121 --dir . --sessions forever";

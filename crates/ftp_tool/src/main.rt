@@ -1,15 +1,19 @@
-//! The programs: FTP over standard input and output, without a socket.
+//! The programs: FTP over standard input and output, and a server over real connections.
 #![tactic(auto)]
 
 mod command_line;
 mod help;
+mod serving;
 mod task;
 
 use anyhow::Result;
 use std::env;
 use std::env::Env;
+use std::fs::Files;
 use std::io::{Eprint, Read, Write};
+use std::net::{Net, TcpListener, TcpStream};
 use std::process::ExitCode;
+use std::time::Clock;
 use task::perform;
 
 /// A bad command line.
@@ -25,7 +29,14 @@ fn main(rt: HostRuntime) -> ExitCode {
 /// Does what the command line asks for, and tells the faults of a wire to `faults`.
 fn run<R, F>(rt: &R, faults: &mut F) -> Result<u8>
 where
-    R: Input + Print + Eprint + Env + AllocGlobal,
+    R: Input
+        + Print
+        + Eprint
+        + Env
+        + Files
+        + AllocGlobal
+        + Clock
+        + Net<Listener = TcpListener, Stream = TcpStream>,
     F: Write,
 {
     let words: Vec<String> = env::args(rt)?.collect(rt.alloc())?;
@@ -36,6 +47,12 @@ where
             return Ok(error.exit_code() as u8);
         }
     };
+    if let Some(("serve", words)) = matches.subcommand() {
+        return match serving::serving_of(words) {
+            Some(job) => Ok(ftp_serve::serve(rt, job)?),
+            None => bad_words(rt),
+        };
+    }
     match command_line::task_of(&matches) {
         Some(task) => Ok(perform(
             rt.alloc(),
@@ -44,11 +61,14 @@ where
             &mut std::io::writer(rt),
             faults,
         )),
-        None => {
-            eprintln!(rt;
-                "error: a number is decimal digits, at most 4294967295; types are A and I, structures F and R, modes S and B"
-            )?;
-            Ok(BAD_COMMAND_LINE)
-        }
+        None => bad_words(rt),
     }
+}
+
+/// Tells what the values of options are.
+fn bad_words<R: Eprint>(rt: &R) -> Result<u8> {
+    eprintln!(rt;
+        "error: a number is decimal digits, at most 4294967295; a port is at most 65535; types are A and I, structures F and R, modes S and B; an address is one of the loopback in numbers"
+    )?;
+    Ok(BAD_COMMAND_LINE)
 }
