@@ -1,5 +1,0 @@
-//! Transfers beside a tree in memory.
-mod beside;
-mod downloads;
-mod listings;
-mod uploads;
