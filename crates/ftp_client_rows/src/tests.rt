@@ -1,3 +1,0 @@
-mod logins;
-mod play;
-mod transfers;

@@ -1,0 +1,92 @@
+// Octets as a script writes them.
+use std::alloc::{AllocError, Global};
+
+/// The octets of a text, in which `\r`, `\n`, `\0`, `\\` and `\x` with two hexadecimal digits in capitals are one octet each; `@` and a
+/// number are so many octets of the fixed sequence.
+pub fn octets_of(alloc: Global, text: &[u8]) -> Result<Vec<u8>, AllocError> {
+    match text {
+        [b'@', count @ ..] => fixed_octets(alloc, number(count)),
+        _ => written_octets(alloc, text),
+    }
+}
+
+/// The octet behind another in the fixed sequence, in which the octets 0 to 250 follow one another again and again.
+fn fixed_behind(octet: u8) -> u8 {
+    if octet < 250 { octet + 1 } else { 0 }
+}
+
+fn fixed_octets(alloc: Global, count: u64) -> Result<Vec<u8>, AllocError> {
+    let mut octets = Vec::new(alloc);
+    let mut octet = 0;
+    for _ in 0..count {
+        octets.push(octet)?;
+        octet = fixed_behind(octet);
+    }
+    Ok(octets)
+}
+
+/// Whether octets are the first ones of the fixed sequence.
+pub fn are_fixed(octets: &[u8]) -> bool {
+    let mut wanted = 0;
+    for octet in octets {
+        if *octet != wanted {
+            return false;
+        }
+        wanted = fixed_behind(wanted);
+    }
+    true
+}
+
+fn written_octets(alloc: Global, text: &[u8]) -> Result<Vec<u8>, AllocError> {
+    let mut octets = Vec::new(alloc);
+    let mut rest = text;
+    for _ in 0..text.len() {
+        if rest.is_empty() {
+            break;
+        }
+        let (octet, behind) = octet_in_front(rest);
+        octets.push(octet)?;
+        rest = behind;
+    }
+    Ok(octets)
+}
+
+fn octet_in_front(text: &[u8]) -> (u8, &[u8]) {
+    match text {
+        [b'\\', b'x', high, low, behind @ ..] => (
+            digit(*high).wrapping_mul(16) | digit(*low),
+            behind,
+        ),
+        [b'\\', letter, behind @ ..] => (control(*letter), behind),
+        [octet, behind @ ..] => (*octet, behind),
+        [] => (0, text),
+    }
+}
+
+fn digit(octet: u8) -> u8 {
+    match octet {
+        b'0'..=b'9' => octet - b'0',
+        b'A'..=b'F' => octet - b'A' + 10,
+        _ => 0,
+    }
+}
+
+fn control(letter: u8) -> u8 {
+    match letter {
+        b'r' => b'\r',
+        b'n' => b'\n',
+        b'0' => 0,
+        other => other,
+    }
+}
+
+/// The number of decimal digits; past 2^64 it wraps.
+pub fn number(text: &[u8]) -> u64 {
+    let mut value = 0u64;
+    for octet in text {
+        value = value
+            .wrapping_mul(10)
+            .wrapping_add(u64::from(digit(*octet)));
+    }
+    value
+}
