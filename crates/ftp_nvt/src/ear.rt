@@ -17,6 +17,7 @@ pub struct Ear<A: Allocator> {
 
 impl<A: Allocator> Ear<A> {
     ghost use Rattle.ftp_nvt.specs.Ear.{HasHeard, Hears, event_list, limit_of, line_of, room_of};
+    ghost use Rattle.ftp_nvt.specs.Fold.{ear_of};
 
     /// An ear that has heard nothing, for lines of at most `limit` octets, their ends included and Telnet octets
     /// taken out.
@@ -66,6 +67,14 @@ impl<A: Allocator> Ear<A> {
         ensures { result.now ≡ line_of self.now }
     {
         self.line.text()
+    }
+
+    /// How many octets of text the line that is being read has so far: none between two lines, and none in a line that
+    /// passed the limit.
+    pub fn unfinished(&self) -> usize
+        ensures { result ≡ length (ear_of self.now).line.text }
+    {
+        self.line.unfinished()
     }
 
     // Takes a run of octets that settles nothing, or one octet.

@@ -39,6 +39,7 @@ pub struct LineBuffer<A: Allocator> {
 
 impl<A: Allocator> LineBuffer<A> {
     ghost use Rattle.ftp_nvt.specs.Event.{event_list};
+    ghost use Rattle.ftp_nvt.specs.Fold.{line_at};
     ghost use Rattle.ftp_nvt.specs.LineBuffer.{Bites, HasRead, Reads, Steps};
     ghost use Rattle.ftp_nvt.specs.Lines.{Lacks};
 
@@ -61,6 +62,16 @@ impl<A: Allocator> LineBuffer<A> {
         ensures { result.now ≡ self.now.text.items }
     {
         self.text.as_slice()
+    }
+
+    /// How many octets of text the line that is being read has so far.
+    pub(crate) fn unfinished(&self) -> usize
+        ensures { result ≡ length (line_at self.now.stage self.now.count self.now.text.items).text }
+    {
+        match self.stage {
+            Stage::Start | Stage::Past => 0,
+            Stage::Inside | Stage::AfterReturn => self.text.len(),
+        }
     }
 
     /// Reads a run of octets in front of an IAC that adds no line, or one octet.
