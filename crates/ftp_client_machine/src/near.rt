@@ -1,7 +1,8 @@
 // The client's end of a session, as a world of both sees it: each call is the function of the view that `specs` has for it.
-ghost use Rattle.std.specs.Prelude.{◌≡◌, ◌≢◌, ◌<◌, ◌≤◌, ◌↔◌, ℕ, IsTrue, IfErr, OnOk, OnErr, IsErr, length, take};
+ghost use Rattle.std.specs.Prelude.{◌≡◌, ◌<◌, ◌≤◌, ◌×◌, ℕ, List, Some, None, IsTrue, false, length, take};
+ghost use Rattle.ftp_operation.specs.declared.op.Op.{Op};
 ghost use Rattle.ftp_operation.specs.Answer.{said_of};
-ghost use Rattle.ftp_client_machine.specs.Calls.{starts, uploads, is_busy, report_of, reports, gives_control, may_hear, control_end, listening, listen_refused, data_opened, data_refused, data_end, data_fault, data_closed, gives_data, to_give, may_receive, wants};
+ghost use Rattle.ftp_client_machine.specs.Calls.{starts, uploads, is_busy, left_of, report_of, reports, gives_control, may_hear, control_end, listening, listen_refused, data_opened, data_refused, data_end, data_fault, data_closed, gives_data, to_give, may_receive, wants};
 ghost use Rattle.ftp_client_machine.specs.Failing.{Client, Holds, HoldsIfRoom, HearsIfRoom, ReceivesIfRoom, starts_short, uploads_short, short, listening_short, listen_refused_short, data_opened_short, data_refused_short, data_end_short, data_fault_short};
 ghost use Rattle.ftp_client_machine.specs.Tries.{over_breaks};
 ghost use Rattle.std.specs.Option.{option_map};
@@ -18,21 +19,24 @@ pub trait Near<A: Allocator>: Drop {
     /// What it holds, and how many growths were refused to it.
     ghost client: { Self → Client };
 
-    /// Begins an operation. Refused, where one is begun and its report was not taken, it hands the operation back.
-    fn start(&mut self, op: Op<Text<A>>) -> Result<(), Op<Text<A>>>
-        ensures begun { OnOk result (HoldsIfRoom (client self.old) (client self.new) (starts op (client self.old).view) (starts_short op (client self.old).view)) }
-        ensures busy { IsErr result ↔ IsTrue (is_busy (client self.old).view) }
-        ensures same { OnErr result (Holds (client self.old) (client self.new) (client self.old).view) }
-        ensures back { IfErr result (λ back. back ≡ op) };
+    /// Begins the operation that `op` has, and takes it out of there. Where one is begun whose report was not taken, and where `op` has
+    /// none, nothing changes.
+    fn start(&mut self, op: &mut Option<Op<Text<A>>>)
+        ensures begun { (given : Op (List ℕ)) → op.old ≡ Some given → is_busy (client self.old).view ≡ false
+            → HoldsIfRoom (client self.old) (client self.new) (starts given (client self.old).view) (starts_short given (client self.old).view) }
+        ensures left { op.new ≡ left_of (is_busy (client self.old).view) op.old }
+        ensures busy { IsTrue (is_busy (client self.old).view) → Holds (client self.old) (client self.new) (client self.old).view }
+        ensures none { op.old ≡ None → Holds (client self.old) (client self.new) (client self.old).view };
 
-    /// Begins an upload that goes on after breaks, and has one report (own choice: at most 16 tries). Refused as `start` is, it hands
-    /// path and octets back.
-    fn upload(&mut self, path: Text<A>, octets: Text<A>, how: How) -> Result<(), (Text<A>, Text<A>)>
-        ensures begun { OnOk result (HoldsIfRoom (client self.old) (client self.new)
-            (uploads (over_breaks path octets how) (client self.old).view) (uploads_short (over_breaks path octets how) (client self.old).view)) }
-        ensures busy { IsErr result ↔ IsTrue (is_busy (client self.old).view) }
-        ensures same { OnErr result (Holds (client self.old) (client self.new) (client self.old).view) }
-        ensures back { IfErr result (λ back. back ≡ (path, octets)) };
+    /// Begins an upload that goes on after breaks, and has one report (own choice: at most 16 tries). `texts` has the path and the octets; they are
+    /// taken as `start` takes an operation.
+    fn upload(&mut self, texts: &mut Option<(Text<A>, Text<A>)>, how: How)
+        ensures begun { (path octets : List ℕ) → texts.old ≡ Some (path, octets) → is_busy (client self.old).view ≡ false
+            → HoldsIfRoom (client self.old) (client self.new)
+            (uploads (over_breaks path octets how) (client self.old).view) (uploads_short (over_breaks path octets how) (client self.old).view) }
+        ensures left { texts.new ≡ left_of (is_busy (client self.old).view) texts.old }
+        ensures busy { IsTrue (is_busy (client self.old).view) → Holds (client self.old) (client self.new) (client self.old).view }
+        ensures none { texts.old ≡ None → Holds (client self.old) (client self.new) (client self.old).view };
 
     /// The report of the operation, if it is done; it is given once.
     fn report(&mut self) -> Option<Answer<A>>
