@@ -39,9 +39,9 @@ abbrev pub is_busy : View → Bool
 is_busy v = is_busy_job v.job
 
 -- what is left of what was handed in: nothing, but all of it where the client is busy
-abbrev pub left_of : {T : Type 0} → Bool → Option T → Option T
-left_of true given = given
-left_of false given = None
+abbrev pub handed_back : {T : Type 0} → Bool → Option T → Option T
+handed_back true given = given
+handed_back false given = None
 
 -- an operation that can be sent waits for the end of the login, or begins; after a failure each is answered with it
 abbrev pub started_by : Standing → Op (List ℕ) → View → View

@@ -1,8 +1,8 @@
 // The client's end of a session, as a world of both sees it: each call is the function of the view that `specs` has for it.
-ghost use Rattle.std.specs.Prelude.{◌≡◌, ◌<◌, ◌≤◌, ◌×◌, ℕ, List, Some, None, IsTrue, false, length, take};
+ghost use Rattle.std.specs.Prelude.{◌≡◌, ◌<◌, ◌≤◌, ℕ, List, Some, None, IsTrue, false, length, take};
 ghost use Rattle.ftp_operation.specs.declared.op.Op.{Op};
 ghost use Rattle.ftp_operation.specs.Answer.{said_of};
-ghost use Rattle.ftp_client_machine.specs.Calls.{starts, uploads, is_busy, left_of, report_of, reports, gives_control, may_hear, control_end, listening, listen_refused, data_opened, data_refused, data_end, data_fault, data_closed, gives_data, to_give, may_receive, wants};
+ghost use Rattle.ftp_client_machine.specs.Calls.{starts, uploads, is_busy, handed_back, report_of, reports, gives_control, may_hear, control_end, listening, listen_refused, data_opened, data_refused, data_end, data_fault, data_closed, gives_data, to_give, may_receive, wants};
 ghost use Rattle.ftp_client_machine.specs.Failing.{Client, Holds, HoldsIfRoom, HearsIfRoom, ReceivesIfRoom, starts_short, uploads_short, short, listening_short, listen_refused_short, data_opened_short, data_refused_short, data_end_short, data_fault_short};
 ghost use Rattle.ftp_client_machine.specs.Tries.{over_breaks};
 ghost use Rattle.std.specs.Option.{option_map};
@@ -24,7 +24,7 @@ pub trait Near<A: Allocator>: Drop {
     fn start(&mut self, op: &mut Option<Op<Text<A>>>)
         ensures begun { (given : Op (List ℕ)) → op.old ≡ Some given → is_busy (client self.old).view ≡ false
             → HoldsIfRoom (client self.old) (client self.new) (starts given (client self.old).view) (starts_short given (client self.old).view) }
-        ensures left { op.new ≡ left_of (is_busy (client self.old).view) op.old }
+        ensures left { op.new ≡ handed_back (is_busy (client self.old).view) op.old }
         ensures busy { IsTrue (is_busy (client self.old).view) → Holds (client self.old) (client self.new) (client self.old).view }
         ensures none { op.old ≡ None → Holds (client self.old) (client self.new) (client self.old).view };
 
@@ -34,7 +34,7 @@ pub trait Near<A: Allocator>: Drop {
         ensures begun { (path octets : List ℕ) → texts.old ≡ Some (path, octets) → is_busy (client self.old).view ≡ false
             → HoldsIfRoom (client self.old) (client self.new)
             (uploads (over_breaks path octets how) (client self.old).view) (uploads_short (over_breaks path octets how) (client self.old).view) }
-        ensures left { texts.new ≡ left_of (is_busy (client self.old).view) texts.old }
+        ensures left { texts.new ≡ handed_back (is_busy (client self.old).view) texts.old }
         ensures busy { IsTrue (is_busy (client self.old).view) → Holds (client self.old) (client self.new) (client self.old).view }
         ensures none { texts.old ≡ None → Holds (client self.old) (client self.new) (client self.old).view };
 
