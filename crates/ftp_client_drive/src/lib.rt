@@ -1,0 +1,10 @@
+//! A client between its connections: the control connection as a reader and a writer, and data connections by the trait `Ports` of
+//! `ftp_drive` (RFC 959, section 2.3). No IO of its own.
+#![tactic(auto)]
+
+mod control;
+mod data;
+mod drive;
+
+pub use control::Control;
+pub use drive::drive_client;
