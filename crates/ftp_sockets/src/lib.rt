@@ -1,4 +1,4 @@
-//! Real connections for a server: `Ports` of `ftp_drive` over sockets, the reader of a control connection, and the system's clock.
+//! Real connections for a server or a client: `Ports` of `ftp_drive` over sockets, the reader of a control connection, and the system's clock.
 //! One thread waits for the control connection and a data connection together (RFC 959, section 2.3).
 #![tactic(auto)]
 

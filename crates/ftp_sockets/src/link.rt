@@ -8,11 +8,13 @@ use std::net::{Shutdown, TcpStream};
 /// The most reads of octets that came behind the end of a transfer.
 const LAST_READS: u32 = 4096;
 
-/// A data connection. A read or a write that would wait ends where the control connection does.
+/// A data connection. A read or a write that would wait ends where the control connection does; one that hears fails as `WouldBlock` where
+/// the control connection has octets or ended.
 #[derive(Drop)]
 pub struct Link<'a> {
     control: &'a TcpStream,
     stream: TcpStream,
+    hears: bool,
 }
 
 /// The control connection ended before.
@@ -20,12 +22,28 @@ fn lost() -> Error {
     Error::from(ErrorKind::ConnectionAborted)
 }
 
+/// What a read or a write that waited ends with, where the data connection was not ready.
+fn halted(woke: Woke) -> Error {
+    match woke {
+        Woke::Spoken => Error::from(ErrorKind::WouldBlock),
+        _ => lost(),
+    }
+}
+
 impl<'a> Link<'a> {
     /// A data connection beside its control connection.
-    pub(crate) fn new(control: &'a TcpStream, stream: TcpStream) -> io::Result<Link<'a>> {
+    pub(crate) fn new(
+        control: &'a TcpStream,
+        stream: TcpStream,
+        hears: bool,
+    ) -> io::Result<Link<'a>> {
         stream.set_nonblocking(true)?;
         stream.set_nodelay(true)?;
-        Ok(Link { control, stream })
+        Ok(Link {
+            control,
+            stream,
+            hears,
+        })
     }
 
     /// Sends nothing more: the peer finds the end behind all that was sent.
@@ -59,8 +77,9 @@ impl<'a> Read for Link<'a> {
                 Err(error) if error.kind() == ErrorKind::WouldBlock => {}
                 other => return other,
             }
-            if wait(self.control, &self.stream, For::Octets, false, -1) != Woke::Ready {
-                return Err(lost());
+            match wait(self.control, &self.stream, For::Octets, self.hears, -1) {
+                Woke::Ready => {}
+                woke => return Err(halted(woke)),
             }
         }
         Err(lost())
@@ -74,8 +93,9 @@ impl<'a> Write for Link<'a> {
                 Err(error) if error.kind() == ErrorKind::WouldBlock => {}
                 other => return other,
             }
-            if wait(self.control, &self.stream, For::Room, false, -1) != Woke::Ready {
-                return Err(lost());
+            match wait(self.control, &self.stream, For::Room, self.hears, -1) {
+                Woke::Ready => {}
+                woke => return Err(halted(woke)),
             }
         }
         Err(lost())

@@ -17,8 +17,10 @@ const OPENING_MILLIS: i32 = 30_000;
 pub struct SocketPorts<'a, R: Net<Listener = TcpListener, Stream = TcpStream>> {
     net: &'a R,
     control: &'a TcpStream,
-    /// The address that the client reached.
+    /// The address of this end.
     here: IpAddr,
+    /// Whether a data connection that would wait hears the control connection.
+    hears: bool,
     listener: Option<TcpListener>,
     /// A connection that was ended, until what the peer sent too much is read.
     leaving: Option<Link<'a>>,
@@ -27,11 +29,22 @@ pub struct SocketPorts<'a, R: Net<Listener = TcpListener, Stream = TcpStream>> {
 impl<'a, R: Net<Listener = TcpListener, Stream = TcpStream>> SocketPorts<'a, R> {
     /// Data connections beside this control connection, at the address that its client reached.
     pub fn new(net: &'a R, control: &'a TcpStream) -> io::Result<SocketPorts<'a, R>> {
+        SocketPorts::beside(net, control, false)
+    }
+
+    /// Data connections of a client: a read or a write of one that would wait fails as `WouldBlock` where the control connection has octets
+    /// or ended.
+    pub fn hearing(net: &'a R, control: &'a TcpStream) -> io::Result<SocketPorts<'a, R>> {
+        SocketPorts::beside(net, control, true)
+    }
+
+    fn beside(net: &'a R, control: &'a TcpStream, hears: bool) -> io::Result<SocketPorts<'a, R>> {
         let here = control.local_addr()?.ip().to_canonical();
         Ok(SocketPorts {
             net,
             control,
             here,
+            hears,
             listener: None,
             leaving: None,
         })
@@ -69,7 +82,7 @@ impl<'a, R: Net<Listener = TcpListener, Stream = TcpStream>> SocketPorts<'a, R> 
     /// The connection that came, as a link.
     fn linked(&mut self, stream: TcpStream, peer: SocketAddr) -> Accepted<Link<'a>> {
         self.listener = None;
-        match Link::new(self.control, stream) {
+        match Link::new(self.control, stream, self.hears) {
             Ok(link) => Accepted::Came(link, host_of(peer)),
             Err(_) => Accepted::Refused,
         }
@@ -123,7 +136,7 @@ impl<'a, R: Net<Listener = TcpListener, Stream = TcpStream>> Ports for SocketPor
     fn connect(&mut self, endpoint: Endpoint) -> Option<Link<'a>> {
         self.finish(0);
         match self.open(addr_of(endpoint)) {
-            Ok(Some(stream)) => Link::new(self.control, stream).ok(),
+            Ok(Some(stream)) => Link::new(self.control, stream, self.hears).ok(),
             Ok(None) | Err(_) => None,
         }
     }
