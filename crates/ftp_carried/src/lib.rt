@@ -2,5 +2,6 @@
 #![tactic(auto)]
 
 mod carried;
+mod counted;
 
 pub use carried::Carried;

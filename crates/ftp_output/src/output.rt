@@ -58,7 +58,8 @@ impl<A: Allocator> Output<A> {
 
     /// How many octets are owed.
     pub fn len(&self) -> usize
-        ensures { result ≡ length self.now }
+        ensures len { result ≡ length self.now }
+        ensures within { result ≤ OUTPUT_ROOM }
     {
         self.octets.len()
     }

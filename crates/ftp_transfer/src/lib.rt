@@ -4,6 +4,7 @@
 
 mod came;
 mod download;
+mod held;
 mod install;
 mod upload;
 
