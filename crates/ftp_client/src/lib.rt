@@ -2,5 +2,6 @@
 #![tactic(auto)]
 
 mod client;
+mod near;
 
 pub use client::Client;

@@ -1,0 +1,87 @@
+// A client is the client's end of a session.
+use crate::client::Client;
+use ftp_client_machine::Near;
+use ftp_endpoint::Host;
+use ftp_ends::Wants;
+use ftp_facts::Text;
+use ftp_judging::Carries;
+use ftp_operation::{Answer, How, Op};
+use std::alloc::Allocator;
+
+impl<A: Allocator + Clone, F: Carries<A>> Near<A> for Client<A, F> {
+    ghost use Rattle.ftp_client.specs.Calls.{client_of};
+
+    ghost client = { client_of F.flow };
+
+    fn start(&mut self, op: &mut Option<Op<Text<A>>>) {
+        if let Some(given) = op.take() {
+            if let Err(back) = self.start(given) {
+                *op = Some(back);
+            }
+        }
+    }
+
+    fn upload(&mut self, texts: &mut Option<(Text<A>, Text<A>)>, how: How) {
+        if let Some((path, octets)) = texts.take() {
+            if let Err(back) = self.upload(path, octets, how) {
+                *texts = Some(back);
+            }
+        }
+    }
+
+    fn report(&mut self) -> Option<Answer<A>> {
+        self.report()
+    }
+
+    fn hear(&mut self, piece: &[u8]) -> usize {
+        self.hear(piece)
+    }
+
+    fn control_out(&mut self, room: &mut [u8]) -> usize {
+        self.control_out(room)
+    }
+
+    fn control_end(&mut self) {
+        self.control_end();
+    }
+
+    fn listening(&mut self, port: u16) {
+        self.listening(port);
+    }
+
+    fn listen_refused(&mut self) {
+        self.listen_refused();
+    }
+
+    fn data_opened(&mut self, host: Host) {
+        self.data_opened(host);
+    }
+
+    fn data_refused(&mut self) {
+        self.data_refused();
+    }
+
+    fn data_hear(&mut self, piece: &[u8]) -> usize {
+        self.data_hear(piece)
+    }
+
+    fn data_end(&mut self) {
+        self.data_end();
+    }
+
+    fn data_fault(&mut self) {
+        self.data_fault();
+    }
+
+    fn data_out(&mut self, room: &mut [u8]) -> usize {
+        self.data_out(room)
+    }
+
+    fn data_closed(&mut self) {
+        self.data_closed();
+    }
+
+    fn wants(&self) -> Wants {
+        self.wants()
+    }
+}
