@@ -1,5 +1,5 @@
 // How much the parts of a server's session hold.
-ghost use Rattle.std.specs.Prelude.{◌≡◌, ◌≤◌};
+ghost use Rattle.std.specs.Prelude.{◌≡◌, ◌<◌, ◌≤◌, ◌^◌};
 ghost use Rattle.ftp_server_machine.specs.Held.{access_len, path_len, pending_len, waiting_len};
 
 use crate::line::line_len;
@@ -18,7 +18,8 @@ pub fn path_len<A: Allocator>(path: &Path<A>) -> usize
 
 /// The name of a USER that waits for its PASS.
 pub fn access_len<A: Allocator>(access: &Access<Text<A>>) -> usize
-    ensures { result ≡ access_len access.now }
+    ensures len { result ≡ access_len access.now }
+    ensures short { result < 2 ^ 63 }
 {
     match access {
         Access::AwaitsPass(name) => name.octets().len(),

@@ -5,3 +5,4 @@ pub mod HearLemmas
 pub mod PathLemmas
 pub mod ReaderLemmas
 pub mod ReadingLemmas
+pub mod ShortLemmas

@@ -1,7 +1,9 @@
 -- Room for the replies that come by themselves: while a transfer is under way or a port is asked for, less is owed (own choice).
-use Rattle.std.specs.Prelude.{◌≡◌, ℕ, ◌≤◌, Bool, true, false, List, length, Option, Some, None}
+use Rattle.std.specs.Prelude.{◌≡◌, ℕ, ◌+◌, ◌≤◌, Bool, true, false, List, length, Option, Some, None}
 use Rattle.ftp_path.specs.Path.{Names}
+use Rattle.ftp_command.specs.Line.{line_limit}
 use Rattle.ftp_session.specs.Line.{HeardPaths}
+use Rattle.ftp_server_machine.specs.Held.{waiting_len}
 use Rattle.ftp_server_machine.specs.declared.heard.Heard.{Heard}
 use Rattle.ftp_server_machine.specs.declared.reply.ReplyKind.{ReplyKind}
 use Rattle.ftp_server_machine.specs.declared.reply.ReplyKind.TheVariants as Replies
@@ -42,7 +44,12 @@ is_short Replies.Nothing = true
 is_short (Replies.Fixed text) = true
 is_short other = false
 
--- the texts of paths in the line that waits are path texts
+-- the most octets of a line that waits, as it would be written: twice those of one that is heard, since a number of a line may be
+-- written with more octets than it came with
+abbrev pub waiting_limit : ℕ
+waiting_limit = line_limit + line_limit
+
+-- the texts of paths in the line that waits are path texts, and it keeps the limit
 abbrev pub MayWait : Option (Heard (List ℕ)) → Type 0
 MayWait None = Unit {0}
-MayWait (Some heard) = HeardPaths heard
+MayWait (Some heard) = HeardPaths heard × (waiting_len (Some heard) ≤ waiting_limit)

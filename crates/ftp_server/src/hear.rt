@@ -1,11 +1,12 @@
 // The octets of the control connection (RFC 854; RFC 959, sections 4.1.3 and 5.4).
-ghost use Rattle.std.specs.Prelude.{◌≡◌, ◌≤◌, ◌<◌, IsTrue, None, OnErr, OnOk, length, take, true};
+ghost use Rattle.std.specs.Prelude.{◌≡◌, ◌≤◌, ◌<◌, IsTrue, None, OnErr, OnOk, Some, length, take, true};
+ghost use Rattle.ftp_command.specs.Line.{line_limit};
 ghost use Rattle.ftp_nvt.specs.Ear.{line_of};
 ghost use Rattle.ftp_server_machine.specs.Far.{Hears};
 ghost use Rattle.ftp_server_machine.specs.Failing.{ActingFails, AreHeard, LineIsHeard, OctetIsHeard};
 ghost use Rattle.ftp_server_machine.specs.Machine.{IsReading, MayHear, Reading, hears, hears_octet, heard_line, is_abor, is_abort, is_transferring, may_hear};
+ghost use Rattle.ftp_server.specs.Busy.{MayWait};
 ghost use Rattle.ftp_server.specs.HearsTo.{AreHeardTo, HearsTo, IsMost};
-ghost use Rattle.ftp_session.specs.Line.{HeardPaths};
 ghost use Rattle.ftp_session.specs.Session.{has_transfer};
 
 use crate::line::{Failed, Moved};
@@ -57,7 +58,7 @@ impl<A: Allocator + Copy, T: Tree<A>, J: Moves<A, T>> Server<A, T, J> {
     fn hear_line(&mut self, heard: Heard<Text<A>>) -> Result<(), Failed>
         requires room { length self.old.output ≤ 4096 }
         requires none { self.old.waiting ≡ None }
-        requires paths { HeardPaths heard }
+        requires waits { MayWait (Some heard) }
         ensures done { OnOk result (view_of T.table J.view self.new ≡ heard_line heard (view_of T.table J.view self.old)) }
         ensures steady { OnOk result (counts_of T.failures self.new ≡ counts_of T.failures self.old) }
         ensures lost { OnErr result (ActingFails (is_abort heard (view_of T.table J.view self.old)) heard (view_of T.table J.view self.old) (view_of T.table J.view self.new)) }
@@ -74,6 +75,7 @@ impl<A: Allocator + Copy, T: Tree<A>, J: Moves<A, T>> Server<A, T, J> {
     fn hear_text(&mut self) -> Result<(), Failed>
         requires room { length self.old.output ≤ 4096 }
         requires none { self.old.waiting ≡ None }
+        requires short { length (line_of self.old.reader.ear) ≤ line_limit }
         ensures done { OnOk result ((read : Reading) → IsReading read → view_of T.table J.view self.new ≡ heard_line (read (line_of self.old.reader.ear)) (view_of T.table J.view self.old)) }
         ensures steady { OnOk result (counts_of T.failures self.new ≡ counts_of T.failures self.old) }
         ensures lost { OnErr result ((read : Reading) → IsReading read → LineIsHeard (read (line_of self.old.reader.ear)) (view_of T.table J.view self.old) (view_of T.table J.view self.new)) }

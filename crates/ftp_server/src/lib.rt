@@ -12,6 +12,7 @@ mod entry;
 mod events;
 mod far;
 mod hear;
+mod held;
 mod line;
 mod reader;
 mod reading;

@@ -1,5 +1,5 @@
 // The reader of the control connection, seen as the fold of its octets (RFC 854; RFC 959, section 4).
-ghost use Rattle.std.specs.Prelude.{◌≡◌, IfOk};
+ghost use Rattle.std.specs.Prelude.{◌≡◌, ◌≤◌, IfOk, length};
 ghost use Rattle.ftp_command.specs.Line.{line_limit};
 ghost use Rattle.ftp_nvt.specs.Ear.{limit_of};
 ghost use Rattle.ftp_server.specs.Hearing.{HasHeardSome};
@@ -34,8 +34,17 @@ impl<A: Allocator> Reader<A> {
     pub fn hear(&mut self, octet: u8) -> Event
         ensures step { ear_of self.new.ear ≡ ear_step line_limit (ear_of self.old.ear) octet }
         ensures out { event_list result (line_of self.new.ear) ≡ ear_out line_limit (ear_of self.old.ear) octet }
+        ensures short { result ≡ Event.Line → length (line_of self.new.ear) ≤ line_limit }
     {
         self.ear.feed(&[octet]).event
+    }
+
+    /// How many octets of text the line that is being read has so far, at most 1,024.
+    pub fn unfinished(&self) -> usize
+        ensures len { result ≡ length (ear_of self.now.ear).line.text }
+        ensures short { result ≤ line_limit }
+    {
+        self.ear.unfinished()
     }
 
     /// The text of the line that the last octet ended.

@@ -1,8 +1,9 @@
 // A line of the control connection is read (RFC 959, section 5.3).
-ghost use Rattle.std.specs.Prelude.{◌≡◌, IfSome};
+ghost use Rattle.std.specs.Prelude.{◌≡◌, ◌≤◌, length};
+ghost use Rattle.ftp_command.specs.Line.{line_limit};
 ghost use Rattle.ftp_server_machine.specs.Machine.{IsReading, Reading};
+ghost use Rattle.ftp_server.specs.Busy.{MayWait};
 ghost use Rattle.ftp_server.specs.Reading.{IsReadAs};
-ghost use Rattle.ftp_session.specs.Line.{HeardPaths};
 
 use ftp_command::{CommandFault, Text, read};
 use ftp_server_machine::Heard;
@@ -10,8 +11,9 @@ use std::alloc::Allocator;
 
 /// What a line says, or `None` where the memory for its text was refused.
 pub(crate) fn read_line<A: Allocator>(alloc: A, text: &[u8]) -> Option<Heard<Text<A>>>
+    requires { length text.now ≤ line_limit }
     ensures read { (read : Reading) → IsReading read → IsReadAs (read text.now) result }
-    ensures paths { IfSome result HeardPaths }
+    ensures waits { MayWait result }
 {
     match read(alloc, text) {
         Ok(command) => Some(Heard::Asks(command)),

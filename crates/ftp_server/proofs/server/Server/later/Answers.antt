@@ -1,4 +1,4 @@
-use Rattle.std.proofs.Common.{sym, subst, ◌∙◌}
+use Rattle.std.proofs.Common.{Some, sym, subst, ◌∙◌}
 use Rattle.std.proofs.Math.Logic.{∥∥₁_elim}
 use Rattle.ftp_server.specs.Busy.{MayWait}
 use Rattle.ftp_server.proofs.PathLemmas.{paths_once}
@@ -6,4 +6,4 @@ use Rattle.ftp_server.proofs.server.Server.later.Goals as goal
 
 pub obey-requires-clause-paths : goal.obey-requires-clause-paths
 obey-requires-clause-paths g c =
-    ∥∥₁_elim c.args.self.now.paths (paths_once c.in-Some.heard) (λ h. subst MayWait (sym c.replace.ensures.value ∙ c.in-Some.is) h)
+    ∥∥₁_elim c.args.self.now.paths (paths_once c.in-Some.heard) (λ h. let waits : MayWait (Some c.in-Some.heard) = subst MayWait (sym c.replace.ensures.value ∙ c.in-Some.is) h in waits.0)

@@ -1,0 +1,55 @@
+-- The reader of lines keeps the limit, and so do its lines and what they say.
+use Rattle.std.proofs.Common.{◌≡◌, ℕ, ◌≤◌, List, [], ◌∷◌, Some, sym, subst, arith, length}
+use Rattle.std.proofs.Math.Logic.{∥∥₁_elim}
+use Rattle.std.proofs.Props.{props}
+use Rattle.ftp_command.specs.Command.{Says}
+use Rattle.ftp_command.specs.declared.command.Command.{Command}
+use Rattle.ftp_command.specs.declared.fault.CommandFault.{CommandFault}
+use Rattle.ftp_machine.specs.Machine.{after}
+use Rattle.ftp_nvt.specs.Ear.{event_list, limit_of}
+use Rattle.ftp_nvt.specs.Fold.{Ear, quiet, ear, ear_of, ear_step, ear_out}
+use Rattle.ftp_nvt.specs.declared.ear.Ear.{Ear as Reader}
+use Rattle.ftp_nvt.specs.declared.event.Event.{Event}
+use Rattle.ftp_nvt.specs.declared.event.Event.TheVariants.{Line}
+use Rattle.ftp_nvt.proofs.ReaderLemmas.{reader_is_ear}
+use Rattle.ftp_server_machine.specs.View.{line_limit}
+use Rattle.ftp_server_machine.specs.declared.heard.Heard.TheVariants.{Bad, Asks}
+use Rattle.ftp_server_bounds.specs.Small.{IsShortLine}
+use Rattle.ftp_server_bounds.proofs.ReadLemmas.{AreShortEvents, ear_says, ear_short, none_short}
+use Rattle.ftp_server_bounds.proofs.SaidLemmas.{heard_short}
+use Rattle.ftp_server.specs.Busy.{MayWait}
+use Rattle.ftp_server.specs.Hearing.{HasHeardSome}
+use Rattle.ftp_server.proofs.ReadingLemmas.{paths_said}
+
+within_once : (n m : ℕ) → IsProp (n ≤ m)
+within_once n m = hlevel props
+
+-- behind any octets
+behind_short : (octets : List ℕ) (e : Ear) → IsShortLine e.line → IsShortLine (after (ear line_limit) e octets).line
+behind_short [] e short = short
+behind_short (c ∷ octets) e short = behind_short octets (ear_step line_limit e c) (ear_short e c short)
+
+reader_short : {A : Type 0} (reader : Reader A) → limit_of reader ≡ line_limit → HasHeardSome reader → IsShortLine (ear_of reader).line
+reader_short reader same (octets, was) =
+    let is : ear_of reader ≡ after (ear line_limit) quiet octets = subst (λ l. ear_of reader ≡ after (ear l) quiet octets) same (reader_is_ear reader octets was) in
+    subst (λ e. IsShortLine e.line) (sym is) (behind_short octets quiet none_short)
+
+-- the line that is being read
+pub unfinished_short : {A : Type 0} (reader : Reader A) → limit_of reader ≡ line_limit → ∥ HasHeardSome reader ∥₁ → length (ear_of reader).line.text ≤ line_limit
+unfinished_short reader same was =
+    ∥∥₁_elim was (within_once _ _) (λ some. let short = reader_short reader same some in omega (arith, short.text, short.count))
+
+-- the line that an octet ends
+pub ended_short : {A : Type 0} (reader : Reader A) (octet : ℕ) (event : Event) (text : List ℕ) → limit_of reader ≡ line_limit → ∥ HasHeardSome reader ∥₁
+    → event_list event text ≡ ear_out line_limit (ear_of reader) octet → event ≡ Line → length text ≤ line_limit
+ended_short reader octet event text same was out is =
+    ∥∥₁_elim was (within_once _ _) (λ some.
+    (subst (λ e. AreShortEvents (event_list e text)) is
+    (subst AreShortEvents (sym out) (ear_says (ear_of reader) octet (reader_short reader same some)))).0)
+
+-- what a line within the limit says may wait
+pub command_waits : (text : List ℕ) (command : Command (List ℕ)) → length text ≤ line_limit → Says text command → MayWait (Some (Asks command))
+command_waits text command short says = (paths_said _ command says.1, heard_short text (Asks command) short says)
+
+pub fault_waits : (fault : CommandFault) → MayWait (Some (Bad fault))
+fault_waits fault = (tt, omega arith)

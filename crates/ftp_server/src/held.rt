@@ -1,0 +1,45 @@
+// How much a server holds (own choice of the limits).
+ghost use Rattle.std.specs.Prelude.{◌≡◌, ◌≤◌, ◌+◌, ◌^◌};
+ghost use Rattle.ftp_server_machine.specs.Held.{connection_len, held, sending_limit, session_len};
+
+use crate::server::Server;
+use ftp_lengths::{Counted, access_len, path_len, pending_len, waiting_len};
+use ftp_server_machine::DataConnection;
+use ftp_tree::Tree;
+use std::alloc::Allocator;
+
+impl<A: Allocator + Copy, T: Tree<A>, J: Counted<A, T>> Server<A, T, J> {
+    ghost use Rattle.ftp_server.specs.Server.{view_of};
+
+    /// How many octets it holds beside the tree, the accounts and what came of an upload: those that are owed, the line that is
+    /// being read, the line that waits as it would be written, and those of the session. A download or a listing counts as 10,119.
+    pub fn held(&self) -> usize
+        ensures { result ≡ held (view_of T.table J.view self.now) }
+    {
+        let waiting = waiting_len(&self.waiting);
+        self.output.len() + (self.reader.unfinished() + (waiting + self.session_len()))
+    }
+
+    /// Those of the session: names, paths and the transfer.
+    fn session_len(&self) -> usize
+        ensures len { result ≡ session_len (view_of T.table J.view self.now).session }
+        ensures short { result ≤ 2 ^ 63 + 12819 }
+    {
+        let session = &self.session;
+        let paths = path_len(&session.cwd)
+            + (pending_len(&session.pending) + self.connection_len());
+        access_len(&session.access) + (path_len(&session.root) + paths)
+    }
+
+    /// Those of the transfer.
+    fn connection_len(&self) -> usize
+        ensures len { result ≡ connection_len (view_of T.table J.view self.now).session.connection }
+        ensures short { result ≤ sending_limit }
+    {
+        match &self.session.connection {
+            DataConnection::Opening(transfer, _) => transfer.held(),
+            DataConnection::Transferring(transfer) => transfer.held(),
+            _ => 0,
+        }
+    }
+}
