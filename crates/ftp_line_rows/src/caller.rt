@@ -1,4 +1,4 @@
-//! Callers of an ear and of `put_line`, whose clauses need theirs.
+// Callers of an ear and of `put_line`, whose clauses need theirs.
 ghost use Rattle.std.specs.Prelude.{◌≡◌, ◌+◌, ◌≤◌, List, length, true, false, vec_len, vec_capacity};
 ghost use Rattle.ftp_nvt.specs.Ear.{Hears};
 ghost use Rattle.ftp_nvt.specs.Lines.{NvtEvent};
