@@ -1,6 +1,0 @@
-//! Rows of a session.
-mod dialogue;
-mod endpoints;
-mod logins;
-mod places;
-mod settings;
