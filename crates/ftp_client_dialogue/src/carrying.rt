@@ -57,7 +57,7 @@ impl<A: Allocator + Clone, F: Carries<A>> Dialogue<A, F> {
         let Place::Transferring(_) = &self.place else {
             return Ok(());
         };
-        self.send(&Command::Abor)?;
+        self.send(Command::Abor)?;
         if let Place::Transferring(transfer) = &mut self.place {
             transfer.abort = Abort::Sent;
         }
@@ -112,22 +112,21 @@ impl<A: Allocator + Clone, F: Carries<A>> Dialogue<A, F> {
         let Place::Transferring(_) = &self.place else {
             return Ok(());
         };
-        match mem::replace(&mut self.place, Place::Doing(Step::Last)) {
-            Place::Transferring(transfer) => {
-                let Ok(answer) = judged(
-                    ending,
-                    transfer.abort,
-                    code,
-                    &self.op,
-                    transfer.flow,
-                    &self.alloc,
-                ) else {
-                    return Err(AllocError);
-                };
-                self.finish_read(answer)
-            }
-            _ => Ok(()),
-        }
+        let place = mem::replace(&mut self.place, Place::Doing(Step::Last));
+        let Some(transfer) = place.into_transfer() else {
+            return Ok(());
+        };
+        let Ok(answer) = judged(
+            ending,
+            transfer.abort,
+            code,
+            &self.op,
+            transfer.flow,
+            &self.alloc,
+        ) else {
+            return Err(AllocError);
+        };
+        self.finish_read(answer)
     }
 }
 

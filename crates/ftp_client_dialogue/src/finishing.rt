@@ -10,14 +10,15 @@ ghost use Rattle.ftp_plan.specs.Tries.{next_op, run_in};
 use crate::dialogue::Dialogue;
 use crate::place::Place;
 use ftp_client_machine::client::{DataConnection, Failure, Standing, Step};
+use ftp_facts::Text;
 use ftp_judging::Carries;
-use ftp_operation::Answer;
+use ftp_operation::{Answer, Op};
 use ftp_plan::{Next, is_size, next_in};
 use std::alloc::{AllocError, Allocator};
 
 impl<A: Allocator + Clone, F: Carries<A>> Dialogue<A, F> {
     ghost use Rattle.ftp_client_dialogue.specs.Calm.{is_under_way};
-    ghost use Rattle.ftp_client_dialogue.specs.Client.{shorted, view_of};
+    ghost use Rattle.ftp_client_dialogue.specs.Client.{job_of, shorted, view_of};
 
     /// What stands of the data connection is to be closed.
     pub(crate) fn drop_link(&mut self)
@@ -61,15 +62,23 @@ impl<A: Allocator + Clone, F: Carries<A>> Dialogue<A, F> {
         ensures err { OnErr result (shorted (view_of F.flow self.new) ≡ shorted (view_of F.flow self.old)) }
         ensures sound { OnErr result (IsTrue (is_sound self.new.standing)) }
     {
-        match self.next(&answer)? {
-            Next::Nothing => {
+        match self.next(&answer) {
+            Ok(Next::Nothing) => {
                 self.tell(answer);
                 Ok(())
             }
-            Next::Again => self.try_again(),
-            Next::Other(op) => {
-                self.op = op;
+            Ok(Next::Again) => {
+                let_go(answer);
                 self.try_again()
+            }
+            Ok(Next::Other(op)) => {
+                let_go(answer);
+                self.put_op(op);
+                self.try_again()
+            }
+            Err(error) => {
+                let_go(answer);
+                Err(error)
             }
         }
     }
@@ -82,6 +91,15 @@ impl<A: Allocator + Clone, F: Carries<A>> Dialogue<A, F> {
             None => Ok(Next::Nothing),
             Some(run) => next_in(run, &self.op, answer, &self.alloc),
         }
+    }
+
+    /// Another operation is in the place of the one under way.
+    fn put_op(&mut self, op: Op<Text<A>>)
+        ensures op { self.new.op ≡ op }
+        ensures place { self.new.place ≡ self.old.place }
+        ensures view { view_of F.flow self.new ≡ record (view_of F.flow self.old) { job = job_of F.flow op self.old.place } }
+    {
+        self.op = op;
     }
 
     /// The next operation of a run begins.
@@ -161,6 +179,9 @@ impl<A: Allocator + Clone, F: Carries<A>> Dialogue<A, F> {
         }
     }
 }
+
+/// Lets an answer go. A function of its own, since each drop of an answer is proved anew.
+fn let_go<A: Allocator>(_answer: Answer<A>) {}
 
 /// Whether a link, or a port that is listened at, stands.
 pub(crate) fn stands(connection: DataConnection) -> bool

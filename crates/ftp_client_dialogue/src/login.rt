@@ -49,7 +49,7 @@ impl<A: Allocator + Clone, F: Carries<A>> Dialogue<A, F> {
         ensures err { OnErr result (view_of F.flow self.new ≡ view_of F.flow self.old) }
     {
         let user = Argument::new(self.alloc.clone()?, self.login.user())?;
-        self.send(&Command::User(user))?;
+        self.send(Command::User(user))?;
         self.standing = Standing::User;
         Ok(())
     }
@@ -78,7 +78,7 @@ impl<A: Allocator + Clone, F: Carries<A>> Dialogue<A, F> {
         ensures err { OnErr result (view_of F.flow self.new ≡ view_of F.flow self.old) }
     {
         let pass = Argument::new(self.alloc.clone()?, self.login.pass())?;
-        self.send(&Command::Pass(pass))?;
+        self.send(Command::Pass(pass))?;
         self.standing = Standing::Pass;
         Ok(())
     }

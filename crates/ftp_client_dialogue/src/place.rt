@@ -1,6 +1,8 @@
 // How far an operation has come (RFC 959, section 5.4).
-ghost use Rattle.std.specs.Prelude.{◌≡◌, ◌<◌, ◌≤◌, IfErr, IfOk, length, take};
-ghost use Rattle.ftp_operation.specs.Answer.{Memory};
+ghost use Rattle.std.specs.Prelude.{◌≡◌, ◌<◌, ◌≤◌, ℕ, List, IfErr, IfNone, IfOk, IfSome, false, length, option_map, take};
+ghost use Rattle.ftp_operation.specs.Answer.{Memory, said_of};
+ghost use Rattle.ftp_operation.specs.declared.op.Op.{Op};
+ghost use Rattle.ftp_client_machine.specs.Calls.{report_of_job};
 ghost use Rattle.ftp_client_machine.specs.View.{failed_job};
 
 use ftp_client_machine::client::{Abort, Replied, Step};
@@ -18,7 +20,6 @@ pub struct Transfer<F: Drop> {
 }
 
 /// How far the operation that was begun last has come.
-#[derive(Drop)]
 pub enum Place<A: Allocator, F: Drop> {
     /// No operation is under way, and no answer waits.
     Idle,
@@ -32,8 +33,18 @@ pub enum Place<A: Allocator, F: Drop> {
     Told(Answer<A>),
 }
 
+/// By hand: a derived drop is proved again wherever a place is let go.
+impl<A: Allocator, F: Drop> Drop for Place<A, F> {
+    fn drop(self) {
+        match self {
+            Place::Idle | Place::Waiting | Place::Doing(_) => {}
+            Place::Transferring(_) | Place::Told(_) => {}
+        }
+    }
+}
+
 impl<A: Allocator, F: Carries<A>> Place<A, F> {
-    ghost use Rattle.ftp_client_dialogue.specs.Calm.{is_under_way};
+    ghost use Rattle.ftp_client_dialogue.specs.Calm.{is_transferring, is_under_way};
     ghost use Rattle.ftp_client_dialogue.specs.Client.{JobNotYet, job_heard, job_left, job_noted, job_of, job_unsent, job_went};
 
     /// Notes the mmmm of a 110 reply to an upload.
@@ -72,6 +83,27 @@ impl<A: Allocator, F: Carries<A>> Place<A, F> {
         match self {
             Place::Transferring(transfer) => transfer.flow.hear(op, piece),
             Place::Idle | Place::Waiting | Place::Doing(_) | Place::Told(_) => Ok(piece.len()),
+        }
+    }
+
+    /// The answer that waits.
+    pub(crate) fn into_answer(self) -> Option<Answer<A>>
+        ensures { (op : Op (List ℕ)) → option_map said_of result ≡ report_of_job (job_of F.flow op self) }
+    {
+        match self {
+            Place::Told(answer) => Some(answer),
+            Place::Idle | Place::Waiting | Place::Doing(_) | Place::Transferring(_) => None,
+        }
+    }
+
+    /// The transfer whose command was sent.
+    pub(crate) fn into_transfer(self) -> Option<Transfer<F>>
+        ensures transfer { IfSome result (λ transfer. self ≡ Place.Transferring transfer) }
+        ensures none { IfNone result (is_transferring self ≡ false) }
+    {
+        match self {
+            Place::Transferring(transfer) => Some(transfer),
+            Place::Idle | Place::Waiting | Place::Doing(_) | Place::Told(_) => None,
         }
     }
 

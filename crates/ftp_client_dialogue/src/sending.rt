@@ -1,9 +1,11 @@
 // What a client sends (RFC 959, sections 4.1 and 5.3).
-ghost use Rattle.std.specs.Prelude.{◌≡◌, IfOk, IsTrue, OnErr, OnOk, option_map};
+ghost use Rattle.std.specs.Prelude.{◌≡◌, ◌++◌, IfOk, IsTrue, OnErr, OnOk, option_map};
 ghost use Rattle.ftp_client_machine.specs.Calls.{is_sound};
 ghost use Rattle.ftp_client_machine.specs.Dialogue.{begins, goes_on, last_job, placed, sends, sends_if};
 ghost use Rattle.ftp_client_machine.specs.Plan.{asks_extended, command_of, is_extended, own_endpoint, port_of};
 ghost use Rattle.ftp_client_machine.specs.View.{Doing, Transferring};
+ghost use Rattle.ftp_command.specs.Line.{line_of};
+ghost use Rattle.ftp_nvt.specs.Lines.{written_line};
 
 use crate::dialogue::Dialogue;
 use crate::place::{Place, Transfer};
@@ -14,7 +16,7 @@ use ftp_hosts::is_v6;
 use ftp_judging::Carries;
 use ftp_operation::How;
 use ftp_plan::{
-    asked_settings, first_step, how_of, next_step, offset_of, own_command, passive_command,
+    Output, asked_settings, first_step, how_of, next_step, offset_of, own_command, passive_command,
     port_command, restart_command, set_command, source_command,
 };
 use std::alloc::{AllocError, Allocator};
@@ -23,12 +25,12 @@ impl<A: Allocator + Clone, F: Carries<A>> Dialogue<A, F> {
     ghost use Rattle.ftp_client_dialogue.specs.Client.{view_of};
 
     /// A command's line is owed. Without memory nothing changes.
-    pub(crate) fn send(&mut self, command: &Command<Argument<A>>) -> Result<(), AllocError>
-        ensures ok { OnOk result (view_of F.flow self.new ≡ sends command.now (view_of F.flow self.old)) }
+    pub(crate) fn send(&mut self, command: Command<Argument<A>>) -> Result<(), AllocError>
+        ensures ok { OnOk result (view_of F.flow self.new ≡ sends command (view_of F.flow self.old)) }
         ensures err { OnErr result (view_of F.flow self.new ≡ view_of F.flow self.old) }
         ensures op { self.new.op ≡ self.old.op }
     {
-        self.output.put_command(command, &self.alloc)
+        owe(&mut self.output, command, &self.alloc)
     }
 
     /// The operation is at a step: its command is sent, or a port is wanted. Without memory nothing changes.
@@ -83,7 +85,7 @@ impl<A: Allocator + Clone, F: Carries<A>> Dialogue<A, F> {
     {
         let flow = F::begin(&self.op, &self.alloc)?;
         let command = own_command(&self.op, &self.alloc)?;
-        self.send(&command)?;
+        self.send(command)?;
         self.move_last(flow);
         Ok(())
     }
@@ -112,7 +114,7 @@ impl<A: Allocator + Clone, F: Carries<A>> Dialogue<A, F> {
         ensures err { OnErr result (view_of F.flow self.new ≡ view_of F.flow self.old) }
     {
         if let Some(command) = self.command(step)? {
-            self.output.put_command(&command, &self.alloc)?;
+            owe(&mut self.output, command, &self.alloc)?;
         }
         self.place = Place::Doing(step);
         Ok(())
@@ -152,6 +154,18 @@ impl<A: Allocator + Clone, F: Carries<A>> Dialogue<A, F> {
             port: port_of(self.connection),
         }
     }
+}
+
+/// Owes a command's line. Without memory nothing changes. What sends a command gives it away here: each drop of one is proved anew.
+fn owe<A: Allocator + Clone>(
+    output: &mut Output<A>,
+    command: Command<Argument<A>>,
+    alloc: &A,
+) -> Result<(), AllocError>
+    ensures ok { OnOk result (output.new ≡ output.old ++ written_line (line_of command)) }
+    ensures err { OnErr result (output.new ≡ output.old) }
+{
+    output.put_command(&command, alloc)
 }
 
 /// Whether EPRT or EPSV was asked for.

@@ -160,10 +160,7 @@ impl<A: Allocator + Clone, F: Carries<A>> Dialogue<A, F> {
         let Place::Told(_) = &self.place else {
             return None;
         };
-        match mem::replace(&mut self.place, Place::Idle) {
-            Place::Told(answer) => Some(answer),
-            _ => None,
-        }
+        mem::replace(&mut self.place, Place::Idle).into_answer()
     }
 }
 
