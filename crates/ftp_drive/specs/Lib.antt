@@ -1,1 +1,3 @@
--- no definitions yet
+pub mod Deeds
+pub mod Driving
+pub mod Beside

@@ -1,5 +1,6 @@
 // A control connection: what was read of it and is not heard yet, and what is written to it.
-ghost use Rattle.std.specs.Prelude.{◌≤◌, ◌≡◌};
+ghost use Rattle.std.specs.Prelude.{◌≡◌, ◌≤◌, ◌<◌, IsTrue, IfOk, OnErr, false, []};
+ghost use Rattle.std.specs.Io.KnownBytes.{Consumes, IsAtEnd, Keeps};
 
 use ftp_pieces::{Failed, TURNS};
 use ftp_server_machine::Far;
@@ -12,7 +13,7 @@ const CONTROL_PIECE: usize = 1024;
 
 /// A control connection, and the octets of it that were read and not heard yet.
 #[derive(Drop)]
-pub struct Control<R: Read + Drop, W: Write + Drop> {
+pub struct Control<R, W> {
     reader: R,
     writer: W,
     piece: [u8; CONTROL_PIECE],
@@ -22,8 +23,15 @@ pub struct Control<R: Read + Drop, W: Write + Drop> {
 }
 
 impl<R: Read + Drop, W: Write + Drop> Control<R, W> {
+    ghost use Rattle.ftp_drive.specs.Beside.{beside, unheard_of};
+    ghost use Rattle.ftp_drive.specs.Driving.{Flushes, Leads};
+
     /// A control connection of which nothing was read.
-    pub fn new(reader: R, writer: W) -> Control<R, W> {
+    pub fn new(reader: R, writer: W) -> Control<R, W>
+        ensures reader { R.remaining result.reader ≡ R.remaining reader }
+        ensures writer { W.contents result.writer ≡ W.contents writer }
+        ensures unheard { unheard_of result ≡ [] }
+    {
         Control {
             reader,
             writer,
@@ -34,35 +42,43 @@ impl<R: Read + Drop, W: Write + Drop> Control<R, W> {
     }
 
     /// Whether octets were read that are not heard yet.
-    pub(crate) fn has_unheard(&self) -> bool {
+    pub(crate) fn has_unheard(&self) -> bool
+        ensures some { IsTrue result → self.now.at < self.now.end }
+        ensures none { result ≡ false → self.now.end ≤ self.now.at }
+    {
         self.at < self.end
     }
 
     /// Reads, where all octets before were heard; none is the end of the connection.
-    pub(crate) fn read(&mut self) -> Result<usize, Failed> {
+    pub(crate) fn read(&mut self) -> Result<usize, Failed>
+        requires { self.old.end ≤ self.old.at }
+        ensures ok { IfOk result (λ count. Consumes (R.remaining self.old.reader) (R.remaining self.new.reader) (unheard_of self.new)) }
+        ensures none { IfOk result (λ count. count ≡ 0 → IsAtEnd (R.remaining self.new.reader) × (unheard_of self.new ≡ [])) }
+        ensures err { OnErr result (Keeps (R.remaining self.old.reader) (R.remaining self.new.reader)) }
+        ensures unheard { OnErr result (unheard_of self.new ≡ unheard_of self.old) }
+        ensures writer { self.new.writer ≡ self.old.writer }
+    {
         let count = ftp_pieces::get(&mut self.reader, &mut self.piece)?;
         self.at = 0;
         self.end = count;
         Ok(count)
     }
 
-    /// Hears one octet that was read; gives whether the server took it.
+    /// Hears the next octet that was read; gives whether the server took it.
     pub(crate) fn hear_one<A, T, F>(&mut self, server: &mut F) -> bool
     where
         A: Allocator,
         T: Tree<A>,
         F: Far<A, T>,
+        requires { self.old.at < self.old.end }
+        ensures { Leads (beside R.remaining W.contents (F.server server.old) self.old) (beside R.remaining W.contents (F.server server.new) self.new) }
     {
-        if self.at >= self.end {
-            return false;
-        }
-        let (_, rest) = self.piece.split_at(self.at);
-        let (octet, _) = rest.split_at(1);
-        let took = server.hear(octet) == 1;
-        if took {
-            self.at += 1;
-        }
-        took
+        let (octets, _) = self.piece.split_at(self.end);
+        let (_, unheard) = octets.split_at(self.at);
+        let (octet, _) = unheard.split_at(1);
+        let taken = server.hear(octet);
+        self.at += taken;
+        taken == 1
     }
 
     /// Writes all control octets that the server owes.
@@ -71,6 +87,7 @@ impl<R: Read + Drop, W: Write + Drop> Control<R, W> {
         A: Allocator,
         T: Tree<A>,
         F: Far<A, T>,
+        ensures { Flushes (beside R.remaining W.contents (F.server server.old) self.old) (beside R.remaining W.contents (F.server server.new) self.new) result }
     {
         let mut room = [0u8; 1024];
         for _ in 0..TURNS {

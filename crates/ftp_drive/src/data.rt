@@ -1,5 +1,7 @@
 // The octets of a data connection, between a stream and the server.
-ghost use Rattle.std.specs.Prelude.{◌≤◌, length};
+ghost use Rattle.std.specs.Prelude.{◌<◌, ◌≤◌, IfOk, length};
+ghost use Rattle.ftp_drive.specs.Beside.{beside};
+ghost use Rattle.ftp_drive.specs.Driving.{Goes, Quietly};
 
 use crate::control::Control;
 use crate::ports::Watch;
@@ -17,8 +19,32 @@ pub(crate) enum Link {
     Ended,
 }
 
+/// Moves octets over the data connection once, the way that the server wants.
+pub(crate) fn carry_once<A, T, F, R, W, S, C>(
+    server: &mut F,
+    control: &mut Control<R, W>,
+    stream: &mut S,
+    watch: &mut C,
+    room: &mut [u8],
+) -> Result<Link, Failed>
+where
+    A: Allocator,
+    T: Tree<A>,
+    F: Far<A, T>,
+    R: Read + Drop,
+    W: Write + Drop,
+    S: Read + Write,
+    C: Watch,
+    ensures { Goes (beside R.remaining W.contents (F.server server.old) control.old) (beside R.remaining W.contents (F.server server.new) control.new) result }
+{
+    if server.wants() == Wants::Send {
+        return Ok(send(server, stream, room));
+    }
+    receive(server, control, stream, watch, room)
+}
+
 /// Reads once from the data connection, and tells the server what came: octets, the end, or a break.
-pub(crate) fn receive<A, T, F, R, W, S, C>(
+fn receive<A, T, F, R, W, S, C>(
     server: &mut F,
     control: &mut Control<R, W>,
     stream: &mut S,
@@ -33,11 +59,11 @@ where
     W: Write + Drop,
     S: Read,
     C: Watch,
+    ensures { Goes (beside R.remaining W.contents (F.server server.old) control.old) (beside R.remaining W.contents (F.server server.new) control.new) result }
 {
     match ftp_pieces::get(stream, room) {
         Ok(0) => {
-            server.clock(watch.moment());
-            server.data_end();
+            end(server, watch);
             Ok(Link::Ended)
         }
         Ok(count) => {
@@ -46,11 +72,36 @@ where
             Ok(Link::Open)
         }
         Err(Failed) => {
-            server.clock(watch.moment());
-            server.data_fault();
+            fault(server, watch);
             Ok(Link::Ended)
         }
     }
+}
+
+/// The data connection ended now.
+fn end<A, T, F, C>(server: &mut F, watch: &mut C)
+where
+    A: Allocator,
+    T: Tree<A>,
+    F: Far<A, T>,
+    C: Watch,
+    ensures { Quietly (F.server server.old) (F.server server.new) }
+{
+    server.clock(watch.moment());
+    server.data_end();
+}
+
+/// The data connection broke now.
+fn fault<A, T, F, C>(server: &mut F, watch: &mut C)
+where
+    A: Allocator,
+    T: Tree<A>,
+    F: Far<A, T>,
+    C: Watch,
+    ensures { Quietly (F.server server.old) (F.server server.new) }
+{
+    server.clock(watch.moment());
+    server.data_fault();
 }
 
 /// Hands octets of an upload to the server until it has taken them all or the upload is over, which drops the rest.
@@ -65,6 +116,7 @@ where
     F: Far<A, T>,
     R: Read + Drop,
     W: Write + Drop,
+    ensures { Goes (beside R.remaining W.contents (F.server server.old) control.old) (beside R.remaining W.contents (F.server server.new) control.new) result }
 {
     let mut at = 0;
     while at < octets.len() {
@@ -72,23 +124,43 @@ where
             return Ok(());
         }
         let (_, rest) = octets.split_at(at);
-        let taken = server.data_hear(rest);
-        if taken == 0 {
-            return Err(Failed);
-        }
-        at += taken;
-        control.flush(server)?;
+        at += hand_some(server, control, rest)?;
     }
     Ok(())
 }
 
+/// Hands octets to the server once, and writes what it owes then; gives how many it took, one at least.
+fn hand_some<A, T, F, R, W>(
+    server: &mut F,
+    control: &mut Control<R, W>,
+    octets: &[u8],
+) -> Result<usize, Failed>
+where
+    A: Allocator,
+    T: Tree<A>,
+    F: Far<A, T>,
+    R: Read + Drop,
+    W: Write + Drop,
+    ensures some { IfOk result (λ taken. 0 < taken) }
+    ensures within { IfOk result (λ taken. taken ≤ length octets.now) }
+    ensures goes { Goes (beside R.remaining W.contents (F.server server.old) control.old) (beside R.remaining W.contents (F.server server.new) control.new) result }
+{
+    let taken = server.data_hear(octets);
+    if taken == 0 {
+        return Err(Failed);
+    }
+    control.flush(server)?;
+    Ok(taken)
+}
+
 /// Writes to the data connection what the server gives for this room, and tells the server where that fails.
-pub(crate) fn send<A, T, F, S>(server: &mut F, stream: &mut S, room: &mut [u8]) -> Link
+fn send<A, T, F, S>(server: &mut F, stream: &mut S, room: &mut [u8]) -> Link
 where
     A: Allocator,
     T: Tree<A>,
     F: Far<A, T>,
     S: Write,
+    ensures { Quietly (F.server server.old) (F.server server.new) }
 {
     let count = fill(server, room);
     let (octets, _) = room.split_at(count);
@@ -105,7 +177,8 @@ where
     A: Allocator,
     T: Tree<A>,
     F: Far<A, T>,
-    ensures { result ≤ length room.new }
+    ensures within { result ≤ length room.new }
+    ensures quiet { Quietly (F.server server.old) (F.server server.new) }
 {
     let mut at = 0;
     while at < room.len() {

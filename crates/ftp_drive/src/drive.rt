@@ -1,6 +1,10 @@
 // The drive: what the server wants is done, turn by turn.
+ghost use Rattle.std.specs.Prelude.{◌<◌, ◌≤◌};
+ghost use Rattle.ftp_drive.specs.Beside.{beside};
+ghost use Rattle.ftp_drive.specs.Driving.{Drives, EndsOver, Goes, GoesSettled, Quietly, Turns};
+
 use crate::control::Control;
-use crate::data::{Link, receive, send};
+use crate::data::{Link, carry_once};
 use crate::ports::{Accepted, Ports, Watch};
 use ftp_endpoint::Endpoint;
 use ftp_ends::Wants;
@@ -15,15 +19,16 @@ const DATA_PIECE: usize = 65_536;
 
 /// Whether a drive goes on.
 #[derive(Clone, Copy, Debug, PartialEq, Eq)]
-enum Life {
+pub(crate) enum Life {
     GoesOn,
     Over,
 }
 
 /// Serves a control connection until the server is done with it.
 ///
-/// While a transfer is under way the control connection is not read. After a read or a write of the control connection that failed,
-/// or 1,099,511,627,776 turns, the server is told that the control connection ended. Data connections and ports are closed at the end.
+/// All that the server owes is written before more is read, and all that was read is heard. While a transfer is under way the control
+/// connection is not read. After a read or a write of the control connection that failed, or 1,099,511,627,776 turns, the server is told
+/// that the control connection ended. Data connections and ports are closed at the end.
 pub fn drive_server<A, T, F, R, W, P, C>(
     server: &mut F,
     control: &mut Control<R, W>,
@@ -38,14 +43,20 @@ where
     W: Write + Drop,
     P: Ports,
     C: Watch,
+    ensures { Drives (beside R.remaining W.contents (F.server server.old) control.old) (beside R.remaining W.contents (F.server server.new) control.new) result }
 {
     let mut stream = None;
-    let ended = turns(server, control, ports, watch, &mut stream);
-    if ended.is_err() {
-        server.control_end();
+    match turns(server, control, ports, watch, &mut stream) {
+        Ok(()) => {
+            ports.close(stream.take());
+            Ok(())
+        }
+        Err(Failed) => {
+            server.control_end();
+            ports.close(stream.take());
+            Err(Failed)
+        }
     }
-    ports.close(stream.take());
-    ended
 }
 
 /// The turns of a drive.
@@ -64,27 +75,84 @@ where
     W: Write + Drop,
     P: Ports,
     C: Watch,
+    ensures { EndsOver (beside R.remaining W.contents (F.server server.old) control.old) (beside R.remaining W.contents (F.server server.new) control.new) result }
 {
     let mut room = [0u8; DATA_PIECE];
     server.clock(watch.moment());
     for _ in 0..TURNS {
-        control.flush(server)?;
-        match server.wants() {
-            Wants::CloseAll => return Ok(()),
-            Wants::Nothing => attend(server, control, watch)?,
-            Wants::Accept => accept(server, control, ports, watch, stream)?,
-            Wants::Receive | Wants::Send => {
-                carry(server, control, ports, watch, stream, &mut room)?;
-            }
-            Wants::Listen => listen(server, ports),
-            Wants::Connect(endpoint) => connect(server, ports, stream, endpoint),
-            Wants::CloseData => {
-                ports.close(stream.take());
-                server.data_closed();
-            }
+        match turn(server, control, ports, watch, stream, &mut room)? {
+            Life::GoesOn => {}
+            Life::Over => return Ok(()),
         }
     }
     Err(Failed)
+}
+
+/// One turn: what the server owes is written, and then what it wants is done.
+fn turn<A, T, F, R, W, P, C>(
+    server: &mut F,
+    control: &mut Control<R, W>,
+    ports: &mut P,
+    watch: &mut C,
+    stream: &mut Option<P::Stream>,
+    room: &mut [u8],
+) -> Result<Life, Failed>
+where
+    A: Allocator,
+    T: Tree<A>,
+    F: Far<A, T>,
+    R: Read + Drop,
+    W: Write + Drop,
+    P: Ports,
+    C: Watch,
+    ensures { Turns (beside R.remaining W.contents (F.server server.old) control.old) (beside R.remaining W.contents (F.server server.new) control.new) result }
+{
+    control.flush(server)?;
+    if let Wants::CloseAll = server.wants() {
+        return Ok(Life::Over);
+    }
+    act(server, control, ports, watch, stream, room)?;
+    Ok(Life::GoesOn)
+}
+
+/// Does what the server wants.
+fn act<A, T, F, R, W, P, C>(
+    server: &mut F,
+    control: &mut Control<R, W>,
+    ports: &mut P,
+    watch: &mut C,
+    stream: &mut Option<P::Stream>,
+    room: &mut [u8],
+) -> Result<(), Failed>
+where
+    A: Allocator,
+    T: Tree<A>,
+    F: Far<A, T>,
+    R: Read + Drop,
+    W: Write + Drop,
+    P: Ports,
+    C: Watch,
+    ensures { GoesSettled (beside R.remaining W.contents (F.server server.old) control.old) (beside R.remaining W.contents (F.server server.new) control.new) result }
+{
+    match server.wants() {
+        Wants::Nothing => attend(server, control, watch),
+        Wants::Accept => accept(server, control, ports, watch, stream),
+        Wants::Receive | Wants::Send => carry(server, control, ports, watch, stream, room),
+        Wants::Listen => {
+            listen(server, ports);
+            Ok(())
+        }
+        Wants::Connect(endpoint) => {
+            connect(server, ports, stream, endpoint);
+            Ok(())
+        }
+        Wants::CloseData => {
+            ports.close(stream.take());
+            server.data_closed();
+            Ok(())
+        }
+        Wants::CloseAll => Ok(()),
+    }
 }
 
 /// Carries octets over the open data connection, one way or the other; closes it where it ended.
@@ -104,24 +172,25 @@ where
     W: Write + Drop,
     P: Ports,
     C: Watch,
+    ensures { Goes (beside R.remaining W.contents (F.server server.old) control.old) (beside R.remaining W.contents (F.server server.new) control.new) result }
 {
     let Some(mut open) = stream.take() else {
         server.data_fault();
         return Ok(());
     };
-    let link = if server.wants() == Wants::Send {
-        send(server, &mut open, room)
-    } else {
-        receive(server, control, &mut open, watch, room)?
-    };
-    match link {
-        Link::Open => *stream = Some(open),
-        Link::Ended => ports.close(Some(open)),
+    match carry_once(server, control, &mut open, watch, room)? {
+        Link::Open => {
+            *stream = Some(open);
+            Ok(())
+        }
+        Link::Ended => {
+            ports.close(Some(open));
+            Ok(())
+        }
     }
-    Ok(())
 }
 
-/// Hears the next octet of the control connection, which is read where all before were heard; tells the server of its end.
+/// Hears the next octet of the control connection, which is read where all before were heard.
 fn attend<A, T, F, R, W, C>(
     server: &mut F,
     control: &mut Control<R, W>,
@@ -134,18 +203,18 @@ where
     R: Read + Drop,
     W: Write + Drop,
     C: Watch,
+    ensures { GoesSettled (beside R.remaining W.contents (F.server server.old) control.old) (beside R.remaining W.contents (F.server server.new) control.new) result }
 {
     if !control.has_unheard() {
         return read(server, control, watch);
     }
-    if control.hear_one(server) {
-        Ok(())
-    } else {
-        Err(Failed)
+    if !control.hear_one(server) {
+        return Err(Failed);
     }
+    Ok(())
 }
 
-/// Reads from the control connection, and tells the server of the moment and of its end.
+/// Reads from the control connection, and tells the server of the moment, or that the connection ended.
 fn read<A, T, F, R, W, C>(
     server: &mut F,
     control: &mut Control<R, W>,
@@ -158,12 +227,15 @@ where
     R: Read + Drop,
     W: Write + Drop,
     C: Watch,
+    requires { control.old.end ≤ control.old.at }
+    ensures { GoesSettled (beside R.remaining W.contents (F.server server.old) control.old) (beside R.remaining W.contents (F.server server.new) control.new) result }
 {
     let count = control.read()?;
-    server.clock(watch.moment());
     if count == 0 {
         server.control_end();
+        return Ok(());
     }
+    server.clock(watch.moment());
     Ok(())
 }
 
@@ -183,19 +255,67 @@ where
     W: Write + Drop,
     P: Ports,
     C: Watch,
+    ensures { GoesSettled (beside R.remaining W.contents (F.server server.old) control.old) (beside R.remaining W.contents (F.server server.new) control.new) result }
 {
+    if !control.has_unheard() {
+        return wait(server, control, ports, watch, stream);
+    }
     if control.hear_one(server) {
         return Ok(());
     }
-    match ports.accept(!control.has_unheard()) {
+    wait_alone(server, ports, stream);
+    Ok(())
+}
+
+/// Waits for the data connection; where octets of the control connection come first, they are read.
+fn wait<A, T, F, R, W, P, C>(
+    server: &mut F,
+    control: &mut Control<R, W>,
+    ports: &mut P,
+    watch: &mut C,
+    stream: &mut Option<P::Stream>,
+) -> Result<(), Failed>
+where
+    A: Allocator,
+    T: Tree<A>,
+    F: Far<A, T>,
+    R: Read + Drop,
+    W: Write + Drop,
+    P: Ports,
+    C: Watch,
+    requires { control.old.end ≤ control.old.at }
+    ensures { GoesSettled (beside R.remaining W.contents (F.server server.old) control.old) (beside R.remaining W.contents (F.server server.new) control.new) result }
+{
+    match ports.accept(true) {
+        Accepted::Came(open, host) => {
+            *stream = Some(open);
+            server.data_opened(host);
+            Ok(())
+        }
+        Accepted::Spoken => read(server, control, watch),
+        Accepted::Refused => {
+            server.data_refused();
+            Ok(())
+        }
+    }
+}
+
+/// Waits for the data connection alone.
+fn wait_alone<A, T, F, P>(server: &mut F, ports: &mut P, stream: &mut Option<P::Stream>)
+where
+    A: Allocator,
+    T: Tree<A>,
+    F: Far<A, T>,
+    P: Ports,
+    ensures { Quietly (F.server server.old) (F.server server.new) }
+{
+    match ports.accept(false) {
         Accepted::Came(open, host) => {
             *stream = Some(open);
             server.data_opened(host);
         }
-        Accepted::Spoken if !control.has_unheard() => read(server, control, watch)?,
         Accepted::Spoken | Accepted::Refused => server.data_refused(),
     }
-    Ok(())
 }
 
 /// Listens at a port, and tells the server which.
@@ -205,6 +325,7 @@ where
     T: Tree<A>,
     F: Far<A, T>,
     P: Ports,
+    ensures { Quietly (F.server server.old) (F.server server.new) }
 {
     match ports.listen() {
         Some(port) => server.listening(port),
@@ -224,6 +345,7 @@ where
     T: Tree<A>,
     F: Far<A, T>,
     P: Ports,
+    ensures { Quietly (F.server server.old) (F.server server.new) }
 {
     match ports.connect(endpoint) {
         Some(open) => {

@@ -1,0 +1,27 @@
+use Rattle.ftp_drive.specs.Beside.{beside}
+use Rattle.ftp_drive.specs.Deeds.{Closed}
+use Rattle.ftp_drive.proofs.Leading.{leads_then, settled_leads}
+use Rattle.ftp_drive.proofs.Going.{goes_settled}
+use Rattle.ftp_drive.proofs.Turning.{call_leads}
+use Rattle.ftp_drive.proofs.drive.act.Goals as goal
+
+pub returns-in-Receive : goal.returns-in-Receive
+returns-in-Receive g c start settles = goes_settled start _ _ c.carry.result settles c.carry.ensures
+
+pub returns-in-Listen : goal.returns-in-Listen
+returns-in-Listen g c start settles =
+    let old = beside g.R.Read.remaining g.W.Write.contents (g.F.Far.server c.args.server.now) c.args.control.now in
+    leads_then start old _ (settled_leads start old settles) (c.listen.ensures _ _ _)
+
+pub returns-in-Connect : goal.returns-in-Connect
+returns-in-Connect g c start settles =
+    let old = beside g.R.Read.remaining g.W.Write.contents (g.F.Far.server c.args.server.now) c.args.control.now in
+    leads_then start old _ (settled_leads start old settles) (c.connect.ensures _ _ _)
+
+pub returns-in-CloseData : goal.returns-in-CloseData
+returns-in-CloseData g c start settles =
+    let old = beside g.R.Read.remaining g.W.Write.contents (g.F.Far.server c.args.server.now) c.args.control.now in
+    leads_then start old _ (settled_leads start old settles) (call_leads Closed old (g.F.Far.server c.data_closed.new.self) c.data_closed.ensures)
+
+pub returns-in-CloseAll : goal.returns-in-CloseAll
+returns-in-CloseAll g c start settles = settled_leads start _ settles
