@@ -3,7 +3,7 @@ use Rattle.std.specs.List.{list_all}
 use Rattle.std.proofs.lemmas.Bool.{and_parts}
 use Rattle.ftp_path.specs.Kept.{IsKept, names_of}
 use Rattle.ftp_path.specs.Path.{fits, text_of}
-use Rattle.ftp_tree_rows.proofs.tests.keys.is_called.Goals as goal
+use Rattle.ftp_tree_rows.proofs.keys.is_called.Goals as goal
 
 -- the names of a kept text are short
 short : (text : List ℕ) → IsKept text → list_all (λ name. nat_le (length name) 255) (names_of text) ≡ true

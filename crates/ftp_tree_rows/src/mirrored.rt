@@ -1,8 +1,9 @@
 //! Changes of a mirrored tree, each made beside it in a tree that has no folder.
-use crate::FailingFolder;
+use crate::failing::FailingFolder;
+use crate::steps::place;
 use ftp_facts::Moment;
 use ftp_mirror::Mirror;
-use ftp_path::{Path, is_path_text};
+use ftp_path::Path;
 use ftp_tree::{Content, MemTree, Tree, TreeFault};
 use std::alloc::{Allocator, Global};
 
@@ -19,9 +20,9 @@ enum Change {
 
 /// Which refusals a run met.
 #[derive(Clone, Copy, PartialEq, Eq)]
-pub(super) struct Met {
-    pub(super) device: bool,
-    pub(super) memory: bool,
+pub(crate) struct Met {
+    pub(crate) device: bool,
+    pub(crate) memory: bool,
 }
 
 const CHANGES: &[(&[u8], Change)] = &[
@@ -36,23 +37,14 @@ const CHANGES: &[(&[u8], Change)] = &[
 ];
 
 /// How many changes a run makes.
-pub(super) const COUNT: u64 = 8;
+pub(crate) const COUNT: u64 = 8;
 
 const PLACES: &[&[u8]] = &[
     b"/", b"/d", b"/d/f", b"/d/e", b"/g", b"/g/f", b"/g/e", b"/f",
 ];
 
-/// A path from the root by a text, which has to be a path text.
-fn place<A: Allocator + Copy>(alloc: A, text: &[u8]) -> Result<Path<A>, TreeFault> {
-    if is_path_text(text) {
-        Ok(Path::root(alloc).resolve(alloc, text)?)
-    } else {
-        Err(TreeFault::WrongKind)
-    }
-}
-
 /// No refusal where a condition holds.
-pub(super) fn only_if(holds: bool) -> Result<(), TreeFault> {
+pub(crate) fn only_if(holds: bool) -> Result<(), TreeFault> {
     if holds {
         Ok(())
     } else {
@@ -158,7 +150,7 @@ fn make_change<A: Allocator + Copy>(
 }
 
 /// Makes all changes over a folder that fails at one call.
-pub(super) fn run<A: Allocator + Copy>(
+pub(crate) fn run<A: Allocator + Copy>(
     heap: A,
     alloc: Global,
     fails_at: u64,

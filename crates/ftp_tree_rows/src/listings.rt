@@ -1,5 +1,6 @@
 //! Rows of directories and the names in them.
-use super::steps::{Row, Step, all_answer, place};
+use crate::report::Tried;
+use crate::steps::{Row, Step, all_answer, place};
 use ftp_path::Path;
 use ftp_tree::{MemTree, Tree, TreeFault};
 use std::alloc::{AllocError, Global};
@@ -65,9 +66,15 @@ fn all_are_names(alloc: Global, tree: &MemTree<Global>) -> bool {
     true
 }
 
-#[test]
-fn names_come_in_the_order_of_their_octets(rt: HostRuntime) {
-    let mut tree = MemTree::new(rt.alloc());
-    assert!(&rt; all_answer(rt.alloc(), &mut tree, MAKES));
-    assert!(&rt; all_are_names(rt.alloc(), &tree));
+fn names_come_in_the_order_of_their_octets(alloc: Global) -> bool {
+    let mut tree = MemTree::new(alloc);
+    all_answer(alloc, &mut tree, MAKES) && all_are_names(alloc, &tree)
+}
+
+/// What is tried here, and whether it holds.
+pub(crate) fn tried(alloc: Global) -> [Tried; 1] {
+    [(
+        "names come in the order of their octets",
+        names_come_in_the_order_of_their_octets(alloc),
+    )]
 }

@@ -2,11 +2,11 @@
 use ftp_facts::Moment;
 use ftp_path::{Path, is_path_text};
 use ftp_tree::{Content, MemTree, NodeKind, Tree, TreeFault};
-use std::alloc::Allocator;
+use std::alloc::{Allocator, Global};
 
 /// What a step of a test does.
 #[derive(Clone, Copy)]
-pub(super) enum Step {
+pub(crate) enum Step {
     Make,
     Remove,
     Delete,
@@ -22,10 +22,10 @@ pub(super) enum Step {
 }
 
 /// A path, what is done there, and what that answers.
-pub(super) type Row = (&'static [u8], Step, Result<(), TreeFault>);
+pub(crate) type Row = (&'static [u8], Step, Result<(), TreeFault>);
 
 /// A path from the root by a text, which has to be a path text.
-pub(super) fn place<A: Allocator + Copy>(alloc: A, text: &[u8]) -> Result<Path<A>, TreeFault> {
+pub(crate) fn place<A: Allocator + Copy>(alloc: A, text: &[u8]) -> Result<Path<A>, TreeFault> {
     if is_path_text(text) {
         Ok(Path::root(alloc).resolve(alloc, text)?)
     } else {
@@ -34,7 +34,7 @@ pub(super) fn place<A: Allocator + Copy>(alloc: A, text: &[u8]) -> Result<Path<A
 }
 
 /// No refusal where a condition holds.
-pub(super) fn only_if(holds: bool) -> Result<(), TreeFault> {
+pub(crate) fn only_if(holds: bool) -> Result<(), TreeFault> {
     if holds {
         Ok(())
     } else {
@@ -43,7 +43,7 @@ pub(super) fn only_if(holds: bool) -> Result<(), TreeFault> {
 }
 
 /// Installs octets in a second. Refused, the content is as it was.
-pub(super) fn put<A: Allocator + Copy>(
+pub(crate) fn put<A: Allocator + Copy>(
     alloc: A,
     tree: &mut MemTree<A>,
     root: &Path<A>,
@@ -104,7 +104,7 @@ fn has_front<A: Allocator + Copy>(
 }
 
 /// Does a step at a path from the root of the whole.
-pub(super) fn act<A: Allocator + Copy>(
+pub(crate) fn act<A: Allocator + Copy>(
     alloc: A,
     tree: &mut MemTree<A>,
     text: &[u8],
@@ -114,7 +114,7 @@ pub(super) fn act<A: Allocator + Copy>(
 }
 
 /// Does a step at a path below a root.
-pub(super) fn act_below<A: Allocator + Copy>(
+pub(crate) fn act_below<A: Allocator + Copy>(
     alloc: A,
     tree: &mut MemTree<A>,
     root: &[u8],
@@ -142,7 +142,7 @@ fn answers<A: Allocator + Copy>(alloc: A, tree: &mut MemTree<A>, row: &Row) -> b
 }
 
 /// Whether each row answers as it says.
-pub(super) fn all_answer<A: Allocator + Copy>(
+pub(crate) fn all_answer<A: Allocator + Copy>(
     alloc: A,
     tree: &mut MemTree<A>,
     rows: &[Row],
@@ -155,8 +155,14 @@ pub(super) fn all_answer<A: Allocator + Copy>(
     true
 }
 
+/// Whether each row answers as it says on an empty tree.
+pub(crate) fn all_answer_alone(alloc: Global, rows: &[Row]) -> bool {
+    let mut tree = MemTree::new(alloc);
+    all_answer(alloc, &mut tree, rows)
+}
+
 /// Whether the file there has these octets and this second.
-pub(super) fn has<A: Allocator + Copy, B: Allocator>(
+pub(crate) fn has<A: Allocator + Copy, B: Allocator>(
     tree: &MemTree<A>,
     root: &Path<B>,
     path: &Path<B>,

@@ -1,5 +1,7 @@
 //! Rows of what is done below a root, and what it leaves elsewhere.
-use super::steps::{Row, Step, act_below, all_answer, place};
+use crate::renames::below;
+use crate::report::Tried;
+use crate::steps::{Row, Step, act_below, all_answer, place};
 use ftp_path::Path;
 use ftp_tree::{MemTree, NodeKind, Tree, TreeFault};
 use std::alloc::Global;
@@ -58,11 +60,9 @@ const TOPS: &[Below] = &[
     (b"/guest/pub", b"/d", Step::Make, Err(TreeFault::WrongKind)),
 ];
 
-#[test]
-fn what_is_done_below_a_root(rt: HostRuntime) {
-    let mut tree = MemTree::new(rt.alloc());
-    assert!(rt; all_answer_below(rt.alloc(), &mut tree, ROOTS));
-    assert!(rt; all_answer_below(rt.alloc(), &mut tree, TOPS));
+fn what_is_done_below_a_root(alloc: Global) -> bool {
+    let mut tree = MemTree::new(alloc);
+    all_answer_below(alloc, &mut tree, ROOTS) && all_answer_below(alloc, &mut tree, TOPS)
 }
 
 /// Makes 128 directories of three octets each below `/pub`, the first two given.
@@ -121,24 +121,12 @@ const EMPTY: &[Row] = &[
     (b"/guest", Step::Make, Ok(())),
 ];
 
-#[test]
-fn one_root_is_full_and_another_has_room(rt: HostRuntime) {
-    let mut tree = MemTree::new(rt.alloc());
-    assert!(rt; all_answer(rt.alloc(), &mut tree, EMPTY));
-    assert!(rt; make_many(rt.alloc(), &mut tree).is_ok());
-    assert!(rt; make_rest(rt.alloc(), &mut tree).is_ok());
-    assert!(rt; all_answer_below(rt.alloc(), &mut tree, FULL));
-}
-
-/// A path of so many names of 255 octets, and a name of so many behind them.
-fn long_path(alloc: Global, root: &Path<Global>, last: usize) -> Result<Path<Global>, TreeFault> {
-    let Ok(name) = Vec::from_elem(alloc, b'n', last) else {
-        return Err(TreeFault::Memory);
-    };
-    if !ftp_path::is_path_text(name.as_slice()) {
-        return Err(TreeFault::WrongKind);
-    }
-    Ok(root.resolve(alloc, name.as_slice())?)
+fn one_root_is_full_and_another_has_room(alloc: Global) -> bool {
+    let mut tree = MemTree::new(alloc);
+    all_answer(alloc, &mut tree, EMPTY)
+        && make_many(alloc, &mut tree).is_ok()
+        && make_rest(alloc, &mut tree).is_ok()
+        && all_answer_below(alloc, &mut tree, FULL)
 }
 
 /// Makes directories of 255, 255, 255 and 131 octets below a root, and says whether the last stands there.
@@ -149,7 +137,7 @@ fn makes_deep(
 ) -> Result<Path<Global>, TreeFault> {
     let mut here = Path::root(alloc);
     for length in [255usize, 255, 255, 131] {
-        here = long_path(alloc, &here, length)?;
+        here = below(alloc, &here, length)?;
         tree.make_dir(root, &here)?;
     }
     Ok(here)
@@ -161,8 +149,25 @@ fn makes_deeper(alloc: Global, tree: &mut MemTree<Global>) -> Result<bool, TreeF
     Ok(tree.kind(&top, &below).is_some())
 }
 
-#[test]
-fn a_root_counts_for_no_path_below_it(rt: HostRuntime) {
-    let mut tree = MemTree::new(rt.alloc());
-    assert!(rt; makes_deeper(rt.alloc(), &mut tree) == Ok(true));
+fn a_root_counts_for_no_path_below_it(alloc: Global) -> bool {
+    let mut tree = MemTree::new(alloc);
+    makes_deeper(alloc, &mut tree) == Ok(true)
+}
+
+/// What is tried here, and whether it holds.
+pub(crate) fn tried(alloc: Global) -> [Tried; 3] {
+    [
+        (
+            "what is done below a root",
+            what_is_done_below_a_root(alloc),
+        ),
+        (
+            "one root is full and another has room",
+            one_root_is_full_and_another_has_room(alloc),
+        ),
+        (
+            "a root counts for no path below it",
+            a_root_counts_for_no_path_below_it(alloc),
+        ),
+    ]
 }

@@ -1,5 +1,6 @@
 //! Rows of files: their octets by pieces and by fronts, and the limits of one and of all.
-use super::steps::{Row, Step, all_answer, has, only_if, place, put};
+use crate::report::Tried;
+use crate::steps::{Row, Step, all_answer, all_answer_alone, has, only_if, place, put};
 use ftp_facts::Moment;
 use ftp_path::Path;
 use ftp_tree::{Content, MemTree, Tree, TreeFault};
@@ -20,9 +21,12 @@ const PIECES: &[(u64, usize, &[u8])] = &[
 ];
 
 fn is_read(tree: &Memory, root: &Path<Global>, path: &Path<Global>) -> bool {
-    PIECES
-        .iter()
-        .all(|row| tree.piece(root, path, row.0, row.1) == row.2)
+    for row in PIECES {
+        if tree.piece(root, path, row.0, row.1) != row.2 {
+            return false;
+        }
+    }
+    true
 }
 
 fn is_no_file(tree: &Memory, root: &Path<Global>) -> bool {
@@ -45,12 +49,11 @@ fn pieces_of(alloc: Global, tree: &Memory) -> Result<bool, TreeFault> {
     Ok(is_read(tree, &root, &path) && is_no_file(tree, &root))
 }
 
-#[test]
-fn a_file_is_read_by_pieces(rt: HostRuntime) {
-    let mut tree = MemTree::new(rt.alloc());
-    assert!(&rt; is_put(rt.alloc(), &mut tree, b"hello", 9) == Ok(true));
-    assert!(&rt; pieces_of(rt.alloc(), &tree) == Ok(true));
-    assert!(&rt; is_put(rt.alloc(), &mut tree, b"bye", 10) == Ok(true));
+fn a_file_is_read_by_pieces(alloc: Global) -> bool {
+    let mut tree = MemTree::new(alloc);
+    is_put(alloc, &mut tree, b"hello", 9) == Ok(true)
+        && pieces_of(alloc, &tree) == Ok(true)
+        && is_put(alloc, &mut tree, b"bye", 10) == Ok(true)
 }
 
 /// Lengths of files beside the 4,096 octets of a page, and a number of octets that is asked for at a time.
@@ -123,33 +126,33 @@ fn is_lent_by_pages(alloc: Global, tree: &Memory) -> Result<bool, TreeFault> {
     )
 }
 
-#[test]
-fn a_file_of_4097_octets_has_two_pages(rt: HostRuntime) {
-    let mut tree = MemTree::new(rt.alloc());
-    assert!(&rt; are_paged(rt.alloc(), &mut tree));
-    assert!(&rt; is_lent_by_pages(rt.alloc(), &tree) == Ok(true));
+fn a_file_of_4097_octets_has_two_pages(alloc: Global) -> bool {
+    let mut tree = MemTree::new(alloc);
+    are_paged(alloc, &mut tree) && is_lent_by_pages(alloc, &tree) == Ok(true)
+}
+
+/// Puts so many first octets of a file elsewhere. Says whether so many are had.
+fn put_front(
+    alloc: Global,
+    tree: &mut Memory,
+    path: &Path<Global>,
+    copy: &Path<Global>,
+    count: u64,
+) -> Result<bool, TreeFault> {
+    let root = Path::root(alloc);
+    let mut content = Content::of(alloc, tree, &root, path, count)?;
+    let had = content.len() == count;
+    tree.install(&root, copy, &mut content, Moment { seconds: 8 })?;
+    Ok(had)
 }
 
 /// Whether so many first octets of `/f` are had, and read again where they are put.
 fn is_front(alloc: Global, tree: &mut Memory, count: usize) -> Result<bool, TreeFault> {
     let path = place(alloc, b"/f")?;
     let copy = place(alloc, b"/copy")?;
-    let root = Path::root(alloc);
-    let mut content = Content::of(alloc, tree, &root, &path, count as u64)?;
-    let had = content.len() == count as u64;
-    let Some(moment) = Moment::new(8) else {
-        return Err(TreeFault::BadOffset);
-    };
-    tree.install(&root, &copy, &mut content, moment)?;
-    Ok(
-        had && has(
-            tree,
-            &root,
-            &copy,
-            b"hello".as_slice().get(..count).unwrap_or(b"?".as_slice()),
-            8,
-        ),
-    )
+    let had = put_front(alloc, tree, &path, &copy, count as u64)?;
+    let (front, _) = b"hello".split_at(count.min(5));
+    Ok(had && has(tree, &Path::root(alloc), &copy, front, 8))
 }
 
 fn are_fronts(alloc: Global, tree: &mut Memory) -> bool {
@@ -167,12 +170,11 @@ const FRONTS: &[Row] = &[
     (b"/", Step::Front(0), Err(TreeFault::WrongKind)),
 ];
 
-#[test]
-fn a_front_of_a_file_is_had(rt: HostRuntime) {
-    let mut tree = MemTree::new(rt.alloc());
-    assert!(&rt; is_put(rt.alloc(), &mut tree, b"hello", 9) == Ok(true));
-    assert!(&rt; are_fronts(rt.alloc(), &mut tree));
-    assert!(&rt; all_answer(rt.alloc(), &mut tree, FRONTS));
+fn a_front_of_a_file_is_had(alloc: Global) -> bool {
+    let mut tree = MemTree::new(alloc);
+    is_put(alloc, &mut tree, b"hello", 9) == Ok(true)
+        && are_fronts(alloc, &mut tree)
+        && all_answer(alloc, &mut tree, FRONTS)
 }
 
 const FILE_LIMIT: usize = 67_108_864;
@@ -192,13 +194,12 @@ const LONGEST: &[Row] = &[
     (b"/f", Step::Size(Some(67_108_864)), Ok(())),
 ];
 
-#[test]
-fn a_file_has_67108864_octets_at_most(rt: HostRuntime) {
-    let mut tree = MemTree::new(rt.alloc());
-    assert!(&rt; is_put(rt.alloc(), &mut tree, b"old", 1) == Ok(true));
-    assert!(&rt; all_answer(rt.alloc(), &mut tree, TOO_LONG));
-    assert!(&rt; is_old(rt.alloc(), &tree).is_ok());
-    assert!(&rt; all_answer(rt.alloc(), &mut tree, LONGEST));
+fn a_file_has_67108864_octets_at_most(alloc: Global) -> bool {
+    let mut tree = MemTree::new(alloc);
+    is_put(alloc, &mut tree, b"old", 1) == Ok(true)
+        && all_answer(alloc, &mut tree, TOO_LONG)
+        && is_old(alloc, &tree).is_ok()
+        && all_answer(alloc, &mut tree, LONGEST)
 }
 
 const TOTALS: &[Row] = &[
@@ -219,8 +220,22 @@ const TOTALS: &[Row] = &[
     (b"/", Step::Room(0), Err(TreeFault::WrongKind)),
 ];
 
-#[test]
-fn all_files_have_67108864_octets_at_most(rt: HostRuntime) {
-    let mut tree = MemTree::new(rt.alloc());
-    assert!(rt; all_answer(rt.alloc(), &mut tree, TOTALS));
+/// What is tried here, and whether it holds.
+pub(crate) fn tried(alloc: Global) -> [Tried; 5] {
+    [
+        ("a file is read by pieces", a_file_is_read_by_pieces(alloc)),
+        (
+            "a file of 4097 octets has two pages",
+            a_file_of_4097_octets_has_two_pages(alloc),
+        ),
+        ("a front of a file is had", a_front_of_a_file_is_had(alloc)),
+        (
+            "a file has 67108864 octets at most",
+            a_file_has_67108864_octets_at_most(alloc),
+        ),
+        (
+            "all files have 67108864 octets at most",
+            all_answer_alone(alloc, TOTALS),
+        ),
+    ]
 }

@@ -1,5 +1,6 @@
 //! Rows of renames.
-use super::steps::{Row, Step, all_answer, place, put};
+use crate::report::Tried;
+use crate::steps::{Row, Step, all_answer, all_answer_alone, place, put};
 use ftp_path::{Path, is_path_text};
 use ftp_tree::{MemTree, NodeKind, Tree, TreeFault};
 use std::alloc::Global;
@@ -34,14 +35,12 @@ const RENAMES: &[Row] = &[
     (b"/a.b/d/e", Step::Size(Some(1)), Ok(())),
 ];
 
-#[test]
-fn a_rename_takes_all_below_with_it(rt: HostRuntime) {
-    let mut tree = MemTree::new(rt.alloc());
-    assert!(rt; all_answer(rt.alloc(), &mut tree, RENAMES));
-}
-
 /// A path below another: by so many `n`.
-fn below(alloc: Global, above: &Path<Global>, count: usize) -> Result<Path<Global>, TreeFault> {
+pub(crate) fn below(
+    alloc: Global,
+    above: &Path<Global>,
+    count: usize,
+) -> Result<Path<Global>, TreeFault> {
     let Ok(name) = Vec::from_elem(alloc, b'n', count) else {
         return Err(TreeFault::Memory);
     };
@@ -98,9 +97,21 @@ fn renames_long(alloc: Global, tree: &mut MemTree<Global>) -> Result<bool, TreeF
 
 const SHELF: &[Row] = &[(b"/d", Step::Make, Ok(()))];
 
-#[test]
-fn a_rename_keeps_texts_within_900_octets(rt: HostRuntime) {
-    let mut tree = MemTree::new(rt.alloc());
-    assert!(&rt; all_answer(rt.alloc(), &mut tree, SHELF));
-    assert!(&rt; renames_long(rt.alloc(), &mut tree) == Ok(true));
+fn a_rename_keeps_texts_within_900_octets(alloc: Global) -> bool {
+    let mut tree = MemTree::new(alloc);
+    all_answer(alloc, &mut tree, SHELF) && renames_long(alloc, &mut tree) == Ok(true)
+}
+
+/// What is tried here, and whether it holds.
+pub(crate) fn tried(alloc: Global) -> [Tried; 2] {
+    [
+        (
+            "a rename takes all below with it",
+            all_answer_alone(alloc, RENAMES),
+        ),
+        (
+            "a rename keeps texts within 900 octets",
+            a_rename_keeps_texts_within_900_octets(alloc),
+        ),
+    ]
 }

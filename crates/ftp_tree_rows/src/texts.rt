@@ -1,4 +1,5 @@
 //! Rows of texts and names: which octets are one (RFC 959, section 5.3.2; RFC 2640, section 3.1; RFC 3629, section 4).
+use crate::report::Tried;
 use ftp_path::{Name, is_path_text};
 use std::alloc::{AllocError, Global};
 
@@ -27,11 +28,6 @@ fn texts_are_as_told() -> bool {
         }
     }
     true
-}
-
-#[test]
-fn path_texts(rt: HostRuntime) {
-    assert!(rt; texts_are_as_told());
 }
 
 /// Whole characters of two, three and four octets; characters cut; longer forms than needed; surrogates; past U+10FFFF.
@@ -72,11 +68,6 @@ fn utf8_is_as_told() -> bool {
     true
 }
 
-#[test]
-fn path_texts_in_utf8(rt: HostRuntime) {
-    assert!(rt; utf8_is_as_told());
-}
-
 fn is_name_as_told(row: &Row) -> bool {
     match Name::new(row.0) {
         Some(name) => row.1 && name.octets() == row.0,
@@ -111,11 +102,6 @@ fn names_are_as_told() -> bool {
     true
 }
 
-#[test]
-fn names(rt: HostRuntime) {
-    assert!(rt; names_are_as_told());
-}
-
 /// Whether so many octets are a path text, and whether they are a name.
 type Long = (usize, bool, bool);
 
@@ -142,11 +128,6 @@ fn lengths_are_as_told(alloc: Global) -> bool {
         }
     }
     true
-}
-
-#[test]
-fn a_text_has_900_octets_at_most_and_a_name_255(rt: HostRuntime) {
-    assert!(rt; lengths_are_as_told(rt.alloc()));
 }
 
 /// So many characters of two octets.
@@ -180,7 +161,16 @@ fn accents_are_as_told(alloc: Global) -> bool {
     true
 }
 
-#[test]
-fn limits_count_octets(rt: HostRuntime) {
-    assert!(rt; accents_are_as_told(rt.alloc()));
+/// What is tried here, and whether it holds.
+pub(crate) fn tried(alloc: Global) -> [Tried; 5] {
+    [
+        ("path texts", texts_are_as_told()),
+        ("path texts in UTF-8", utf8_is_as_told()),
+        ("which octets are a name", names_are_as_told()),
+        (
+            "a text has 900 octets at most and a name 255",
+            lengths_are_as_told(alloc),
+        ),
+        ("limits count octets", accents_are_as_told(alloc)),
+    ]
 }

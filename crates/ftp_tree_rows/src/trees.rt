@@ -1,10 +1,11 @@
 //! Rows of trees: the order of the refusals, and how many nodes fit.
-use super::steps::{Row, Step, all_answer, place};
+use crate::report::Tried;
+use crate::steps::{Row, Step, all_answer, all_answer_alone, place};
 use ftp_path::Path;
 use ftp_tree::{MemTree, NodeKind, Tree, TreeFault};
 use std::alloc::Global;
 
-const MAKES: &[Row] = &[
+const REFUSALS: &[Row] = &[
     (b"/", Step::Make, Err(TreeFault::Exists)),
     (b"/d/e", Step::Make, Err(TreeFault::Absent)),
     (b"/d", Step::Make, Ok(())),
@@ -14,9 +15,7 @@ const MAKES: &[Row] = &[
     (b"/f", Step::Make, Err(TreeFault::Exists)),
     (b"/f/g", Step::Make, Err(TreeFault::WrongKind)),
     (b"/d e", Step::Make, Ok(())),
-];
-
-const REMOVES: &[Row] = &[
+    // directories are removed
     (b"/g", Step::Remove, Err(TreeFault::Absent)),
     (b"/f", Step::Remove, Err(TreeFault::WrongKind)),
     (b"/d", Step::Remove, Err(TreeFault::NotEmpty)),
@@ -25,9 +24,7 @@ const REMOVES: &[Row] = &[
     (b"/d", Step::Remove, Ok(())),
     (b"/d", Step::Remove, Err(TreeFault::Absent)),
     (b"/d e", Step::Delete, Err(TreeFault::WrongKind)),
-];
-
-const DELETES: &[Row] = &[
+    // files are deleted
     (b"/g", Step::Delete, Err(TreeFault::Absent)),
     (b"/f", Step::Delete, Ok(())),
     (b"/f", Step::Delete, Err(TreeFault::Absent)),
@@ -35,13 +32,9 @@ const DELETES: &[Row] = &[
     (b"/", Step::Remove, Err(TreeFault::Busy)),
 ];
 
-#[test]
-fn each_refusal_comes_in_its_order(rt: HostRuntime) {
-    let mut tree = MemTree::new(rt.alloc());
-    assert!(&rt; all_answer(rt.alloc(), &mut tree, MAKES));
-    assert!(&rt; all_answer(rt.alloc(), &mut tree, REMOVES));
-    assert!(&rt; all_answer(rt.alloc(), &mut tree, DELETES));
-    assert!(&rt; tree.device_failures() == 0);
+fn each_refusal_comes_in_its_order(alloc: Global) -> bool {
+    let mut tree = MemTree::new(alloc);
+    all_answer(alloc, &mut tree, REFUSALS) && tree.device_failures() == 0
 }
 
 /// Names that look alike are two.
@@ -61,12 +54,6 @@ const ACCENTS: &[Row] = &[
     (b"/e\xcc\x81", Step::Size(Some(3)), Ok(())),
     (b"/\xc3", Step::Make, Err(TreeFault::WrongKind)),
 ];
-
-#[test]
-fn names_in_utf8(rt: HostRuntime) {
-    let mut tree = MemTree::new(rt.alloc());
-    assert!(rt; all_answer(rt.alloc(), &mut tree, ACCENTS));
-}
 
 /// Makes 4,096 directories of three octets each, the first of them given.
 fn make_some(alloc: Global, tree: &mut MemTree<Global>, first: u8) -> Result<(), TreeFault> {
@@ -98,9 +85,22 @@ const FULL: &[Row] = &[
     (b"/4oo", Step::Make, Err(TreeFault::Full)),
 ];
 
-#[test]
-fn beside_the_root_16384_nodes_fit(rt: HostRuntime) {
-    let mut tree = MemTree::new(rt.alloc());
-    assert!(&rt; make_many(rt.alloc(), &mut tree).is_ok());
-    assert!(&rt; all_answer(rt.alloc(), &mut tree, FULL));
+fn beside_the_root_16384_nodes_fit(alloc: Global) -> bool {
+    let mut tree = MemTree::new(alloc);
+    make_many(alloc, &mut tree).is_ok() && all_answer(alloc, &mut tree, FULL)
+}
+
+/// What is tried here, and whether it holds.
+pub(crate) fn tried(alloc: Global) -> [Tried; 3] {
+    [
+        (
+            "each refusal comes in its order",
+            each_refusal_comes_in_its_order(alloc),
+        ),
+        ("names in UTF-8", all_answer_alone(alloc, ACCENTS)),
+        (
+            "beside the root 16384 nodes fit",
+            beside_the_root_16384_nodes_fit(alloc),
+        ),
+    ]
 }

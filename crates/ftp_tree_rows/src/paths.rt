@@ -1,10 +1,11 @@
 //! Rows of texts and where they lead.
+use crate::report::Tried;
 use ftp_path::{Path, PathFault, is_path_text};
 use ftp_refusing::Refusing;
 use std::alloc::{AllocError, Allocator, Global};
 
 /// A path from another by a text, which has to be a path text.
-pub(super) fn from<A: Allocator>(
+pub(crate) fn from<A: Allocator>(
     here: &Path<A>,
     alloc: A,
     text: &[u8],
@@ -17,7 +18,7 @@ pub(super) fn from<A: Allocator>(
 }
 
 /// A path from the root.
-pub(super) fn path_at<A: Allocator + Copy>(alloc: A, text: &[u8]) -> Result<Path<A>, PathFault> {
+pub(crate) fn path_at<A: Allocator + Copy>(alloc: A, text: &[u8]) -> Result<Path<A>, PathFault> {
     from(&Path::root(alloc), alloc, text)
 }
 
@@ -70,11 +71,6 @@ fn all_lead(alloc: Global) -> bool {
     true
 }
 
-#[test]
-fn texts_lead_from_a_path(rt: HostRuntime) {
-    assert!(rt; all_lead(rt.alloc()));
-}
-
 /// The lengths of components, a tail, and the length of the canonical text, if the text leads to a path.
 type Long = (&'static [usize], &'static [u8], Option<usize>);
 
@@ -119,11 +115,6 @@ fn are_as_long(alloc: Global) -> bool {
     true
 }
 
-#[test]
-fn only_what_is_left_counts_for_the_limits(rt: HostRuntime) {
-    assert!(rt; are_as_long(rt.alloc()));
-}
-
 /// From a path of 768 octets: the lengths of a text and of the canonical text.
 const FARTHER: &[(usize, Option<usize>)] = &[(131, Some(900)), (132, None), (1, Some(770))];
 
@@ -137,18 +128,21 @@ fn is_as_far(alloc: Global, far: &Path<Global>, row: &(usize, Option<usize>)) ->
     }
 }
 
+fn are_as_far(alloc: Global, far: &Path<Global>) -> bool {
+    for row in FARTHER {
+        if !is_as_far(alloc, far, row) {
+            return false;
+        }
+    }
+    true
+}
+
 fn steps_from_afar(alloc: Global) -> Result<bool, PathFault> {
     let Ok(text) = long_text(alloc, &[255, 255, 255], b"") else {
         return Err(PathFault::Memory);
     };
     let far = path_at(alloc, text.as_slice())?;
-    let all = FARTHER.iter().all(|row| is_as_far(alloc, &far, row));
-    Ok(far.text().len() == 768 && all)
-}
-
-#[test]
-fn a_canonical_text_has_900_octets_at_most(rt: HostRuntime) {
-    assert!(rt; steps_from_afar(rt.alloc()) == Ok(true));
+    Ok(far.text().len() == 768 && are_as_far(alloc, &far))
 }
 
 /// Below a path of 900 octets nothing fits, though what goes up again does.
@@ -160,11 +154,6 @@ fn steps_at_the_limit(alloc: Global) -> Result<bool, PathFault> {
     let below = from(&path, alloc, b"b");
     let beside = from(&path, alloc, b"b/..")?;
     Ok(matches!(&below, Err(PathFault::TooBig)) && beside.text().len() == 900)
-}
-
-#[test]
-fn nothing_is_below_a_text_of_900_octets(rt: HostRuntime) {
-    assert!(rt; steps_at_the_limit(rt.alloc()) == Ok(true));
 }
 
 /// Whether the first growth of a heap is refused, and the next one is not.
@@ -187,8 +176,25 @@ fn copies_of(alloc: Global) -> Result<bool, PathFault> {
     copies_once(alloc, &path).map_err(|_| PathFault::Memory)
 }
 
-#[test]
-fn a_growth_that_is_refused_is_told(rt: HostRuntime) {
-    assert!(&rt; refuses_once(rt.alloc()) == Ok(true));
-    assert!(&rt; copies_of(rt.alloc()) == Ok(true));
+/// What is tried here, and whether it holds.
+pub(crate) fn tried(alloc: Global) -> [Tried; 5] {
+    [
+        ("texts lead from a path", all_lead(alloc)),
+        (
+            "only what is left counts for the limits",
+            are_as_long(alloc),
+        ),
+        (
+            "a canonical text has 900 octets at most",
+            steps_from_afar(alloc) == Ok(true),
+        ),
+        (
+            "nothing is below a text of 900 octets",
+            steps_at_the_limit(alloc) == Ok(true),
+        ),
+        (
+            "a growth that is refused is told",
+            refuses_once(alloc) == Ok(true) && copies_of(alloc) == Ok(true),
+        ),
+    ]
 }

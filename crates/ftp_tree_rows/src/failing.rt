@@ -55,13 +55,16 @@ impl<A: Allocator + Copy> FailingFolder<A> {
         ensures tree { self.new.tree ≡ self.old.tree }
         ensures failures { self.new.failures ≡ next_count self.old.failures }
     {
-        self.failures = if self.failures == u64::MAX {
-            0
-        } else {
-            self.failures + 1
-        };
+        self.failures = next(self.failures);
         FolderFault
     }
+}
+
+/// The count behind a failure.
+fn next(count: u64) -> u64
+    ensures { result ≡ next_count count }
+{
+    if count == u64::MAX { 0 } else { count + 1 }
 }
 
 impl<A: Allocator + Copy> Folder for FailingFolder<A> {

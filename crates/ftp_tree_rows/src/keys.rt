@@ -1,5 +1,6 @@
 //! Rows of paths beside each other: their keys, their order, what is below which, and where a path is moved.
-use super::paths::{from, path_at};
+use crate::paths::{from, path_at};
+use crate::report::Tried;
 use ftp_path::key::{is_within, name_in, order};
 use ftp_path::{Path, PathFault};
 use ftp_refusing::Refusing;
@@ -60,11 +61,6 @@ fn are_kept(alloc: Global) -> bool {
     true
 }
 
-#[test]
-fn paths_by_their_names_joined(rt: HostRuntime) {
-    assert!(rt; are_kept(rt.alloc()));
-}
-
 /// Names that look alike, or are longer, in the order of their octets.
 const IN_ORDER: &[(&[u8], &[u8])] = &[
     (b"/e", b"/e\xcc\x81"),
@@ -89,11 +85,6 @@ fn are_in_order(alloc: Global) -> bool {
         }
     }
     true
-}
-
-#[test]
-fn names_in_utf8_come_by_their_octets(rt: HostRuntime) {
-    assert!(rt; are_in_order(rt.alloc()));
 }
 
 /// Two paths, whether the second is the first or below it, and what the first calls it: nothing where it does not.
@@ -139,11 +130,6 @@ fn are_below(alloc: Global) -> bool {
     true
 }
 
-#[test]
-fn what_is_below_a_path(rt: HostRuntime) {
-    assert!(rt; are_below(rt.alloc()));
-}
-
 /// The text of where a path leads once what stands at `from` is called `to`, if it is moved and within the limits then.
 fn is_moved<A: Allocator>(
     alloc: A,
@@ -186,11 +172,6 @@ fn are_moved(alloc: Global) -> bool {
         }
     }
     true
-}
-
-#[test]
-fn where_a_path_is_moved(rt: HostRuntime) {
-    assert!(rt; are_moved(rt.alloc()));
 }
 
 /// How long the text of a path is once what stands at `from` is called `to`, if that is within the limits.
@@ -240,11 +221,6 @@ fn long_moves(alloc: Global) -> Result<bool, PathFault> {
     Ok(path.text().len() == 770 && fitting == Some(900) && too_long.is_none())
 }
 
-#[test]
-fn what_is_moved_has_900_octets_at_most(rt: HostRuntime) {
-    assert!(rt; long_moves(rt.alloc()) == Ok(true));
-}
-
 fn moves_once(alloc: Global) -> Result<bool, PathFault> {
     let path = path_at(alloc, b"/a/b")?;
     let old = path_at(alloc, b"/a")?;
@@ -254,7 +230,20 @@ fn moves_once(alloc: Global) -> Result<bool, PathFault> {
     Ok(refused && is_moved(&heap, &path, &old, &new, b"/c/d/b") == Ok(true))
 }
 
-#[test]
-fn a_move_whose_memory_is_refused(rt: HostRuntime) {
-    assert!(rt; moves_once(rt.alloc()) == Ok(true));
+/// What is tried here, and whether it holds.
+pub(crate) fn tried(alloc: Global) -> [Tried; 6] {
+    [
+        ("paths by their names joined", are_kept(alloc)),
+        ("names in UTF-8 come by their octets", are_in_order(alloc)),
+        ("what is below a path", are_below(alloc)),
+        ("where a path is moved", are_moved(alloc)),
+        (
+            "what is moved has 900 octets at most",
+            long_moves(alloc) == Ok(true),
+        ),
+        (
+            "a move whose memory is refused",
+            moves_once(alloc) == Ok(true),
+        ),
+    ]
 }
