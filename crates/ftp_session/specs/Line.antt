@@ -1,5 +1,5 @@
 -- A line as a session is given it, and what it leaves where it could not be done.
-use Rattle.std.specs.Prelude.{◌≡◌, ℕ, List, true, Result, Ok, Err}
+use Rattle.std.specs.Prelude.{◌≡◌, ℕ, List, Bool, true, false, Result, Ok, Err}
 use Rattle.ftp_command.specs.Line.{IfGiven}
 use Rattle.ftp_command.specs.declared.command.Command.{Command}
 use Rattle.ftp_command.specs.declared.command.Command.TheVariants as command
@@ -36,6 +36,11 @@ HasPathTexts (command.Mlsd text) = IfGiven IsPathText text
 HasPathTexts (command.Size text) = IsPathText text
 HasPathTexts (command.Mdtm text) = IsPathText text
 HasPathTexts other = Unit {0}
+
+-- USER alone gives its name away
+abbrev pub is_user : Command (List ℕ) → Bool
+is_user (command.User name) = true
+is_user other = false
 
 -- the same of a line
 abbrev pub HeardPaths : Heard (List ℕ) → Type 0
