@@ -3,3 +3,4 @@ pub mod StartLemmas
 pub mod HeardLemmas
 pub mod CarryLemmas
 pub mod OctetLemmas
+pub mod AgainLemmas
