@@ -1,8 +1,9 @@
 //! Which operations can be sent.
-use super::rows::{IMAGE, Row, owned};
+use crate::report::Tried;
+use crate::rows::{IMAGE, Row, owned};
 use ftp_direct::Op;
 use ftp_operation::{can_be_sent, is_number};
-use std::alloc::{AllocError, Global};
+use std::alloc::Global;
 
 const LONG: &'static [u8] = &[b'a'; 901];
 
@@ -44,21 +45,30 @@ const SENT: &'static [Row] = &[
     (Op::Peek(b"", 1, IMAGE), b"bad"),
 ];
 
-/// Whether an operation can be sent.
-fn is_sent(alloc: Global, op: &Op<&'static [u8]>) -> Result<bool, AllocError> {
-    Ok(can_be_sent(&owned(alloc, op)?))
+/// Whether an operation can be sent just where its row says so.
+fn is_sent_so(alloc: Global, row: &Row) -> bool {
+    match owned(alloc, &row.0) {
+        Ok(op) => can_be_sent(&op) == (row.1 == b"sent".as_slice()),
+        Err(_) => false,
+    }
 }
 
-#[test]
-fn operations_can_be_sent_as_their_rows(rt: HostRuntime) {
-    let alloc = rt.alloc();
-    let wrong = SENT.iter().position(|(op, expected)| is_sent(alloc, op)
-        != Ok(*expected == b"sent".as_slice()));
-    assert_eq!(&rt; wrong, None);
+fn all_sent_so(alloc: Global) -> bool {
+    for row in SENT {
+        if !is_sent_so(alloc, row) {
+            return false;
+        }
+    }
+    true
 }
 
-#[test]
-fn a_number_has_18_digits_at_most(rt: HostRuntime) {
-    assert!(&rt; is_number(999_999_999_999_999_999));
-    assert!(&rt; !is_number(1_000_000_000_000_000_000));
+/// What is tried here, and whether it holds.
+pub(crate) fn tried(alloc: Global) -> [Tried; 2] {
+    [
+        ("operations can be sent as their rows", all_sent_so(alloc)),
+        (
+            "a number has 18 digits at most",
+            is_number(999_999_999_999_999_999) && !is_number(1_000_000_000_000_000_000),
+        ),
+    ]
 }

@@ -1,5 +1,5 @@
 //! Rows of operations and what they answer, over a tree in memory.
-use super::said::says;
+use crate::said::says;
 use ftp_direct::{Account, Accounts, Answer, How, Login, Op, direct};
 use ftp_facts::{Moment, Text};
 use ftp_representation::{Kind, Mode, Representation, Structure};
@@ -94,22 +94,28 @@ pub(crate) fn path<A: Allocator + Copy>(alloc: A, text: &[u8]) -> Result<Path<A>
     }
 }
 
+fn account<A: Allocator + Copy>(
+    alloc: A,
+    user: &[u8],
+    pass: Option<Text<A>>,
+    root: &[u8],
+) -> Result<Account<Text<A>, Path<A>>, AllocError> {
+    Ok(Account {
+        user: text(alloc, user)?,
+        pass,
+        root: path(alloc, root)?,
+    })
+}
+
 /// `guest` with the password `secret`, and `anonymous` without one, each with its root.
 pub(crate) fn accounts<A: Allocator + Copy>(
     alloc: A,
     roots: Roots,
 ) -> Result<Accounts<A>, AllocError> {
     let mut list = Vec::new(alloc);
-    list.push(Account {
-        user: text(alloc, b"guest")?,
-        pass: Some(text(alloc, b"secret")?),
-        root: path(alloc, roots.0)?,
-    })?;
-    list.push(Account {
-        user: text(alloc, b"anonymous")?,
-        pass: None,
-        root: path(alloc, roots.1)?,
-    })?;
+    let secret = text(alloc, b"secret")?;
+    list.push(account(alloc, b"guest", Some(secret), roots.0)?)?;
+    list.push(account(alloc, b"anonymous", None, roots.1)?)?;
     Accounts::new(list).ok().ok_or(AllocError)
 }
 
@@ -127,33 +133,23 @@ fn list_of<A: Allocator + Copy>(
     rows: &[Row],
 ) -> Result<Vec<(Op<Text<A>>, Moment), A>, AllocError> {
     let mut list = Vec::new(alloc);
-    let mut second = 1000u64;
-    for (op, _) in rows {
-        let moment = Moment::new(second).ok_or(AllocError)?;
-        list.push((owned(alloc, op)?, moment))?;
-        second = second.saturating_add(1);
+    let mut seconds = 1000u64;
+    for row in rows {
+        let moment = Moment::new(seconds).ok_or(AllocError)?;
+        list.push((owned(alloc, &row.0)?, moment))?;
+        seconds = seconds.saturating_add(1);
     }
     Ok(list)
 }
 
-/// The first row that is not answered as it says.
-pub(crate) fn first_other<A: Allocator>(
-    alloc: Global,
-    answers: &[Answer<A>],
-    rows: &[Row],
-) -> Result<Option<usize>, AllocError> {
-    let mut at = 0usize;
-    for (answer, (_, expected)) in answers.iter().zip(rows) {
-        if !says(alloc, answer, *expected)? {
-            return Ok(Some(at));
+/// Whether each row is answered as it says.
+pub(crate) fn all_say<A: Allocator>(alloc: Global, answers: &[Answer<A>], rows: &[Row]) -> bool {
+    for (answer, row) in answers.iter().zip(rows) {
+        if says(alloc, answer, row.1) != Ok(true) {
+            return false;
         }
-        at = at.saturating_add(1);
     }
-    if at == rows.len() {
-        Ok(None)
-    } else {
-        Ok(Some(at))
-    }
+    answers.len() == rows.len()
 }
 
 /// Who logs in: a user name and a password, and the roots of the two accounts.
@@ -188,17 +184,6 @@ pub(crate) fn run_list<A: Allocator + Copy, T: Tree<A>>(
     direct(&alloc, tree, &accounts, &login, list)
 }
 
-/// The first row that is not answered as it says, on a tree, by a user.
-fn answers_on<T: Tree<Global>>(
-    alloc: Global,
-    tree: &mut T,
-    user: User,
-    rows: &[Row],
-) -> Result<Option<usize>, AllocError> {
-    let answers = run(alloc, alloc, tree, user, rows)?;
-    first_other(alloc, answers.as_slice(), rows)
-}
-
 /// Whether all rows are answered as they say, on a tree, by a user.
 pub(crate) fn answer_on<T: Tree<Global>>(
     alloc: Global,
@@ -206,7 +191,10 @@ pub(crate) fn answer_on<T: Tree<Global>>(
     user: User,
     rows: &[Row],
 ) -> bool {
-    answers_on(alloc, tree, user, rows) == Ok(None)
+    match run(alloc, alloc, tree, user, rows) {
+        Ok(answers) => all_say(alloc, answers.as_slice(), rows),
+        Err(_) => false,
+    }
 }
 
 /// The same on an empty tree in memory.

@@ -1,5 +1,6 @@
 //! Each growth that `direct` asks for is refused in turn.
-use super::rows::{GUEST, IMAGE, Row, first_other, path, run};
+use crate::report::Tried;
+use crate::rows::{GUEST, IMAGE, Row, all_say, path, run};
 use ftp_direct::Op;
 use ftp_refusing::Refusing;
 use ftp_tree::{MemTree, Path, Tree};
@@ -50,34 +51,65 @@ fn size(alloc: Global, tree: &MemTree<Heap<'_>>, text: &[u8]) -> Result<Option<u
     Ok(tree.size(&root, &path(alloc, text)?))
 }
 
+fn is_among(sizes: (Option<u64>, Option<u64>)) -> bool {
+    for allowed in SIZES {
+        if *allowed == sizes {
+            return true;
+        }
+    }
+    false
+}
+
 /// Whether the files are as some of the operations leave them.
 fn is_begun(alloc: Global, tree: &MemTree<Heap<'_>>) -> Result<bool, AllocError> {
     let sizes = (size(alloc, tree, b"/d/f")?, size(alloc, tree, b"/e/f")?);
-    Ok(SIZES.iter().any(|allowed| *allowed == sizes))
+    Ok(is_among(sizes))
 }
 
-/// Whether the run is as it has to be: whole where no growth is refused, and else given up with some of it done.
-fn is_as_due<'a>(alloc: Global, ample: Heap<'a>, heap: Heap<'a>, refused: bool) -> bool {
+/// Whether the run is whole.
+fn is_whole<'a>(alloc: Global, ample: Heap<'a>, heap: Heap<'a>) -> bool {
     let mut tree = MemTree::new(heap);
     match run(ample, heap, &mut tree, GUEST, LIST) {
-        Ok(answers) => !refused && first_other(alloc, answers.as_slice(), LIST) == Ok(None),
-        Err(_) => refused && is_begun(alloc, &tree) == Ok(true),
+        Ok(answers) => all_say(alloc, answers.as_slice(), LIST),
+        Err(_) => false,
     }
+}
+
+/// How many growths the whole run asks for; none where it is not whole.
+fn growths(alloc: Global, ample: Heap<'_>) -> u64 {
+    let counted = Refusing::new(alloc, 0);
+    if is_whole(alloc, ample, &counted) {
+        0u64.wrapping_sub(counted.left())
+    } else {
+        0
+    }
+}
+
+/// Whether the run is given up on this heap, with some of it done.
+fn gives_up_on<'a>(alloc: Global, ample: Heap<'a>, heap: Heap<'a>) -> bool {
+    let mut tree = MemTree::new(heap);
+    let is_given_up = run(ample, heap, &mut tree, GUEST, LIST).is_err();
+    is_given_up && is_begun(alloc, &tree) == Ok(true)
 }
 
 /// Whether the run is given up where this growth is refused.
 fn gives_up(alloc: Global, ample: Heap<'_>, growth: u64) -> bool {
     let heap = Refusing::new(alloc, growth);
-    is_as_due(alloc, ample, &heap, true)
+    gives_up_on(alloc, ample, &heap)
 }
 
-#[test]
-fn each_growth_refused_in_turn(rt: HostRuntime) {
-    let alloc = rt.alloc();
+fn each_gives_up(alloc: Global) -> bool {
     let ample = Refusing::new(alloc, 0);
-    let counted = Refusing::new(alloc, 0);
-    assert!(&rt; is_as_due(alloc, &ample, &counted, false));
-    let growths = 0u64.wrapping_sub(counted.left());
-    assert!(&rt; 40 <= growths && growths <= 400);
-    assert!(&rt; (1..=growths).all(|growth| gives_up(alloc, &ample, growth)));
+    let growths = growths(alloc, &ample);
+    for growth in 1..=growths {
+        if !gives_up(alloc, &ample, growth) {
+            return false;
+        }
+    }
+    40 <= growths && growths <= 400
+}
+
+/// What is tried here, and whether it holds.
+pub(crate) fn tried(alloc: Global) -> [Tried; 1] {
+    [("each growth refused in turn", each_gives_up(alloc))]
 }

@@ -1,5 +1,6 @@
 //! Accounts and logins: which are made, and which are known.
-use super::rows::{WHOLE, accounts, login, path, text};
+use crate::report::Tried;
+use crate::rows::{WHOLE, accounts, login, path, text};
 use ftp_direct::{Account, Accounts, AccountsFault, Login};
 use ftp_facts::Text;
 use ftp_tree::Path;
@@ -32,20 +33,19 @@ fn is_as_expected(
     )
 }
 
+fn all_known_so(alloc: Global, accounts: &Accounts<Global>) -> bool {
+    for row in LOGINS {
+        if is_as_expected(alloc, accounts, row.0, row.1, row.2) != Ok(true) {
+            return false;
+        }
+    }
+    true
+}
+
 /// Whether each login is known or not as its row says.
 fn all_as_expected(alloc: Global) -> Result<bool, AllocError> {
     let accounts = accounts(alloc, WHOLE)?;
-    for (user, pass, known) in LOGINS {
-        if !is_as_expected(alloc, &accounts, *user, *pass, *known)? {
-            return Ok(false);
-        }
-    }
-    Ok(true)
-}
-
-#[test]
-fn a_login_is_known_by_its_password(rt: HostRuntime) {
-    assert!(&rt; all_as_expected(rt.alloc()) == Ok(true));
+    Ok(all_known_so(alloc, &accounts))
 }
 
 const LONG: &'static [u8] = &[b'a'; 256];
@@ -67,12 +67,13 @@ fn is_made(alloc: Global, user: &[u8], pass: &[u8]) -> Result<bool, AllocError> 
     Ok(Login::new(text(alloc, user)?, text(alloc, pass)?).is_some())
 }
 
-#[test]
-fn a_login_is_within_its_limits(rt: HostRuntime) {
-    let alloc = rt.alloc();
-    let wrong = LIMITS.iter().position(|(user, pass, fits)| is_made(alloc, *user, *pass)
-        != Ok(*fits));
-    assert_eq!(&rt; wrong, None);
+fn all_within_limits(alloc: Global) -> bool {
+    for row in LIMITS {
+        if is_made(alloc, row.0, row.1) != Ok(row.2) {
+            return false;
+        }
+    }
+    true
 }
 
 /// A list of accounts with texts of their own.
@@ -81,27 +82,35 @@ type List = Vec<Account<Text<Global>, Path<Global>>, Global>;
 /// An account: its user name, whether it needs a password, and its root.
 type Row = (&'static [u8], bool, &'static [u8]);
 
+fn pass_of(alloc: Global, locked: bool) -> Result<Option<Text<Global>>, AllocError> {
+    if locked {
+        Ok(Some(text(alloc, b"")?))
+    } else {
+        Ok(None)
+    }
+}
+
+fn account_of(alloc: Global, row: &Row) -> Result<Account<Text<Global>, Path<Global>>, AllocError> {
+    Ok(Account {
+        user: text(alloc, row.0)?,
+        pass: pass_of(alloc, row.1)?,
+        root: path(alloc, row.2)?,
+    })
+}
+
 fn list_of(alloc: Global, rows: &[Row]) -> Result<List, AllocError> {
     let mut list = Vec::new(alloc);
-    for (user, locked, root) in rows {
-        list.push(Account {
-            user: text(alloc, *user)?,
-            pass: if *locked {
-                Some(text(alloc, b"")?)
-            } else {
-                None
-            },
-            root: path(alloc, *root)?,
-        })?;
+    for row in rows {
+        list.push(account_of(alloc, row)?)?;
     }
     Ok(list)
 }
 
-/// Why accounts are refused, and how many are handed back.
-fn refused(list: List) -> Option<(AccountsFault, usize)> {
+/// Whether accounts are made, or refused with this fault and so many of them handed back.
+fn answers_so(list: List, fault: Option<AccountsFault>, count: usize) -> bool {
     match Accounts::new(list) {
-        Ok(_accounts) => None,
-        Err(refused) => Some((refused.fault, refused.list.len())),
+        Ok(_accounts) => fault.is_none(),
+        Err(refused) => fault == Some(refused.fault) && refused.list.len() == count,
     }
 }
 
@@ -145,18 +154,33 @@ const LISTS: &'static [(&'static [Row], Option<AccountsFault>)] = &[
 ];
 
 /// Whether accounts are refused so.
-fn is_refused(
-    alloc: Global,
-    rows: &[Row],
-    fault: Option<AccountsFault>,
-) -> Result<bool, AllocError> {
-    let expected = fault.map(|fault| (fault, rows.len()));
-    Ok(refused(list_of(alloc, rows)?) == expected)
+fn is_refused(alloc: Global, rows: &[Row], fault: Option<AccountsFault>) -> bool {
+    match list_of(alloc, rows) {
+        Ok(list) => answers_so(list, fault, rows.len()),
+        Err(_) => false,
+    }
 }
 
-#[test]
-fn accounts_have_names_and_roots_of_their_own(rt: HostRuntime) {
-    let alloc = rt.alloc();
-    let wrong = LISTS.iter().position(|(rows, fault)| is_refused(alloc, *rows, *fault) != Ok(true));
-    assert_eq!(&rt; wrong, None);
+fn all_refused_so(alloc: Global) -> bool {
+    for row in LISTS {
+        if !is_refused(alloc, row.0, row.1) {
+            return false;
+        }
+    }
+    true
+}
+
+/// What is tried here, and whether it holds.
+pub(crate) fn tried(alloc: Global) -> [Tried; 3] {
+    [
+        (
+            "a login is known by its password",
+            all_as_expected(alloc) == Ok(true),
+        ),
+        ("a login is within its limits", all_within_limits(alloc)),
+        (
+            "accounts have names and roots of their own",
+            all_refused_so(alloc),
+        ),
+    ]
 }

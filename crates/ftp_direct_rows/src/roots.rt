@@ -1,9 +1,10 @@
 //! Operations below an account's root, and what stands elsewhere.
-use super::rows::{ANONYMOUS, GUEST, IMAGE, Roots, Row, User, answer_on, path};
-use crate::FailingTree;
+use crate::failing::FailingTree;
+use crate::report::Tried;
+use crate::rows::{ANONYMOUS, GUEST, IMAGE, Roots, Row, User, answer_on, path};
 use ftp_direct::Op;
 use ftp_facts::Moment;
-use ftp_tree::{Content, MemTree, Path, Tree, TreeFault};
+use ftp_tree::{Content, MemTree, Path, Tree};
 use std::alloc::{AllocError, Global};
 
 /// `guest` sees `/guest`, and `anonymous` sees `/pub`.
@@ -49,12 +50,11 @@ const LEFT: &'static [Row] = &[
     (Op::Get(b"/guest/e/g", IMAGE), b"x"),
 ];
 
-#[test]
-fn no_operation_leaves_the_root(rt: HostRuntime) {
-    let mut tree = MemTree::new(rt.alloc());
-    assert!(&rt; answer_on(rt.alloc(), &mut tree, GUEST, MADE));
-    assert!(&rt; answer_on(rt.alloc(), &mut tree, AT_HOME, BELOW));
-    assert!(&rt; answer_on(rt.alloc(), &mut tree, ANONYMOUS, LEFT));
+fn no_operation_leaves_the_root(alloc: Global) -> bool {
+    let mut tree = MemTree::new(alloc);
+    answer_on(alloc, &mut tree, GUEST, MADE)
+        && answer_on(alloc, &mut tree, AT_HOME, BELOW)
+        && answer_on(alloc, &mut tree, ANONYMOUS, LEFT)
 }
 
 const REFUSED: &'static [Row] = &[
@@ -86,13 +86,26 @@ const NOWHERE: &'static [User] = &[
     (b"anonymous", b"", (b"/guest", b"/f")),
 ];
 
-#[test]
-fn a_login_needs_a_directory_at_its_root(rt: HostRuntime) {
-    let mut tree = MemTree::new(rt.alloc());
-    assert!(&rt; answer_on(rt.alloc(), &mut tree, GUEST, MADE));
+fn all_are_nowhere(alloc: Global, tree: &mut MemTree<Global>) -> bool {
     for user in NOWHERE {
-        assert!(&rt; answer_on(rt.alloc(), &mut tree, *user, REFUSED));
+        if !answer_on(alloc, tree, *user, REFUSED) {
+            return false;
+        }
     }
+    true
+}
+
+fn a_login_needs_a_directory(alloc: Global) -> bool {
+    let mut tree = MemTree::new(alloc);
+    answer_on(alloc, &mut tree, GUEST, MADE) && all_are_nowhere(alloc, &mut tree)
+}
+
+/// All octets that a root may have.
+fn full_content(alloc: Global) -> Result<Content<Global>, AllocError> {
+    let octets = Vec::from_elem(alloc, b'x', 67_108_864)?;
+    let mut content = Content::new(alloc);
+    content.push(octets.as_slice())?;
+    Ok(content)
 }
 
 /// Puts a file with all octets that a root may have.
@@ -100,18 +113,13 @@ fn fill_octets(
     alloc: Global,
     tree: &mut MemTree<Global>,
     root: &Path<Global>,
-) -> Result<(), TreeFault> {
-    let Ok(octets) = Vec::from_elem(alloc, b'x', 67_108_864) else {
-        return Err(TreeFault::Memory);
-    };
-    let mut content = Content::new(alloc);
-    let Ok(file) = path(alloc, b"/f") else {
-        return Err(TreeFault::Memory);
-    };
-    if content.push(octets.as_slice()).is_err() {
-        return Err(TreeFault::Memory);
-    }
-    tree.install(root, &file, &mut content, Moment { seconds: 0 })
+) -> Result<bool, AllocError> {
+    let file = path(alloc, b"/f")?;
+    let mut content = full_content(alloc)?;
+    Ok(
+        tree.install(root, &file, &mut content, Moment { seconds: 0 })
+            .is_ok(),
+    )
 }
 
 /// Makes a directory below a root, called by a number.
@@ -126,11 +134,21 @@ fn make_dir(
     Ok(tree.make_dir(root, &dir).is_ok())
 }
 
+fn makes_dirs(alloc: Global, tree: &mut MemTree<Global>, root: &Path<Global>) -> bool {
+    for number in 0..16_383u32 {
+        if make_dir(alloc, tree, root, number) != Ok(true) {
+            return false;
+        }
+    }
+    true
+}
+
 /// Whether a root is filled with all octets and all nodes that it may have.
-fn is_filled(alloc: Global, tree: &mut MemTree<Global>, root: &[u8]) -> Result<bool, AllocError> {
-    let root = path(alloc, root)?;
-    let filled = fill_octets(alloc, tree, &root).is_ok();
-    Ok(filled && (0..16_383u32).all(|number| make_dir(alloc, tree, &root, number) == Ok(true)))
+fn is_filled(alloc: Global, tree: &mut MemTree<Global>, root: &[u8]) -> bool {
+    match path(alloc, root) {
+        Ok(root) => fill_octets(alloc, tree, &root) == Ok(true) && makes_dirs(alloc, tree, &root),
+        Err(_) => false,
+    }
 }
 
 const FULL: &'static [Row] = &[
@@ -146,14 +164,12 @@ const FREE: &'static [Row] = &[
     (Op::Get(b"e/f", IMAGE), b"abcd"),
 ];
 
-#[test]
-fn limits_are_of_each_root(rt: HostRuntime) {
-    let alloc = rt.alloc();
+fn limits_are_of_each_root(alloc: Global) -> bool {
     let mut tree = MemTree::new(alloc);
-    assert!(&rt; answer_on(alloc, &mut tree, GUEST, MADE));
-    assert!(&rt; is_filled(alloc, &mut tree, b"/pub") == Ok(true));
-    assert!(&rt; answer_on(alloc, &mut tree, IN_PUBLIC, FULL));
-    assert!(&rt; answer_on(alloc, &mut tree, AT_HOME, FREE));
+    answer_on(alloc, &mut tree, GUEST, MADE)
+        && is_filled(alloc, &mut tree, b"/pub")
+        && answer_on(alloc, &mut tree, IN_PUBLIC, FULL)
+        && answer_on(alloc, &mut tree, AT_HOME, FREE)
 }
 
 /// What a device's failure leaves below a root.
@@ -163,10 +179,28 @@ const FAILED: &'static [Row] = &[
     (Op::Put(b"f", b"x", IMAGE), b"done"),
 ];
 
-#[test]
-fn a_device_fails_below_a_root_too(rt: HostRuntime) {
-    let mut tree = FailingTree::new(rt.alloc(), 4);
-    assert!(&rt; answer_on(rt.alloc(), &mut tree, GUEST, MADE));
-    assert!(&rt; answer_on(rt.alloc(), &mut tree, AT_HOME, FAILED));
-    assert!(&rt; tree.device_failures() == 0);
+fn a_device_fails_below_a_root_too(alloc: Global) -> bool {
+    let mut tree = FailingTree::new(alloc, 4);
+    answer_on(alloc, &mut tree, GUEST, MADE)
+        && answer_on(alloc, &mut tree, AT_HOME, FAILED)
+        && tree.device_failures() == 0
+}
+
+/// What is tried here, and whether it holds.
+pub(crate) fn tried(alloc: Global) -> [Tried; 4] {
+    [
+        (
+            "no operation leaves the root",
+            no_operation_leaves_the_root(alloc),
+        ),
+        (
+            "a login needs a directory at its root",
+            a_login_needs_a_directory(alloc),
+        ),
+        ("limits are of each root", limits_are_of_each_root(alloc)),
+        (
+            "a device fails below a root too",
+            a_device_fails_below_a_root_too(alloc),
+        ),
+    ]
 }

@@ -1,6 +1,7 @@
 //! Operations on a tree whose device fails once: the operation is refused by 451, and the later ones find the map as it was.
-use super::rows::{GUEST, IMAGE, Row, answer_on};
-use crate::FailingTree;
+use crate::failing::FailingTree;
+use crate::report::Tried;
+use crate::rows::{GUEST, IMAGE, Row, answer_on};
 use ftp_direct::Op;
 use ftp_tree::Tree;
 use std::alloc::Global;
@@ -104,11 +105,19 @@ fn fails_as_said(alloc: Global, change: u64, rows: &[Row]) -> bool {
     answer_on(alloc, &mut tree, GUEST, rows) && tree.device_failures() == 0
 }
 
-#[test]
-fn a_failed_device_is_told_and_changes_nothing(rt: HostRuntime) {
-    let alloc = rt.alloc();
-    let wrong = FAILING
-        .iter()
-        .position(|(change, rows)| !fails_as_said(alloc, *change, *rows));
-    assert_eq!(&rt; wrong, None);
+fn all_fail_as_said(alloc: Global) -> bool {
+    for row in FAILING {
+        if !fails_as_said(alloc, row.0, row.1) {
+            return false;
+        }
+    }
+    true
+}
+
+/// What is tried here, and whether it holds.
+pub(crate) fn tried(alloc: Global) -> [Tried; 1] {
+    [(
+        "a failed device is told and changes nothing",
+        all_fail_as_said(alloc),
+    )]
 }

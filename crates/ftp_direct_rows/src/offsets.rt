@@ -1,6 +1,7 @@
 //! Offsets in type A count octets of the transfer: the file `61 0A 62 0D 63` has seven of them.
-use super::operations::{ASCII, RECORDS};
-use super::rows::{GUEST, IMAGE, Row, answers};
+use crate::operations::{ASCII, RECORDS};
+use crate::report::Tried;
+use crate::rows::{GUEST, IMAGE, Row, answers};
 use ftp_direct::{How, Op};
 use ftp_representation::{Kind, Mode, Representation, Structure};
 use std::alloc::Global;
@@ -53,18 +54,25 @@ fn leads_nowhere(alloc: Global, how: How, offset: u64) -> bool {
     answers(alloc, GUEST, rows.as_slice())
 }
 
-/// Whether all offsets lead as the table says, in a representation.
-fn all_lead(alloc: Global, how: How) -> bool {
-    PLACES.iter().all(|(offset, place)| match place {
+fn leads_so(
+    alloc: Global,
+    how: How,
+    (offset, place): &(u64, Option<(&'static [u8], &'static [u8])>),
+) -> bool {
+    match place {
         Some((rest, whole)) => leads(alloc, how, *offset, *rest, *whole),
         None => leads_nowhere(alloc, how, *offset),
-    })
+    }
 }
 
-#[test]
-fn offsets_in_type_a_lead_as_the_table_says(rt: HostRuntime) {
-    assert!(&rt; all_lead(rt.alloc(), ASCII));
-    assert!(&rt; all_lead(rt.alloc(), BLOCKS));
+/// Whether all offsets lead as the table says, in a representation.
+fn all_lead(alloc: Global, how: How) -> bool {
+    for place in PLACES {
+        if !leads_so(alloc, how, place) {
+            return false;
+        }
+    }
+    true
 }
 
 const OTHERS: &'static [Row] = &[
@@ -79,7 +87,13 @@ const OTHERS: &'static [Row] = &[
     (Op::GetFrom(b"no", 1, ASCII), b"550"),
 ];
 
-#[test]
-fn other_offsets_are_as_before(rt: HostRuntime) {
-    assert!(&rt; answers(rt.alloc(), GUEST, OTHERS));
+/// What is tried here, and whether it holds.
+pub(crate) fn tried(alloc: Global) -> [Tried; 2] {
+    [
+        (
+            "offsets in type A lead as the table says",
+            all_lead(alloc, ASCII) && all_lead(alloc, BLOCKS),
+        ),
+        ("other offsets are as before", answers(alloc, GUEST, OTHERS)),
+    ]
 }

@@ -1,6 +1,8 @@
-use super::rows::{ANONYMOUS, GUEST, IMAGE, Row, User, WHOLE, answers};
+use crate::report::Tried;
+use crate::rows::{ANONYMOUS, GUEST, IMAGE, Row, User, WHOLE, answers};
 use ftp_direct::{How, Op};
 use ftp_representation::{Kind, Mode, Representation, Structure};
+use std::alloc::Global;
 
 pub(crate) const ASCII: How = How {
     representation: Representation {
@@ -49,11 +51,6 @@ const DIRECTORIES: &'static [Row] = &[
     (Op::RemoveDir(b"/"), b"550"),
 ];
 
-#[test]
-fn directories_answer_as_their_rows(rt: HostRuntime) {
-    assert!(&rt; answers(rt.alloc(), GUEST, DIRECTORIES));
-}
-
 const FILES: &'static [Row] = &[
     (Op::Put(b"f", b"0123456789", IMAGE), b"done"),
     (Op::Get(b"f", IMAGE), b"0123456789"),
@@ -84,11 +81,6 @@ const FILES: &'static [Row] = &[
     (Op::Delete(b"/"), b"550"),
 ];
 
-#[test]
-fn files_answer_as_their_rows(rt: HostRuntime) {
-    assert!(&rt; answers(rt.alloc(), ANONYMOUS, FILES));
-}
-
 const FRONTS: &'static [Row] = &[
     (Op::Peek(b"f", 3, IMAGE), b"550"),
     (Op::Put(b"f", b"0123456789", IMAGE), b"done"),
@@ -98,11 +90,6 @@ const FRONTS: &'static [Row] = &[
     (Op::Peek(b"f", 99, RECORDS), b"0123456789"),
     (Op::Peek(b"/", 3, IMAGE), b"550"),
 ];
-
-#[test]
-fn first_octets_are_had(rt: HostRuntime) {
-    assert!(&rt; answers(rt.alloc(), GUEST, FRONTS));
-}
 
 const LISTINGS: &'static [Row] = &[
     (Op::Put(b"x", b"abc", IMAGE), b"done"),
@@ -129,11 +116,6 @@ const LISTINGS: &'static [Row] = &[
     (Op::Facts(b"no"), b"550"),
 ];
 
-#[test]
-fn listings_answer_as_their_rows(rt: HostRuntime) {
-    assert!(&rt; answers(rt.alloc(), GUEST, LISTINGS));
-}
-
 const LONG_PATH: &'static [u8] = &[b'a'; 901];
 
 const UNSENT: &'static [Row] = &[
@@ -152,12 +134,6 @@ const WRONG: User = (b"guest", b"wrong", WHOLE);
 
 const NOBODY: User = (b"nobody", b"secret", WHOLE);
 
-#[test]
-fn what_cannot_be_sent_is_told_before_the_login(rt: HostRuntime) {
-    assert!(&rt; answers(rt.alloc(), WRONG, UNSENT));
-    assert!(&rt; answers(rt.alloc(), NOBODY, UNSENT));
-}
-
 const LONG_NAME: &'static [u8] = &[b'a'; 256];
 
 const NAME: &'static [u8] = &[b'a'; 255];
@@ -174,7 +150,29 @@ const LONG_NAMES: &'static [Row] = &[
     (Op::Get(NAME, IMAGE), b"x"),
 ];
 
-#[test]
-fn a_component_of_256_octets_acts_as_absent(rt: HostRuntime) {
-    assert!(&rt; answers(rt.alloc(), GUEST, LONG_NAMES));
+/// What is tried here, and whether it holds.
+pub(crate) fn tried(alloc: Global) -> [Tried; 6] {
+    [
+        (
+            "directories answer as their rows",
+            answers(alloc, GUEST, DIRECTORIES),
+        ),
+        (
+            "files answer as their rows",
+            answers(alloc, ANONYMOUS, FILES),
+        ),
+        ("first octets are had", answers(alloc, GUEST, FRONTS)),
+        (
+            "listings answer as their rows",
+            answers(alloc, GUEST, LISTINGS),
+        ),
+        (
+            "what cannot be sent is told before the login",
+            answers(alloc, WRONG, UNSENT) && answers(alloc, NOBODY, UNSENT),
+        ),
+        (
+            "a component of 256 octets acts as absent",
+            answers(alloc, GUEST, LONG_NAMES),
+        ),
+    ]
 }
