@@ -1,5 +1,5 @@
 // What a server begins with.
-use crate::octets::octets_of;
+use crate::octets::{number, octets_of};
 use crate::walk::path;
 use ftp_carried::Carried;
 use ftp_endpoint::{Host, extended_endpoint};
@@ -29,7 +29,7 @@ const YEAR_2000: Moment = Moment {
 pub fn is_heading(word: &str) -> bool {
     matches!(
         word,
-        "#" | "root" | "here" | "peer" | "dir" | "file" | "in" | "growths"
+        "#" | "root" | "here" | "peer" | "dir" | "dirs" | "file" | "in" | "growths"
     )
 }
 
@@ -94,6 +94,7 @@ fn given<A: Allocator + Copy>(
             let path = path(alloc, text.as_bytes())?;
             tree.make_dir(&root, &path).ok().ok_or(AllocError)
         }
+        ("dirs", count) => fill_up(alloc, tree, number(count)),
         ("file", rest) => {
             let (text, octets) = split(rest);
             let path = path(alloc, text.as_bytes())?;
@@ -105,6 +106,38 @@ fn given<A: Allocator + Copy>(
         }
         _ => Ok(()),
     }
+}
+
+/// Puts so many directories into the tree, `/00000` and on, or as many as it takes.
+fn fill_up<A: Allocator + Copy>(
+    alloc: A,
+    tree: &mut MemTree<A>,
+    count: u64,
+) -> Result<(), AllocError> {
+    let root = Path::root(alloc);
+    for place in 0..count.min(100_000) {
+        let path = path(alloc, &numbered(place))?;
+        if tree.make_dir(&root, &path).is_err() {
+            break;
+        }
+    }
+    Ok(())
+}
+
+/// The path of a number of five digits.
+fn numbered(place: u64) -> [u8; 6] {
+    [
+        b'/',
+        digit(place / 10_000),
+        digit(place / 1_000),
+        digit(place / 100),
+        digit(place / 10),
+        digit(place),
+    ]
+}
+
+fn digit(value: u64) -> u8 {
+    b'0' + (value % 10) as u8
 }
 
 /// A server as a row says, in the year 2000. What it grows by comes from `heap`.

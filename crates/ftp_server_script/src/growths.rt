@@ -1,15 +1,15 @@
 // Each growth of a row refused in turn.
 use crate::begun::{Heap, begun};
+use crate::held::Holds;
 use crate::paper::Paper;
 use crate::stage::{ROOM, Stage};
 use ftp_refusing::Refusing;
-use ftp_server_machine::Far;
 use ftp_tree::MemTree;
 use std::alloc::{AllocError, Allocator, Global};
 use std::mem;
 
 /// Plays a row until it writes something else than the whole one; gives the tree after each line to `trees`.
-fn play_until<A: Allocator + Copy, S: Far<A, MemTree<A>>>(
+fn play_until<A: Allocator + Copy, S: Holds<A, MemTree<A>>>(
     alloc: Global,
     server: S,
     row: &str,

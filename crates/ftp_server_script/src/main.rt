@@ -3,6 +3,7 @@
 
 mod begun;
 mod growths;
+mod held;
 mod octets;
 mod paper;
 mod row;

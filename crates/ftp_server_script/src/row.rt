@@ -1,11 +1,11 @@
 // A row of a script is played, and played again.
 use crate::begun::{begun, said};
 use crate::growths::show_growths;
+use crate::held::Holds;
 use crate::octets::number;
 use crate::paper::Paper;
 use crate::stage::{ROOM, Stage};
 use ftp_refusing::Refusing;
-use ftp_server_machine::Far;
 use ftp_tree::MemTree;
 use std::alloc::{AllocError, Allocator, Global};
 use std::mem;
@@ -38,7 +38,7 @@ fn play(alloc: Global, row: &str, size: usize) -> Result<Paper, AllocError> {
 }
 
 /// Plays the lines of a row.
-fn play_on<A: Allocator + Copy, S: Far<A, MemTree<A>>>(
+fn play_on<A: Allocator + Copy, S: Holds<A, MemTree<A>>>(
     alloc: Global,
     server: S,
     row: &str,

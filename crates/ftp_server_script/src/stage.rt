@@ -1,10 +1,10 @@
 // A server to which something happens, and what comes of it.
+use crate::held::{HELD_LIMIT, Holds};
 use crate::paper::Paper;
 use crate::tally::{Tally, fixed};
 use crate::walk::{path, show_node, show_tree};
 use ftp_endpoint::write_extended;
 use ftp_ends::Wants;
-use ftp_server_machine::Far;
 use ftp_tree::MemTree;
 use std::alloc::{Allocator, Global};
 use std::marker::PhantomData;
@@ -31,7 +31,7 @@ pub struct Stage<A, S: Drop> {
     wanted: Wants,
 }
 
-impl<A: Allocator + Copy, S: Far<A, MemTree<A>>> Stage<A, S> {
+impl<A: Allocator + Copy, S: Holds<A, MemTree<A>>> Stage<A, S> {
     pub fn new(alloc: Global, server: S, size: usize) -> Stage<A, S> {
         Stage {
             growth: PhantomData,
@@ -68,6 +68,7 @@ impl<A: Allocator + Copy, S: Far<A, MemTree<A>>> Stage<A, S> {
         let (piece, _) = rest.split_at(self.size.min(rest.len()));
         let count = self.server.hear(piece);
         self.heard = self.heard.saturating_add(count);
+        self.weigh();
         count != 0
     }
 
@@ -77,7 +78,22 @@ impl<A: Allocator + Copy, S: Far<A, MemTree<A>>> Stage<A, S> {
         let (room, _) = room.split_at_mut(self.size.min(ROOM));
         let count = self.server.control_out(room);
         self.paper.replies(&room[..count]);
+        self.weigh();
         count != 0
+    }
+
+    /// Says where too much is held.
+    pub fn weigh(&mut self) {
+        if self.server.held() > HELD_LIMIT {
+            self.paper.put("= too much is held\n");
+        }
+    }
+
+    /// How much is held now.
+    pub fn show_held(&mut self) {
+        self.paper.put("= ");
+        self.paper.number(self.server.held() as u64);
+        self.paper.put(" octets held\n");
     }
 
     /// These data octets come; those that are not taken are counted.
@@ -86,6 +102,7 @@ impl<A: Allocator + Copy, S: Far<A, MemTree<A>>> Stage<A, S> {
         for _ in 0..TURNS {
             let (piece, _) = rest.split_at(self.size.min(rest.len()));
             let count = self.server.data_hear(piece);
+            self.weigh();
             (_, rest) = rest.split_at(count.min(rest.len()));
             if count == 0 && !self.owes() {
                 break;
@@ -119,6 +136,7 @@ impl<A: Allocator + Copy, S: Far<A, MemTree<A>>> Stage<A, S> {
         let mut tally = Tally::new();
         for _ in 0..TURNS {
             let count = self.server.data_out(room);
+            self.weigh();
             if count == 0 {
                 break;
             }

@@ -1,11 +1,11 @@
 // The lines of a row.
 use crate::begun::{host, is_heading, split};
+use crate::held::Holds;
 use crate::octets::{number, octets_of};
 use crate::paper::Paper;
 use crate::stage::Stage;
 use ftp_ends::Wants;
 use ftp_facts::moment_of_text;
-use ftp_server_machine::Far;
 use ftp_tree::MemTree;
 use std::alloc::Allocator;
 use std::mem;
@@ -16,7 +16,7 @@ const PORT: &str = "PORT 10,0,0,2,7,138\r\n";
 /// An endpoint of the client's host.
 const PEER: &str = "|1|10.0.0.2|20|";
 
-impl<A: Allocator + Copy, S: Far<A, MemTree<A>>> Stage<A, S> {
+impl<A: Allocator + Copy, S: Holds<A, MemTree<A>>> Stage<A, S> {
     /// Plays a line, and writes it with what comes of it.
     pub fn play(&mut self, line: &str) {
         let (word, rest) = split(line);
@@ -29,6 +29,7 @@ impl<A: Allocator + Copy, S: Far<A, MemTree<A>>> Stage<A, S> {
         if !self.control(word, rest) && !self.link(word, rest) && !self.data(word, rest) {
             self.paper.put("= no such line\n");
         }
+        self.weigh();
         self.settle();
         self.show_wants();
     }
@@ -46,6 +47,7 @@ impl<A: Allocator + Copy, S: Far<A, MemTree<A>>> Stage<A, S> {
             "cut" => self.server.control_end(),
             "clock" => self.set_clock(rest),
             "tree" => self.show_tree(),
+            "held" => self.show_held(),
             _ => return false,
         }
         true
