@@ -1,2 +1,0 @@
-//! Rows of the server.
-mod replies;
