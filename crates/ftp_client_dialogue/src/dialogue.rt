@@ -14,7 +14,6 @@ use ftp_representation::Representation;
 use std::alloc::Allocator;
 
 /// A client as commands, replies and events change it.
-#[derive(Drop)]
 pub struct Dialogue<A: Allocator, F: Drop> {
     pub(crate) alloc: A,
     pub(crate) login: Login<A>,
@@ -35,4 +34,25 @@ pub struct Dialogue<A: Allocator, F: Drop> {
     pub(crate) output: Output<A>,
     /// A client that has failed has no operation under way.
     ghost calm: { IsTrue (is_under_way place) → IsTrue (is_sound standing) },
+}
+
+/// By hand, as the drop of a place: a client is let go at each way out of what holds one.
+impl<A: Allocator, F: Drop> Drop for Dialogue<A, F> {
+    fn drop(self) {
+        let Self {
+            alloc: _,
+            login: _,
+            here: _,
+            peer: _,
+            standing: _,
+            op: _,
+            place: _,
+            run: _,
+            settings: _,
+            connection: _,
+            closing: _,
+            hearing: _,
+            output: _,
+        } = self;
+    }
 }
