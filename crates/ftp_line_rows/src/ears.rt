@@ -188,8 +188,24 @@ fn events_with(alloc: Global, refused: u64) -> Result<(usize, u64), NvtFault> {
     Ok((events, heap.left()))
 }
 
+/// Whether behind a piece an ear has so many octets of an unfinished line.
+fn leaves(ear: &mut Ear<Global>, piece: &[u8], octets: usize) -> bool {
+    let _events = events_in(ear, piece);
+    ear.unfinished() == octets
+}
+
+/// Whether an ear for eight octets tells how long its unfinished line is: three octets, none behind its end, none past the limit.
+fn is_measured(alloc: Global) -> bool {
+    match Ear::new(alloc, 8) {
+        Ok(mut ear) => leaves(&mut ear, b"abc", 3)
+            && leaves(&mut ear, b"\r\n", 0)
+            && leaves(&mut ear, b"123456789", 0),
+        Err(_) => false,
+    }
+}
+
 /// What is tried here, and whether it holds.
-pub(crate) fn tried(alloc: Global) -> [Tried; 4] {
+pub(crate) fn tried(alloc: Global) -> [Tried; 5] {
     [
         ("lines in every cutting", all_hold(alloc, 10, LINES)),
         ("telnet octets in every cutting", all_hold(alloc, 4, TELNET)),
@@ -197,6 +213,7 @@ pub(crate) fn tried(alloc: Global) -> [Tried; 4] {
             "a line has 1024 octets at most",
             is_heard(alloc, 1_018, true) && is_heard(alloc, 1_019, false),
         ),
+        ("an unfinished line is measured", is_measured(alloc)),
         (
             "memory is asked for once",
             events_with(alloc, 1) == Err(NvtFault::Memory) && events_with(alloc, 2) == Ok((3, 1)),
