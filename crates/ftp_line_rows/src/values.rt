@@ -142,19 +142,48 @@ const VALUES: &[(&[u8], Value)] = &[
     (b"110", Value::Mark(None)),
 ];
 
+/// Whether a reply names this endpoint, or none.
+fn is_endpoint(reply: &Reply<Global>, endpoint: Option<Endpoint>) -> bool {
+    match passive_of(reply) {
+        Ok(read) => endpoint == Some(read),
+        Err(fault) => endpoint.is_none() && fault == ReplyFault::NoEndpoint,
+    }
+}
+
+/// Whether a reply names this port, or none.
+fn is_port(reply: &Reply<Global>, port: Option<u16>) -> bool {
+    match extended_of(reply) {
+        Ok(read) => port == Some(read),
+        Err(fault) => port.is_none() && fault == ReplyFault::NoEndpoint,
+    }
+}
+
+/// Whether a number was read, or none.
+fn is_number(read: Result<u64, ReplyFault>, number: Option<u64>) -> bool {
+    match read {
+        Ok(read) => number == Some(read),
+        Err(fault) => number.is_none() && fault == ReplyFault::NoNumber,
+    }
+}
+
+/// The seconds of the moment that a reply says.
+fn seconds_of(reply: &Reply<Global>) -> Result<u64, ReplyFault> {
+    match moment_of(reply) {
+        Ok(moment) => Ok(moment.seconds),
+        Err(fault) => Err(fault),
+    }
+}
+
 /// Whether the reply says this value.
 fn says(alloc: Global, reply: &Reply<Global>, value: &Value) -> bool {
     match value {
-        Value::Six(endpoint) => passive_of(reply) == endpoint.ok_or(ReplyFault::NoEndpoint),
-        Value::Port(port) => extended_of(reply) == port.ok_or(ReplyFault::NoEndpoint),
+        Value::Six(endpoint) => is_endpoint(reply, *endpoint),
+        Value::Port(port) => is_port(reply, *port),
         Value::Path(Some(path)) => quotes(alloc, reply, path) == Ok(true),
         Value::Path(None) => quotes(alloc, reply, b"") == Err(ReplyFault::NoPath),
-        Value::Size(size) => size_of(reply) == size.ok_or(ReplyFault::NoNumber),
-        Value::Mark(mark) => mark_of(reply) == mark.ok_or(ReplyFault::NoNumber),
-        Value::Moment(seconds) => match moment_of(reply) {
-            Ok(moment) => Some(moment.seconds) == *seconds,
-            Err(fault) => fault == ReplyFault::NoNumber && seconds.is_none(),
-        },
+        Value::Size(size) => is_number(size_of(reply), *size),
+        Value::Mark(mark) => is_number(mark_of(reply), *mark),
+        Value::Moment(seconds) => is_number(seconds_of(reply), *seconds),
     }
 }
 
@@ -179,7 +208,7 @@ fn first_not_said(alloc: Global) -> Option<&'static [u8]> {
 /// Whether a reply of these texts names this endpoint, or none.
 fn names(alloc: Global, texts: &[&[u8]], endpoint: Option<Endpoint>) -> bool {
     match reply_with(alloc, 227, texts) {
-        Some(reply) => passive_of(&reply) == endpoint.ok_or(ReplyFault::NoEndpoint),
+        Some(reply) => is_endpoint(&reply, endpoint),
         None => false,
     }
 }
