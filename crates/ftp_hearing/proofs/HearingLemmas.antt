@@ -1,5 +1,5 @@
 -- One octet, heard by a reader of lines, is a step of the fold.
-use Rattle.std.proofs.Common.{◌≡◌, ◌∙◌, ℕ, zero, suc, ◌<◌, ◌≤◌, List, [], ◌∷◌, ◌++◌, take, refl, sym, ap, subst, append-nil, arith}
+use Rattle.std.proofs.Common.{◌≡◌, ◌∙◌, ℕ, zero, suc, ◌<◌, ◌≤◌, List, [], ◌∷◌, ◌++◌, take, Option, refl, sym, ap, subst, append-nil, arith}
 use Rattle.std.specs.Prelude.{IsTrue}
 use Rattle.std.proofs.lemmas.List.{append_cancel_left}
 use Rattle.ftp_machine.specs.Machine.{after}
@@ -58,10 +58,10 @@ take_one (suc zero) octet some most = refl
 take_one (suc (suc n)) octet some most = absurd (omega (arith, most))
 
 -- one octet that was fed to a reader of reply lines
-pub fed : {A : Type 0} (old new : Reader A) (reader : Standing) (event : Event) (octet n : ℕ)
-    → CanBeHeld old reader → 0 < n → n ≤ 1 → Hears old (take n (octet ∷ [])) (event_list event (line_of new)) new
+pub fed : {A : Type 0} (old new : Reader A) (reader : Standing) (count : Option ℕ) (event : Event) (octet n : ℕ)
+    → CanBeHeld old reader count → 0 < n → n ≤ 1 → Hears old (take n (octet ∷ [])) (event_list event (line_of new)) new
     → Steps reply_limit old octet (event_list event (line_of new)) new
-fed old new reader event octet n held some most hears =
+fed old new reader count event octet n held some most hears =
     let one : Hears old (octet ∷ []) (event_list event (line_of new)) new =
     subst (λ taken. Hears old taken (event_list event (line_of new)) new) (take_one n octet some most) hears in
     subst (λ limit. Steps limit old octet (event_list event (line_of new)) new) held.limit (steps_on old new octet _ held.octets held.heard one)
@@ -104,10 +104,10 @@ led (Faulty fault) (Hearings.Owed answer) e new v sound is = absurd is
 led (Faulty fault) (Hearings.Reply reply) e new v sound is = absurd is
 
 -- an octet that was fed is heard so by a client
-pub octet_comes : {A : Type 0} (old new : Reader A) (reader : Standing) (event : Event) (octet n : ℕ) (v : View)
-    → CanBeHeld old reader → 0 < n → n ≤ 1 → Hears old (take n (octet ∷ [])) (event_list event (line_of new)) new
+pub octet_comes : {A : Type 0} (old new : Reader A) (reader : Standing) (count : Option ℕ) (event : Event) (octet n : ℕ) (v : View)
+    → CanBeHeld old reader count → 0 < n → n ≤ 1 → Hears old (take n (octet ∷ [])) (event_list event (line_of new)) new
     → v.ear ≡ ear_of old
     → hears_octet v octet ≡ events_taken (event_list event (line_of new)) (record v { ear = ear_of new })
-octet_comes old new reader event octet n v held some most hears is =
-    let step = fed old new reader event octet n held some most hears in
+octet_comes old new reader count event octet n v held some most hears is =
+    let step = fed old new reader count event octet n held some most hears in
     taken v (ear_of old) (ear_of new) octet (event_list event (line_of new)) is (sym step.ear) step.says

@@ -1,1 +1,2 @@
 pub mod HearingLemmas
+pub mod CountLemmas

@@ -1,8 +1,9 @@
 // The reader of the control connection of a client.
-ghost use Rattle.std.specs.Prelude.{◌≡◌, IfOk};
+ghost use Rattle.std.specs.Prelude.{◌≡◌, IfOk, length};
 ghost use Rattle.ftp_nvt.specs.Fold.{quiet};
 ghost use Rattle.ftp_reply.specs.Reader.{Between};
 ghost use Rattle.ftp_ends.specs.Reply.{reply_limit};
+ghost use Rattle.ftp_client_machine.specs.Held.{gathered_len};
 
 use crate::line::{Heard, take_line};
 use ftp_nvt::{Ear, Event};
@@ -19,6 +20,8 @@ pub struct Hearing<A: Allocator> {
     alloc: A,
     ear: Ear<A>,
     reader: Reader<A>,
+    /// How many octets the texts of the reply that has begun have.
+    gathered: Option<usize>,
 }
 
 impl<A: Allocator> Model for Hearing<A> {
@@ -29,7 +32,7 @@ impl<A: Allocator> Model for Hearing<A> {
 
     ghost view = { λ hearing. record { ear = ear_of hearing.ear; gathered = gathered_in hearing.reader } };
 
-    ghost invariant = { λ hearing. CanBeHeld hearing.ear hearing.reader };
+    ghost invariant = { λ hearing. CanBeHeld hearing.ear hearing.reader hearing.gathered };
 }
 
 impl<A: Allocator + Clone> Hearing<A> {
@@ -44,7 +47,12 @@ impl<A: Allocator + Clone> Hearing<A> {
             return Err(AllocError);
         };
         let reader = Reader::new(alloc.clone()?);
-        Ok(Hearing { alloc, ear, reader })
+        Ok(Hearing {
+            alloc,
+            ear,
+            reader,
+            gathered: None,
+        })
     }
 
     /// Takes an octet of the control connection.
@@ -56,7 +64,26 @@ impl<A: Allocator + Clone> Hearing<A> {
             Event::More => Ok(Heard::Nothing),
             Event::Owed(answer) => Ok(Heard::Owed(answer)),
             Event::TooLong => Ok(Heard::Misplaced),
-            Event::Line => take_line(&mut self.reader, self.ear.line(), &self.alloc),
+            Event::Line => take_line(
+                &mut self.reader,
+                &mut self.gathered,
+                self.ear.line(),
+                &self.alloc,
+            ),
         }
+    }
+
+    /// How many octets of text the line that is being read has so far.
+    pub fn unfinished(&self) -> usize
+        ensures { result ≡ length self.now.ear.line.text }
+    {
+        self.ear.unfinished()
+    }
+
+    /// How many octets the texts of the reply that has begun have: none between two replies.
+    pub fn gathered(&self) -> usize
+        ensures { result ≡ gathered_len self.now.gathered }
+    {
+        self.gathered.unwrap_or(0)
     }
 }

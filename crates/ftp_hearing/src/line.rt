@@ -1,8 +1,9 @@
 // What a line comes to.
-ghost use Rattle.std.specs.Prelude.{IfOk};
+ghost use Rattle.std.specs.Prelude.{◌≡◌, ◌≤◌, IfOk, IfSome};
 ghost use Rattle.ftp_reply.specs.Reader.{line_heard};
-ghost use Rattle.ftp_hearing.specs.Hearing.{IsReading, gathered_in};
+ghost use Rattle.ftp_hearing.specs.Hearing.{Counts, IsReading, gathered_in, with_line};
 ghost use Rattle.ftp_hearing.specs.Comes.{Leads};
+ghost use Rattle.ftp_reply.specs.declared.lines.TheConstants.{MAX_OCTETS};
 
 use ftp_reply::{Reader, Reply, ReplyFault};
 use std::alloc::{AllocError, Allocator};
@@ -21,21 +22,27 @@ pub enum Heard<A: Allocator> {
     Misplaced,
 }
 
-/// Takes a line without its end. A line that has no place leaves the reader between two replies.
+/// Takes a line without its end. A line that has no place leaves the reader between two replies. `gathered` counts the octets that
+/// the texts of the reply that has begun have.
 pub(crate) fn take_line<A: Allocator + Clone>(
     reader: &mut Reader<A>,
+    gathered: &mut Option<usize>,
     line: &[u8],
     alloc: &A,
 ) -> Result<Heard<A>, AllocError>
-    requires { IsReading reader.old }
+    requires reading { IsReading reader.old }
+    requires counted { Counts gathered.old (gathered_in reader.old) }
     ensures reading { IsReading reader.new }
+    ensures counted { Counts gathered.new (gathered_in reader.new) }
     ensures heard { IfOk result (λ heard. Leads (line_heard (gathered_in reader.old) line.now) heard (gathered_in reader.new)) }
 {
     let fresh = Reader::new(alloc.clone()?);
     let mut taken = mem::replace(reader, fresh);
+    let before = gathered.take();
     match taken.line(line) {
         Ok(None) => {
             *reader = taken;
+            *gathered = Some(with_line(before, line));
             Ok(Heard::Nothing)
         }
         Ok(Some(reply)) => {
@@ -44,5 +51,16 @@ pub(crate) fn take_line<A: Allocator + Clone>(
         }
         Err(ReplyFault::Memory) => Err(AllocError),
         Err(_) => Ok(Heard::Misplaced),
+    }
+}
+
+/// How many octets the texts of a reply have with one line more. Of its first line, code and hyphen are no text.
+fn with_line(gathered: Option<usize>, line: &[u8]) -> usize
+    requires { IfSome gathered (λ count. count ≤ MAX_OCTETS) }
+    ensures { result ≡ with_line gathered line.now }
+{
+    match gathered {
+        None => line.len().saturating_sub(4),
+        Some(count) => count + line.len(),
     }
 }
