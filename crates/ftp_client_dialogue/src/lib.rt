@@ -6,6 +6,7 @@ mod carrying;
 mod control;
 mod dialogue;
 mod finishing;
+mod holding;
 mod link;
 mod login;
 mod octets;
