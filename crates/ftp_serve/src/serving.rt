@@ -1,6 +1,7 @@
 // What the subcommand `serve` does.
 use crate::connection::session;
-use crate::users::known_users;
+use crate::journal::Log;
+use crate::users::users_of;
 use ftp_folder::open;
 use ftp_pieces::TURNS;
 use ftp_tree::Tree;
@@ -14,7 +15,10 @@ use std::time::Clock;
 /// A program that did all that it was asked for.
 const DONE: u8 = 0;
 
-/// A connection or the folder failed, or memory was refused.
+/// What is asked for is not served.
+const NOT_SERVED: u8 = 2;
+
+/// A connection, the folder or the file of accounts failed, or memory was refused.
 const FAILED: u8 = 3;
 
 /// How many control connections are served.
@@ -44,10 +48,44 @@ pub struct Serving<'a> {
     /// The folder.
     pub dir: &'a str,
     pub sessions: Sessions,
+    /// The file of accounts, which is read anew for each session; none: `guest` and `anonymous`, and an address of the loopback alone.
+    pub accounts: Option<&'a str>,
+    pub log: Log,
 }
 
-/// Serves a folder, and gives the exit status: 0, or 3 where the folder, the port or a session failed.
+impl<'a> Serving<'a> {
+    /// Whether the address may be listened at: without a file of accounts all that is served may be changed by whoever connects.
+    fn may_listen(&self) -> bool {
+        self.accounts.is_some() || self.host.is_loopback()
+    }
+}
+
+/// Serves a folder, and gives the exit status: 0; 2 where the address is none of the loopback and no file of accounts is given; or 3 where the
+/// folder, the file of accounts, the port or a session failed.
 pub fn serve<R>(rt: &R, job: Serving<'_>) -> io::Result<u8>
+where
+    R: Net<Listener = TcpListener, Stream = TcpStream>
+        + Files
+        + Clock
+        + Print
+        + Eprint
+        + AllocGlobal,
+{
+    if !job.may_listen() {
+        eprintln!(rt;
+            "error: without a file of accounts only an address of the loopback is listened at"
+        )?;
+        return Ok(NOT_SERVED);
+    }
+    if let Err(fault) = users_of(rt, job.accounts) {
+        eprintln!(rt; "error: accounts: {fault}")?;
+        return Ok(FAILED);
+    }
+    serve_dir(rt, job)
+}
+
+/// Loads the folder and serves it.
+fn serve_dir<R>(rt: &R, job: Serving<'_>) -> io::Result<u8>
 where
     R: Net<Listener = TcpListener, Stream = TcpStream>
         + Files
@@ -71,19 +109,19 @@ where
         }
     };
     println!(rt; "listening on {}", listener.local_addr()?)?;
-    Ok(serve_at(rt, &listener, tree, job.sessions))
+    Ok(serve_at(rt, &listener, tree, job))
 }
 
 /// Serves control connections one after another; a session that failed counts, and makes the status 3.
-fn serve_at<R, T>(rt: &R, listener: &TcpListener, tree: T, sessions: Sessions) -> u8
+fn serve_at<R, T>(rt: &R, listener: &TcpListener, tree: T, job: Serving<'_>) -> u8
 where
-    R: Net<Listener = TcpListener, Stream = TcpStream> + Clock + AllocGlobal,
+    R: Net<Listener = TcpListener, Stream = TcpStream> + Files + Clock + Eprint + AllocGlobal,
     T: Tree<Global>,
 {
     let mut tree = tree;
     let mut status = DONE;
-    for _ in 0..sessions.turns() {
-        let (back, went) = next_session(rt, listener, tree);
+    for _ in 0..job.sessions.turns() {
+        let (back, went) = next_session(rt, listener, tree, job);
         tree = back;
         if !went {
             status = FAILED;
@@ -93,17 +131,21 @@ where
 }
 
 /// Serves the next control connection; gives the tree back, and whether all went well.
-fn next_session<R, T>(rt: &R, listener: &TcpListener, tree: T) -> (T, bool)
+fn next_session<R, T>(rt: &R, listener: &TcpListener, tree: T, job: Serving<'_>) -> (T, bool)
 where
-    R: Net<Listener = TcpListener, Stream = TcpStream> + Clock + AllocGlobal,
+    R: Net<Listener = TcpListener, Stream = TcpStream> + Files + Clock + Eprint + AllocGlobal,
     T: Tree<Global>,
 {
     let Ok((stream, _)) = listener.accept() else {
         return (tree, false);
     };
-    let Ok(accounts) = known_users(rt.alloc()) else {
-        return (tree, false);
+    let accounts = match users_of(rt, job.accounts) {
+        Ok(accounts) => accounts,
+        Err(fault) => {
+            let _told = eprintln!(rt; "error: accounts: {fault}");
+            return (tree, false);
+        }
     };
-    let (tree, ended) = session(rt, tree, accounts, &stream);
+    let (tree, ended) = session(rt, tree, accounts, &stream, job.log);
     (tree, ended.is_ok())
 }

@@ -1,11 +1,27 @@
-// Who may log in where no file of accounts is given.
+// Who may log in.
+use ftp_accounts::{AccountsFileFault, load_accounts};
 use ftp_facts::Text;
 use ftp_operation::{Account, Accounts};
 use ftp_path::Path;
 use std::alloc::{AllocError, Global};
+use std::fs::Files;
+
+/// The accounts that a file says; where none is given, `guest` and `anonymous`.
+pub fn users_of<R: Files + AllocGlobal>(
+    rt: &R,
+    file: Option<&str>,
+) -> Result<Accounts<Global>, AccountsFileFault> {
+    match file {
+        Some(file) => load_accounts(rt, file),
+        None => match known_users(rt.alloc()) {
+            Ok(accounts) => Ok(accounts),
+            Err(AllocError) => Err(AccountsFileFault::Memory),
+        },
+    }
+}
 
 /// `guest` with the password `secret`, and `anonymous` without one, both at the root (own choice).
-pub(crate) fn known_users(alloc: Global) -> Result<Accounts<Global>, AllocError> {
+fn known_users(alloc: Global) -> Result<Accounts<Global>, AllocError> {
     let mut list = Vec::new(alloc);
     let user = Text::copy_of(alloc, b"guest")?;
     let pass = Some(Text::copy_of(alloc, b"secret")?);

@@ -33,10 +33,15 @@ Example:
 /// Behind the help of `serve`.
 pub const SERVE: &str = "\
 Loads the folder, and serves control connections one after another; what clients change is changed in the folder first.
-Who may log in: guest with the password secret, and anonymous without one; both may change all that is served. Everything goes in
+Who may log in: those of the file of accounts, each below its root; it is read anew for each session. Without one guest with the password
+secret and anonymous, who may change all that is served, and then an address of the loopback alone is listened at. Everything goes in
 cleartext, passwords too.
-Output: listening on, the address and the port, once clients can connect.
-Status: 0 done; 2 bad command line; 3 the folder, the port or a session failed, or memory was refused.
+A line of the file: user:password:root, where an empty password is none and root is a directory of the folder, as /. Its mode gives its
+group and others nothing.
+Output: listening on, the address and the port, once clients can connect. With --log on standard error a line for each session that begins
+or ends, login, refused command, transfer and change: moment, peer, verb, path, octets of data connections, code.
+Status: 0 done; 2 bad command line; 3 the folder, the accounts, the port or a session failed, or memory was refused.
 
 Example:
-  ftp_tool serve --port 2121 --dir . --sessions forever";
+  ftp_tool serve --port 2121 --dir . --sessions forever
+  ftp_tool serve --port 21 --dir /srv/files --sessions forever --host 0.0.0.0 --accounts /etc/ftp.accounts --log";

@@ -68,7 +68,7 @@ where
 /// Tells what the values of options are.
 fn bad_words<R: Eprint>(rt: &R) -> Result<u8> {
     eprintln!(rt;
-        "error: a number is decimal digits, at most 4294967295; a port is at most 65535; types are A and I, structures F and R, modes S and B; an address is one of the loopback in numbers"
+        "error: a number is decimal digits, at most 4294967295; a port is at most 65535; types are A and I, structures F and R, modes S and B; an address is in numbers"
     )?;
     Ok(BAD_COMMAND_LINE)
 }

@@ -3,9 +3,8 @@ use crate::command_line::needed;
 use crate::help;
 use clap::{Arg, ArgAction, ArgMatches, Command};
 use ftp_programs::number_of;
-use ftp_serve::{Serving, Sessions};
+use ftp_serve::{Log, Serving, Sessions};
 use std::alloc::{AllocError, Global};
-use std::net::IpAddr;
 
 /// The words of `serve`.
 pub fn serve_command<'a>(alloc: Global) -> Result<Command<'a>, AllocError> {
@@ -18,9 +17,18 @@ pub fn serve_command<'a>(alloc: Global) -> Result<Command<'a>, AllocError> {
     let host = Arg::new(alloc, "host")
         .long("host")
         .value_name("A")
-        .help("the address to listen at, one of the loopback")
+        .help("the address to listen at, one of the loopback where --accounts is not given")
         .default_value("127.0.0.1")
         .action(ArgAction::Set);
+    let accounts = Arg::new(alloc, "accounts")
+        .long("accounts")
+        .value_name("FILE")
+        .help("who may log in: a file of lines user:password:root, its owner's alone")
+        .action(ArgAction::Set);
+    let log = Arg::new(alloc, "log")
+        .long("log")
+        .help("tells on standard error what sessions do, a line each")
+        .action(ArgAction::SetTrue);
     Command::new(alloc, "serve")
         .about("serves a folder to FTP clients")
         .after_help(help::SERVE)
@@ -29,23 +37,25 @@ pub fn serve_command<'a>(alloc: Global) -> Result<Command<'a>, AllocError> {
         ))?
         .arg(needed(alloc, "dir", "D").help("the folder"))?
         .arg(sessions)?
-        .arg(host)
+        .arg(host)?
+        .arg(accounts)?
+        .arg(log)
 }
 
 /// What is to be served; none where a value is none of its option.
 pub fn serving_of<'a>(words: &'a ArgMatches<'_>) -> Option<Serving<'a>> {
     Some(Serving {
-        host: host_of(words.get_str("host")?)?,
+        host: words.get_str("host")?.parse().ok()?,
         port: u16::try_from(number_of(words.get_str("port")?)?).ok()?,
         dir: words.get_str("dir")?,
         sessions: sessions_of(words.get_str("sessions")?)?,
+        accounts: words.get_str("accounts"),
+        log: if words.get_flag("log") {
+            Log::Told
+        } else {
+            Log::Silent
+        },
     })
-}
-
-/// The address that a word says; one of the loopback alone, since `anonymous` may change all that is served.
-fn host_of(word: &str) -> Option<IpAddr> {
-    let host: IpAddr = word.parse().ok()?;
-    if host.is_loopback() { Some(host) } else { None }
 }
 
 /// How many control connections a word says.

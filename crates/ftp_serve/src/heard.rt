@@ -1,0 +1,114 @@
+// The connections of a session, of which its journal is told.
+use crate::journal::Journal;
+use ftp_drive::{Accepted, Ports};
+use ftp_endpoint::Endpoint;
+use ftp_sockets::{ControlReader, Link, SocketPorts};
+use std::io;
+use std::io::{Eprint, Read, Write};
+use std::net::{Net, TcpListener, TcpStream};
+use std::time::Clock;
+
+/// The reading side of a control connection.
+#[derive(Drop)]
+pub(crate) struct HeardReader<'a, R: Clock + Eprint> {
+    pub(crate) inner: ControlReader<'a>,
+    pub(crate) journal: &'a Journal<'a, R>,
+}
+
+impl<'a, R: Clock + Eprint> Read for HeardReader<'a, R> {
+    fn read(&mut self, room: &mut [u8]) -> io::Result<usize> {
+        let count = self.inner.read(room)?;
+        let (octets, _) = room.split_at(count);
+        self.journal.hear(octets);
+        Ok(count)
+    }
+}
+
+/// The writing side of a control connection.
+#[derive(Drop)]
+pub(crate) struct SaidWriter<'a, R: Clock + Eprint> {
+    pub(crate) stream: &'a TcpStream,
+    pub(crate) journal: &'a Journal<'a, R>,
+}
+
+impl<'a, R: Clock + Eprint> Write for SaidWriter<'a, R> {
+    fn write(&mut self, octets: &[u8]) -> io::Result<usize> {
+        let mut stream = self.stream;
+        let count = stream.write(octets)?;
+        let (said, _) = octets.split_at(count);
+        self.journal.say(said);
+        Ok(count)
+    }
+
+    fn flush(&mut self) -> io::Result<()> {
+        Ok(())
+    }
+}
+
+/// A data connection whose octets are counted.
+#[derive(Drop)]
+pub(crate) struct CountedLink<'a, R: Clock + Eprint> {
+    inner: Link<'a>,
+    journal: &'a Journal<'a, R>,
+}
+
+impl<'a, R: Clock + Eprint> Read for CountedLink<'a, R> {
+    fn read(&mut self, room: &mut [u8]) -> io::Result<usize> {
+        let count = self.inner.read(room)?;
+        self.journal.carry(count);
+        Ok(count)
+    }
+}
+
+impl<'a, R: Clock + Eprint> Write for CountedLink<'a, R> {
+    fn write(&mut self, octets: &[u8]) -> io::Result<usize> {
+        let count = self.inner.write(octets)?;
+        self.journal.carry(count);
+        Ok(count)
+    }
+
+    fn flush(&mut self) -> io::Result<()> {
+        self.inner.flush()
+    }
+}
+
+/// Data connections whose octets are counted.
+#[derive(Drop)]
+pub(crate) struct CountedPorts<
+    'a,
+    R: Net<Listener = TcpListener, Stream = TcpStream> + Clock + Eprint,
+> {
+    pub(crate) inner: SocketPorts<'a, R>,
+    pub(crate) journal: &'a Journal<'a, R>,
+}
+
+impl<'a, R: Net<Listener = TcpListener, Stream = TcpStream> + Clock + Eprint> Ports
+    for CountedPorts<'a, R> {
+    type Stream = CountedLink<'a, R>;
+
+    fn listen(&mut self) -> Option<u16> {
+        self.inner.listen()
+    }
+
+    fn accept(&mut self, hears: bool) -> Accepted<CountedLink<'a, R>> {
+        let journal = self.journal;
+        match self.inner.accept(hears) {
+            Accepted::Came(inner, host) => Accepted::Came(CountedLink { inner, journal }, host),
+            Accepted::Spoken => Accepted::Spoken,
+            Accepted::Refused => Accepted::Refused,
+        }
+    }
+
+    fn connect(&mut self, endpoint: Endpoint) -> Option<CountedLink<'a, R>> {
+        let journal = self.journal;
+        let inner = self.inner.connect(endpoint)?;
+        Some(CountedLink { inner, journal })
+    }
+
+    fn close(&mut self, stream: Option<CountedLink<'a, R>>) {
+        match stream {
+            Some(link) => self.inner.close(Some(link.inner)),
+            None => self.inner.close(None),
+        }
+    }
+}
