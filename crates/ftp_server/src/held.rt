@@ -1,5 +1,7 @@
 // How much a server holds (own choice of the limits).
 ghost use Rattle.std.specs.Prelude.{◌≡◌, ◌≤◌, ◌+◌, ◌^◌};
+ghost use Rattle.ftp_ends.specs.Limits.{held_limit};
+ghost use Rattle.ftp_server_bounds.specs.Small.{IsSmall};
 ghost use Rattle.ftp_server_machine.specs.Held.{connection_len, held, sending_limit, session_len};
 
 use crate::server::Server;
@@ -14,7 +16,10 @@ impl<A: Allocator + Copy, T: Tree<A>, J: Counted<A, T>> Server<A, T, J> {
     /// How many octets it holds beside the tree, the accounts and what came of an upload: those that are owed, the line that is
     /// being read, the line that waits as it would be written, and those of the session. A download or a listing counts as 10,119.
     pub fn held(&self) -> usize
-        ensures { result ≡ held (view_of T.table J.view self.now) }
+        ensures len { result ≡ held (view_of T.table J.view self.now) }
+
+        // A server that stays small, as one does by `servers_stay_small` of `ftp_server_bounds`, holds at most 24,576.
+        ensures little { IsSmall (view_of T.table J.view self.now) → result ≤ held_limit }
     {
         let waiting = waiting_len(&self.waiting);
         self.output.len() + (self.reader.unfinished() + (waiting + self.session_len()))
