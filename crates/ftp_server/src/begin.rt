@@ -69,7 +69,7 @@ impl<A: Allocator + Copy, T: Tree<A>, J: Moves<A, T>> Server<A, T, J> {
     pub fn into_tree(self) -> T
         ensures { result ≡ self.session.tree }
     {
-        let session = self.session;
+        let session = self.into_session();
         session.tree
     }
 }

@@ -1,4 +1,5 @@
 // What a server holds (RFC 959, sections 3.2 and 4.1).
+ghost use Rattle.std.specs.Prelude.{◌≡◌};
 ghost use Rattle.ftp_server.specs.Busy.{HasRoom, MayWait};
 
 use crate::reader::Reader;
@@ -10,7 +11,6 @@ use std::alloc::Allocator;
 
 /// A server's end of a session: who may log in, the session, the line that is read and the one that waits, and the octets
 /// that are owed. `J` is how a transfer is held.
-#[derive(Drop)]
 pub struct Server<A: Allocator, T: Drop, J: Drop> {
     pub(crate) footing: Footing<A>,
     pub(crate) session: Session<A, T, J>,
@@ -21,4 +21,35 @@ pub struct Server<A: Allocator, T: Drop, J: Drop> {
     pub(crate) refusals: u64,
     ghost room: { HasRoom session.connection output },
     ghost paths: { ∥ MayWait waiting ∥₁ },
+}
+
+/// By hand: a derived drop is proved again, part by part, wherever a server is let go.
+impl<A: Allocator, T: Drop, J: Drop> Drop for Server<A, T, J> {
+    fn drop(self) {
+        let Self {
+            footing: _,
+            session: _,
+            reader: _,
+            waiting: _,
+            output: _,
+            refusals: _,
+        } = self;
+    }
+}
+
+impl<A: Allocator, T: Drop, J: Drop> Server<A, T, J> {
+    /// Its session, where nothing more is to be served.
+    pub(crate) fn into_session(self) -> Session<A, T, J>
+        ensures { result ≡ self.session }
+    {
+        let Self {
+            footing: _,
+            session,
+            reader: _,
+            waiting: _,
+            output: _,
+            refusals: _,
+        } = self;
+        session
+    }
 }
