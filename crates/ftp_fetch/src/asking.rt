@@ -1,0 +1,143 @@
+// One operation over a control connection of its own.
+use crate::login::login_of;
+use crate::place::{Asked, Place};
+use crate::request::{Request, Wish, begin, request_of};
+use crate::stop::{Stage, Stop, at};
+use ftp_carrying::Carrying;
+use ftp_client::Client;
+use ftp_client_drive::{Control, drive_client};
+use ftp_client_machine::Near;
+use ftp_endpoint::Host;
+use ftp_operation::{Answer, Login};
+use ftp_sockets::{SocketPorts, host_of, keep_alive, say_goodbye};
+use std::alloc::Global;
+use std::env::Env;
+use std::fs::Files;
+use std::io;
+use std::io::Write;
+use std::net::{Net, TcpListener, TcpStream};
+use std::time::Duration;
+
+/// After so many seconds without an octet the first probe of a silent server goes, then each so many, and so often.
+const IDLE_SECONDS: i32 = 120;
+
+const PROBE_SECONDS: i32 = 30;
+
+const PROBES: i32 = 4;
+
+/// How long a server is waited for behind an operation, in milliseconds.
+const GOODBYE_MILLIS: i32 = 500;
+
+/// Asks once, over a control connection of its own.
+pub(crate) fn ask<R>(rt: &R, asked: &Asked<'_>, wish: Wish<'_>) -> Result<Answer<Global>, Stop>
+where
+    R: Net<Listener = TcpListener, Stream = TcpStream> + Files + Env + AllocGlobal,
+{
+    let login = at(Stage::Login, login_of(rt, asked))?;
+    let request = at(Stage::Asking, requested(rt.alloc(), asked, wish))?;
+    connect_and_ask(rt, asked.place, &mut Some(login), &mut Some(request))
+}
+
+fn requested(alloc: Global, asked: &Asked<'_>, wish: Wish<'_>) -> io::Result<Request> {
+    Ok(request_of(alloc, asked, wish)?)
+}
+
+/// Opens a control connection, does one operation over it, and closes it.
+fn connect_and_ask<R>(
+    rt: &R,
+    place: Place<'_>,
+    login: &mut Option<Login<Global>>,
+    request: &mut Option<Request>,
+) -> Result<Answer<Global>, Stop>
+where
+    R: Net<Listener = TcpListener, Stream = TcpStream> + AllocGlobal,
+{
+    let stream = at(Stage::Connection, connected(rt, place))?;
+    let answer = at(Stage::Connection, talk(rt, login, request, &stream))?;
+    let _gone = leave(&stream);
+    Ok(answer)
+}
+
+/// A control connection.
+fn connected<R>(rt: &R, place: Place<'_>) -> io::Result<TcpStream>
+where
+    R: Net<Listener = TcpListener, Stream = TcpStream>,
+{
+    let stream = TcpStream::connect(rt, (place.host, place.port))?;
+    stream.set_nodelay(true)?;
+    keep_alive(&stream, IDLE_SECONDS, PROBE_SECONDS, PROBES)?;
+    Ok(stream)
+}
+
+/// Says that no more commands come, and waits a moment for the server's last reply.
+fn leave(stream: &TcpStream) -> io::Result<()> {
+    let mut writer = stream;
+    writer.write_all(b"QUIT\r\n")?;
+    say_goodbye(stream, Duration::from_millis(500))
+}
+
+/// Does one operation over a control connection.
+fn talk<R>(
+    rt: &R,
+    login: &mut Option<Login<Global>>,
+    request: &mut Option<Request>,
+    stream: &TcpStream,
+) -> io::Result<Answer<Global>>
+where
+    R: Net<Listener = TcpListener, Stream = TcpStream> + AllocGlobal,
+{
+    let here = host_of(stream.local_addr()?);
+    let peer = host_of(stream.peer_addr()?);
+    let mut ports = SocketPorts::hearing(rt, stream)?;
+    match login.take() {
+        Some(login) => Ok(answer_between(
+            rt.alloc(),
+            (here, peer),
+            login,
+            request,
+            stream,
+            &mut ports,
+        )),
+        None => Ok(Answer::Memory),
+    }
+}
+
+/// Makes a client between two hosts, which asks.
+fn answer_between<R>(
+    alloc: Global,
+    (here, peer): (Host, Host),
+    login: Login<Global>,
+    request: &mut Option<Request>,
+    stream: &TcpStream,
+    ports: &mut SocketPorts<'_, R>,
+) -> Answer<Global>
+where
+    R: Net<Listener = TcpListener, Stream = TcpStream>,
+{
+    let made: Result<Client<Global, Carrying<Global>>, Login<Global>> = Client::new(
+        alloc, login, here, peer,
+    );
+    match made {
+        Ok(client) => answer_of(client, request, stream, ports),
+        Err(_) => Answer::Memory,
+    }
+}
+
+/// Does an operation, and gives its report.
+fn answer_of<R, N>(
+    client: N,
+    request: &mut Option<Request>,
+    stream: &TcpStream,
+    ports: &mut SocketPorts<'_, R>,
+) -> Answer<Global>
+where
+    R: Net<Listener = TcpListener, Stream = TcpStream>,
+    N: Near<Global>,
+{
+    let mut client = client;
+    begin(&mut client, request);
+    let mut control = Control::new(stream, stream);
+    let answer = drive_client(&mut client, &mut control, ports);
+    ports.finish(GOODBYE_MILLIS);
+    answer.unwrap_or(Answer::Lost)
+}

@@ -1,0 +1,15 @@
+//! The programs `get`, `put` and `ls`: files and listings over real connections to a server (RFC 959; RFC 3659).
+#![tactic(auto)]
+
+mod asking;
+mod fetching;
+mod file;
+mod listing;
+mod login;
+mod place;
+mod request;
+mod stop;
+mod telling;
+
+pub use fetching::{Task, fetch};
+pub use place::{Asked, Place, place_of};

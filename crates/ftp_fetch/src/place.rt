@@ -1,0 +1,79 @@
+// Which file of which server is meant, and who asks.
+use ftp_endpoint::port;
+use ftp_operation::How;
+
+/// The port of a control connection where none is written (RFC 959, section 5.2).
+const CONTROL_PORT: u16 = 21;
+
+/// A file or a directory of a server.
+#[derive(Clone, Copy)]
+pub struct Place<'a> {
+    /// An address or a name; not empty.
+    pub host: &'a str,
+    pub port: u16,
+    /// What is sent to the server: all behind the first slash.
+    pub path: &'a str,
+}
+
+/// What is asked of which server, by whom.
+#[derive(Clone, Copy)]
+pub struct Asked<'a> {
+    pub place: Place<'a>,
+    pub user: &'a str,
+    /// The file that has the password; its owner alone may use it.
+    pub password_file: Option<&'a str>,
+    pub how: How,
+}
+
+impl<'a> Place<'a> {
+    /// What the path ends in: all behind its last slash.
+    pub fn name(&self) -> &'a str {
+        match self.path.rsplit_once('/') {
+            Some((_, name)) => name,
+            None => self.path,
+        }
+    }
+}
+
+/// The place that a text says: HOST/PATH or HOST:PORT/PATH, an IPv6 address in brackets.
+pub fn place_of(text: &str) -> Option<Place<'_>> {
+    let (server, path) = cut_at(text.as_bytes(), b'/')?;
+    let (host, port) = server_of(server)?;
+    if host.is_empty() {
+        return None;
+    }
+    Some(Place {
+        host: std::str::from_utf8(host).ok()?,
+        port,
+        path: std::str::from_utf8(path).ok()?,
+    })
+}
+
+/// The host and the port.
+fn server_of(server: &[u8]) -> Option<(&[u8], u16)> {
+    if let [b'[', inside @ ..] = server {
+        let (host, behind) = cut_at(inside, b']')?;
+        return Some((host, port_behind(behind)?));
+    }
+    match cut_at(server, b':') {
+        None => Some((server, CONTROL_PORT)),
+        Some((host, digits)) => Some((host, port(digits)?)),
+    }
+}
+
+/// The port behind a host in brackets.
+fn port_behind(text: &[u8]) -> Option<u16> {
+    match text {
+        [] => Some(CONTROL_PORT),
+        [b':', digits @ ..] => port(digits),
+        _ => None,
+    }
+}
+
+/// What stands before the first such octet and behind it.
+fn cut_at(octets: &[u8], octet: u8) -> Option<(&[u8], &[u8])> {
+    let place = octets.iter().position(|other| *other == octet)?;
+    let (front, rest) = octets.split_at(place);
+    let (_, behind) = rest.split_at(1);
+    Some((front, behind))
+}

@@ -1,0 +1,47 @@
+// What an answer that is none of those wished for tells, in a sentence and an exit status.
+use ftp_operation::Answer;
+use std::alloc::Global;
+use std::io;
+use std::io::Eprint;
+
+/// Refused, or broken off.
+const REFUSED: u8 = 1;
+
+/// A path that can't be sent.
+const BAD_WORDS: u8 = 2;
+
+/// The control connection failed, or memory was refused.
+const FAILED: u8 = 3;
+
+/// Tells on standard error why an operation was not done, and gives the exit status.
+pub(crate) fn tell<R: Eprint>(rt: &R, answer: &Answer<Global>) -> io::Result<u8> {
+    match answer {
+        Answer::Refused(code) => eprintln!(rt; "error: the server refuses it, by a reply {code}")?,
+        Answer::Broken { got, mark: _ } => eprintln!(rt;
+            "error: the data connection broke behind {} octets; no file is written",
+            got.as_slice().len()
+        )?,
+        other => eprintln!(rt; "error: {}", sentence(other))?,
+    }
+    Ok(status(answer))
+}
+
+fn sentence(answer: &Answer<Global>) -> &'static str {
+    match answer {
+        Answer::BadOperation => "the path is no path that can be sent",
+        Answer::Unopened => "no data connection was opened, and nothing is done",
+        Answer::Foreign => "another host than the server's was named, or came",
+        Answer::Lost => "the control connection ended; it may be done in part",
+        Answer::Memory => "out of memory",
+        _ => "the server says what has no place",
+    }
+}
+
+fn status(answer: &Answer<Global>) -> u8 {
+    match answer {
+        Answer::BadOperation => BAD_WORDS,
+        Answer::Refused(_) | Answer::Broken { got: _, mark: _ } => REFUSED,
+        Answer::Unopened | Answer::Foreign | Answer::Strange => REFUSED,
+        _ => FAILED,
+    }
+}
