@@ -1,2 +1,4 @@
 pub mod HeardLemmas
 pub mod GivenLemmas
+pub mod FitLemmas
+pub mod TypeLemmas

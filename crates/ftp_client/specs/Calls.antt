@@ -3,9 +3,9 @@ use Rattle.std.specs.Prelude.{ℕ, List}
 use Rattle.ftp_operation.specs.declared.op.Op.{Op}
 use Rattle.ftp_client_machine.specs.Failing.{Client as Seen}
 use Rattle.ftp_client_machine.specs.View.{Flow}
-use Rattle.ftp_client_dialogue.specs.Client.{view_of}
+use Rattle.ftp_client.specs.Counted.{counted_of}
 use Rattle.ftp_client.specs.declared.client.Client.{Client}
 
 -- what it holds, and how many growths were refused to it
 abbrev pub client_of : {A F : Type 0} → (Op (List ℕ) → F → Flow) → Client A F → Seen
-client_of flow client = record { view = view_of flow client.dialogue; refusals = client.refusals }
+client_of flow client = counted_of flow client.counted

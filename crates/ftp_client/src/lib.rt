@@ -2,6 +2,7 @@
 #![tactic(auto)]
 
 mod client;
+mod counted;
 mod near;
 
 pub use client::Client;

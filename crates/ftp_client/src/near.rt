@@ -14,74 +14,66 @@ impl<A: Allocator + Clone, F: Carries<A>> Near<A> for Client<A, F> {
     ghost client = { client_of F.flow };
 
     fn start(&mut self, op: &mut Option<Op<Text<A>>>) {
-        if let Some(given) = op.take() {
-            if let Err(back) = self.start(given) {
-                *op = Some(back);
-            }
-        }
+        self.counted.start(op);
     }
 
     fn upload(&mut self, texts: &mut Option<(Text<A>, Text<A>)>, how: How) {
-        if let Some((path, octets)) = texts.take() {
-            if let Err(back) = self.upload(path, octets, how) {
-                *texts = Some(back);
-            }
-        }
+        self.counted.upload(texts, how);
     }
 
     fn report(&mut self) -> Option<Answer<A>> {
-        self.report()
+        self.counted.report()
     }
 
     fn hear(&mut self, piece: &[u8]) -> usize {
-        self.hear(piece)
+        self.counted.hear(piece)
     }
 
     fn control_out(&mut self, room: &mut [u8]) -> usize {
-        self.control_out(room)
+        self.counted.control_out(room)
     }
 
     fn control_end(&mut self) {
-        self.control_end();
+        self.counted.control_end();
     }
 
     fn listening(&mut self, port: u16) {
-        self.listening(port);
+        self.counted.listening(port);
     }
 
     fn listen_refused(&mut self) {
-        self.listen_refused();
+        self.counted.listen_refused();
     }
 
     fn data_opened(&mut self, host: Host) {
-        self.data_opened(host);
+        self.counted.data_opened(host);
     }
 
     fn data_refused(&mut self) {
-        self.data_refused();
+        self.counted.data_refused();
     }
 
     fn data_hear(&mut self, piece: &[u8]) -> usize {
-        self.data_hear(piece)
+        self.counted.data_hear(piece)
     }
 
     fn data_end(&mut self) {
-        self.data_end();
+        self.counted.data_end();
     }
 
     fn data_fault(&mut self) {
-        self.data_fault();
+        self.counted.data_fault();
     }
 
     fn data_out(&mut self, room: &mut [u8]) -> usize {
-        self.data_out(room)
+        self.counted.data_out(room)
     }
 
     fn data_closed(&mut self) {
-        self.data_closed();
+        self.counted.data_closed();
     }
 
     fn wants(&self) -> Wants {
-        self.wants()
+        self.counted.wants()
     }
 }

@@ -1,22 +1,23 @@
-use Rattle.std.proofs.Common.{◌∙◌, slice_index, sym, ap, subst, arith}
+use Rattle.std.proofs.Common.{◌∙◌, ◌<◌, length, slice_index, sym, ap, subst, arith}
 use Rattle.std.specs.Prelude.{IsTrue}
 use Rattle.ftp_client_machine.specs.Calls.{hears_octet, may_hear}
 use Rattle.ftp_client_machine.specs.View.{View}
-use Rattle.ftp_client.specs.Calls.{client_of}
+use Rattle.ftp_client.specs.Counted.{counted_of}
 use Rattle.ftp_client.proofs.HeardLemmas.{hears_next, may_more, ok_at}
-use Rattle.ftp_client.proofs.client.Client.hear.Goals as goal
+use Rattle.ftp_client.proofs.counted.Counted.hear.Goals as goal
 
 pub loop-taken-preserved : goal.loop-taken-preserved
 loop-taken-preserved g c =
-    let v : View = (client_of g.F.Carries.flow c.args.self.now).view in
+    let v : View = (counted_of g.F.Carries.flow c.args.self.now).view in
     let n = c.loop-taken.taken in
     let piece = c.args.piece.now in
+    let less : n < length piece = omega (arith, c.loop-taken-test.true) in
     record {
       within = omega arith;
       count = c.loop-taken.invariant.count;
       view = ok_at c.octet.result _ (sym c.is_err.ensures.value ∙ c.if-is_err.false) c.octet.ensures.ok
           ∙ ap (λ w. hears_octet w (slice_index piece n)) c.loop-taken.invariant.view
-          ∙ sym (hears_next v piece n c.loop-taken-test.true);
+          ∙ sym (hears_next v piece n less);
       may = may_more v piece n c.loop-taken.invariant.may
           (subst (λ w. IsTrue (may_hear w)) c.loop-taken.invariant.view (sym c.may_hear.ensures ∙ c.if-may_hear.true));
     }

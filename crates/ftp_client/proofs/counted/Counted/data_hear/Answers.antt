@@ -6,7 +6,7 @@ use Rattle.ftp_client_machine.specs.View.{View}
 use Rattle.ftp_client_dialogue.specs.Client.{view_of}
 use Rattle.ftp_client_dialogue.proofs.HeardLemmas.{short_alike}
 use Rattle.ftp_client_dialogue.proofs.OctetLemmas.{may_receives, receives_stands, short_receives}
-use Rattle.ftp_client.proofs.client.Client.data_hear.Goals as goal
+use Rattle.ftp_client.proofs.counted.Counted.data_hear.Goals as goal
 
 pub returns-in-Ok-clause-took : goal.returns-in-Ok-clause-took
 returns-in-Ok-clause-took g c =

@@ -7,7 +7,7 @@ use Rattle.ftp_client_dialogue.specs.Client.{shorted, view_of}
 use Rattle.ftp_client.proofs.HeardLemmas.{err_at, ok_at}
 use Rattle.ftp_client_dialogue.proofs.HeardLemmas.{short_alike}
 use Rattle.ftp_client.proofs.GivenLemmas.{goes_on, goes_short}
-use Rattle.ftp_client.proofs.client.Client.data_out.Goals as goal
+use Rattle.ftp_client.proofs.counted.Counted.data_out.Goals as goal
 
 pub returns-else-is_err-clause-now : goal.returns-else-is_err-clause-now
 returns-else-is_err-clause-now g c =

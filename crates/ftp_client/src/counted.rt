@@ -1,0 +1,257 @@
+// A dialogue whose refused growths are counted: each call as the definitions of a client have it (RFC 959, sections 2.3 and 5.4).
+ghost use Rattle.std.specs.Prelude.{◌≡◌, ◌≢◌, ◌<◌, ◌≤◌, ℕ, List, None, Some, IfErr, IfOk, IsTrue, false, length, option_map, take};
+ghost use Rattle.ftp_operation.specs.Answer.{said_of};
+ghost use Rattle.ftp_operation.specs.declared.op.Op.{Op as AnyOp};
+ghost use Rattle.ftp_ends.specs.Limits.{held_limit};
+ghost use Rattle.ftp_client_machine.specs.Calls.{control_end, data_closed, data_end, data_fault, data_opened, data_refused, gives_control, gives_data, handed_back, is_busy, listen_refused, listening, may_hear, may_receive, report_of, reports, starts, to_give, uploads, wants};
+ghost use Rattle.ftp_client_machine.specs.Failing.{HearsIfRoom, Holds, HoldsIfRoom, ReceivesIfRoom, data_end_short, data_fault_short, data_opened_short, data_refused_short, listen_refused_short, listening_short, short, starts_short, uploads_short};
+ghost use Rattle.ftp_client_machine.specs.Held.{held};
+ghost use Rattle.ftp_client_machine.specs.Tries.{over_breaks};
+ghost use Rattle.ftp_client_machine.specs.View as view;
+
+use ftp_client_dialogue::Dialogue;
+use ftp_client_machine::client::Failure;
+use ftp_endpoint::Host;
+use ftp_ends::Wants;
+use ftp_facts::Text;
+use ftp_judging::Carries;
+use ftp_operation::{Answer, How, Login, Op};
+use std::alloc::Allocator;
+
+/// What a client holds, and how many growths were refused to it. `F` is what a transfer carries.
+#[derive(Drop)]
+pub struct Counted<A: Allocator, F: Drop> {
+    pub(crate) dialogue: Dialogue<A, F>,
+    /// Moves on by wrapping.
+    pub(crate) refusals: u64,
+}
+
+impl<A: Allocator + Clone, F: Carries<A>> Counted<A, F> {
+    ghost use Rattle.ftp_client.specs.Counted.{counted_of};
+
+    /// A client of this login, on this host, of the server on its peer's host. Refused memory, it hands the login back.
+    pub(crate) fn new(
+        alloc: A,
+        login: Login<A>,
+        here: Host,
+        peer: Host,
+    ) -> Result<Counted<A, F>, Login<A>>
+        ensures begun { IfOk result (λ counted. (counted_of F.flow counted).view ≡ view.client login.user login.pass here peer) }
+        ensures back { IfErr result (λ back. back ≡ login) }
+    {
+        match Dialogue::new(alloc, login, here, peer) {
+            Ok(dialogue) => Ok(Counted {
+                dialogue,
+                refusals: 0,
+            }),
+            Err(login) => Err(login),
+        }
+    }
+
+    /// Begins the operation that `op` has, and takes it out of there.
+    pub(crate) fn start(&mut self, op: &mut Option<Op<Text<A>>>)
+        ensures begun { (given : AnyOp (List ℕ)) → op.old ≡ Some given → is_busy (counted_of F.flow self.old).view ≡ false
+            → HoldsIfRoom (counted_of F.flow self.old) (counted_of F.flow self.new)
+            (starts given (counted_of F.flow self.old).view) (starts_short given (counted_of F.flow self.old).view) }
+        ensures left { op.new ≡ handed_back (is_busy (counted_of F.flow self.old).view) op.old }
+        ensures busy { IsTrue (is_busy (counted_of F.flow self.old).view) → Holds (counted_of F.flow self.old) (counted_of F.flow self.new) (counted_of F.flow self.old).view }
+        ensures none { op.old ≡ None → Holds (counted_of F.flow self.old) (counted_of F.flow self.new) (counted_of F.flow self.old).view }
+    {
+        if self.dialogue.is_busy() {
+            return;
+        }
+        let Some(given) = op.take() else {
+            return;
+        };
+        if self.dialogue.start(given).is_err() {
+            self.shorten();
+        }
+    }
+
+    /// Begins an upload that goes on after breaks, and has one report (at most 16 tries; own choice). `texts` has the path and the octets.
+    pub(crate) fn upload(&mut self, texts: &mut Option<(Text<A>, Text<A>)>, how: How)
+        ensures begun { (path octets : List ℕ) → texts.old ≡ Some (path, octets) → is_busy (counted_of F.flow self.old).view ≡ false
+            → HoldsIfRoom (counted_of F.flow self.old) (counted_of F.flow self.new)
+            (uploads (over_breaks path octets how) (counted_of F.flow self.old).view) (uploads_short (over_breaks path octets how) (counted_of F.flow self.old).view) }
+        ensures left { texts.new ≡ handed_back (is_busy (counted_of F.flow self.old).view) texts.old }
+        ensures busy { IsTrue (is_busy (counted_of F.flow self.old).view) → Holds (counted_of F.flow self.old) (counted_of F.flow self.new) (counted_of F.flow self.old).view }
+        ensures none { texts.old ≡ None → Holds (counted_of F.flow self.old) (counted_of F.flow self.new) (counted_of F.flow self.old).view }
+    {
+        if self.dialogue.is_busy() {
+            return;
+        }
+        let Some((path, octets)) = texts.take() else {
+            return;
+        };
+        if self.dialogue.upload(path, octets, how).is_err() {
+            self.shorten();
+        }
+    }
+
+    /// The report of the operation, if it is done; it is given once.
+    pub(crate) fn report(&mut self) -> Option<Answer<A>>
+        ensures answer { option_map said_of result ≡ report_of (counted_of F.flow self.old).view }
+        ensures taken { Holds (counted_of F.flow self.old) (counted_of F.flow self.new) (reports (counted_of F.flow self.old).view) }
+    {
+        self.dialogue.report()
+    }
+
+    /// Takes octets of the control connection, and says how many.
+    pub(crate) fn hear(&mut self, piece: &[u8]) -> usize
+        ensures within { result ≤ length piece.now }
+        ensures took { HearsIfRoom (counted_of F.flow self.old) (counted_of F.flow self.new) piece.now result }
+        ensures some { IsTrue (may_hear (counted_of F.flow self.old).view) → 0 < length piece.now → 0 < result }
+    {
+        let mut taken = 0;
+        while taken < piece.len() && self.dialogue.may_hear() {
+            if self.dialogue.octet(piece[taken]).is_err() {
+                self.shorten();
+                return taken + 1;
+            }
+            taken += 1;
+        }
+        taken
+    }
+
+    /// Gives octets of the control connection, and says how many. Takes no memory.
+    pub(crate) fn control_out(&mut self, room: &mut [u8]) -> usize
+        ensures within { (result ≤ length room.old) × (result ≤ length (counted_of F.flow self.old).view.owed) }
+        ensures gave { take result room.new ≡ take result (counted_of F.flow self.old).view.owed }
+        ensures now { Holds (counted_of F.flow self.old) (counted_of F.flow self.new) (gives_control result (counted_of F.flow self.old).view) }
+        ensures some { 0 < length room.old → 0 < length (counted_of F.flow self.old).view.owed → 0 < result }
+    {
+        self.dialogue.control_out(room)
+    }
+
+    /// The control connection ended.
+    #[tactic(auto, unfolding(ftp_client_machine::specs::Calls::control_end))]
+    pub(crate) fn control_end(&mut self)
+        ensures { Holds (counted_of F.flow self.old) (counted_of F.flow self.new) (control_end (counted_of F.flow self.old).view) }
+    {
+        self.dialogue.fail(Failure::Lost);
+    }
+
+    /// A port is listened at.
+    pub(crate) fn listening(&mut self, port: u16)
+        ensures { HoldsIfRoom (counted_of F.flow self.old) (counted_of F.flow self.new)
+            (listening port (counted_of F.flow self.old).view) (listening_short port (counted_of F.flow self.old).view) }
+    {
+        if self.dialogue.listening(port).is_err() {
+            self.shorten();
+        }
+    }
+
+    /// No port was had.
+    pub(crate) fn listen_refused(&mut self)
+        ensures { HoldsIfRoom (counted_of F.flow self.old) (counted_of F.flow self.new)
+            (listen_refused (counted_of F.flow self.old).view) (listen_refused_short (counted_of F.flow self.old).view) }
+    {
+        if self.dialogue.listen_refused().is_err() {
+            self.shorten();
+        }
+    }
+
+    /// The link is open; this host is at its other end.
+    pub(crate) fn data_opened(&mut self, host: Host)
+        ensures { HoldsIfRoom (counted_of F.flow self.old) (counted_of F.flow self.new)
+            (data_opened host (counted_of F.flow self.old).view) (data_opened_short (counted_of F.flow self.old).view) }
+    {
+        if self.dialogue.data_opened(host).is_err() {
+            self.shorten();
+        }
+    }
+
+    /// The link was not had.
+    pub(crate) fn data_refused(&mut self)
+        ensures { HoldsIfRoom (counted_of F.flow self.old) (counted_of F.flow self.new)
+            (data_refused (counted_of F.flow self.old).view) (data_refused_short (counted_of F.flow self.old).view) }
+    {
+        if self.dialogue.data_refused().is_err() {
+            self.shorten();
+        }
+    }
+
+    /// Takes octets of the link, and says how many.
+    pub(crate) fn data_hear(&mut self, piece: &[u8]) -> usize
+        ensures within { result ≤ length piece.now }
+        ensures took { ReceivesIfRoom (counted_of F.flow self.old) (counted_of F.flow self.new) piece.now result }
+        ensures some { IsTrue (may_receive (counted_of F.flow self.old).view) → 0 < length piece.now → 0 < result }
+    {
+        if !self.dialogue.may_receive() {
+            return 0;
+        }
+        match self.dialogue.receive(piece) {
+            Ok(()) => piece.len(),
+            Err(taken) => {
+                self.shorten();
+                taken + 1
+            }
+        }
+    }
+
+    /// The other end closed the link.
+    pub(crate) fn data_end(&mut self)
+        ensures { HoldsIfRoom (counted_of F.flow self.old) (counted_of F.flow self.new)
+            (data_end (counted_of F.flow self.old).view) (data_end_short (counted_of F.flow self.old).view) }
+    {
+        if self.dialogue.data_end().is_err() {
+            self.shorten();
+        }
+    }
+
+    /// The link broke.
+    pub(crate) fn data_fault(&mut self)
+        ensures { HoldsIfRoom (counted_of F.flow self.old) (counted_of F.flow self.new)
+            (data_fault (counted_of F.flow self.old).view) (data_fault_short (counted_of F.flow self.old).view) }
+    {
+        if self.dialogue.data_fault().is_err() {
+            self.shorten();
+        }
+    }
+
+    /// Gives octets of the link, and says how many.
+    pub(crate) fn data_out(&mut self, room: &mut [u8]) -> usize
+        ensures within { (result ≤ length room.old) × (result ≤ length (to_give (counted_of F.flow self.old).view)) }
+        ensures gave { take result room.new ≡ take result (to_give (counted_of F.flow self.old).view) }
+        ensures now { HoldsIfRoom (counted_of F.flow self.old) (counted_of F.flow self.new)
+            (gives_data result (counted_of F.flow self.old).view) (short (counted_of F.flow self.old).view) }
+        ensures some { 0 < length room.old → 0 < length (to_give (counted_of F.flow self.old).view) → 0 < result }
+    {
+        let count = self.dialogue.give(room);
+        if self.dialogue.carry_on().is_err() {
+            self.shorten();
+        }
+        count
+    }
+
+    /// What it wants of the connections. Takes no memory.
+    pub(crate) fn wants(&self) -> Wants
+        ensures { result ≡ wants (counted_of F.flow self.now).view }
+    {
+        self.dialogue.wants()
+    }
+
+    /// A close that it wanted is done.
+    pub(crate) fn data_closed(&mut self)
+        ensures { Holds (counted_of F.flow self.old) (counted_of F.flow self.new) (data_closed (counted_of F.flow self.old).view) }
+    {
+        self.dialogue.data_closed();
+    }
+
+    /// How many octets it holds, beside the texts of an operation and what its report brings.
+    pub(crate) fn held(&self) -> usize
+        requires { held (counted_of F.flow self.now).view ≤ held_limit }
+        ensures { result ≡ held (counted_of F.flow self.now).view }
+    {
+        self.dialogue.held()
+    }
+
+    /// A growth was refused: the client is short of memory.
+    fn shorten(&mut self)
+        ensures view { (counted_of F.flow self.new).view ≡ short (counted_of F.flow self.old).view }
+        ensures count { self.new.refusals ≢ self.old.refusals }
+    {
+        self.dialogue.fail(Failure::Memory);
+        self.refusals = self.refusals.wrapping_add(1);
+    }
+}
