@@ -2,12 +2,17 @@
 use std::alloc::{AllocError, Global};
 
 /// The octets of a text, in which `\r`, `\n`, `\0`, `\\` and `\x` with two hexadecimal digits in capitals are one octet each; `@` and a
-/// number are so many octets of the fixed sequence.
+/// count of one to six digits are so many octets of the fixed sequence.
 pub fn octets_of(alloc: Global, text: &[u8]) -> Result<Vec<u8>, AllocError> {
     match text {
-        [b'@', count @ ..] => fixed_octets(alloc, number(count)),
+        [b'@', count @ ..] if is_count(count) => fixed_octets(alloc, number(count)),
         _ => written_octets(alloc, text),
     }
+}
+
+/// Whether a text is one to six decimal digits.
+fn is_count(text: &[u8]) -> bool {
+    !text.is_empty() && text.len() <= 6 && text.iter().all(|octet| octet.is_ascii_digit())
 }
 
 /// The octet behind another in the fixed sequence, in which the octets 0 to 250 follow one another again and again.
@@ -80,13 +85,13 @@ fn control(letter: u8) -> u8 {
     }
 }
 
-/// The number of decimal digits; past 2^64 it wraps.
+/// The number of decimal digits; past 2^64 it is the greatest of 64 bits.
 pub fn number(text: &[u8]) -> u64 {
     let mut value = 0u64;
     for octet in text {
         value = value
-            .wrapping_mul(10)
-            .wrapping_add(u64::from(digit(*octet)));
+            .saturating_mul(10)
+            .saturating_add(u64::from(digit(*octet)));
     }
     value
 }

@@ -9,6 +9,7 @@ use crate::verb::{Verb, verb_of};
 use crate::words::{cut, quoted, said, split};
 use ftp_carrying::Carrying;
 use ftp_client::Client;
+use ftp_client_machine::Near;
 use ftp_endpoint::{Host, extended_endpoint};
 use ftp_ends::Wants;
 use ftp_facts::Text;
@@ -40,6 +41,8 @@ pub struct Stage<'a> {
     wanted: Wants,
     /// How many octets of the line were not taken.
     left: usize,
+    /// Whether each line tells how much is held.
+    weighs: bool,
 }
 
 /// The login of a row.
@@ -86,6 +89,7 @@ impl<'a> Stage<'a> {
             piece,
             wanted: Wants::Nothing,
             left: 0,
+            weighs: false,
         })
     }
 
@@ -119,6 +123,7 @@ impl<'a> Stage<'a> {
             Verb::Says => self.says(rest, b"\r\n", paper),
             Verb::Octets => self.says(rest, b"", paper),
             Verb::Login => self.enters(paper),
+            Verb::Held => self.weighs = true,
             Verb::Brings => self.brings(rest),
             Verb::Gives => self.gives(number(rest), paper),
             Verb::Unknown => paper.line(b"! no such word"),
@@ -281,16 +286,17 @@ impl<'a> Stage<'a> {
     fn starts(&mut self, verb: Verb, request: Request<'_>) -> Result<bool, AllocError> {
         let path = self.text(request.path)?;
         let other = self.text(request.other)?;
-        match operation(verb, path, request.number, other, request.how) {
-            Some(op) => Ok(self.client.start(op).is_ok()),
-            None => Ok(false),
-        }
+        let mut op = operation(verb, path, request.number, other, request.how);
+        self.client.start(&mut op);
+        Ok(op.is_none())
     }
 
     fn uploads(&mut self, request: Request<'_>) -> Result<bool, AllocError> {
         let path = self.text(request.path)?;
         let other = self.text(request.other)?;
-        Ok(self.client.upload(path, other, request.how).is_ok())
+        let mut texts = Some((path, other));
+        self.client.upload(&mut texts, request.how);
+        Ok(texts.is_none())
     }
 
     fn text(&self, text: &[u8]) -> Result<Text<Heap<'a>>, AllocError> {
@@ -298,8 +304,9 @@ impl<'a> Stage<'a> {
         Text::copy_of(self.heap, octets.as_slice())
     }
 
-    /// The commands that are owed, a report, and what is wanted where it is new.
+    /// The commands that are owed, a report, what is wanted where it is new, and perhaps how much was held before all that.
     fn tell(&mut self, paper: &mut Paper) {
+        let held = self.client.held();
         self.tell_commands(paper);
         paper.end_commands();
         if let Some(answer) = self.client.report() {
@@ -312,6 +319,11 @@ impl<'a> Stage<'a> {
             paper.put(b"\n");
         }
         self.left = 0;
+        if self.weighs {
+            paper.put(b"held ");
+            paper.number(held as u64);
+            paper.put(b"\n");
+        }
     }
 
     fn tell_wants(&mut self, paper: &mut Paper) {
@@ -336,12 +348,12 @@ fn port(text: &[u8]) -> u16 {
     ftp_endpoint::port(text).unwrap_or(0)
 }
 
-/// How often a line is played, and what: `62 times < 211 more`.
+/// How often a line is played, at most 10,000 times, and what: `62 times < 211 more`.
 fn repeated(line: &[u8]) -> (u64, &[u8]) {
     let (count, rest) = split(line);
     let (word, turn) = split(rest);
     if word == b"times".as_slice() {
-        (number(count), turn)
+        (number(count).min(10_000), turn)
     } else {
         (1, line)
     }

@@ -8,6 +8,8 @@ pub enum Verb {
     Says,
     Octets,
     Login,
+    /// From here on each line tells how much is held.
+    Held,
     Brings,
     Gives,
     Listening,
@@ -50,6 +52,7 @@ const VERBS: &[(&'static [u8], Verb)] = &[
     (b"<", Verb::Says),
     (b"<<", Verb::Octets),
     (b"login", Verb::Login),
+    (b"held", Verb::Held),
     (b"data", Verb::Brings),
     (b"out", Verb::Gives),
     (b"listening", Verb::Listening),
