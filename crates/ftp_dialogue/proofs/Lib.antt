@@ -1,5 +1,8 @@
+pub mod AnswerLemmas
 pub mod Conversing
+pub mod EventLemmas
+pub mod FreeLemmas
+pub mod OctetLemmas
 pub mod OnceLemmas
-pub mod Replying
-pub mod Stepping
-pub mod Texts
+pub mod TalkLemmas
+pub mod UnopenedLemmas

@@ -1,8 +1,6 @@
+pub mod Accounts
 pub mod Converses
 pub mod Dialogue
-pub mod Hearing
+pub mod Exchange
+pub mod Free
 pub mod Laws
-pub mod Login
-pub mod Replies
-pub mod Session
-pub mod Turns

@@ -6,7 +6,7 @@ pub const VERSION: &str = "0.1.0";
 /// Behind the help of `dialogue`.
 pub const DIALOGUE: &str = "\
 Input: the octets that a client sends over a control connection, each line with CR LF at its end.
-Output: the greeting, and the reply to each line, over an empty tree of directories.
+Output: the greeting, and the reply to each line, by the server over an empty tree; no data connection is ever opened.
 Status: 0 done; 1 done, and a reply of 4yz or 5yz was written; 2 bad command line; 3 a read, a write or a growth failed.
 
 Example:

@@ -1,8 +1,8 @@
+use Rattle.ftp_server.specs.Server.{view_of}
 use Rattle.ftp_dialogue.proofs.Conversing.{Follows}
 use Rattle.ftp_dialogue.proofs.dialogues.converse.Given as goal
 
 abbrev pub invariant-loop : goal.invariant-loop
 invariant-loop g l =
-    let remaining = g.R.Read.remaining in
-    let contents = g.W.Write.contents in
-    Follows (remaining l.fn.reader) (remaining l.reader) (contents l.fn.writer) (contents l.writer) l.connection
+    Follows (g.R.Read.remaining l.fn.reader) (g.R.Read.remaining l.reader) (g.W.Write.contents l.fn.writer) (g.W.Write.contents l.writer)
+    (view_of g.T.Tree.table g.J.Moves.view l.server) l.answers.refused

@@ -1,0 +1,16 @@
+use Rattle.std.proofs.Common.{◌∙◌, arith, sym}
+use Rattle.std.proofs.lemmas.Bool.{and_parts, eqb-true}
+use Rattle.ftp_dialogue.proofs.OctetLemmas.{counts_same, one_heard}
+use Rattle.ftp_server.specs.Server.{counts_of, server_of}
+use Rattle.ftp_dialogue.proofs.serving.take.Goals as goal
+
+pub returns-then-eq : goal.returns-then-eq
+returns-then-eq g c =
+    let server = server_of g.T.Tree.table g.T.Tree.failures g.J.Moves.view in
+    let counts = counts_of g.T.Tree.failures in
+    let parts = and_parts _ _ (sym c.eq.ensures ∙ c.if-eq.true) in
+    one_heard c.args.octet c.hear-count.result (server c.args.server.now) (server c.hear-count.new.self) c.hear-count.ensures.took c.hear-count.ensures.within
+    (c.hear-count.ensures.some c.requires (omega arith))
+    (counts_same (counts c.hear-count.new.self) (counts c.args.server.now)
+    (sym c.counts.ensures.refusals ∙ eqb-true _ _ parts.0 ∙ c.counts-counts.ensures.refusals)
+    (sym c.counts.ensures.failures ∙ eqb-true _ _ parts.1 ∙ c.counts-counts.ensures.failures))
