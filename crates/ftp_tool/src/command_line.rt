@@ -1,4 +1,5 @@
 // The command line: one level of subcommands.
+use crate::fetching::{get_command, list_command, put_command};
 use crate::help;
 use crate::serving::serve_command;
 use crate::task::Task;
@@ -39,12 +40,15 @@ pub fn command<'a>(alloc: Global) -> Result<Command<'a>, AllocError> {
         .arg(read)?;
     Command::new(alloc, "ftp_tool")
         .version(help::VERSION)
-        .about("an FTP server, and its parts over standard input and output")
+        .about("an FTP server and client, and their parts over standard input and output")
         .subcommand_required(true)
         .subcommand(dialogue)?
         .subcommand(facts)?
         .subcommand(frame)?
-        .subcommand(serve_command(alloc)?)
+        .subcommand(serve_command(alloc)?)?
+        .subcommand(get_command(alloc)?)?
+        .subcommand(put_command(alloc)?)?
+        .subcommand(list_command(alloc)?)
 }
 
 /// An option that has to be there.

@@ -45,3 +45,31 @@ Status: 0 done; 2 bad command line; 3 the folder, the accounts, the port or a se
 Example:
   ftp_tool serve --port 2121 --dir . --sessions forever
   ftp_tool serve --port 21 --dir /srv/files --sessions forever --host 0.0.0.0 --accounts /etc/ftp.accounts --log";
+
+/// Behind the help of `get`.
+pub const GET: &str = "\
+HOST is an address or a name, an IPv6 address in brackets; PATH is sent to the server as it stands behind the slash. The file is
+written beside its name, and moved over it once it is whole. The password of anonymous is none; that of another user is in the
+environment, in FTP_PASSWORD, or in the file that --password-file names. Everything goes in cleartext, passwords too.
+Status: 0 done; 1 refused, or the data connection broke; 2 bad command line, login or path; 3 the control connection or a device failed,
+or memory was refused. All but 0 are told on standard error.
+
+Example:
+  ftp_tool get 127.0.0.1:2121/pub/a.txt a.txt";
+
+/// Behind the help of `put`.
+pub const PUT: &str = "\
+HOST, PATH, passwords and status are as with get. An upload in type I and file structure goes on where the server has it after a
+break, at most 16 times.
+
+Example:
+  FTP_PASSWORD=secret ftp_tool put a.txt 127.0.0.1:2121/a.txt --user guest";
+
+/// Behind the help of `ls`.
+pub const LS: &str = "\
+HOST, PATH, passwords and status are as with get; no PATH is the directory of the login.
+Output: the entries of the directory, as a machine listing has them (RFC 3659, section 7.2); where the server knows no MLSD, the names
+that NLST gives. Each has LF at its end.
+
+Example:
+  ftp_tool ls 127.0.0.1:2121/pub";

@@ -1,12 +1,14 @@
-//! The programs: FTP over standard input and output, and a server over real connections.
+//! The programs: FTP over standard input and output, and a server and a client over real connections.
 #![tactic(auto)]
 
 mod command_line;
+mod fetching;
 mod help;
 mod serving;
 mod task;
 
 use anyhow::Result;
+use clap::ArgMatches;
 use std::env;
 use std::env::Env;
 use std::fs::Files;
@@ -53,6 +55,11 @@ where
             None => bad_words(rt),
         };
     }
+    if let Some((name, words)) = matches.subcommand() {
+        if fetching::is_one(name) {
+            return fetch(rt, name, words);
+        }
+    }
     match command_line::task_of(&matches) {
         Some(task) => Ok(perform(
             rt.alloc(),
@@ -65,10 +72,24 @@ where
     }
 }
 
+/// Does what `get`, `put` or `ls` asks for.
+fn fetch<R>(rt: &R, name: &str, words: &ArgMatches<'_>) -> Result<u8>
+where
+    R: Print + Eprint + Env + Files + AllocGlobal + Net<Listener = TcpListener, Stream = TcpStream>,
+{
+    let Some(asked) = fetching::asked_of(words) else {
+        return bad_words(rt);
+    };
+    match fetching::task_of(name, words, &asked) {
+        Some(task) => Ok(ftp_fetch::fetch(rt, &asked, task)?),
+        None => bad_words(rt),
+    }
+}
+
 /// Tells what the values of options are.
 fn bad_words<R: Eprint>(rt: &R) -> Result<u8> {
     eprintln!(rt;
-        "error: a number is decimal digits, at most 4294967295; a port is at most 65535; types are A and I, structures F and R, modes S and B; an address is in numbers"
+        "error: a number is decimal digits, at most 4294967295; a port is at most 65535; types are A and I, structures F and R, modes S and B; an address is in numbers; a place is HOST:PORT/PATH"
     )?;
     Ok(BAD_COMMAND_LINE)
 }
