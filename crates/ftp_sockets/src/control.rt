@@ -81,11 +81,13 @@ impl<'a> Read for ControlReader<'a> {
     }
 }
 
-/// The octet that urgent data hides behind another one.
+/// The octet that urgent data hides behind another one: LF of CR LF, DM of IAC DM, and the IAC behind IAC IP, which clients send as urgent
+/// before DM and ABOR (RFC 959, section 4.1.3).
 fn hidden_after(last: u8) -> Option<u8> {
     match last {
         b'\r' => Some(b'\n'),
         255 => Some(242),
+        244 => Some(255),
         _ => None,
     }
 }
