@@ -3,7 +3,7 @@ use ftp_facts::{Entry, Moment, Text};
 use std::alloc::Allocator;
 
 /// The answer of an operation: what was asked for, or why it was not had.
-#[derive(Debug, Drop)]
+#[derive(Drop)]
 pub enum Answer<A: Allocator> {
     Done,
     Path(Text<A>),

@@ -14,7 +14,7 @@ pub struct How {
 }
 
 /// An operation of a user; `P` is how a text is held. Path texts are those of `ftp_path`.
-#[derive(Debug, Drop)]
+#[derive(Drop)]
 pub enum Op<P> {
     /// Which directory is the current one.
     Where,

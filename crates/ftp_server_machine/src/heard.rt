@@ -2,7 +2,7 @@
 use ftp_command::{Command, CommandFault};
 
 /// A line of the control connection as a server has read it; `T` is how a text is held.
-#[derive(Debug, Drop)]
+#[derive(Drop)]
 pub enum Heard<T> {
     /// It was longer than its limit.
     TooLong,
