@@ -13,7 +13,7 @@ pub enum Passive {
 }
 
 /// A command: its verb and the value of its argument; `P` is the type of its texts.
-#[derive(Debug, Drop, PartialEq)]
+#[derive(Drop)]
 pub enum Command<P> {
     User(P),
     /// The password, empty where there is none.
