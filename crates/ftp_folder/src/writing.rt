@@ -1,12 +1,12 @@
 // Writing a file so that a crash leaves the old one or the new one.
-ghost use Rattle.std.specs.Prelude.{OnOk};
+ghost use Rattle.std.specs.Prelude.{IfOk, OnOk};
 ghost use Rattle.std.specs.Io.KnownBytes.{Appends};
 
 use ftp_facts::Moment;
 use ftp_tree::Content;
 use std::alloc::{AllocError, Allocator, Global};
 use std::fs::{FileTimes, Files, OpenFile, OpenOptions, Permissions};
-use std::io::{Error, ErrorKind, Write};
+use std::io::{BufWriter, Error, ErrorKind, Write};
 use std::os::unix::fs::{OpenOptionsExt, PermissionsExt};
 use std::time::{Duration, SystemTime, UNIX_EPOCH};
 use std::{fs, io};
@@ -18,6 +18,9 @@ pub(crate) const BESIDE: &str = ".ftp-writing\x7f";
 const NEW_MODE: u32 = 0o666;
 
 const OWN_MODE: u32 = 0o600;
+
+/// How many octets are gathered for one call of the system: a page of a content has 4,096.
+const GATHERED: u64 = 256 * 1024;
 
 /// Writes a file beside its name, flushes it, and moves it over the name. It keeps the permissions of the file that it replaces.
 /// Where that fails, what was written beside is removed again.
@@ -47,7 +50,7 @@ fn beside(alloc: Global, place: &str) -> Result<String<Global>, AllocError> {
     Ok(text)
 }
 
-fn write_beside<R: Files, A: Allocator>(
+fn write_beside<R: Files + AllocGlobal, A: Allocator>(
     files: &R,
     place: &str,
     beside: &str,
@@ -55,12 +58,9 @@ fn write_beside<R: Files, A: Allocator>(
     moment: Moment,
 ) -> io::Result<()> {
     let kept = kept_mode(files, place)?;
-    let mut file = create(
-        files,
-        beside,
-        if kept.is_some() { OWN_MODE } else { NEW_MODE },
-    )?;
-    put_all(&mut file, content)?;
+    let mode = if kept.is_some() { OWN_MODE } else { NEW_MODE };
+    let file = create(files, beside, mode)?;
+    let file = put_gathered(files.alloc(), file, content)?;
     if let Some(mode) = kept {
         file.set_permissions(Permissions::from_mode(mode))?;
     }
@@ -90,6 +90,20 @@ fn create<R: Files>(files: &R, beside: &str, mode: u32) -> io::Result<R::File> {
         }
         opened => opened,
     }
+}
+
+/// Writes all octets of a content, many pages a call, and gives the file back.
+fn put_gathered<W: Write + Drop, A: Allocator>(
+    alloc: Global,
+    file: W,
+    content: &Content<A>,
+) -> io::Result<W>
+    ensures { IfOk result (λ written. Appends (W.contents file) (W.contents written) content.now) }
+{
+    let room = content.len().min(GATHERED) as usize;
+    let mut gathering = BufWriter::with_capacity(alloc, room, file)?;
+    put_all(&mut gathering, content)?;
+    Ok(gathering.into_inner()?)
 }
 
 /// Writes all octets of a content.
