@@ -26,7 +26,7 @@ const PROBE_SECONDS: i32 = 30;
 const PROBES: i32 = 4;
 
 /// How long a server is waited for behind an operation, in milliseconds.
-const GOODBYE_MILLIS: i32 = 500;
+const GOODBYE_MILLIS: u16 = 500;
 
 /// Asks once, over a control connection of its own.
 pub(crate) fn ask<R>(rt: &R, asked: &Asked<'_>, wish: Wish<'_>) -> Result<Answer<Global>, Stop>
@@ -34,8 +34,21 @@ where
     R: Net<Listener = TcpListener, Stream = TcpStream> + Files + Env + AllocGlobal,
 {
     let login = at(Stage::Login, login_of(rt, asked))?;
-    let request = at(Stage::Asking, requested(rt.alloc(), asked, wish))?;
-    connect_and_ask(rt, asked.place, &mut Some(login), &mut Some(request))
+    ask_as(rt, asked, &mut Some(login), wish)
+}
+
+/// Asks once, as a user.
+fn ask_as<R>(
+    rt: &R,
+    asked: &Asked<'_>,
+    login: &mut Option<Login<Global>>,
+    wish: Wish<'_>,
+) -> Result<Answer<Global>, Stop>
+where
+    R: Net<Listener = TcpListener, Stream = TcpStream> + AllocGlobal,
+{
+    let mut request = at(Stage::Asking, requested(rt.alloc(), asked, wish))?;
+    connect_and_ask(rt, asked.place, login, &mut request)
 }
 
 fn requested(alloc: Global, asked: &Asked<'_>, wish: Wish<'_>) -> io::Result<Request> {
@@ -47,14 +60,30 @@ fn connect_and_ask<R>(
     rt: &R,
     place: Place<'_>,
     login: &mut Option<Login<Global>>,
-    request: &mut Option<Request>,
+    request: &mut Request,
 ) -> Result<Answer<Global>, Stop>
 where
     R: Net<Listener = TcpListener, Stream = TcpStream> + AllocGlobal,
 {
     let stream = at(Stage::Connection, connected(rt, place))?;
-    let answer = at(Stage::Connection, talk(rt, login, request, &stream))?;
-    let _gone = leave(&stream);
+    at(
+        Stage::Connection,
+        talk_and_leave(rt, login, request, &stream),
+    )
+}
+
+/// Does one operation over a control connection, and says goodbye.
+fn talk_and_leave<R>(
+    rt: &R,
+    login: &mut Option<Login<Global>>,
+    request: &mut Request,
+    stream: &TcpStream,
+) -> io::Result<Answer<Global>>
+where
+    R: Net<Listener = TcpListener, Stream = TcpStream> + AllocGlobal,
+{
+    let answer = talk(rt, login, request, stream)?;
+    let _gone = leave(stream);
     Ok(answer)
 }
 
@@ -73,14 +102,14 @@ where
 fn leave(stream: &TcpStream) -> io::Result<()> {
     let mut writer = stream;
     writer.write_all(b"QUIT\r\n")?;
-    say_goodbye(stream, Duration::from_millis(500))
+    say_goodbye(stream, Duration::from_millis(u64::from(GOODBYE_MILLIS)))
 }
 
 /// Does one operation over a control connection.
 fn talk<R>(
     rt: &R,
     login: &mut Option<Login<Global>>,
-    request: &mut Option<Request>,
+    request: &mut Request,
     stream: &TcpStream,
 ) -> io::Result<Answer<Global>>
 where
@@ -89,44 +118,44 @@ where
     let here = host_of(stream.local_addr()?);
     let peer = host_of(stream.peer_addr()?);
     let mut ports = SocketPorts::hearing(rt, stream)?;
-    match login.take() {
-        Some(login) => Ok(answer_between(
-            rt.alloc(),
-            (here, peer),
-            login,
-            request,
-            stream,
-            &mut ports,
-        )),
-        None => Ok(Answer::Memory),
-    }
+    Ok(answer_between(rt.alloc(), (here, peer), login, request, stream, &mut ports))
 }
 
 /// Makes a client between two hosts, which asks.
 fn answer_between<R>(
     alloc: Global,
     (here, peer): (Host, Host),
-    login: Login<Global>,
-    request: &mut Option<Request>,
+    login: &mut Option<Login<Global>>,
+    request: &mut Request,
     stream: &TcpStream,
     ports: &mut SocketPorts<'_, R>,
 ) -> Answer<Global>
 where
     R: Net<Listener = TcpListener, Stream = TcpStream>,
 {
-    let made: Result<Client<Global, Carrying<Global>>, Login<Global>> = Client::new(
-        alloc, login, here, peer,
-    );
-    match made {
-        Ok(client) => answer_of(client, request, stream, ports),
-        Err(_) => Answer::Memory,
+    match login.take() {
+        Some(login) => match client_of(alloc, login, here, peer) {
+            Some(client) => answer_of(client, request, stream, ports),
+            None => Answer::Memory,
+        },
+        None => Answer::Memory,
     }
+}
+
+/// A client between two hosts; none where memory is refused.
+fn client_of(
+    alloc: Global,
+    login: Login<Global>,
+    here: Host,
+    peer: Host,
+) -> Option<Client<Global, Carrying<Global>>> {
+    Client::new(alloc, login, here, peer).ok()
 }
 
 /// Does an operation, and gives its report.
 fn answer_of<R, N>(
     client: N,
-    request: &mut Option<Request>,
+    request: &mut Request,
     stream: &TcpStream,
     ports: &mut SocketPorts<'_, R>,
 ) -> Answer<Global>
@@ -138,6 +167,6 @@ where
     begin(&mut client, request);
     let mut control = Control::new(stream, stream);
     let answer = drive_client(&mut client, &mut control, ports);
-    ports.finish(GOODBYE_MILLIS);
+    ports.finish(i32::from(GOODBYE_MILLIS));
     answer.unwrap_or(Answer::Lost)
 }

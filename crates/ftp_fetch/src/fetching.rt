@@ -17,6 +17,12 @@ use std::{fs, io};
 /// A program that did all that it was asked for.
 const DONE: u8 = 0;
 
+/// The code of the reply to a command that is not known (RFC 959, section 4.2.2).
+const UNKNOWN: u16 = 500;
+
+/// The code of the reply to a command that is not implemented (RFC 959, section 4.2.2).
+const NOT_IMPLEMENTED: u16 = 502;
+
 /// What is to be done at a place.
 #[derive(Clone, Copy)]
 pub enum Task<'a> {
@@ -34,66 +40,62 @@ pub fn fetch<R>(rt: &R, asked: &Asked<'_>, task: Task<'_>) -> io::Result<u8>
 where
     R: Net<Listener = TcpListener, Stream = TcpStream> + Files + Env + Print + Eprint + AllocGlobal,
 {
+    match answer_to(rt, asked, task) {
+        Ok(answer) => finish(rt, task, &answer),
+        Err(stop) => stop.tell(rt),
+    }
+}
+
+/// What the server answers.
+fn answer_to<R>(rt: &R, asked: &Asked<'_>, task: Task<'_>) -> Result<Answer<Global>, Stop>
+where
+    R: Net<Listener = TcpListener, Stream = TcpStream> + Files + Env + AllocGlobal,
+{
     match task {
-        Task::Get(file) => get(rt, asked, file),
+        Task::Get(_) => ask(rt, asked, Wish::Get),
         Task::Put(file) => put(rt, asked, file),
         Task::List => list(rt, asked),
     }
 }
 
-/// Downloads a file.
-fn get<R>(rt: &R, asked: &Asked<'_>, file: &str) -> io::Result<u8>
-where
-    R: Net<Listener = TcpListener, Stream = TcpStream> + Files + Env + Eprint + AllocGlobal,
-{
-    match ask(rt, asked, Wish::Get) {
-        Ok(Answer::Octets(octets)) => done(
-            rt,
-            at(Stage::Writing, write_over(rt, file, octets.as_slice())),
-        ),
-        Ok(answer) => tell(rt, &answer),
-        Err(stop) => stop.tell(rt),
-    }
-}
-
 /// Uploads a file.
-fn put<R>(rt: &R, asked: &Asked<'_>, file: &str) -> io::Result<u8>
-where
-    R: Net<Listener = TcpListener, Stream = TcpStream> + Files + Env + Eprint + AllocGlobal,
-{
-    let octets = match at(Stage::Reading, fs::read(rt, file)) {
-        Ok(octets) => octets,
-        Err(stop) => return stop.tell(rt),
-    };
-    match ask(rt, asked, Wish::Put(octets.as_slice())) {
-        Ok(Answer::Done) => Ok(DONE),
-        Ok(answer) => tell(rt, &answer),
-        Err(stop) => stop.tell(rt),
-    }
-}
-
-/// Writes a listing.
-fn list<R>(rt: &R, asked: &Asked<'_>) -> io::Result<u8>
-where
-    R: Net<Listener = TcpListener, Stream = TcpStream> + Files + Env + Print + Eprint + AllocGlobal,
-{
-    match listed(rt, asked) {
-        Ok(Answer::Entries(entries)) => write(rt, entry_lines(rt.alloc(), entries.as_slice())),
-        Ok(Answer::Names(names)) => write(rt, name_lines(rt.alloc(), names.as_slice())),
-        Ok(answer) => tell(rt, &answer),
-        Err(stop) => stop.tell(rt),
-    }
-}
-
-/// The entries of a directory, or its names where MLSD is not known there (RFC 959, section 4.2.2).
-fn listed<R>(rt: &R, asked: &Asked<'_>) -> Result<Answer<Global>, Stop>
+fn put<R>(rt: &R, asked: &Asked<'_>, file: &str) -> Result<Answer<Global>, Stop>
 where
     R: Net<Listener = TcpListener, Stream = TcpStream> + Files + Env + AllocGlobal,
 {
-    let answer = ask(rt, asked, Wish::Entries)?;
-    match answer {
-        Answer::Refused(500) | Answer::Refused(502) => ask(rt, asked, Wish::Names),
-        answer => Ok(answer),
+    let octets = at(Stage::Reading, fs::read(rt, file))?;
+    ask(rt, asked, Wish::Put(octets.as_slice()))
+}
+
+/// The entries of a directory, or its names where MLSD is not known there (RFC 959, section 4.2.2).
+fn list<R>(rt: &R, asked: &Asked<'_>) -> Result<Answer<Global>, Stop>
+where
+    R: Net<Listener = TcpListener, Stream = TcpStream> + Files + Env + AllocGlobal,
+{
+    match ask(rt, asked, Wish::Entries) {
+        Ok(Answer::Refused(UNKNOWN | NOT_IMPLEMENTED)) => ask(rt, asked, Wish::Names),
+        listed => listed,
+    }
+}
+
+/// Keeps what the server answers, or tells why it is none of what is wished for.
+fn finish<R>(rt: &R, task: Task<'_>, answer: &Answer<Global>) -> io::Result<u8>
+where
+    R: Files + Print + Eprint + AllocGlobal,
+{
+    match (task, answer) {
+        (Task::Get(file), Answer::Octets(octets)) => {
+            done(
+                rt,
+                at(Stage::Writing, write_over(rt, file, octets.as_slice())),
+            )
+        }
+        (Task::Put(_), Answer::Done) => Ok(DONE),
+        (Task::List, Answer::Entries(entries)) => {
+            write(rt, entry_lines(rt.alloc(), entries.as_slice()))
+        }
+        (Task::List, Answer::Names(names)) => write(rt, name_lines(rt.alloc(), names.as_slice())),
+        _ => tell(rt, answer),
     }
 }
 

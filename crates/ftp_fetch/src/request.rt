@@ -17,12 +17,20 @@ pub(crate) enum Wish<'a> {
     Names,
 }
 
-/// An operation, or an upload over breaks.
-#[derive(Drop)]
+/// An operation, or an upload over breaks; empty once a client has it.
 pub(crate) enum Request {
-    One(Op<Text<Global>>),
+    One(Option<Op<Text<Global>>>),
     /// A path and the octets of the file.
-    Upload(Text<Global>, Text<Global>, How),
+    Upload(Option<(Text<Global>, Text<Global>)>, How),
+}
+
+/// By hand: a derived drop is proved again, part by part, wherever a request is let go.
+impl Drop for Request {
+    fn drop(self) {
+        match self {
+            Request::One(_) | Request::Upload(_, _) => {}
+        }
+    }
 }
 
 /// The request of a wish.
@@ -33,9 +41,9 @@ pub(crate) fn request_of(
 ) -> Result<Request, AllocError> {
     let path = Text::copy_of(alloc, asked.place.path.as_bytes())?;
     match wish {
-        Wish::Get => Ok(Request::One(Op::Get(path, asked.how))),
-        Wish::Entries => Ok(Request::One(Op::List(path, asked.how))),
-        Wish::Names => Ok(Request::One(Op::Names(path, asked.how))),
+        Wish::Get => Ok(Request::One(Some(Op::Get(path, asked.how)))),
+        Wish::Entries => Ok(Request::One(Some(Op::List(path, asked.how)))),
+        Wish::Names => Ok(Request::One(Some(Op::Names(path, asked.how)))),
         Wish::Put(octets) => {
             let octets = Text::copy_of(alloc, octets)?;
             Ok(upload_of(path, octets, asked.how))
@@ -47,17 +55,16 @@ pub(crate) fn request_of(
 fn upload_of(path: Text<Global>, octets: Text<Global>, how: How) -> Request {
     let form = how.representation;
     if form.kind == Kind::Image && form.structure == Structure::File {
-        Request::Upload(path, octets, how)
+        Request::Upload(Some((path, octets)), how)
     } else {
-        Request::One(Op::Put(path, octets, how))
+        Request::One(Some(Op::Put(path, octets, how)))
     }
 }
 
 /// Begins what is requested, which is taken out of there.
-pub(crate) fn begin<N: Near<Global>>(client: &mut N, request: &mut Option<Request>) {
-    match request.take() {
-        Some(Request::One(op)) => client.start(&mut Some(op)),
-        Some(Request::Upload(path, octets, how)) => client.upload(&mut Some((path, octets)), how),
-        None => {}
+pub(crate) fn begin<N: Near<Global>>(client: &mut N, request: &mut Request) {
+    match request {
+        Request::One(op) => client.start(op),
+        Request::Upload(file, how) => client.upload(file, *how),
     }
 }
