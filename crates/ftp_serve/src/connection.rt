@@ -6,7 +6,7 @@ use ftp_drive::{Control, drive_server};
 use ftp_endpoint::Host;
 use ftp_operation::Accounts;
 use ftp_pieces::Failed;
-use ftp_server::Server;
+use ftp_server::{NotBegun, Server};
 use ftp_server_machine::Far;
 use ftp_sockets::{ControlReader, SocketPorts, SystemWatch, host_of, keep_alive, say_goodbye};
 use ftp_tree::Tree;
@@ -24,7 +24,7 @@ const PROBE_SECONDS: i32 = 30;
 const PROBES: i32 = 4;
 
 /// How long a client is waited for behind the last reply, in milliseconds.
-const GOODBYE_MILLIS: i32 = 500;
+const GOODBYE_MILLIS: u16 = 500;
 
 /// The host of a control connection that the client reached, and the client's address.
 fn ends_of(stream: &TcpStream) -> io::Result<(Host, SocketAddr)> {
@@ -45,25 +45,72 @@ where
     R: Net<Listener = TcpListener, Stream = TcpStream> + Clock + Eprint + AllocGlobal,
     T: Tree<Global>,
 {
-    let Ok((here, peer)) = ends_of(stream) else {
-        return (tree, Err(Failed));
-    };
-    let Ok(ports) = SocketPorts::new(rt, stream) else {
-        return (tree, Err(Failed));
-    };
-    let mut server: Server<Global, T, Carried<Global>> = match Server::new(
+    match ends_of(stream) {
+        Ok((here, peer)) => session_between(rt, tree, accounts, stream, (here, peer), log),
+        Err(_) => (tree, Err(Failed)),
+    }
+}
+
+/// Makes a server between two ends of a control connection, which serves it.
+fn session_between<R, T>(
+    rt: &R,
+    tree: T,
+    accounts: Accounts<Global>,
+    stream: &TcpStream,
+    (here, peer): (Host, SocketAddr),
+    log: Log,
+) -> (T, Result<(), Failed>)
+where
+    R: Net<Listener = TcpListener, Stream = TcpStream> + Clock + Eprint + AllocGlobal,
+    T: Tree<Global>,
+{
+    let made: Result<Server<Global, T, Carried<Global>>, NotBegun<Global, T>> = Server::new(
         rt.alloc(),
         tree,
         accounts,
         here,
         host_of(peer),
-    ) {
-        Ok(server) => server,
-        Err(back) => return (back.tree, Err(Failed)),
-    };
+    );
+    match made {
+        Ok(server) => session_by(rt, server, stream, peer, log),
+        Err(back) => (back.tree, Err(Failed)),
+    }
+}
+
+/// Serves a control connection by a server, and gives its tree back.
+fn session_by<R, T>(
+    rt: &R,
+    server: Server<Global, T, Carried<Global>>,
+    stream: &TcpStream,
+    peer: SocketAddr,
+    log: Log,
+) -> (T, Result<(), Failed>)
+where
+    R: Net<Listener = TcpListener, Stream = TcpStream> + Clock + Eprint + AllocGlobal,
+    T: Tree<Global>,
+{
+    let mut server = server;
     let journal = Journal::new(rt, log, peer);
-    let ended = driven(rt, &mut server, stream, ports, &journal);
+    let ended = connected(rt, &mut server, stream, &journal);
     (server.into_tree(), ended)
+}
+
+/// Serves a control connection by a server, with data connections.
+fn connected<'a, R, T, F>(
+    rt: &'a R,
+    server: &mut F,
+    stream: &'a TcpStream,
+    journal: &'a Journal<'a, R>,
+) -> Result<(), Failed>
+where
+    R: Net<Listener = TcpListener, Stream = TcpStream> + Clock + Eprint + AllocGlobal,
+    T: Tree<Global>,
+    F: Far<Global, T>,
+{
+    match SocketPorts::new(rt, stream) {
+        Ok(ports) => driven(rt, server, stream, ports, journal),
+        Err(_) => Err(Failed),
+    }
 }
 
 /// Serves a control connection by a server until it is done with it, and says goodbye.
@@ -91,9 +138,9 @@ where
     };
     let mut control = Control::new(reader, writer);
     let ended = drive_server(server, &mut control, &mut ports, &mut SystemWatch::new(rt));
-    ports.inner.finish(GOODBYE_MILLIS);
+    ports.inner.finish(i32::from(GOODBYE_MILLIS));
     if ended.is_ok() {
-        let _gone = say_goodbye(stream, Duration::from_millis(500));
+        let _gone = say_goodbye(stream, Duration::from_millis(u64::from(GOODBYE_MILLIS)));
     }
     journal.note(if ended.is_ok() { "ends" } else { "breaks off" });
     ended

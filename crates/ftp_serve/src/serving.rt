@@ -3,6 +3,7 @@ use crate::connection::session;
 use crate::journal::Log;
 use crate::users::users_of;
 use ftp_folder::open;
+use ftp_operation::Accounts;
 use ftp_pieces::TURNS;
 use ftp_tree::Tree;
 use std::alloc::Global;
@@ -77,11 +78,24 @@ where
         )?;
         return Ok(NOT_SERVED);
     }
-    if let Err(fault) = users_of(rt, job.accounts) {
-        eprintln!(rt; "error: accounts: {fault}")?;
+    if users_told(rt, job.accounts).is_none() {
         return Ok(FAILED);
     }
     serve_dir(rt, job)
+}
+
+/// Who may log in; where that can't be had, it is told why.
+fn users_told<R>(rt: &R, file: Option<&str>) -> Option<Accounts<Global>>
+where
+    R: Files + Eprint + AllocGlobal,
+{
+    match users_of(rt, file) {
+        Ok(accounts) => Some(accounts),
+        Err(fault) => {
+            let _told = eprintln!(rt; "error: accounts: {fault}");
+            None
+        }
+    }
 }
 
 /// Loads the folder and serves it.
@@ -94,22 +108,47 @@ where
         + Eprint
         + AllocGlobal,
 {
-    let tree = match open(rt, job.dir) {
-        Ok(tree) => tree,
+    match open(rt, job.dir) {
+        Ok(tree) => serve_tree(rt, tree, job),
         Err(fault) => {
             eprintln!(rt; "error: {fault}")?;
-            return Ok(FAILED);
+            Ok(FAILED)
         }
-    };
-    let listener = match TcpListener::bind(rt, SocketAddr::new(job.host, job.port)) {
-        Ok(listener) => listener,
+    }
+}
+
+/// Listens at the port and serves a tree.
+fn serve_tree<R, T>(rt: &R, tree: T, job: Serving<'_>) -> io::Result<u8>
+where
+    R: Net<Listener = TcpListener, Stream = TcpStream>
+        + Files
+        + Clock
+        + Print
+        + Eprint
+        + AllocGlobal,
+    T: Tree<Global>,
+{
+    match listener_at(rt, job)? {
+        Some(listener) => Ok(serve_at(rt, &listener, tree, job)),
+        None => Ok(FAILED),
+    }
+}
+
+/// Listens at the port, and tells where, or why not.
+fn listener_at<R>(rt: &R, job: Serving<'_>) -> io::Result<Option<TcpListener>>
+where
+    R: Net<Listener = TcpListener, Stream = TcpStream> + Print + Eprint,
+{
+    match TcpListener::bind(rt, SocketAddr::new(job.host, job.port)) {
+        Ok(listener) => {
+            println!(rt; "listening on {}", listener.local_addr()?)?;
+            Ok(Some(listener))
+        }
         Err(error) => {
             eprintln!(rt; "error: no port to listen at: {error}")?;
-            return Ok(FAILED);
+            Ok(None)
         }
-    };
-    println!(rt; "listening on {}", listener.local_addr()?)?;
-    Ok(serve_at(rt, &listener, tree, job))
+    }
 }
 
 /// Serves control connections one after another; a session that failed counts, and makes the status 3.
@@ -136,16 +175,23 @@ where
     R: Net<Listener = TcpListener, Stream = TcpStream> + Files + Clock + Eprint + AllocGlobal,
     T: Tree<Global>,
 {
-    let Ok((stream, _)) = listener.accept() else {
-        return (tree, false);
-    };
-    let accounts = match users_of(rt, job.accounts) {
-        Ok(accounts) => accounts,
-        Err(fault) => {
-            let _told = eprintln!(rt; "error: accounts: {fault}");
-            return (tree, false);
+    match listener.accept() {
+        Ok((stream, _)) => serve_stream(rt, &stream, tree, job),
+        Err(_) => (tree, false),
+    }
+}
+
+/// Serves a control connection; gives the tree back, and whether all went well.
+fn serve_stream<R, T>(rt: &R, stream: &TcpStream, tree: T, job: Serving<'_>) -> (T, bool)
+where
+    R: Net<Listener = TcpListener, Stream = TcpStream> + Files + Clock + Eprint + AllocGlobal,
+    T: Tree<Global>,
+{
+    match users_told(rt, job.accounts) {
+        Some(accounts) => {
+            let (tree, ended) = session(rt, tree, accounts, stream, job.log);
+            (tree, ended.is_ok())
         }
-    };
-    let (tree, ended) = session(rt, tree, accounts, &stream, job.log);
-    (tree, ended.is_ok())
+        None => (tree, false),
+    }
 }

@@ -23,13 +23,19 @@ pub fn users_of<R: Files + AllocGlobal>(
 /// `guest` with the password `secret`, and `anonymous` without one, both at the root (own choice).
 fn known_users(alloc: Global) -> Result<Accounts<Global>, AllocError> {
     let mut list = Vec::new(alloc);
-    let user = Text::copy_of(alloc, b"guest")?;
-    let pass = Some(Text::copy_of(alloc, b"secret")?);
-    let root = Path::root(alloc);
-    list.push(Account { user, pass, root })?;
-    let user = Text::copy_of(alloc, b"anonymous")?;
-    let pass = None;
-    let root = Path::root(alloc);
-    list.push(Account { user, pass, root })?;
+    list.push(account(alloc, b"guest", Some(b"secret"))?)?;
+    list.push(account(alloc, b"anonymous", None)?)?;
     Accounts::new(list).ok().ok_or(AllocError)
+}
+
+/// An account at the root.
+fn account(
+    alloc: Global,
+    user: &[u8],
+    pass: Option<&[u8]>,
+) -> Result<Account<Text<Global>, Path<Global>>, AllocError> {
+    let pass = pass.map(|pass| Text::copy_of(alloc, pass)).transpose()?;
+    let user = Text::copy_of(alloc, user)?;
+    let root = Path::root(alloc);
+    Ok(Account { user, pass, root })
 }
