@@ -1,42 +1,33 @@
-//! For tests alone: rows of texts, names and paths, of trees and files, and of a mirrored tree over a folder that fails at one call.
+//! For tests alone: plays the rows of a script on paths, on trees, on a mirrored tree over a folder that fails and on trees whose device fails,
+//! by single calls and by operations, and writes what each line answers.
 #![tactic(auto)]
 
-mod failing;
-mod files;
-mod growths;
+mod accounts;
+mod change;
+mod failing_folder;
+mod failing_tree;
 mod keys;
-mod listings;
-mod mirror_failures;
 mod mirrored;
+mod octets;
+mod operation;
+mod paper;
 mod paths;
-mod renames;
-mod report;
-mod roots;
-mod steps;
-mod texts;
-mod trees;
+mod reading;
+mod request;
+mod row;
+mod run;
+mod said;
+mod step;
+mod verb;
+mod words;
 
-use report::put;
-use std::alloc::{AllocError, Global};
+use row::play_all;
 use std::io;
-use std::io::Write;
+use std::io::{Read, Write};
 
-/// Tries all rows, and writes a line for each table.
 fn main(rt: HostRuntime) -> io::Result<()> {
-    let mut out = Vec::new(rt.alloc());
-    put_all(rt.alloc(), &mut out)?;
-    io::writer(&rt).write_all(out.as_slice())
-}
-
-fn put_all(alloc: Global, out: &mut Vec<u8>) -> Result<(), AllocError> {
-    put(&texts::tried(alloc), out)?;
-    put(&paths::tried(alloc), out)?;
-    put(&keys::tried(alloc), out)?;
-    put(&trees::tried(alloc), out)?;
-    put(&renames::tried(alloc), out)?;
-    put(&listings::tried(alloc), out)?;
-    put(&roots::tried(alloc), out)?;
-    put(&files::tried(alloc), out)?;
-    put(&growths::tried(alloc), out)?;
-    put(&mirror_failures::tried(alloc), out)
+    let mut script = Vec::new(rt.alloc());
+    rt.reader().read_to_end(&mut script)?;
+    let paper = play_all(rt.alloc(), script.as_slice());
+    io::writer(&rt).write_all(paper.text())
 }

@@ -4,7 +4,8 @@ ghost use Rattle.ftp_tree.specs.Change.{next_count};
 ghost use Rattle.ftp_tree.specs.Tree.{root_alone};
 
 use ftp_facts::Moment;
-use ftp_tree::{Content, MemTree, Name, NodeKind, Path, Tree, TreeFault};
+use ftp_path::{Name, Path};
+use ftp_tree::{Content, MemTree, NodeKind, Tree, TreeFault};
 use std::alloc::Allocator;
 
 /// A tree in memory whose device fails once, at the change whose number it is given. Counted are the changes of every kind

@@ -1,5 +1,5 @@
 use Rattle.std.proofs.Common.{◌≡◌, ◌≤◌, ◌-◌, length, take}
-use Rattle.ftp_tree_rows.proofs.failing.copy_of.Given as goal
+use Rattle.ftp_tree_rows.proofs.failing_folder.copy_of.Given as goal
 
 -- the copy is a beginning of the content
 abbrev pub invariant-loop-copy : goal.invariant-loop-copy

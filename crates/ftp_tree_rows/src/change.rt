@@ -1,0 +1,115 @@
+// Lines that change a tree.
+use crate::octets::number;
+use crate::paper::Paper;
+use crate::paths::place;
+use crate::step::{Line, Step};
+use ftp_facts::Moment;
+use ftp_path::Path;
+use ftp_tree::{Content, Tree, TreeFault};
+use std::alloc::Allocator;
+
+/// Does what a line says, and writes `done`, or how many octets of a front were had.
+pub fn show_change<A: Allocator + Copy, T: Tree<A>>(
+    alloc: A,
+    tree: &mut T,
+    line: &Line<'_>,
+    paper: &mut Paper,
+) -> Result<(), TreeFault> {
+    let root = place(alloc, line.root)?;
+    let path = place(alloc, line.first)?;
+    match line.step {
+        Step::Make => tree.make_dir(&root, &path)?,
+        Step::Remove => tree.remove_dir(&root, &path)?,
+        Step::Delete => tree.delete(&root, &path)?,
+        Step::Rename => rename(alloc, tree, &root, &path, line.second)?,
+        Step::Install => install(alloc, tree, &root, &path, line)?,
+        _ => front(alloc, tree, &root, &path, line)?,
+    }
+    paper.put(b"done");
+    Ok(())
+}
+
+fn rename<A: Allocator + Copy, T: Tree<A>>(
+    alloc: A,
+    tree: &mut T,
+    root: &Path<A>,
+    path: &Path<A>,
+    text: &[u8],
+) -> Result<(), TreeFault> {
+    let to = place(alloc, text)?;
+    tree.rename(root, path, &to)
+}
+
+/// Installs octets in a second.
+fn install<A: Allocator + Copy, T: Tree<A>>(
+    alloc: A,
+    tree: &mut T,
+    root: &Path<A>,
+    path: &Path<A>,
+    line: &Line<'_>,
+) -> Result<(), TreeFault> {
+    let mut content = Content::new(alloc);
+    let Ok(_) = content.push(line.second) else {
+        return Err(TreeFault::Memory);
+    };
+    let Some(moment) = Moment::new(number(line.third)) else {
+        return Err(TreeFault::BadOffset);
+    };
+    tree.install(root, path, &mut content, moment)
+}
+
+/// Installs so many first octets of a file elsewhere, in the second 8.
+fn front<A: Allocator + Copy, T: Tree<A>>(
+    alloc: A,
+    tree: &mut T,
+    root: &Path<A>,
+    path: &Path<A>,
+    line: &Line<'_>,
+) -> Result<(), TreeFault> {
+    let copy = place(alloc, line.third)?;
+    let mut content = Content::of(alloc, tree, root, path, number(line.second))?;
+    tree.install(root, &copy, &mut content, Moment { seconds: 8 })
+}
+
+/// Makes so many directories below a root, `/00000` and on, or as many as the tree takes. Says how many.
+pub fn make_dirs<A: Allocator + Copy, T: Tree<A>>(
+    alloc: A,
+    tree: &mut T,
+    root: &Path<A>,
+    count: u64,
+) -> u64 {
+    for place in 0..count {
+        if !makes_dir(alloc, tree, root, place) {
+            return place;
+        }
+    }
+    count
+}
+
+fn makes_dir<A: Allocator + Copy, T: Tree<A>>(
+    alloc: A,
+    tree: &mut T,
+    root: &Path<A>,
+    number: u64,
+) -> bool {
+    match place(alloc, &numbered(number)) {
+        Ok(path) => tree.make_dir(root, &path).is_ok(),
+        Err(_) => false,
+    }
+}
+
+/// The path of a number of five digits.
+fn numbered(place: u64) -> [u8; 6] {
+    [
+        b'/',
+        digit(place / 10_000),
+        digit(place / 1_000),
+        digit(place / 100),
+        digit(place / 10),
+        digit(place),
+    ]
+}
+
+fn digit(value: u64) -> u8 {
+    b'0' + (value % 10) as u8
+}
