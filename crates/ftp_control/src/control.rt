@@ -1,0 +1,94 @@
+// A control connection: what was read of it and is not heard yet, and what is written to it.
+ghost use Rattle.std.specs.Prelude.{◌≡◌, ◌≤◌, ◌<◌, IsTrue, IfOk, OnOk, OnErr, false, [], drop, length};
+ghost use Rattle.std.specs.Io.KnownBytes.{Appends, Consumes, IsAtEnd, Keeps};
+ghost use Rattle.ftp_pieces.specs.Beginning.{AppendsFront};
+
+use ftp_pieces::Failed;
+use std::io::{Read, Write};
+
+/// The most octets that one read of a control connection asks for.
+const CONTROL_PIECE: usize = 1024;
+
+/// A control connection, and the octets of it that were read and not heard yet.
+#[derive(Drop)]
+pub struct Control<R, W> {
+    reader: R,
+    writer: W,
+    piece: [u8; CONTROL_PIECE],
+    at: usize,
+    end: usize,
+    ghost order: { at ≤ end },
+    ghost within: { end ≤ 1024 },
+}
+
+impl<R: Read + Drop, W: Write + Drop> Control<R, W> {
+    ghost use Rattle.ftp_control.specs.Unheard.{left_of, unheard_of, written_of};
+
+    /// A control connection of which nothing was read.
+    pub fn new(reader: R, writer: W) -> Control<R, W>
+        ensures left { left_of R.remaining result ≡ R.remaining reader }
+        ensures written { written_of W.contents result ≡ W.contents writer }
+        ensures unheard { unheard_of result ≡ [] }
+    {
+        Control {
+            reader,
+            writer,
+            piece: [0; CONTROL_PIECE],
+            at: 0,
+            end: 0,
+        }
+    }
+
+    /// The octets that were read and are not heard yet.
+    pub fn unheard(&self) -> &[u8]
+        ensures { result.now ≡ unheard_of self.now }
+    {
+        let (octets, _) = self.piece.split_at(self.end);
+        let (_, unheard) = octets.split_at(self.at);
+        unheard
+    }
+
+    /// Whether octets were read that are not heard yet.
+    pub fn has_unheard(&self) -> bool
+        ensures some { IsTrue result → 0 < length (unheard_of self.now) }
+        ensures none { result ≡ false → unheard_of self.now ≡ [] }
+    {
+        self.at < self.end
+    }
+
+    /// So many of them were heard.
+    pub fn heard(&mut self, count: usize)
+        requires { count ≤ length (unheard_of self.old) }
+        ensures unheard { unheard_of self.new ≡ drop count (unheard_of self.old) }
+        ensures left { left_of R.remaining self.new ≡ left_of R.remaining self.old }
+        ensures written { written_of W.contents self.new ≡ written_of W.contents self.old }
+    {
+        self.at += count;
+    }
+
+    /// Reads once, where all octets before were heard, and gives how many came; none is the end of the connection.
+    pub fn read(&mut self) -> Result<usize, Failed>
+        requires { unheard_of self.old ≡ [] }
+        ensures ok { OnOk result (Consumes (left_of R.remaining self.old) (left_of R.remaining self.new) (unheard_of self.new)) }
+        ensures none { IfOk result (λ count. count ≡ 0 → IsAtEnd (left_of R.remaining self.new) × (unheard_of self.new ≡ [])) }
+        ensures err { OnErr result (Keeps (left_of R.remaining self.old) (left_of R.remaining self.new)) }
+        ensures kept { OnErr result (unheard_of self.new ≡ []) }
+        ensures written { written_of W.contents self.new ≡ written_of W.contents self.old }
+    {
+        self.at = 0;
+        self.end = 0;
+        let count = ftp_pieces::get(&mut self.reader, &mut self.piece)?;
+        self.end = count;
+        Ok(count)
+    }
+
+    /// Writes all of these octets; where that fails, a beginning of them was written.
+    pub fn write(&mut self, octets: &[u8]) -> Result<(), Failed>
+        ensures ok { OnOk result (Appends (written_of W.contents self.old) (written_of W.contents self.new) octets.now) }
+        ensures front { AppendsFront (written_of W.contents self.old) (written_of W.contents self.new) octets.now }
+        ensures left { left_of R.remaining self.new ≡ left_of R.remaining self.old }
+        ensures unheard { unheard_of self.new ≡ unheard_of self.old }
+    {
+        ftp_pieces::put(&mut self.writer, octets)
+    }
+}
