@@ -1,1 +1,3 @@
--- no definitions yet
+pub mod Deeds
+pub mod Beside
+pub mod Driving

@@ -1,75 +1,66 @@
-// A control connection: what was read of it and is not heard yet, and what is written to it.
-ghost use Rattle.std.specs.Prelude.{◌≤◌, ◌≡◌};
+// The octets of a control connection: those that were read are heard, and those that the client owes are written.
+ghost use Rattle.std.specs.Prelude.{◌≡◌, []};
+ghost use Rattle.ftp_control.specs.Unheard.{unheard_of};
+ghost use Rattle.ftp_client_drive.specs.Beside.{beside};
+ghost use Rattle.ftp_client_drive.specs.Driving.{Flushes, Goes, GoesSettled};
 
 use ftp_client_machine::Near;
+use ftp_control::Control;
 use ftp_pieces::{Failed, TURNS};
 use std::alloc::Allocator;
 use std::io::{Read, Write};
 
-/// The most octets that one read of a control connection asks for.
-const CONTROL_PIECE: usize = 1024;
-
-/// A control connection, and the octets of it that were read and not heard yet.
-#[derive(Drop)]
-pub struct Control<R: Read + Drop, W: Write + Drop> {
-    reader: R,
-    writer: W,
-    piece: [u8; CONTROL_PIECE],
-    at: usize,
-    end: usize,
-    ghost order: { at ≤ end },
-    ghost within: { end ≤ 1024 },
+/// Hears octets that were read, as many as the client takes; fails where it takes none.
+pub(crate) fn hear<A, N, R, W>(client: &mut N, control: &mut Control<R, W>) -> Result<(), Failed>
+where
+    A: Allocator,
+    N: Near<A>,
+    R: Read + Drop,
+    W: Write + Drop,
+    ensures { Goes (beside R.remaining W.contents (N.client client.old) control.old) (beside R.remaining W.contents (N.client client.new) control.new) result }
+{
+    let count = client.hear(control.unheard());
+    control.heard(count);
+    if count == 0 {
+        return Err(Failed);
+    }
+    Ok(())
 }
 
-impl<R: Read + Drop, W: Write + Drop> Control<R, W> {
-    /// A control connection of which nothing was read.
-    pub fn new(reader: R, writer: W) -> Control<R, W> {
-        Control {
-            reader,
-            writer,
-            piece: [0; CONTROL_PIECE],
-            at: 0,
-            end: 0,
-        }
+/// Reads from the control connection, and tells the client where it ended.
+pub(crate) fn read<A, N, R, W>(client: &mut N, control: &mut Control<R, W>) -> Result<(), Failed>
+where
+    A: Allocator,
+    N: Near<A>,
+    R: Read + Drop,
+    W: Write + Drop,
+    requires { unheard_of control.old ≡ [] }
+    ensures { GoesSettled (beside R.remaining W.contents (N.client client.old) control.old) (beside R.remaining W.contents (N.client client.new) control.new) result }
+{
+    let count = control.read()?;
+    if count == 0 {
+        client.control_end();
     }
+    Ok(())
+}
 
-    /// Reads, where all octets before were heard, and else fails; tells the client of the end of the connection.
-    pub(crate) fn read<A: Allocator, N: Near<A>>(&mut self, client: &mut N) -> Result<(), Failed> {
-        if self.at < self.end {
-            return Err(Failed);
-        }
-        let count = ftp_pieces::get(&mut self.reader, &mut self.piece)?;
-        self.at = 0;
-        self.end = count;
+/// Writes all control octets that the client owes.
+pub(crate) fn flush<A, N, R, W>(client: &mut N, control: &mut Control<R, W>) -> Result<(), Failed>
+where
+    A: Allocator,
+    N: Near<A>,
+    R: Read + Drop,
+    W: Write + Drop,
+    ensures { Flushes (beside R.remaining W.contents (N.client client.old) control.old) (beside R.remaining W.contents (N.client client.new) control.new) result }
+{
+    let mut room = [0u8; 1024];
+    for _ in 0..TURNS {
+        let count = client.control_out(&mut room);
         if count == 0 {
-            client.control_end();
+            return Ok(());
         }
-        Ok(())
+        let (octets, _) = room.split_at(count);
+        control.write(octets)?;
     }
-
-    /// Hears octets that were read, as many as the client takes; gives whether it took one.
-    pub(crate) fn hear<A: Allocator, N: Near<A>>(&mut self, client: &mut N) -> bool {
-        if self.at == self.end {
-            return false;
-        }
-        let (front, _) = self.piece.split_at(self.end);
-        let (_, unheard) = front.split_at(self.at);
-        let count = client.hear(unheard);
-        self.at += count;
-        count > 0
-    }
-
-    /// Writes all control octets that the client owes.
-    pub(crate) fn flush<A: Allocator, N: Near<A>>(&mut self, client: &mut N) -> Result<(), Failed> {
-        let mut room = [0u8; 1024];
-        for _ in 0..TURNS {
-            let count = client.control_out(&mut room);
-            if count == 0 {
-                return Ok(());
-            }
-            let (octets, _) = room.split_at(count);
-            ftp_pieces::put(&mut self.writer, octets)?;
-        }
-        Err(Failed)
-    }
+    Err(Failed)
 }

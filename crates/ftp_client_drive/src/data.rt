@@ -1,5 +1,6 @@
 // A data connection: what one call of it moves, and the octets of an upload that it has not taken yet.
-ghost use Rattle.std.specs.Prelude.{◌≤◌, ◌≡◌, IfOk, length};
+ghost use Rattle.std.specs.Prelude.{◌≤◌, IfOk, length};
+ghost use Rattle.ftp_client_drive.specs.Driving.{Quietly};
 
 use ftp_client_machine::Near;
 use std::alloc::Allocator;
@@ -53,7 +54,9 @@ impl<S: Read + Write + Drop> Data<S> {
     }
 
     /// Takes octets of an upload from the client, where all before were written.
-    pub(crate) fn fill<A: Allocator, N: Near<A>>(&mut self, client: &mut N) {
+    pub(crate) fn fill<A: Allocator, N: Near<A>>(&mut self, client: &mut N)
+        ensures { Quietly (N.client client.old) (N.client client.new) }
+    {
         if self.at == self.end {
             let count = client.data_out(&mut self.room);
             self.at = 0;

@@ -1,7 +1,16 @@
 // The drive: what the client wants is done, turn by turn, until its operation is answered.
-use crate::control::Control;
+ghost use Rattle.std.specs.Prelude.{◌≡◌, []};
+ghost use Rattle.std.specs.Option.{option_map};
+ghost use Rattle.ftp_control.specs.Unheard.{unheard_of};
+ghost use Rattle.ftp_operation.specs.Answer.{said_of};
+ghost use Rattle.ftp_client_drive.specs.Beside.{beside};
+ghost use Rattle.ftp_client_drive.specs.Driving.{Answers, Drives, Goes, GoesSettled, Quietly};
+ghost use Rattle.ftp_client_drive.specs.Deeds.{Called, Closed};
+
+use crate::control::{flush, hear, read};
 use crate::data::{Data, Halt};
 use ftp_client_machine::Near;
+use ftp_control::Control;
 use ftp_drive::{Accepted, Ports};
 use ftp_endpoint::Endpoint;
 use ftp_ends::Wants;
@@ -26,42 +35,56 @@ where
     R: Read + Drop,
     W: Write + Drop,
     P: Ports,
+    ensures { Drives (beside R.remaining W.contents (N.client client.old) control.old) (beside R.remaining W.contents (N.client client.new) control.new) (option_map said_of result) }
 {
     let mut data = Data::new();
-    let answer = turns(client, control, ports, &mut data);
-    ports.close(data.stream.take());
-    client.data_closed();
-    if answer.is_some() {
-        return answer;
+    match turns(client, control, ports, &mut data) {
+        Ok(answer) => {
+            close(client, ports, &mut data);
+            Some(answer)
+        }
+        Err(Failed) => {
+            client.control_end();
+            close(client, ports, &mut data);
+            client.report()
+        }
     }
-    client.control_end();
-    client.report()
 }
 
-/// The turns of a drive; `None` where the control connection failed.
+/// Closes what stands of the data connection.
+fn close<A, N, P>(client: &mut N, ports: &mut P, data: &mut Data<P::Stream>)
+where
+    A: Allocator,
+    N: Near<A>,
+    P: Ports,
+    ensures { Called Closed (N.client client.old) (N.client client.new) }
+{
+    ports.close(data.stream.take());
+    client.data_closed();
+}
+
+/// The turns of a drive, until the client has a report.
 fn turns<A, N, R, W, P>(
     client: &mut N,
     control: &mut Control<R, W>,
     ports: &mut P,
     data: &mut Data<P::Stream>,
-) -> Option<Answer<A>>
+) -> Result<Answer<A>, Failed>
 where
     A: Allocator,
     N: Near<A>,
     R: Read + Drop,
     W: Write + Drop,
     P: Ports,
+    ensures { Answers (beside R.remaining W.contents (N.client client.old) control.old) (beside R.remaining W.contents (N.client client.new) control.new) result }
 {
     for _ in 0..TURNS {
-        let answer = client.report();
-        if answer.is_some() {
-            return answer;
-        }
-        if turn(client, control, ports, data).is_err() {
-            return None;
+        match client.report() {
+            Some(answer) => return Ok(answer),
+            None => turn(client, control, ports, data)?,
         }
     }
-    None
+    Err(Failed)
 }
 
 /// One turn: all commands that are owed go out; then what was read of replies is heard, or octets that are on their way are written, or what the
@@ -78,10 +101,11 @@ where
     R: Read + Drop,
     W: Write + Drop,
     P: Ports,
+    ensures { Goes (beside R.remaining W.contents (N.client client.old) control.old) (beside R.remaining W.contents (N.client client.new) control.new) result }
 {
-    control.flush(client)?;
-    if control.hear(client) {
-        return Ok(());
+    flush(client, control)?;
+    if control.has_unheard() {
+        return hear(client, control);
     }
     if data.has_unwritten() {
         return send(client, control, ports, data);
@@ -102,21 +126,31 @@ where
     R: Read + Drop,
     W: Write + Drop,
     P: Ports,
+    requires { unheard_of control.old ≡ [] }
+    ensures { GoesSettled (beside R.remaining W.contents (N.client client.old) control.old) (beside R.remaining W.contents (N.client client.new) control.new) result }
 {
     match client.wants() {
-        Wants::Nothing => control.read(client)?,
-        Wants::Listen => listen(client, ports),
-        Wants::Connect(endpoint) => connect(client, ports, data, endpoint),
-        Wants::Accept => accept(client, control, ports, data)?,
-        Wants::Receive => receive(client, control, ports, data)?,
-        Wants::Send => data.fill(client),
-        Wants::CloseData => {
-            ports.close(data.stream.take());
-            client.data_closed();
+        Wants::Nothing => read(client, control),
+        Wants::Accept => accept(client, control, ports, data),
+        Wants::Receive => receive(client, control, ports, data),
+        Wants::CloseAll => Err(Failed),
+        Wants::Listen => {
+            listen(client, ports);
+            Ok(())
         }
-        Wants::CloseAll => return Err(Failed),
+        Wants::Connect(endpoint) => {
+            connect(client, ports, data, endpoint);
+            Ok(())
+        }
+        Wants::Send => {
+            data.fill(client);
+            Ok(())
+        }
+        Wants::CloseData => {
+            close(client, ports, data);
+            Ok(())
+        }
     }
-    Ok(())
 }
 
 /// Listens at a port, and tells the client which.
@@ -125,6 +159,7 @@ where
     A: Allocator,
     N: Near<A>,
     P: Ports,
+    ensures { Quietly (N.client client.old) (N.client client.new) }
 {
     match ports.listen() {
         Some(port) => client.listening(port),
@@ -138,6 +173,7 @@ where
     A: Allocator,
     N: Near<A>,
     P: Ports,
+    ensures { Quietly (N.client client.old) (N.client client.new) }
 {
     match ports.connect(endpoint) {
         Some(open) => {
@@ -161,6 +197,8 @@ where
     R: Read + Drop,
     W: Write + Drop,
     P: Ports,
+    requires { unheard_of control.old ≡ [] }
+    ensures { GoesSettled (beside R.remaining W.contents (N.client client.old) control.old) (beside R.remaining W.contents (N.client client.new) control.new) result }
 {
     match ports.accept(true) {
         Accepted::Came(open, host) => {
@@ -168,7 +206,7 @@ where
             client.data_opened(host);
             Ok(())
         }
-        Accepted::Spoken => control.read(client),
+        Accepted::Spoken => read(client, control),
         Accepted::Refused => {
             client.data_refused();
             Ok(())
@@ -189,10 +227,12 @@ where
     R: Read + Drop,
     W: Write + Drop,
     P: Ports,
+    requires { unheard_of control.old ≡ [] }
+    ensures { GoesSettled (beside R.remaining W.contents (N.client client.old) control.old) (beside R.remaining W.contents (N.client client.new) control.new) result }
 {
     match data.write() {
         Ok(()) | Err(Halt::Again) => Ok(()),
-        Err(Halt::Spoken) => control.read(client),
+        Err(Halt::Spoken) => read(client, control),
         Err(Halt::Broken) => {
             data.drop_unwritten();
             ports.close(data.stream.take());
@@ -216,6 +256,8 @@ where
     R: Read + Drop,
     W: Write + Drop,
     P: Ports,
+    requires { unheard_of control.old ≡ [] }
+    ensures { GoesSettled (beside R.remaining W.contents (N.client client.old) control.old) (beside R.remaining W.contents (N.client client.new) control.new) result }
 {
     match data.read() {
         Ok([]) => {
@@ -225,7 +267,7 @@ where
         }
         Ok(octets) => hand(client, octets),
         Err(Halt::Again) => Ok(()),
-        Err(Halt::Spoken) => control.read(client),
+        Err(Halt::Spoken) => read(client, control),
         Err(Halt::Broken) => {
             ports.close(data.stream.take());
             client.data_fault();
@@ -235,7 +277,9 @@ where
 }
 
 /// Hands octets of a download to the client until it has taken them all or the transfer is over, which drops the rest.
-fn hand<A: Allocator, N: Near<A>>(client: &mut N, octets: &[u8]) -> Result<(), Failed> {
+fn hand<A: Allocator, N: Near<A>>(client: &mut N, octets: &[u8]) -> Result<(), Failed>
+    ensures { Quietly (N.client client.old) (N.client client.new) }
+{
     let mut at = 0;
     while at < octets.len() {
         if client.wants() != Wants::Receive {

@@ -1,0 +1,110 @@
+-- What the parts of a drive say, put together.
+use Rattle.std.proofs.Common.{◌≡◌, ℕ, ◌<◌, ◌∙◌, List, [], ◌∷◌, length, refl, sym, ap, subst, inl, inr, Result, Ok, Err, arith}
+use Rattle.std.specs.Prelude.{IsErr, true, false}
+use Rattle.std.proofs.KnownBytes.{Keeps-refl}
+use Rattle.std.specs.Io.KnownBytes.{Consumes, IsAtEnd, Keeps}
+use Rattle.ftp_operation.specs.declared.answer.Answer.{Answer}
+use Rattle.ftp_pieces.proofs.Fronts.{AppendsFront-none}
+use Rattle.ftp_pieces.specs.Beginning.{AppendsFront}
+use Rattle.ftp_pieces.specs.declared.pieces.Failed.{Failed}
+use Rattle.ftp_client_machine.specs.Calls.{gives_control}
+use Rattle.ftp_client_machine.specs.Failing.{Holds}
+use Rattle.ftp_client_drive.specs.Deeds.{Read, Ended, Gives, IsCut, Stand}
+use Rattle.ftp_client_drive.specs.Driving.{Answers, Fails, Flushes, Goes, Leads, Settles}
+use Rattle.ftp_client_drive.proofs.Leading.{fails_here, fails_then, leads_on, leads_then, settled_leads}
+
+-- ---- results
+
+pub goes_err : {T : Type 0} (a b : Stand) (r : Result T Failed) → IsErr r → Fails a b → Goes a b r
+goes_err a b (Ok value) failed fails = absurd (let e : false ≡ true = failed in cc)
+goes_err a b (Err e) failed fails = fails
+
+pub flushes_err : {T : Type 0} (a b : Stand) (r : Result T Failed) → IsErr r → Fails a b → Flushes a b r
+flushes_err a b (Ok value) failed fails = absurd (let e : false ≡ true = failed in cc)
+flushes_err a b (Err e) failed fails = fails
+
+pub answers_err : {A : Type 0} (a b : Stand) (r : Result (Answer A) Failed) → IsErr r → Fails a b → Answers a b r
+answers_err a b (Ok answer) failed fails = absurd (let e : false ≡ true = failed in cc)
+answers_err a b (Err e) failed fails = fails
+
+pub goes_then : {T : Type 0} (a b c : Stand) (r : Result T Failed) → Leads a b → Goes b c r → Goes a c r
+goes_then a b c (Ok value) first goes = leads_then a b c first goes
+goes_then a b c (Err e) first fails = fails_then a b c first fails
+
+-- a part that calls the client alone and then gives up, or not
+pub goes_either : {T : Type 0} (a b : Stand) (r : Result T Failed) → Leads a b → Goes a b r
+goes_either a b (Ok value) leads = leads
+goes_either a b (Err e) leads = fails_here a b leads
+
+pub goes_settled : {T : Type 0} (start a b : Stand) (r : Result T Failed) → Settles start a → Goes a b r → Goes start b r
+goes_settled start a b r settles goes = goes_then start a b r (settled_leads start a settles) goes
+
+-- ---- octets
+
+-- where none was given into room, none was owed
+pub none_owed : (n room : ℕ) (owed : List ℕ) → n ≡ 0 → 0 < room → (0 < room → 0 < length owed → 0 < n) → owed ≡ []
+none_owed n room [] none some gave = refl
+none_owed n room (octet ∷ octets) none some gave = absurd (let least = gave some (omega arith) in omega (arith, least, none))
+
+-- ---- reads
+
+-- octets are read
+pub reads_next : (start old new : Stand) (octets : List ℕ) → Settles start old → old.unheard ≡ [] → Consumes old.left new.left octets
+    → new.unheard ≡ octets → new.written ≡ old.written → new.client ≡ old.client → Leads start new
+reads_next start old new octets settles heard read unheard written client =
+    let mid = settles.mid in
+    let owes = settles.owes in
+    leads_on (Read octets) start mid new settles.leads (record {
+      owes = record { owed = owes.owed; gave = subst (λ s. Holds mid.client s (gives_control 0 mid.client.view)) (sym client) owes.gave; same = refl };
+      heard = ap (λ s. s.unheard) (sym owes.same) ∙ heard;
+      read = subst (λ l. Consumes l new.left octets) (ap (λ s. s.left) owes.same) read;
+      unheard = unheard;
+      written = written ∙ ap (λ s. s.written) owes.same;
+    })
+
+-- none was left
+pub ends_here : (start old new : Stand) → Settles start old → old.unheard ≡ [] → Consumes old.left new.left [] → IsAtEnd new.left
+    → new.unheard ≡ [] → new.written ≡ old.written → IsCut old.client new.client → Leads start new
+ends_here start old new settles heard read last unheard written cut =
+    let mid = settles.mid in
+    let owes = settles.owes in
+    leads_on Ended start mid new settles.leads (record {
+      asked = old.client;
+      owes = record { owed = owes.owed; gave = owes.gave; same = refl };
+      heard = ap (λ s. s.unheard) (sym owes.same) ∙ heard;
+      read = subst (λ l. Consumes l new.left []) (ap (λ s. s.left) owes.same) read;
+      last = last;
+      cut = cut;
+      unheard = unheard;
+      written = written ∙ ap (λ s. s.written) owes.same;
+    })
+
+-- a read failed
+pub read_fails : (start old new : Stand) → Settles start old → Keeps old.left new.left → new.unheard ≡ old.unheard → new.written ≡ old.written
+    → new.client ≡ old.client → Fails start new
+read_fails start old new settles left unheard written client = record {
+  mid = old;
+  leads = settled_leads start old settles;
+  octets = [];
+  breaks = record {
+    gives = inl (refl, client);
+    left = left;
+    unheard = unheard;
+    wrote = subst (λ w. AppendsFront old.written w []) (sym written) (AppendsFront-none old.written []);
+  };
+}
+
+-- a write failed
+pub write_fails : (start old new : Stand) (octets : List ℕ) → Leads start old → Gives octets old.client new.client → AppendsFront old.written new.written octets
+    → new.left ≡ old.left → new.unheard ≡ old.unheard → Fails start new
+write_fails start old new octets leads gives wrote left unheard = record {
+  mid = old;
+  leads = leads;
+  octets = octets;
+  breaks = record {
+    gives = inr gives;
+    left = subst (λ l. Keeps old.left l) (sym left) (Keeps-refl old.left);
+    unheard = unheard;
+    wrote = wrote;
+  };
+}

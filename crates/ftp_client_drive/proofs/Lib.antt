@@ -1,0 +1,4 @@
+pub mod Leading
+pub mod Totals
+pub mod Going
+pub mod Turning
