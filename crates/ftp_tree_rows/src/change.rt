@@ -8,7 +8,7 @@ use ftp_path::Path;
 use ftp_tree::{Content, Tree, TreeFault};
 use std::alloc::Allocator;
 
-/// Does what a line says, and writes `done`, or how many octets of a front were had.
+/// Does what a line says, and writes `done`.
 pub fn show_change<A: Allocator + Copy, T: Tree<A>>(
     alloc: A,
     tree: &mut T,
@@ -17,16 +17,28 @@ pub fn show_change<A: Allocator + Copy, T: Tree<A>>(
 ) -> Result<(), TreeFault> {
     let root = place(alloc, line.root)?;
     let path = place(alloc, line.first)?;
-    match line.step {
-        Step::Make => tree.make_dir(&root, &path)?,
-        Step::Remove => tree.remove_dir(&root, &path)?,
-        Step::Delete => tree.delete(&root, &path)?,
-        Step::Rename => rename(alloc, tree, &root, &path, line.second)?,
-        Step::Install => install(alloc, tree, &root, &path, line)?,
-        _ => front(alloc, tree, &root, &path, line)?,
+    let answer = change(alloc, tree, &root, &path, line);
+    if answer.is_ok() {
+        paper.put(b"done");
     }
-    paper.put(b"done");
-    Ok(())
+    answer
+}
+
+fn change<A: Allocator + Copy, T: Tree<A>>(
+    alloc: A,
+    tree: &mut T,
+    root: &Path<A>,
+    path: &Path<A>,
+    line: &Line<'_>,
+) -> Result<(), TreeFault> {
+    match line.step {
+        Step::Make => tree.make_dir(root, path),
+        Step::Remove => tree.remove_dir(root, path),
+        Step::Delete => tree.delete(root, path),
+        Step::Rename => rename(alloc, tree, root, path, line.second),
+        Step::Install => install(alloc, tree, root, path, line),
+        _ => front(alloc, tree, root, path, line),
+    }
 }
 
 fn rename<A: Allocator + Copy, T: Tree<A>>(

@@ -63,7 +63,27 @@ fn play_text<A: Allocator + Copy>(
     paper.put(b"\n");
 }
 
-/// Plays the lines of a row.
+/// Plays the lines of a row on a mirrored tree.
+fn play_on<A: Allocator + Copy>(
+    heap: A,
+    alloc: Global,
+    mirror: &mut Mirrored<A>,
+    row: &[u8],
+    paper: &mut Paper,
+) {
+    let places = heading(row, b"places");
+    let mut rest = row;
+    for _ in 0..row.len() {
+        if rest.is_empty() {
+            break;
+        }
+        let (text, behind) = cut(rest, b'\n');
+        play_text(heap, alloc, mirror, places, text, paper);
+        rest = behind;
+    }
+}
+
+/// Plays the lines of a row on one of its own.
 pub fn play_mirrored<A: Allocator + Copy>(
     heap: A,
     alloc: Global,
@@ -71,15 +91,6 @@ pub fn play_mirrored<A: Allocator + Copy>(
     fails_at: u64,
     paper: &mut Paper,
 ) {
-    let places = heading(row, b"places");
     let mut mirror = Mirror::new(MemTree::new(heap), FailingFolder::new(alloc, fails_at));
-    let mut rest = row;
-    for _ in 0..row.len() {
-        if rest.is_empty() {
-            break;
-        }
-        let (text, behind) = cut(rest, b'\n');
-        play_text(heap, alloc, &mut mirror, places, text, paper);
-        rest = behind;
-    }
+    play_on(heap, alloc, &mut mirror, row, paper);
 }

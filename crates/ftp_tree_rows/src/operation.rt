@@ -8,7 +8,7 @@ use crate::verb::verb_of;
 use crate::words::{cut, split};
 use ftp_direct::direct;
 use ftp_facts::{Moment, Text};
-use ftp_operation::{Answer, Op};
+use ftp_operation::{Accounts, Answer, Op};
 use ftp_tree::Tree;
 use std::alloc::{AllocError, Allocator, Global};
 
@@ -60,8 +60,21 @@ fn run<A: Allocator + Copy, T: Tree<A>>(
     let (user, words) = split(words);
     let (pass, words) = split(words);
     let accounts = accounts(ample, if words.is_empty() { WHOLE } else { words })?;
+    run_as(ample, heap, tree, &accounts, user, pass, list)
+}
+
+/// The same of a user of these accounts.
+fn run_as<A: Allocator + Copy, T: Tree<A>>(
+    ample: A,
+    heap: A,
+    tree: &mut T,
+    accounts: &Accounts<A>,
+    user: &[u8],
+    pass: &[u8],
+    list: &[(Op<Text<A>>, Moment)],
+) -> Result<Vec<Answer<A>, A>, AllocError> {
     let login = login(ample, user, pass)?;
-    direct(&heap, tree, &accounts, &login, list)
+    direct(&heap, tree, accounts, &login, list)
 }
 
 /// The same of lines.

@@ -20,26 +20,30 @@ pub fn show_reading<A: Allocator, T: Tree<A>>(
 ) -> Result<(), TreeFault> {
     let root = place(alloc, line.root)?;
     let path = place(alloc, line.first)?;
+    read(alloc, tree, &root, &path, line, paper)
+}
+
+fn read<A: Allocator, T: Tree<A>>(
+    alloc: Global,
+    tree: &T,
+    root: &Path<Global>,
+    path: &Path<Global>,
+    line: &Line<'_>,
+    paper: &mut Paper,
+) -> Result<(), TreeFault> {
     match line.step {
-        Step::Kind => show_kind(tree, &root, &path, paper),
-        Step::Size => show_number(tree.size(&root, &path), paper),
-        Step::Stamp => show_second(tree, &root, &path, paper),
-        Step::Room => paper.number(tree.room(&root, &path)?),
-        Step::Names => show_names(tree, &root, &path, paper),
+        Step::Kind => show_kind(tree, root, path, paper),
+        Step::Size => show_number(tree.size(root, path), paper),
+        Step::Stamp => show_second(tree, root, path, paper),
+        Step::Room => paper.number(tree.room(root, path)?),
+        Step::Names => show_names(tree, root, path, paper),
         Step::Piece => paper.quote(tree.piece(
-            &root,
-            &path,
+            root,
+            path,
             number(line.second),
             number(line.third) as usize,
         )),
-        _ => show_file(
-            alloc,
-            tree,
-            &root,
-            &path,
-            number(line.second) as usize,
-            paper,
-        ),
+        _ => show_file(alloc, tree, root, path, number(line.second) as usize, paper),
     }
     Ok(())
 }

@@ -179,7 +179,31 @@ fn play_users<A: Allocator + Copy, T: Tree<A>>(
     }
 }
 
-/// Plays a row: lines, and then operations of users. Writes what then stands at its places, and how often the device failed.
+/// Plays a row on a tree: lines, and then operations of users. Writes what then stands at its places, and how often the device failed.
+fn play_on<A: Allocator + Copy, T: Tree<A>>(
+    ample: A,
+    heap: A,
+    alloc: Global,
+    tree: &mut T,
+    row: &[u8],
+    paper: &mut Paper,
+) {
+    let places = heading(row, b"places");
+    let (lines, users) = cut_before(row, b"\nas ");
+    play_lines(heap, alloc, tree, places, lines, paper);
+    play_users(ample, heap, alloc, tree, users, paper);
+    if !heading(row, b"fails").is_empty() {
+        paper.number(tree.device_failures().wrapping_add(1));
+        paper.put(b" failures\n");
+    }
+    if !places.is_empty() {
+        paper.put(b"stands: ");
+        show_places(alloc, tree, places, paper);
+        paper.put(b"\n");
+    }
+}
+
+/// Plays a row on a tree of its own.
 pub fn play_tree<A: Allocator + Copy>(
     ample: A,
     heap: A,
@@ -187,19 +211,6 @@ pub fn play_tree<A: Allocator + Copy>(
     row: &[u8],
     paper: &mut Paper,
 ) {
-    let places = heading(row, b"places");
-    let fails = heading(row, b"fails");
-    let (lines, users) = cut_before(row, b"\nas ");
-    let mut tree = FailingTree::new(heap, number(fails));
-    play_lines(heap, alloc, &mut tree, places, lines, paper);
-    play_users(ample, heap, alloc, &mut tree, users, paper);
-    if !fails.is_empty() {
-        paper.number(tree.device_failures().wrapping_add(1));
-        paper.put(b" failures\n");
-    }
-    if !places.is_empty() {
-        paper.put(b"stands: ");
-        show_places(alloc, &tree, places, paper);
-        paper.put(b"\n");
-    }
+    let mut tree = FailingTree::new(heap, number(heading(row, b"fails")));
+    play_on(ample, heap, alloc, &mut tree, row, paper);
 }
