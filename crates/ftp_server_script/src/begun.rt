@@ -1,127 +1,123 @@
 // What a server begins with.
-use crate::octets::{number, octets_of};
-use crate::walk::path;
-use ftp_carried::Carried;
-use ftp_endpoint::{Host, extended_endpoint};
-use ftp_facts::{Moment, Text};
+use crate::event::YEAR_2000;
+use crate::files::path;
+use ftp_facts::Text;
 use ftp_operation::{Account, Accounts};
+use ftp_paper::{cut, number, octets_of, split};
 use ftp_path::Path;
-use ftp_refusing::Refusing;
-use ftp_server::Server;
 use ftp_tree::{Content, MemTree, Tree};
 use std::alloc::{AllocError, Allocator, Global};
 
-/// A heap that refuses one growth.
-pub type Heap<'a> = &'a Refusing<Global>;
-
-pub type Held<'a> = Server<Heap<'a>, MemTree<Heap<'a>>, Carried<Heap<'a>>>;
-
-const HERE: Host = Host::V4([127, 0, 0, 1]);
-
-const PEER: Host = Host::V4([10, 0, 0, 2]);
-
-/// The first second of the year 2000.
-const YEAR_2000: Moment = Moment {
-    seconds: 946_684_800,
-};
-
-/// The words of the lines that say what a server begins with, or how a row is played.
-pub fn is_heading(word: &str) -> bool {
-    matches!(
-        word,
-        "#" | "root" | "here" | "peer" | "dir" | "dirs" | "file" | "in" | "growths"
-    )
-}
-
-/// The word of a line, and what stands behind it.
-pub fn split(line: &str) -> (&str, &str) {
-    line.split_once(' ').unwrap_or((line, ""))
-}
-
-/// What stands behind a word on the first line that begins with it.
-pub fn said<'a>(row: &'a str, word: &str) -> Option<&'a str> {
-    for line in row.lines() {
-        let (first, rest) = split(line);
-        if first == word {
-            return Some(rest);
-        }
-    }
-    None
-}
-
-/// The host of an endpoint that is written as in EPRT.
-pub fn host(text: &str) -> Host {
-    match extended_endpoint(text.as_bytes()) {
-        Ok(endpoint) => endpoint.host,
-        Err(_) => PEER,
-    }
-}
-
-fn host_or(text: Option<&str>, other: Host) -> Host {
-    match text {
-        Some(text) => host(text),
-        None => other,
-    }
-}
-
 /// `guest` with the password `secret`, and `anonymous` without one, both at this root.
-fn accounts<A: Allocator + Copy>(alloc: A, root: &str) -> Result<Accounts<A>, AllocError> {
+pub fn accounts<A: Allocator + Copy>(alloc: A, root: &[u8]) -> Result<Accounts<A>, AllocError> {
     let mut list = Vec::new(alloc);
-    let pass = Some(Text::copy_of(alloc, b"secret")?);
-    list.push(Account {
-        user: Text::copy_of(alloc, b"guest")?,
-        pass,
-        root: path(alloc, root.as_bytes())?,
-    })?;
-    list.push(Account {
-        user: Text::copy_of(alloc, b"anonymous")?,
-        pass: None,
-        root: path(alloc, root.as_bytes())?,
-    })?;
-    Accounts::new(list).ok().ok_or(AllocError)
+    list.push(account(alloc, b"guest", Some(b"secret"), root)?)?;
+    list.push(account(alloc, b"anonymous", None, root)?)?;
+    match Accounts::new(list) {
+        Ok(accounts) => Ok(accounts),
+        Err(_) => Err(AllocError),
+    }
+}
+
+fn account<A: Allocator + Copy>(
+    alloc: A,
+    user: &[u8],
+    pass: Option<&[u8]>,
+    root: &[u8],
+) -> Result<Account<Text<A>, Path<A>>, AllocError> {
+    let user = Text::copy_of(alloc, user)?;
+    let root = path(alloc, root)?;
+    let pass = match pass {
+        Some(pass) => Some(Text::copy_of(alloc, pass)?),
+        None => None,
+    };
+    Ok(Account { user, pass, root })
+}
+
+/// A tree with what a row puts into it; none where memory is refused.
+pub fn planted<A: Allocator + Copy>(own: Global, alloc: A, row: &[u8]) -> Option<MemTree<A>> {
+    let mut tree = MemTree::new(alloc);
+    if plants(own, alloc, &mut tree, row) {
+        Some(tree)
+    } else {
+        None
+    }
+}
+
+fn plants<A: Allocator + Copy>(own: Global, alloc: A, tree: &mut MemTree<A>, row: &[u8]) -> bool {
+    let mut rest = row;
+    for _ in 0..row.len() {
+        let (line, behind) = cut(rest, b'\n');
+        if !gives(own, alloc, tree, line) {
+            return false;
+        }
+        rest = behind;
+    }
+    true
 }
 
 /// Puts what a line says into the tree.
-fn given<A: Allocator + Copy>(
-    own: Global,
-    alloc: A,
-    tree: &mut MemTree<A>,
-    line: &str,
-) -> Result<(), AllocError> {
-    let root = Path::root(alloc);
-    match split(line) {
-        ("dir", text) => {
-            let path = path(alloc, text.as_bytes())?;
-            tree.make_dir(&root, &path).ok().ok_or(AllocError)
-        }
-        ("dirs", count) => fill_up(alloc, tree, number(count)),
-        ("file", rest) => {
-            let (text, octets) = split(rest);
-            let path = path(alloc, text.as_bytes())?;
-            let mut content = Content::new(alloc);
-            content.push(octets_of(own, octets)?.as_slice())?;
-            tree.install(&root, &path, &mut content, YEAR_2000)
-                .ok()
-                .ok_or(AllocError)
-        }
-        _ => Ok(()),
+fn gives<A: Allocator + Copy>(own: Global, alloc: A, tree: &mut MemTree<A>, line: &[u8]) -> bool {
+    let (word, rest) = split(line);
+    if word == b"dir".as_slice() {
+        makes_dir(alloc, tree, rest)
+    } else if word == b"dirs".as_slice() {
+        fills_up(alloc, tree, number(rest))
+    } else if word == b"file".as_slice() {
+        makes_file(own, alloc, tree, rest)
+    } else {
+        true
     }
 }
 
-/// Puts so many directories into the tree, `/00000` and on, or as many as it takes.
-fn fill_up<A: Allocator + Copy>(
+fn makes_dir<A: Allocator + Copy>(alloc: A, tree: &mut MemTree<A>, text: &[u8]) -> bool {
+    match path(alloc, text) {
+        Ok(path) => tree.make_dir(&Path::root(alloc), &path).is_ok(),
+        Err(_) => false,
+    }
+}
+
+fn makes_file<A: Allocator + Copy>(
+    own: Global,
     alloc: A,
     tree: &mut MemTree<A>,
-    count: u64,
-) -> Result<(), AllocError> {
-    let root = Path::root(alloc);
+    rest: &[u8],
+) -> bool {
+    let (text, octets) = split(rest);
+    match octets_of(own, octets) {
+        Ok(octets) => puts(alloc, tree, text, octets.as_slice()),
+        Err(_) => false,
+    }
+}
+
+fn puts<A: Allocator + Copy>(alloc: A, tree: &mut MemTree<A>, text: &[u8], octets: &[u8]) -> bool {
+    match path(alloc, text) {
+        Ok(path) => installs(alloc, tree, &path, octets),
+        Err(_) => false,
+    }
+}
+
+fn installs<A: Allocator + Copy>(
+    alloc: A,
+    tree: &mut MemTree<A>,
+    path: &Path<A>,
+    octets: &[u8],
+) -> bool {
+    let mut content = Content::new(alloc);
+    content.push(octets).is_ok()
+        && tree
+            .install(&Path::root(alloc), path, &mut content, YEAR_2000)
+            .is_ok()
+}
+
+/// Puts so many directories into the tree, `/00000` and on, or as many as it takes.
+fn fills_up<A: Allocator + Copy>(alloc: A, tree: &mut MemTree<A>, count: u64) -> bool {
     for place in 0..count.min(100_000) {
-        let path = path(alloc, &numbered(place))?;
-        if tree.make_dir(&root, &path).is_err() {
+        if !makes_dir(alloc, tree, &numbered(place)) {
             break;
         }
     }
-    Ok(())
+    true
 }
 
 /// The path of a number of five digits.
@@ -138,27 +134,4 @@ fn numbered(place: u64) -> [u8; 6] {
 
 fn digit(value: u64) -> u8 {
     b'0' + (value % 10) as u8
-}
-
-/// A server as a row says, in the year 2000. What it grows by comes from `heap`.
-pub fn begun<'a>(
-    own: Global,
-    ample: Heap<'a>,
-    heap: Heap<'a>,
-    row: &str,
-) -> Result<Held<'a>, AllocError> {
-    let accounts = accounts(ample, said(row, "root").unwrap_or("/"))?;
-    let mut tree = MemTree::new(heap);
-    for line in row.lines() {
-        given(own, heap, &mut tree, line)?;
-    }
-    let here = host_or(said(row, "here"), HERE);
-    let peer = host_or(said(row, "peer"), PEER);
-    match Server::new(heap, tree, accounts, here, peer) {
-        Ok(mut server) => {
-            server.clock(YEAR_2000);
-            Ok(server)
-        }
-        Err(_) => Err(AllocError),
-    }
 }

@@ -2,27 +2,25 @@
 #![tactic(auto)]
 
 mod begun;
-mod growths;
-mod held;
-mod octets;
-mod paper;
+mod desk;
+mod event;
+mod files;
+mod lines;
+mod plays;
+mod refusals;
 mod row;
+mod run;
 mod stage;
-mod step;
-mod tally;
-mod walk;
+mod uploads;
+mod verb;
 
-use row::played;
+use row::play_all;
 use std::io;
-use std::io::Write;
+use std::io::{Read, Write};
 
-/// Rows are paragraphs.
 fn main(rt: HostRuntime) -> io::Result<()> {
-    let script = io::read_to_string(rt.alloc(), rt.reader())?;
-    let mut writer = io::writer(&rt);
-    for row in script.as_str().split("\n\n") {
-        let paper = played(rt.alloc(), row);
-        writer.write_all(paper.text().as_bytes())?;
-    }
-    Ok(())
+    let mut script = Vec::new(rt.alloc());
+    rt.reader().read_to_end(&mut script)?;
+    let paper = play_all(rt.alloc(), script.as_slice());
+    io::writer(&rt).write_all(paper.text())
 }

@@ -1,74 +1,58 @@
 // A row of a script is played, and played again.
-use crate::begun::{begun, said};
-use crate::growths::show_growths;
-use crate::held::Holds;
-use crate::octets::number;
-use crate::paper::Paper;
-use crate::stage::{ROOM, Stage};
-use ftp_refusing::Refusing;
-use ftp_tree::MemTree;
-use std::alloc::{AllocError, Allocator, Global};
-use std::mem;
+use crate::desk::{Desk, ROOM};
+use crate::refusals::show_growths;
+use crate::run::{Turn, run};
+use ftp_paper::{Paper, cut, number, row_in_front, said};
+use std::alloc::Global;
 
-/// Plays a row whole: what it writes.
-pub fn played(alloc: Global, row: &str) -> Paper {
+/// Plays each row of a script. Rows are paragraphs.
+pub fn play_all(alloc: Global, script: &[u8]) -> Paper {
     let mut paper = Paper::new(alloc);
-    match play(alloc, row, ROOM) {
-        Ok(first) => {
-            paper.put(first.text());
-            if first.is_full() {
-                paper.put("= no memory\n");
-            }
-            in_pieces(alloc, row, first.text(), &mut paper);
-            if said(row, "growths").is_some() {
-                show_growths(alloc, row, first.text(), &mut paper);
-            }
+    let mut rest = script;
+    for _ in 0..script.len() {
+        if rest.is_empty() {
+            break;
         }
-        Err(_) => paper.put("= not begun\n"),
+        let (row, behind) = row_in_front(rest);
+        play_row(alloc, row, &mut paper);
+        rest = behind;
     }
-    paper.put("\n");
     paper
 }
 
-/// Plays a row with at most so many octets in a call.
-fn play(alloc: Global, row: &str, size: usize) -> Result<Paper, AllocError> {
-    let ample = Refusing::new(alloc, 0);
-    let server = begun(alloc, &ample, &ample, row)?;
-    Ok(play_on(alloc, server, row, size))
-}
-
-/// Plays the lines of a row.
-fn play_on<A: Allocator + Copy, S: Holds<A, MemTree<A>>>(
-    alloc: Global,
-    server: S,
-    row: &str,
-    size: usize,
-) -> Paper {
-    let mut stage = Stage::new(alloc, server, size);
-    for line in row.lines() {
-        stage.play(line);
+/// Plays a row whole, and then as it says.
+fn play_row(alloc: Global, row: &[u8], paper: &mut Paper) {
+    let mut desk = Desk::new(alloc, ROOM);
+    let turn = Turn { row, whole: None };
+    run(alloc, turn, 0, &mut desk);
+    desk.put_all(paper);
+    let whole = desk.paper.text();
+    in_pieces(alloc, turn, whole, paper);
+    if said(row, b"growths").is_some() {
+        show_growths(alloc, row, whole, paper);
     }
-    mem::replace(&mut stage.paper, Paper::new(alloc))
+    paper.put(b"\n");
 }
 
 /// Plays a row in pieces of each size that it names, and says where that writes something else.
-fn in_pieces(alloc: Global, row: &str, text: &str, paper: &mut Paper) {
-    let Some(sizes) = said(row, "in") else {
-        return;
-    };
-    let most = number(sizes.strip_prefix("pieces of 1 to ").unwrap_or("0"));
-    for size in 1..=most.min(1_000) {
-        if !is_same(play(alloc, row, size as usize), text) {
-            paper.put("= otherwise in pieces of ");
+fn in_pieces(alloc: Global, turn: Turn<'_>, whole: &[u8], paper: &mut Paper) {
+    for size in 1..=pieces(turn.row).min(1_000) {
+        if !is_same_in(alloc, turn, whole, size as usize) {
+            paper.put(b"= otherwise in pieces of ");
             paper.number(size);
-            paper.put("\n");
+            paper.put(b"\n");
         }
     }
 }
 
-fn is_same(paper: Result<Paper, AllocError>, text: &str) -> bool {
-    match paper {
-        Ok(paper) => paper.text() == text,
-        Err(_) => false,
-    }
+/// The greatest size of `in pieces of 1 to 12`; 0 where there is no such line.
+fn pieces(row: &[u8]) -> u64 {
+    let (_, rest) = cut(said(row, b"in").unwrap_or(b""), b'1');
+    number(rest.strip_prefix(b" to ").unwrap_or(b""))
+}
+
+fn is_same_in(alloc: Global, turn: Turn<'_>, whole: &[u8], size: usize) -> bool {
+    let mut desk = Desk::new(alloc, size);
+    run(alloc, turn, 0, &mut desk);
+    desk.is_begun && desk.paper.text() == whole
 }

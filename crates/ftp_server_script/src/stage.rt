@@ -1,198 +1,80 @@
 // A server to which something happens, and what comes of it.
-use crate::held::{HELD_LIMIT, Holds};
-use crate::paper::Paper;
-use crate::tally::{Tally, fixed};
-use crate::walk::{path, show_node, show_tree};
+use crate::desk::{Desk, ROOM, drawn};
+use crate::plays::Plays;
 use ftp_endpoint::write_extended;
 use ftp_ends::Wants;
-use ftp_tree::MemTree;
-use std::alloc::{Allocator, Global};
-use std::marker::PhantomData;
+use ftp_paper::{Paper, Tally, fixed};
 
 /// More than the turns of a loop over calls.
 const TURNS: u64 = 100_000_000;
 
-/// The most octets of one call.
-pub const ROOM: usize = 1_000;
+/// The most octets that may be held.
+const HELD_LIMIT: usize = 24_576;
 
-/// What meets the server's calls, the control octets of its row, and what the row writes.
-#[derive(Drop)]
-pub struct Stage<A, S: Drop> {
-    /// How the server's tree grows.
-    pub growth: PhantomData<A>,
-    pub server: S,
-    pub paper: Paper,
-    pub alloc: Global,
-    /// The control octets so far, and how many of them were taken.
-    octets: Vec<u8>,
-    heard: usize,
-    /// The most octets of one call.
-    size: usize,
-    wanted: Wants,
+/// Control octets are taken as long as any are, then what is owed is written, and so on until nothing moves.
+pub fn settle<P: Plays>(end: &mut P, desk: &mut Desk) {
+    for _ in 0..TURNS {
+        if !hears(end, desk) && !owes(end, desk) {
+            break;
+        }
+    }
 }
 
-impl<A: Allocator + Copy, S: Holds<A, MemTree<A>>> Stage<A, S> {
-    pub fn new(alloc: Global, server: S, size: usize) -> Stage<A, S> {
-        Stage {
-            growth: PhantomData,
-            server,
-            paper: Paper::new(alloc),
-            alloc,
-            octets: Vec::new(alloc),
-            heard: 0,
-            size,
-            wanted: Wants::Nothing,
+/// One call with the control octets that were not taken yet: whether it took any.
+fn hears<P: Plays>(end: &mut P, desk: &mut Desk) -> bool {
+    let count = end.hear(desk.next_piece());
+    desk.took(count);
+    weigh(end, &mut desk.paper);
+    count != 0
+}
+
+/// One call for the control octets that are owed: whether there were any.
+fn owes<P: Plays>(end: &mut P, desk: &mut Desk) -> bool {
+    let mut room = [0; ROOM];
+    let (room, _) = room.split_at_mut(desk.size.min(ROOM));
+    let count = end.control_out(room).min(room.len());
+    desk.paper.lines(b"< ", &room[..count]);
+    weigh(end, &mut desk.paper);
+    count != 0
+}
+
+/// Says where too much is held.
+pub fn weigh<P: Plays>(end: &P, paper: &mut Paper) {
+    if end.held() > HELD_LIMIT {
+        paper.put(b"= too much is held\n");
+    }
+}
+
+/// These data octets come; those that are not taken are counted.
+pub fn come<P: Plays>(end: &mut P, desk: &mut Desk, octets: &[u8]) {
+    let mut rest = octets;
+    for _ in 0..TURNS {
+        let (piece, _) = rest.split_at(desk.size.min(rest.len()));
+        let count = end.data_hear(piece);
+        weigh(end, &mut desk.paper);
+        (_, rest) = rest.split_at(count.min(rest.len()));
+        if count == 0 && !owes(end, desk) {
+            break;
         }
     }
+    if !rest.is_empty() {
+        desk.paper.number(rest.len() as u64);
+        desk.paper.put(b" not taken\n");
+    }
+}
 
-    /// These control octets come.
-    pub fn say(&mut self, octets: &[u8]) {
-        if self.octets.extend_from_slice(octets).is_err() {
-            self.paper.fill();
+/// So many data octets of the fixed sequence come.
+pub fn come_fixed<P: Plays>(end: &mut P, desk: &mut Desk, count: u64) {
+    let mut piece = [0; ROOM];
+    let mut at = 0;
+    for _ in 0..TURNS {
+        if count <= at {
+            break;
         }
-    }
-
-    /// Control octets are taken as long as any are, then what is owed is written, and so on until nothing moves.
-    pub fn settle(&mut self) {
-        for _ in 0..TURNS {
-            if !self.hears() && !self.owes() {
-                break;
-            }
-        }
-    }
-
-    /// One call with the control octets that were not taken yet: whether it took any.
-    fn hears(&mut self) -> bool {
-        let all = self.octets.as_slice();
-        let (_, rest) = all.split_at(self.heard.min(all.len()));
-        let (piece, _) = rest.split_at(self.size.min(rest.len()));
-        let count = self.server.hear(piece);
-        self.heard = self.heard.saturating_add(count);
-        self.weigh();
-        count != 0
-    }
-
-    /// One call for the control octets that are owed: whether there were any.
-    fn owes(&mut self) -> bool {
-        let mut room = [0; ROOM];
-        let (room, _) = room.split_at_mut(self.size.min(ROOM));
-        let count = self.server.control_out(room);
-        self.paper.replies(&room[..count]);
-        self.weigh();
-        count != 0
-    }
-
-    /// Says where too much is held.
-    pub fn weigh(&mut self) {
-        if self.server.held() > HELD_LIMIT {
-            self.paper.put("= too much is held\n");
-        }
-    }
-
-    /// How much is held now.
-    pub fn show_held(&mut self) {
-        self.paper.put("= ");
-        self.paper.number(self.server.held() as u64);
-        self.paper.put(" octets held\n");
-    }
-
-    /// These data octets come; those that are not taken are counted.
-    pub fn come(&mut self, octets: &[u8]) {
-        let mut rest = octets;
-        for _ in 0..TURNS {
-            let (piece, _) = rest.split_at(self.size.min(rest.len()));
-            let count = self.server.data_hear(piece);
-            self.weigh();
-            (_, rest) = rest.split_at(count.min(rest.len()));
-            if count == 0 && !self.owes() {
-                break;
-            }
-        }
-        if !rest.is_empty() {
-            self.paper.number(rest.len() as u64);
-            self.paper.put(" not taken\n");
-        }
-    }
-
-    /// So many data octets of the fixed sequence come.
-    pub fn come_fixed(&mut self, count: u64) {
-        let mut piece = [0; ROOM];
-        let mut at = 0;
-        for _ in 0..TURNS {
-            if count <= at {
-                break;
-            }
-            let size = ROOM.min((count - at) as usize);
-            fill(&mut piece, at);
-            self.come(&piece[..size]);
-            at += size as u64;
-        }
-    }
-
-    /// Data octets are given as long as there are any, this many at most in a call.
-    pub fn give(&mut self, size: usize) {
-        let mut room = [0; ROOM];
-        let (room, _) = room.split_at_mut(size.min(self.size).min(ROOM));
-        let mut tally = Tally::new();
-        for _ in 0..TURNS {
-            let count = self.server.data_out(room);
-            self.weigh();
-            if count == 0 {
-                break;
-            }
-            tally.take(&room[..count]);
-        }
-        self.settle();
-        tally.show(&mut self.paper);
-    }
-
-    /// What is wanted now, where that was not wanted before.
-    pub fn show_wants(&mut self) {
-        let wants = self.server.wants();
-        if wants != self.wanted {
-            self.wanted = wants;
-            self.paper.put("= wants ");
-            self.put_wants(wants);
-            self.paper.put("\n");
-        }
-    }
-
-    fn put_wants(&mut self, wants: Wants) {
-        self.paper.put(match wants {
-            Wants::Nothing => "nothing",
-            Wants::Listen => "a port",
-            Wants::Accept => "to accept",
-            Wants::Connect(_) => "to connect to ",
-            Wants::Receive => "to receive",
-            Wants::Send => "to send",
-            Wants::CloseData => "the data connection closed",
-            Wants::CloseAll => "the control connection closed",
-        });
-        if let Wants::Connect(endpoint) = wants {
-            self.paper.octets(&write_extended(endpoint));
-        }
-    }
-
-    /// The file `/f` as it is now.
-    pub fn show_file(&mut self) {
-        match path(self.alloc, b"/f") {
-            Ok(path) => show_node(self.alloc, self.server.tree(), &path, &mut self.paper),
-            Err(_) => self.paper.fill(),
-        }
-    }
-
-    /// The tree as it is now.
-    pub fn tree(&self) -> Paper {
-        let mut paper = Paper::new(self.alloc);
-        if show_tree(self.alloc, self.server.tree(), &mut paper).is_err() {
-            paper.fill();
-        }
-        paper
-    }
-
-    pub fn show_tree(&mut self) {
-        let tree = self.tree();
-        self.paper.put(tree.text());
+        let size = ROOM.min((count - at) as usize);
+        fill(&mut piece, at);
+        come(end, desk, &piece[..size]);
+        at += size as u64;
     }
 }
 
@@ -202,5 +84,75 @@ fn fill(piece: &mut [u8; ROOM], at: u64) {
     for octet in piece {
         *octet = fixed(place);
         place = place.wrapping_add(1);
+    }
+}
+
+/// So many data octets come, drawn by a fixed rule.
+pub fn come_noise<P: Plays>(end: &mut P, desk: &mut Desk, count: u64) {
+    let mut state = 959;
+    for _ in 0..count {
+        state = drawn(state);
+        come(end, desk, &[(state >> 24) as u8]);
+    }
+}
+
+/// Data octets are given as long as there are any, this many at most in a call.
+pub fn give<P: Plays>(end: &mut P, desk: &mut Desk, size: usize) {
+    let mut tally = Tally::new();
+    for _ in 0..TURNS {
+        if !gives(end, desk, size, &mut tally) {
+            break;
+        }
+    }
+    settle(end, desk);
+    tally.show(&mut desk.paper);
+    desk.paper.put(b"\n");
+}
+
+/// One call for data octets: whether there were any.
+fn gives<P: Plays>(end: &mut P, desk: &mut Desk, size: usize, tally: &mut Tally) -> bool {
+    let mut room = [0; ROOM];
+    let (room, _) = room.split_at_mut(size.min(desk.size).min(ROOM));
+    let count = end.data_out(room).min(room.len());
+    weigh(end, &mut desk.paper);
+    tally.take(&room[..count]);
+    count != 0
+}
+
+/// One call for data octets, this many at most; they are not shown.
+pub fn give_once<P: Plays>(end: &mut P, size: usize) {
+    let mut room = [0; ROOM];
+    let (room, _) = room.split_at_mut(size.min(ROOM));
+    let _ = end.data_out(room);
+}
+
+/// What is wanted now, where that was not wanted before.
+pub fn show_wants<P: Plays>(end: &P, desk: &mut Desk) {
+    let wants = end.wants();
+    if wants != desk.wanted {
+        desk.wanted = wants;
+        desk.paper.put(b"= wants ");
+        put_wants(wants, &mut desk.paper);
+        desk.paper.put(b"\n");
+    }
+}
+
+fn put_wants(wants: Wants, paper: &mut Paper) {
+    paper.put(wanted(wants));
+    if let Wants::Connect(endpoint) = wants {
+        paper.put(&write_extended(endpoint));
+    }
+}
+
+fn wanted(wants: Wants) -> &'static [u8] {
+    match wants {
+        Wants::Nothing => b"nothing",
+        Wants::Listen => b"a port",
+        Wants::Accept => b"to accept",
+        Wants::Connect(_) => b"to connect to ",
+        Wants::Receive => b"to receive",
+        Wants::Send => b"to send",
+        Wants::CloseData => b"the data connection closed",
+        Wants::CloseAll => b"the control connection closed",
     }
 }

@@ -44,19 +44,19 @@ impl Tally {
         self.count = self.count.wrapping_add(1);
     }
 
-    /// Shows the octets, or how many they are.
+    /// Shows the octets between double quotes, or how many they are.
     pub fn show(&self, paper: &mut Paper) {
         if self.count <= SHOWN as u64 {
-            paper.put("\"");
+            paper.put(b"\"");
             paper.octets(&self.first[..self.count as usize]);
-            paper.put("\"\n");
+            paper.put(b"\"");
             return;
         }
         paper.number(self.count);
-        paper.put(if self.is_fixed {
-            " octets of the fixed sequence\n"
+        if self.is_fixed {
+            paper.put(b" octets of the fixed sequence");
         } else {
-            " other octets\n"
-        });
+            paper.put(b" other octets");
+        }
     }
 }
