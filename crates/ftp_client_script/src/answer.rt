@@ -1,9 +1,9 @@
 // What a client reports and wants.
-use crate::paper::Paper;
 use ftp_endpoint::write_extended;
 use ftp_ends::Wants;
 use ftp_facts::{Entry, moment_text, write_entry};
 use ftp_operation::Answer;
+use ftp_paper::Paper;
 use std::alloc::{Allocator, Global};
 
 /// A report, on a line behind `= `.

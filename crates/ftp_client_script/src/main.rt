@@ -2,13 +2,15 @@
 #![tactic(auto)]
 
 mod answer;
-mod octets;
-mod paper;
+mod desk;
+mod event;
+mod lines;
+mod plays;
 mod request;
 mod row;
+mod run;
 mod stage;
 mod verb;
-mod words;
 
 use row::play_all;
 use std::io;

@@ -1,35 +1,59 @@
 // The line of an operation.
-use crate::octets::number;
-use crate::verb::Verb;
-use crate::words::{quoted, split};
 use ftp_facts::Text;
 use ftp_operation::{How, Op};
+use ftp_paper::{number, quoted, split};
 use ftp_representation::{Kind, Mode, Representation, Structure};
 use std::alloc::Allocator;
+
+/// Which operation is asked for.
+#[derive(Clone, Copy)]
+pub enum Asked {
+    Upload,
+    Where,
+    ChangeDir,
+    Up,
+    MakeDir,
+    RemoveDir,
+    Delete,
+    Rename,
+    Put,
+    Append,
+    PutFrom,
+    Get,
+    GetFrom,
+    Peek,
+    Size,
+    Modified,
+    Facts,
+    List,
+    Names,
+}
 
 /// What an operation asks for beside its path: a number, a second text, and how octets go.
 #[derive(Clone, Copy)]
 pub struct Request<'a> {
+    pub asked: Asked,
     pub path: &'a [u8],
     pub number: u64,
     pub other: &'a [u8],
     pub how: How,
 }
 
-/// The request that stands behind a verb.
-pub fn request_of(verb: Verb, words: &[u8]) -> Request<'_> {
+/// The request that stands behind a word.
+pub fn request_of(asked: Asked, words: &[u8]) -> Request<'_> {
     let (path, rest) = quoted(words);
-    let (count, rest) = if has_number(verb) {
+    let (count, rest) = if has_number(asked) {
         split(rest)
     } else {
         (words, rest)
     };
-    let (other, rest) = if has_other(verb) {
+    let (other, rest) = if has_other(asked) {
         quoted(rest)
     } else {
         (b"".as_slice(), rest)
     };
     Request {
+        asked,
         path,
         number: number(count),
         other,
@@ -37,18 +61,18 @@ pub fn request_of(verb: Verb, words: &[u8]) -> Request<'_> {
     }
 }
 
-fn has_number(verb: Verb) -> bool {
-    matches!(verb, Verb::PutFrom | Verb::GetFrom | Verb::Peek)
+fn has_number(asked: Asked) -> bool {
+    matches!(asked, Asked::PutFrom | Asked::GetFrom | Asked::Peek)
 }
 
-fn has_other(verb: Verb) -> bool {
+fn has_other(asked: Asked) -> bool {
     matches!(
-        verb,
-        Verb::Rename | Verb::Put | Verb::Append | Verb::PutFrom | Verb::Upload
+        asked,
+        Asked::Rename | Asked::Put | Asked::Append | Asked::PutFrom | Asked::Upload
     )
 }
 
-/// Type, structure and mode by their letters, the opening by its verb, and perhaps `marks`.
+/// Type, structure and mode by their letters, the opening by its asked, and perhaps `marks`.
 fn how_of(text: &[u8]) -> How {
     let (kind, rest) = split(text);
     let (structure, rest) = split(rest);
@@ -82,33 +106,33 @@ fn is(word: &[u8], other: &[u8]) -> bool {
     word == other
 }
 
-/// The operation of a verb with these texts; none where it is no operation.
+/// The operation with these texts; none for an upload over breaks.
 pub fn operation<A: Allocator>(
-    verb: Verb,
+    asked: Asked,
     path: Text<A>,
     number: u64,
     other: Text<A>,
     how: How,
 ) -> Option<Op<Text<A>>> {
-    Some(match verb {
-        Verb::Where => Op::Where,
-        Verb::ChangeDir => Op::ChangeDir(path),
-        Verb::Up => Op::Up,
-        Verb::MakeDir => Op::MakeDir(path),
-        Verb::RemoveDir => Op::RemoveDir(path),
-        Verb::Delete => Op::Delete(path),
-        Verb::Rename => Op::Rename(path, other),
-        Verb::Put => Op::Put(path, other, how),
-        Verb::Append => Op::Append(path, other, how),
-        Verb::PutFrom => Op::PutFrom(path, number, other, how),
-        Verb::Get => Op::Get(path, how),
-        Verb::GetFrom => Op::GetFrom(path, number, how),
-        Verb::Peek => Op::Peek(path, number, how),
-        Verb::Size => Op::Size(path, how),
-        Verb::Modified => Op::Modified(path),
-        Verb::Facts => Op::Facts(path),
-        Verb::List => Op::List(path, how),
-        Verb::Names => Op::Names(path, how),
-        _ => return None,
+    Some(match asked {
+        Asked::Where => Op::Where,
+        Asked::ChangeDir => Op::ChangeDir(path),
+        Asked::Up => Op::Up,
+        Asked::MakeDir => Op::MakeDir(path),
+        Asked::RemoveDir => Op::RemoveDir(path),
+        Asked::Delete => Op::Delete(path),
+        Asked::Rename => Op::Rename(path, other),
+        Asked::Put => Op::Put(path, other, how),
+        Asked::Append => Op::Append(path, other, how),
+        Asked::PutFrom => Op::PutFrom(path, number, other, how),
+        Asked::Get => Op::Get(path, how),
+        Asked::GetFrom => Op::GetFrom(path, number, how),
+        Asked::Peek => Op::Peek(path, number, how),
+        Asked::Size => Op::Size(path, how),
+        Asked::Modified => Op::Modified(path),
+        Asked::Facts => Op::Facts(path),
+        Asked::List => Op::List(path, how),
+        Asked::Names => Op::Names(path, how),
+        Asked::Upload => return None,
     })
 }

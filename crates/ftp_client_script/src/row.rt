@@ -1,8 +1,7 @@
 // A row: played whole, in pieces, and with each of its growths refused in turn.
-use crate::paper::Paper;
-use crate::stage::Stage;
-use crate::words::cut;
-use ftp_refusing::Refusing;
+use crate::desk::Desk;
+use crate::run::run;
+use ftp_paper::{Paper, first_other, row_in_front};
 use std::alloc::Global;
 
 /// More octets than a line has.
@@ -23,88 +22,52 @@ pub fn play_all(alloc: Global, script: &[u8]) -> Paper {
     paper
 }
 
-/// The lines before the first empty one, and what stands behind that.
-fn row_in_front(script: &[u8]) -> (&[u8], &[u8]) {
-    for at in 0..script.len() {
-        let (row, rest) = script.split_at(at);
-        if let [b'\n', b'\n', behind @ ..] = rest {
-            return (row, behind);
-        }
-    }
-    (script, b"")
-}
-
 /// What a row writes. Where it goes otherwise in pieces of one, two or three octets, or where a refused growth is not told, that stands
 /// behind it.
 fn play_row(alloc: Global, row: &[u8], paper: &mut Paper) {
-    let (whole, growths) = run(alloc, row, WHOLE, 0);
-    paper.put(whole.text());
-    compare_pieces(alloc, row, whole.text(), paper);
-    compare_growths(alloc, row, whole.text(), growths, paper);
+    let mut desk = Desk::new(alloc, WHOLE);
+    let growths = run(alloc, row, 0, &mut desk);
+    let whole = desk.paper.text();
+    paper.put(whole);
+    for piece in 1..4 {
+        compare_piece(alloc, row, whole, piece, paper);
+    }
+    for refused in 1..=growths {
+        compare_growth(alloc, row, whole, refused, paper);
+    }
     paper.put(b"\n");
 }
 
-/// What a row writes in pieces of so many octets at most, with that growth refused, and how many growths it asked for.
-fn run(alloc: Global, row: &[u8], piece: usize, refused: u64) -> (Paper, u64) {
-    let heap = Refusing::new(alloc, refused);
-    let paper = play(alloc, &heap, row, piece);
-    let growths = refused.wrapping_sub(heap.left());
-    (paper, growths)
-}
-
-fn play(alloc: Global, heap: &Refusing<Global>, row: &[u8], piece: usize) -> Paper {
-    let mut paper = Paper::new(alloc);
-    match Stage::new(alloc, heap, row, piece) {
-        Ok(mut stage) => stage.play(row, &mut paper),
-        Err(_) => paper.line(b"! no client"),
-    }
-    paper
-}
-
-fn compare_pieces(alloc: Global, row: &[u8], whole: &[u8], paper: &mut Paper) {
-    for piece in 1..4 {
-        let (other, _) = run(alloc, row, piece, 0);
-        if other.text() != whole {
-            paper.line(b"! otherwise in pieces of so many octets:");
-            paper.number(piece as u64);
-            paper.line(b"");
-            paper.put(other.text());
-        }
+fn compare_piece(alloc: Global, row: &[u8], whole: &[u8], piece: usize, paper: &mut Paper) {
+    let mut desk = Desk::new(alloc, piece);
+    run(alloc, row, 0, &mut desk);
+    let other = desk.paper.text();
+    if other != whole {
+        paper.line(b"! otherwise in pieces of so many octets:");
+        paper.number(piece as u64);
+        paper.line(b"");
+        paper.put(other);
     }
 }
 
-fn compare_growths(alloc: Global, row: &[u8], whole: &[u8], growths: u64, paper: &mut Paper) {
-    for refused in 1..=growths {
-        let (other, _) = run(alloc, row, WHOLE, refused);
-        if !is_told(first_other(other.text(), whole)) {
-            paper.line(b"! a refused growth is not told:");
-            paper.number(refused);
-            paper.line(b"");
-            paper.put(other.text());
-        }
+fn compare_growth(alloc: Global, row: &[u8], whole: &[u8], refused: u64, paper: &mut Paper) {
+    let mut desk = Desk::new(alloc, WHOLE);
+    run(alloc, row, refused, &mut desk);
+    let other = desk.paper.text();
+    if !is_told(first_other(other, whole)) {
+        paper.line(b"! a refused growth is not told:");
+        paper.number(refused);
+        paper.line(b"");
+        paper.put(other);
     }
-}
-
-/// The first line that is another one.
-fn first_other<'a>(text: &'a [u8], whole: &[u8]) -> &'a [u8] {
-    let mut rest = text;
-    let mut wanted = whole;
-    for _ in 0..text.len() {
-        let (line, behind) = cut(rest, b'\n');
-        let (line_wanted, wanted_behind) = cut(wanted, b'\n');
-        if line != line_wanted {
-            return line;
-        }
-        rest = behind;
-        wanted = wanted_behind;
-    }
-    b""
 }
 
 /// Lines by which a refused growth may be told.
 const TOLD: &[&'static [u8]] = &[b"= memory", b"! no memory", b"! no client", b"? close all"];
 
-fn is_told(line: &[u8]) -> bool {
+/// Whether a line that is another one tells it.
+fn is_told(line: Option<&[u8]>) -> bool {
+    let line = line.unwrap_or(b"");
     for told in TOLD {
         if *told == line {
             return true;

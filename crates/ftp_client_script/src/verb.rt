@@ -1,4 +1,19 @@
 // The words that a line begins with.
+use crate::request::Asked;
+use ftp_paper::found;
+
+/// What happens to the connections.
+#[derive(Clone, Copy)]
+pub enum Happening {
+    Listening,
+    NoPort,
+    Opened,
+    Refused,
+    Ended,
+    Broke,
+    Closed,
+    Gone,
+}
 
 /// What a line is about.
 #[derive(Clone, Copy)]
@@ -12,33 +27,9 @@ pub enum Verb {
     Held,
     Brings,
     Gives,
-    Listening,
-    NoPort,
-    Opened,
-    Refused,
-    Ended,
-    Broke,
-    Closed,
-    Gone,
-    Upload,
-    Where,
-    ChangeDir,
-    Up,
-    MakeDir,
-    RemoveDir,
-    Delete,
-    Rename,
-    Put,
-    Append,
-    PutFrom,
-    Get,
-    GetFrom,
-    Peek,
-    Size,
-    Modified,
-    Facts,
-    List,
-    Names,
+    Happens(Happening),
+    /// An operation is begun.
+    Begins(Asked),
     /// No word of a script.
     Unknown,
 }
@@ -55,41 +46,36 @@ const VERBS: &[(&'static [u8], Verb)] = &[
     (b"held", Verb::Held),
     (b"data", Verb::Brings),
     (b"out", Verb::Gives),
-    (b"listening", Verb::Listening),
-    (b"no-port", Verb::NoPort),
-    (b"opened", Verb::Opened),
-    (b"refused", Verb::Refused),
-    (b"end", Verb::Ended),
-    (b"fault", Verb::Broke),
-    (b"closed", Verb::Closed),
-    (b"gone", Verb::Gone),
-    (b"upload", Verb::Upload),
-    (b"where", Verb::Where),
-    (b"cd", Verb::ChangeDir),
-    (b"up", Verb::Up),
-    (b"mkdir", Verb::MakeDir),
-    (b"rmdir", Verb::RemoveDir),
-    (b"delete", Verb::Delete),
-    (b"rename", Verb::Rename),
-    (b"put", Verb::Put),
-    (b"append", Verb::Append),
-    (b"put-from", Verb::PutFrom),
-    (b"get", Verb::Get),
-    (b"get-from", Verb::GetFrom),
-    (b"peek", Verb::Peek),
-    (b"size", Verb::Size),
-    (b"modified", Verb::Modified),
-    (b"facts", Verb::Facts),
-    (b"list", Verb::List),
-    (b"names", Verb::Names),
+    (b"listening", Verb::Happens(Happening::Listening)),
+    (b"no-port", Verb::Happens(Happening::NoPort)),
+    (b"opened", Verb::Happens(Happening::Opened)),
+    (b"refused", Verb::Happens(Happening::Refused)),
+    (b"end", Verb::Happens(Happening::Ended)),
+    (b"fault", Verb::Happens(Happening::Broke)),
+    (b"closed", Verb::Happens(Happening::Closed)),
+    (b"gone", Verb::Happens(Happening::Gone)),
+    (b"upload", Verb::Begins(Asked::Upload)),
+    (b"where", Verb::Begins(Asked::Where)),
+    (b"cd", Verb::Begins(Asked::ChangeDir)),
+    (b"up", Verb::Begins(Asked::Up)),
+    (b"mkdir", Verb::Begins(Asked::MakeDir)),
+    (b"rmdir", Verb::Begins(Asked::RemoveDir)),
+    (b"delete", Verb::Begins(Asked::Delete)),
+    (b"rename", Verb::Begins(Asked::Rename)),
+    (b"put", Verb::Begins(Asked::Put)),
+    (b"append", Verb::Begins(Asked::Append)),
+    (b"put-from", Verb::Begins(Asked::PutFrom)),
+    (b"get", Verb::Begins(Asked::Get)),
+    (b"get-from", Verb::Begins(Asked::GetFrom)),
+    (b"peek", Verb::Begins(Asked::Peek)),
+    (b"size", Verb::Begins(Asked::Size)),
+    (b"modified", Verb::Begins(Asked::Modified)),
+    (b"facts", Verb::Begins(Asked::Facts)),
+    (b"list", Verb::Begins(Asked::List)),
+    (b"names", Verb::Begins(Asked::Names)),
 ];
 
 /// What a word says.
 pub fn verb_of(word: &[u8]) -> Verb {
-    for row in VERBS {
-        if row.0 == word {
-            return row.1;
-        }
-    }
-    Verb::Unknown
+    found(VERBS, word, Verb::Unknown)
 }
