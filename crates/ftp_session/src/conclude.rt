@@ -22,6 +22,7 @@ impl<A: Allocator + Copy, T: Tree<A>, J: Moves<A, T>> Session<A, T, J> {
             Concludes (at_end moment.seconds (J.view (under (T.table self.old.tree) self.old.root) transfer) s) s (session_of T.table J.view self.new) result (T.failures self.old.tree) (T.failures self.new.tree) }
         ensures connection { self.new.connection ≡ self.old.connection }
         ensures upload { OnErr result (IsUpload (J.view (under (T.table self.old.tree) self.old.root) transfer)) }
+        ensures access { self.new.access ≡ self.old.access }
     {
         transfer.at_end(self.alloc, &mut self.tree, &self.root, moment)
     }
@@ -33,6 +34,7 @@ impl<A: Allocator + Copy, T: Tree<A>, J: Moves<A, T>> Session<A, T, J> {
             Concludes (at_break moment.seconds (J.view (under (T.table self.old.tree) self.old.root) transfer) s) s (session_of T.table J.view self.new) result (T.failures self.old.tree) (T.failures self.new.tree) }
         ensures connection { self.new.connection ≡ self.old.connection }
         ensures upload { OnErr result (IsUpload (J.view (under (T.table self.old.tree) self.old.root) transfer)) }
+        ensures access { self.new.access ≡ self.old.access }
     {
         transfer.at_break(self.alloc, &mut self.tree, &self.root, moment)
     }

@@ -35,6 +35,7 @@ impl<A: Allocator + Copy, T: Tree<A>, J: Moves<A, T>> Session<A, T, J> {
         ensures view { session_of T.table J.view self.new ≡ forgotten (session_of T.table J.view self.old) }
         ensures tree { self.new.tree ≡ self.old.tree }
         ensures free { self.new.connection ≡ DataConnection.Free }
+        ensures access { self.new.access ≡ self.old.access }
     {
         self.closing = self.closing || self.is_standing();
         self.disconnect();
@@ -45,6 +46,7 @@ impl<A: Allocator + Copy, T: Tree<A>, J: Moves<A, T>> Session<A, T, J> {
         ensures view { session_of T.table J.view self.new ≡ disconnected (session_of T.table J.view self.old) }
         ensures tree { self.new.tree ≡ self.old.tree }
         ensures free { self.new.connection ≡ DataConnection.Free }
+        ensures access { self.new.access ≡ self.old.access }
     {
         self.connection = DataConnection::Free;
     }

@@ -20,6 +20,7 @@ impl<A: Allocator + Copy, T: Tree<A>, J: Moves<A, T>> Session<A, T, J> {
         ensures comes { (v : View) → v.session ≡ session_of T.table J.view self.old → has_room v ≡ true → ComesIn v (take result.count piece.now) result.told (session_of T.table J.view self.new) }
         ensures some { is_upload (connection_in (session_of T.table J.view self.old)) ≡ true → 0 < length piece.now → 0 < result.count }
         ensures tree { self.new.tree ≡ self.old.tree }
+        ensures access { self.new.access ≡ self.old.access }
     {
         if self.closing {
             return no_octets();
@@ -46,6 +47,7 @@ impl<A: Allocator + Copy, T: Tree<A>, J: Moves<A, T>> Session<A, T, J> {
         ensures tree { self.new.tree ≡ self.old.tree }
         ensures free { result.lost ≡ true → self.new.connection ≡ DataConnection.Free }
         ensures busy { has_transfer self.new.connection ≡ true → has_transfer self.old.connection ≡ true }
+        ensures access { self.new.access ≡ self.old.access }
     {
         if self.closing {
             return Given {
@@ -72,6 +74,7 @@ impl<A: Allocator + Copy, T: Tree<A>, J: Moves<A, T>> Session<A, T, J> {
         ensures tree { self.new.tree ≡ self.old.tree }
         ensures free { result ≡ true → self.new.connection ≡ DataConnection.Free }
         ensures same { result ≡ false → self.new.connection ≡ self.old.connection }
+        ensures access { self.new.access ≡ self.old.access }
     {
         let DataConnection::Transferring(transfer) = &self.connection else {
             return false;

@@ -56,6 +56,7 @@ impl<A: Allocator + Copy, T: Tree<A>, J: Moves<A, T>> Session<A, T, J> {
         ensures begun { session_of T.table J.view result ≡ first_session (T.table tree) }
         ensures tree { result.tree ≡ tree }
         ensures idle { has_transfer result.connection ≡ false }
+        ensures nobody { result.access ≡ Access.Nobody }
     {
         Session {
             alloc,
