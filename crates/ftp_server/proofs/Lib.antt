@@ -2,6 +2,7 @@ pub mod BusyLemmas
 pub mod CallLemmas
 pub mod DataLemmas
 pub mod HearLemmas
+pub mod NameLemmas
 pub mod PathLemmas
 pub mod ReaderLemmas
 pub mod ReadingLemmas

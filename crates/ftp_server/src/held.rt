@@ -1,7 +1,7 @@
 // How much a server holds (own choice of the limits).
-ghost use Rattle.std.specs.Prelude.{◌≡◌, ◌≤◌, ◌+◌, ◌^◌};
+ghost use Rattle.std.specs.Prelude.{◌≡◌, ◌≤◌, false};
 ghost use Rattle.ftp_ends.specs.Limits.{held_limit};
-ghost use Rattle.ftp_server_bounds.specs.Small.{IsSmall};
+ghost use Rattle.ftp_server.specs.Busy.{is_busy};
 ghost use Rattle.ftp_server_machine.specs.Held.{connection_len, held, sending_limit, session_len};
 
 use crate::server::Server;
@@ -14,12 +14,10 @@ impl<A: Allocator + Copy, T: Tree<A>, J: Counted<A, T>> Server<A, T, J> {
     ghost use Rattle.ftp_server.specs.Server.{view_of};
 
     /// How many octets it holds beside the tree, the accounts and what came of an upload: those that are owed, the line that is
-    /// being read, the line that waits as it would be written, and those of the session. A download or a listing counts as 10,119.
+    /// being read, the line that waits as it would be written, and those of the session; at most 24,576. A download or a listing counts as 10,119.
     pub fn held(&self) -> usize
         ensures len { result ≡ held (view_of T.table J.view self.now) }
-
-        // A server that stays small, as one does by `servers_stay_small` of `ftp_server_bounds`, holds at most 24,576.
-        ensures little { IsSmall (view_of T.table J.view self.now) → result ≤ held_limit }
+        ensures little { result ≤ held_limit }
     {
         let waiting = waiting_len(&self.waiting);
         self.output.len() + (self.reader.unfinished() + (waiting + self.session_len()))
@@ -28,7 +26,8 @@ impl<A: Allocator + Copy, T: Tree<A>, J: Counted<A, T>> Server<A, T, J> {
     /// Those of the session: names, paths and the transfer.
     fn session_len(&self) -> usize
         ensures len { result ≡ session_len (view_of T.table J.view self.now).session }
-        ensures short { result ≤ 2 ^ 63 + 12819 }
+        ensures short { result ≤ 14867 }
+        ensures free { is_busy self.now.session.connection ≡ false → result ≤ 4748 }
     {
         let session = &self.session;
         let paths = path_len(&session.cwd)
@@ -40,6 +39,7 @@ impl<A: Allocator + Copy, T: Tree<A>, J: Counted<A, T>> Server<A, T, J> {
     fn connection_len(&self) -> usize
         ensures len { result ≡ connection_len (view_of T.table J.view self.now).session.connection }
         ensures short { result ≤ sending_limit }
+        ensures free { is_busy self.now.session.connection ≡ false → result ≡ 0 }
     {
         match &self.session.connection {
             DataConnection::Opening(transfer, _) => transfer.held(),

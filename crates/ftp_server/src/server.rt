@@ -1,6 +1,7 @@
 // What a server holds (RFC 959, sections 3.2 and 4.1).
-ghost use Rattle.std.specs.Prelude.{◌≡◌};
-ghost use Rattle.ftp_server.specs.Busy.{HasRoom, MayWait};
+ghost use Rattle.std.specs.Prelude.{◌≡◌, ◌≤◌};
+ghost use Rattle.ftp_server_machine.specs.Held.{access_len};
+ghost use Rattle.ftp_server.specs.Busy.{HasRoom, MayWait, waiting_limit};
 
 use crate::reader::Reader;
 use ftp_command::Text;
@@ -21,6 +22,7 @@ pub struct Server<A: Allocator, T: Drop, J: Drop> {
     pub(crate) refusals: u64,
     ghost room: { HasRoom session.connection output },
     ghost paths: { ∥ MayWait waiting ∥₁ },
+    ghost named: { access_len session.access ≤ waiting_limit },
 }
 
 /// By hand: a derived drop is proved again, part by part, wherever a server is let go.

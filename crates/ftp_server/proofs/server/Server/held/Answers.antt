@@ -1,13 +1,10 @@
-use Rattle.std.proofs.Common.{sym, subst, ◌≤◌, ◌+◌, ◌≡◌}
-use Rattle.ftp_ends.specs.Limits.{held_limit}
-use Rattle.ftp_server.specs.Server.{view_of}
-use Rattle.ftp_server_machine.specs.Held.{held}
-use Rattle.ftp_server_bounds.proofs.Theorems.{small_holds_little}
+use Rattle.std.proofs.Common.{arith}
+use Rattle.ftp_server.proofs.NameLemmas.{holds_little, waiting_short}
 use Rattle.ftp_server.proofs.server.Server.held.Goals as goal
 
 pub returns-clause-little : goal.returns-clause-little
-returns-clause-little g c = λ small.
-    let v = view_of g.T.Tree.table g.J.Moves.view c.args.self.now in
-    let same : c.len.result + (c.unfinished.result + (c.waiting_len-waiting.result + c.session_len.result)) ≡ held v =
-    λ i. c.len.ensures.len i + (c.unfinished.ensures.len i + (c.waiting_len-waiting.ensures i + c.session_len.ensures.len i)) in
-    subst (λ n. n ≤ held_limit) (sym same) (small_holds_little v small)
+returns-clause-little g c =
+    let s = c.args.self.now in
+    holds_little s.session.connection s.output c.len.result c.unfinished.result c.waiting_len-waiting.result c.session_len.result c.len.ensures.len
+    c.len.ensures.within s.room c.unfinished.ensures.short (omega (arith, c.waiting_len-waiting.ensures, waiting_short s.waiting s.paths))
+    c.session_len.ensures.short c.session_len.ensures.free

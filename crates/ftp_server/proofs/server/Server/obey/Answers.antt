@@ -5,6 +5,7 @@ use Rattle.ftp_server_machine.specs.declared.session.Pending.TheVariants as Pend
 use Rattle.ftp_session.specs.Session.{session_of}
 use Rattle.ftp_tree.specs.Tree.{under}
 use Rattle.ftp_server.proofs.BusyLemmas.{busy_seen, idle_calm, idle_room, said_room, short_decided}
+use Rattle.ftp_server.proofs.NameLemmas.{decided_named}
 use Rattle.ftp_server.specs.Server.{view_of}
 use Rattle.ftp_server.proofs.server.Server.obey.Goals as goal
 
@@ -22,4 +23,5 @@ invariant_of-self g c =
           c.say.ensures.short (idle_room v c.requires.idle)
           (busy_seen (view (under (table new.tree) new.root)) new.connection ∙ busy);
       paths = c.args.self.now.paths;
+      named = decided_named (session_of table view new, c.in-Ok.kind) v.footing c.args.heard v.session.pending s c.in-Ok.ensures.0 c.args.self.now.named c.requires.short;
     }
