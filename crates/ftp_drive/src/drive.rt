@@ -4,8 +4,8 @@ ghost use Rattle.ftp_drive.specs.Beside.{beside};
 ghost use Rattle.ftp_drive.specs.Driving.{Drives, EndsOver, Goes, GoesSettled, Quietly, Turns};
 
 use crate::control::Control;
-use crate::data::{Link, carry_once};
-use crate::ports::{Accepted, Ports, Watch};
+use crate::data::{DataConnection, Link, fault, move_once, wait_at};
+use crate::ports::{Accepted, Ports, Ready, Watch};
 use ftp_endpoint::Endpoint;
 use ftp_ends::Wants;
 use ftp_pieces::{Failed, TURNS};
@@ -13,9 +13,6 @@ use ftp_server_machine::Far;
 use ftp_tree::Tree;
 use std::alloc::Allocator;
 use std::io::{Read, Write};
-
-/// The most octets that go over a data connection in one call.
-const DATA_PIECE: usize = 65_536;
 
 /// Whether a drive goes on.
 #[derive(Clone, Copy, Debug, PartialEq, Eq)]
@@ -26,9 +23,9 @@ pub(crate) enum Life {
 
 /// Serves a control connection until the server is done with it.
 ///
-/// All that the server owes is written before more is read, and all that was read is heard. While a transfer is under way the control
-/// connection is not read. After a read or a write of the control connection that failed, or 1,099,511,627,776 turns, the server is told
-/// that the control connection ended. Data connections and ports are closed at the end.
+/// All that the server owes is written before more is read, and all that was read is heard, while a transfer is under way too: between its
+/// pieces, and where its data connection would wait. After a read or a write of the control connection that failed, or 1,099,511,627,776
+/// turns, the server is told that the control connection ended. Data connections and ports are closed at the end.
 pub fn drive_server<A, T, F, R, W, P, C>(
     server: &mut F,
     control: &mut Control<R, W>,
@@ -45,15 +42,15 @@ where
     C: Watch,
     ensures { Drives (beside R.remaining W.contents (F.server server.old) control.old) (beside R.remaining W.contents (F.server server.new) control.new) result }
 {
-    let mut stream = None;
-    match turns(server, control, ports, watch, &mut stream) {
+    let mut connection = DataConnection::new();
+    match turns(server, control, ports, watch, &mut connection) {
         Ok(()) => {
-            ports.close(stream.take());
+            ports.close(connection.take());
             Ok(())
         }
         Err(Failed) => {
             server.control_end();
-            ports.close(stream.take());
+            ports.close(connection.take());
             Err(Failed)
         }
     }
@@ -65,7 +62,7 @@ fn turns<A, T, F, R, W, P, C>(
     control: &mut Control<R, W>,
     ports: &mut P,
     watch: &mut C,
-    stream: &mut Option<P::Stream>,
+    connection: &mut DataConnection<P::Stream>,
 ) -> Result<(), Failed>
 where
     A: Allocator,
@@ -77,10 +74,9 @@ where
     C: Watch,
     ensures { EndsOver (beside R.remaining W.contents (F.server server.old) control.old) (beside R.remaining W.contents (F.server server.new) control.new) result }
 {
-    let mut room = [0u8; DATA_PIECE];
     server.clock(watch.moment());
     for _ in 0..TURNS {
-        match turn(server, control, ports, watch, stream, &mut room)? {
+        match turn(server, control, ports, watch, connection)? {
             Life::GoesOn => {}
             Life::Over => return Ok(()),
         }
@@ -94,8 +90,7 @@ fn turn<A, T, F, R, W, P, C>(
     control: &mut Control<R, W>,
     ports: &mut P,
     watch: &mut C,
-    stream: &mut Option<P::Stream>,
-    room: &mut [u8],
+    connection: &mut DataConnection<P::Stream>,
 ) -> Result<Life, Failed>
 where
     A: Allocator,
@@ -111,7 +106,7 @@ where
     if let Wants::CloseAll = server.wants() {
         return Ok(Life::Over);
     }
-    act(server, control, ports, watch, stream, room)?;
+    act(server, control, ports, watch, connection)?;
     Ok(Life::GoesOn)
 }
 
@@ -121,8 +116,7 @@ fn act<A, T, F, R, W, P, C>(
     control: &mut Control<R, W>,
     ports: &mut P,
     watch: &mut C,
-    stream: &mut Option<P::Stream>,
-    room: &mut [u8],
+    connection: &mut DataConnection<P::Stream>,
 ) -> Result<(), Failed>
 where
     A: Allocator,
@@ -136,18 +130,18 @@ where
 {
     match server.wants() {
         Wants::Nothing => attend(server, control, watch),
-        Wants::Accept => accept(server, control, ports, watch, stream),
-        Wants::Receive | Wants::Send => carry(server, control, ports, watch, stream, room),
+        Wants::Accept => accept(server, control, ports, watch, connection),
+        Wants::Receive | Wants::Send => carry(server, control, ports, watch, connection),
         Wants::Listen => {
             listen(server, ports);
             Ok(())
         }
         Wants::Connect(endpoint) => {
-            connect(server, ports, stream, endpoint);
+            connect(server, ports, connection, endpoint);
             Ok(())
         }
         Wants::CloseData => {
-            ports.close(stream.take());
+            ports.close(connection.take());
             server.data_closed();
             Ok(())
         }
@@ -155,14 +149,70 @@ where
     }
 }
 
-/// Carries octets over the open data connection, one way or the other; closes it where it ended.
+/// Serves a transfer: what was read of the control connection is heard, or else that is read or octets go over the data connection. Where the
+/// server takes nothing more, since a line waits, only the data connection is served.
 fn carry<A, T, F, R, W, P, C>(
     server: &mut F,
     control: &mut Control<R, W>,
     ports: &mut P,
     watch: &mut C,
-    stream: &mut Option<P::Stream>,
-    room: &mut [u8],
+    connection: &mut DataConnection<P::Stream>,
+) -> Result<(), Failed>
+where
+    A: Allocator,
+    T: Tree<A>,
+    F: Far<A, T>,
+    R: Read + Drop,
+    W: Write + Drop,
+    P: Ports,
+    C: Watch,
+    ensures { GoesSettled (beside R.remaining W.contents (F.server server.old) control.old) (beside R.remaining W.contents (F.server server.new) control.new) result }
+{
+    if !control.has_unheard() {
+        return carry_hearing(server, control, ports, watch, connection);
+    }
+    if control.hear_one(server) {
+        return Ok(());
+    }
+    carry_alone(server, control, ports, watch, connection)
+}
+
+/// Reads the control connection where it has octets or ended, and else moves octets over the data connection.
+fn carry_hearing<A, T, F, R, W, P, C>(
+    server: &mut F,
+    control: &mut Control<R, W>,
+    ports: &mut P,
+    watch: &mut C,
+    connection: &mut DataConnection<P::Stream>,
+) -> Result<(), Failed>
+where
+    A: Allocator,
+    T: Tree<A>,
+    F: Far<A, T>,
+    R: Read + Drop,
+    W: Write + Drop,
+    P: Ports,
+    C: Watch,
+    requires { control.old.end ≤ control.old.at }
+    ensures { GoesSettled (beside R.remaining W.contents (F.server server.old) control.old) (beside R.remaining W.contents (F.server server.new) control.new) result }
+{
+    match wait_at(server, ports, connection, true) {
+        Ready::Control => read(server, control, watch),
+        Ready::Data => carry_once(server, control, ports, watch, connection),
+        Ready::Lost => {
+            lose(server, ports, watch, connection);
+            Ok(())
+        }
+    }
+}
+
+/// Moves octets over the data connection, however long that waits.
+fn carry_alone<A, T, F, R, W, P, C>(
+    server: &mut F,
+    control: &mut Control<R, W>,
+    ports: &mut P,
+    watch: &mut C,
+    connection: &mut DataConnection<P::Stream>,
 ) -> Result<(), Failed>
 where
     A: Allocator,
@@ -174,20 +224,57 @@ where
     C: Watch,
     ensures { Goes (beside R.remaining W.contents (F.server server.old) control.old) (beside R.remaining W.contents (F.server server.new) control.new) result }
 {
-    let Some(mut open) = stream.take() else {
-        server.data_fault();
-        return Ok(());
-    };
-    match carry_once(server, control, &mut open, watch, room)? {
-        Link::Open => {
-            *stream = Some(open);
-            Ok(())
-        }
-        Link::Ended => {
-            ports.close(Some(open));
+    match wait_at(server, ports, connection, false) {
+        Ready::Data => carry_once(server, control, ports, watch, connection),
+        Ready::Control | Ready::Lost => {
+            lose(server, ports, watch, connection);
             Ok(())
         }
     }
+}
+
+/// Moves octets over the data connection once; closes it where it ended.
+fn carry_once<A, T, F, R, W, P, C>(
+    server: &mut F,
+    control: &mut Control<R, W>,
+    ports: &mut P,
+    watch: &mut C,
+    connection: &mut DataConnection<P::Stream>,
+) -> Result<(), Failed>
+where
+    A: Allocator,
+    T: Tree<A>,
+    F: Far<A, T>,
+    R: Read + Drop,
+    W: Write + Drop,
+    P: Ports,
+    C: Watch,
+    ensures { Goes (beside R.remaining W.contents (F.server server.old) control.old) (beside R.remaining W.contents (F.server server.new) control.new) result }
+{
+    let link = move_once(server, control, connection, watch)?;
+    if link == Link::Ended {
+        ports.close(connection.take());
+    }
+    Ok(())
+}
+
+/// The data connection is lost: the server is told, and it is closed.
+fn lose<A, T, F, P, C>(
+    server: &mut F,
+    ports: &mut P,
+    watch: &mut C,
+    connection: &mut DataConnection<P::Stream>,
+)
+where
+    A: Allocator,
+    T: Tree<A>,
+    F: Far<A, T>,
+    P: Ports,
+    C: Watch,
+    ensures { Quietly (F.server server.old) (F.server server.new) }
+{
+    fault(server, watch);
+    ports.close(connection.take());
 }
 
 /// Hears the next octet of the control connection, which is read where all before were heard.
@@ -245,7 +332,7 @@ fn accept<A, T, F, R, W, P, C>(
     control: &mut Control<R, W>,
     ports: &mut P,
     watch: &mut C,
-    stream: &mut Option<P::Stream>,
+    connection: &mut DataConnection<P::Stream>,
 ) -> Result<(), Failed>
 where
     A: Allocator,
@@ -258,12 +345,12 @@ where
     ensures { GoesSettled (beside R.remaining W.contents (F.server server.old) control.old) (beside R.remaining W.contents (F.server server.new) control.new) result }
 {
     if !control.has_unheard() {
-        return wait(server, control, ports, watch, stream);
+        return wait(server, control, ports, watch, connection);
     }
     if control.hear_one(server) {
         return Ok(());
     }
-    wait_alone(server, ports, stream);
+    wait_alone(server, ports, connection);
     Ok(())
 }
 
@@ -273,7 +360,7 @@ fn wait<A, T, F, R, W, P, C>(
     control: &mut Control<R, W>,
     ports: &mut P,
     watch: &mut C,
-    stream: &mut Option<P::Stream>,
+    connection: &mut DataConnection<P::Stream>,
 ) -> Result<(), Failed>
 where
     A: Allocator,
@@ -288,7 +375,7 @@ where
 {
     match ports.accept(true) {
         Accepted::Came(open, host) => {
-            *stream = Some(open);
+            connection.begin(open);
             server.data_opened(host);
             Ok(())
         }
@@ -301,7 +388,7 @@ where
 }
 
 /// Waits for the data connection alone.
-fn wait_alone<A, T, F, P>(server: &mut F, ports: &mut P, stream: &mut Option<P::Stream>)
+fn wait_alone<A, T, F, P>(server: &mut F, ports: &mut P, connection: &mut DataConnection<P::Stream>)
 where
     A: Allocator,
     T: Tree<A>,
@@ -311,7 +398,7 @@ where
 {
     match ports.accept(false) {
         Accepted::Came(open, host) => {
-            *stream = Some(open);
+            connection.begin(open);
             server.data_opened(host);
         }
         Accepted::Spoken | Accepted::Refused => server.data_refused(),
@@ -337,7 +424,7 @@ where
 fn connect<A, T, F, P>(
     server: &mut F,
     ports: &mut P,
-    stream: &mut Option<P::Stream>,
+    connection: &mut DataConnection<P::Stream>,
     endpoint: Endpoint,
 )
 where
@@ -349,7 +436,7 @@ where
 {
     match ports.connect(endpoint) {
         Some(open) => {
-            *stream = Some(open);
+            connection.begin(open);
             server.data_opened(endpoint.host);
         }
         None => server.data_refused(),

@@ -14,6 +14,26 @@ pub enum Accepted<S: Drop> {
     Refused,
 }
 
+/// What is waited for at an open data connection.
+#[derive(Clone, Copy, Debug, PartialEq, Eq)]
+pub enum For {
+    /// Octets that came, or its end.
+    Octets,
+    /// Room for octets that go.
+    Room,
+}
+
+/// Which connection is to be served.
+#[derive(Clone, Copy, Debug, PartialEq, Eq)]
+pub enum Ready {
+    /// What was waited for is there.
+    Data,
+    /// The control connection has octets.
+    Control,
+    /// Nothing more will go over the data connection.
+    Lost,
+}
+
 /// What opens data connections (RFC 959, section 3.2). Each call may fail; none of them may wait past the end of the control connection.
 pub trait Ports {
     /// An open data connection; its read and its write end as failed where the control connection ended.
@@ -27,6 +47,10 @@ pub trait Ports {
 
     /// Opens a data connection to an endpoint.
     fn connect(&mut self, endpoint: Endpoint) -> Option<Self::Stream>;
+
+    /// Waits at an open data connection. Where `hears`, octets of the control connection stop the waiting, and go first. Its end stops it where
+    /// the data connection is not ready, and the answer is then `Lost`.
+    fn wait(&mut self, stream: &mut Self::Stream, what: For, hears: bool) -> Ready;
 
     /// Closes a data connection and the port that is listened at, if there are any.
     fn close(&mut self, stream: Option<Self::Stream>);

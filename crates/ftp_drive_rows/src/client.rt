@@ -1,5 +1,5 @@
-// A client's side of data connections that is the same each time: it opens each port, and sends three octets.
-use ftp_drive::{Accepted, Ports, Watch};
+// A client's side of data connections that is the same each time: it opens each port, sends so many octets, and speaks at a time of its choice.
+use ftp_drive::{Accepted, For, Ports, Ready, Watch};
 use ftp_endpoint::{Endpoint, Host};
 use ftp_facts::Moment;
 use std::io;
@@ -8,26 +8,25 @@ use std::io::{Read, Write};
 /// The client's host.
 pub(crate) const PEER: Host = Host::V4([10, 0, 0, 2]);
 
-/// What goes over each data connection.
-const SENT: &[u8] = b"abc";
-
-/// A data connection that gives these octets and takes any.
+/// A data connection that gives so many octets, and takes and counts any.
 #[derive(Drop)]
 pub(crate) struct Link {
-    rest: &'static [u8],
+    rest: usize,
+    taken: u64,
 }
 
 impl Read for Link {
     fn read(&mut self, room: &mut [u8]) -> io::Result<usize> {
-        let count = self.rest.len().min(room.len());
-        room[..count].copy_from_slice(&self.rest[..count]);
-        self.rest = &self.rest[count..];
+        let count = self.rest.min(room.len());
+        room[..count].fill(b'x');
+        self.rest -= count;
         Ok(count)
     }
 }
 
 impl Write for Link {
     fn write(&mut self, octets: &[u8]) -> io::Result<usize> {
+        self.taken = self.taken.wrapping_add(octets.len() as u64);
         Ok(octets.len())
     }
 
@@ -38,7 +37,36 @@ impl Write for Link {
 
 /// Opens each data connection at once.
 #[derive(Drop)]
-pub(crate) struct Client {}
+pub(crate) struct Client {
+    /// How many octets it sends over each data connection.
+    sends: usize,
+    /// How often a data connection is waited for, where that hears, before the control connection speaks first.
+    silent: u32,
+    /// How many octets came over data connections that are closed.
+    taken: u64,
+}
+
+impl Client {
+    pub(crate) fn new(sends: usize, silent: u32) -> Client {
+        Client {
+            sends,
+            silent,
+            taken: 0,
+        }
+    }
+
+    /// How many octets came over data connections that are closed.
+    pub(crate) fn taken(&self) -> u64 {
+        self.taken
+    }
+
+    fn link(&self) -> Link {
+        Link {
+            rest: self.sends,
+            taken: 0,
+        }
+    }
+}
 
 impl Ports for Client {
     type Stream = Link;
@@ -48,14 +76,29 @@ impl Ports for Client {
     }
 
     fn accept(&mut self, _hears: bool) -> Accepted<Link> {
-        Accepted::Came(Link { rest: SENT }, PEER)
+        Accepted::Came(self.link(), PEER)
     }
 
     fn connect(&mut self, _endpoint: Endpoint) -> Option<Link> {
-        Some(Link { rest: SENT })
+        Some(self.link())
     }
 
-    fn close(&mut self, _stream: Option<Link>) {}
+    fn wait(&mut self, _stream: &mut Link, _what: For, hears: bool) -> Ready {
+        if !hears {
+            return Ready::Data;
+        }
+        if self.silent == 0 {
+            return Ready::Control;
+        }
+        self.silent -= 1;
+        Ready::Data
+    }
+
+    fn close(&mut self, stream: Option<Link>) {
+        if let Some(link) = stream {
+            self.taken = self.taken.wrapping_add(link.taken);
+        }
+    }
 }
 
 /// A clock that stands at the first second of the year 2000.

@@ -1,6 +1,6 @@
 // The connections of a session, of which its journal is told.
 use crate::journal::Journal;
-use ftp_drive::{Accepted, Ports};
+use ftp_drive::{Accepted, For, Ports, Ready};
 use ftp_endpoint::Endpoint;
 use ftp_sockets::{ControlReader, Link, SocketPorts};
 use std::io;
@@ -103,6 +103,10 @@ impl<'a, R: Net<Listener = TcpListener, Stream = TcpStream> + Clock + Eprint> Po
         let journal = self.journal;
         let inner = self.inner.connect(endpoint)?;
         Some(CountedLink { inner, journal })
+    }
+
+    fn wait(&mut self, stream: &mut CountedLink<'a, R>, what: For, hears: bool) -> Ready {
+        self.inner.wait(&mut stream.inner, what, hears)
     }
 
     fn close(&mut self, stream: Option<CountedLink<'a, R>>) {

@@ -1,5 +1,5 @@
 // The reader of a control connection, which puts back the octet that urgent data hides (RFC 854; RFC 959, section 4.1.3).
-ghost use Rattle.std.specs.Prelude.{◌≤◌, IfOk, length};
+ghost use Rattle.std.specs.Prelude.{◌<◌, ◌≤◌, IfOk, length};
 
 use libc::net as c;
 use libc::types::pollfd;
@@ -32,7 +32,7 @@ impl<'a> ControlReader<'a> {
         }
     }
 
-    /// Reads behind the first place of the room; gives the octet that was hidden before what was read, and how much that is.
+    /// Reads, and gives the octet that was hidden before what was read, and how much that is.
     fn read_behind(&mut self, room: &mut [u8]) -> io::Result<(Option<u8>, usize)>
         ensures within { IfOk result (λ read. read.1 ≤ length room.new) }
     {
@@ -58,14 +58,12 @@ impl<'a> ControlReader<'a> {
         }
         Ok((hidden, count))
     }
-}
 
-impl<'a> Read for ControlReader<'a> {
-    fn read(&mut self, room: &mut [u8]) -> io::Result<usize> {
-        if room.len() < 2 {
-            let mut stream = self.stream;
-            return stream.read(room);
-        }
+    /// Reads, with the octet that was hidden before what was read.
+    fn read_front(&mut self, room: &mut [u8]) -> io::Result<usize>
+        requires { 0 < length room.old }
+        ensures within { IfOk result (λ count. count ≤ length room.new) }
+    {
         let (_, rest) = room.split_at_mut(1);
         let (hidden, count) = self.read_behind(rest)?;
         match hidden {
@@ -77,6 +75,39 @@ impl<'a> Read for ControlReader<'a> {
                 room.copy_within(1..count + 1, 0);
                 Ok(count)
             }
+        }
+    }
+
+    /// The octet that is hidden behind what was read last, where nothing else stands behind that yet: who asks whether the connection has
+    /// more to read is told of no urgent octet.
+    fn hidden_behind(&mut self) -> Option<u8> {
+        let (waits, more) = waits_urgent(self.stream.as_raw_fd(), 0, !self.given);
+        if !waits || more {
+            return None;
+        }
+        self.given = true;
+        hidden_after(self.last)
+    }
+}
+
+impl<'a> Read for ControlReader<'a> {
+    fn read(&mut self, room: &mut [u8]) -> io::Result<usize> {
+        if room.len() < 3 {
+            let mut stream = self.stream;
+            return stream.read(room);
+        }
+        let last = room.len() - 1;
+        let (front, _) = room.split_at_mut(last);
+        let count = self.read_front(front)?;
+        if count == 0 {
+            return Ok(0);
+        }
+        match self.hidden_behind() {
+            Some(octet) => {
+                room[count] = octet;
+                Ok(count + 1)
+            }
+            None => Ok(count),
         }
     }
 }

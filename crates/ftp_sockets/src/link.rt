@@ -1,5 +1,6 @@
 // A data connection that does not outlast its control connection.
-use crate::wait::{For, Woke, wait};
+use crate::wait::{Heeds, Woke, wait};
+use ftp_drive::{For, Ready};
 use ftp_pieces::TURNS;
 use std::io;
 use std::io::{Error, ErrorKind, Read, Write};
@@ -14,7 +15,7 @@ const LAST_READS: u32 = 4096;
 pub struct Link<'a> {
     control: &'a TcpStream,
     stream: TcpStream,
-    hears: bool,
+    heeds: Heeds,
 }
 
 /// The control connection ended before.
@@ -35,15 +36,29 @@ impl<'a> Link<'a> {
     pub(crate) fn new(
         control: &'a TcpStream,
         stream: TcpStream,
-        hears: bool,
+        heeds: Heeds,
     ) -> io::Result<Link<'a>> {
         stream.set_nonblocking(true)?;
         stream.set_nodelay(true)?;
         Ok(Link {
             control,
             stream,
-            hears,
+            heeds,
         })
+    }
+
+    /// Waits until octets can be read or written; where `hears`, octets of the control connection go first.
+    pub(crate) fn wait(&self, what: For, hears: bool) -> Ready {
+        let heeds = if hears {
+            Heeds::OctetsFirst
+        } else {
+            Heeds::End
+        };
+        match wait(self.control, &self.stream, what, heeds, -1) {
+            Woke::Ready => Ready::Data,
+            Woke::Spoken => Ready::Control,
+            Woke::Ended | Woke::TimeOver | Woke::Failed => Ready::Lost,
+        }
     }
 
     /// Sends nothing more: the peer finds the end behind all that was sent.
@@ -60,7 +75,9 @@ impl<'a> Link<'a> {
                 Ok(0) => return,
                 Ok(_) => {}
                 Err(error) if error.kind() == ErrorKind::WouldBlock => {
-                    if wait(self.control, &self.stream, For::Octets, false, millis) != Woke::Ready {
+                    if wait(self.control, &self.stream, For::Octets, Heeds::End, millis)
+                        != Woke::Ready
+                    {
                         return;
                     }
                 }
@@ -77,7 +94,7 @@ impl<'a> Read for Link<'a> {
                 Err(error) if error.kind() == ErrorKind::WouldBlock => {}
                 other => return other,
             }
-            match wait(self.control, &self.stream, For::Octets, self.hears, -1) {
+            match wait(self.control, &self.stream, For::Octets, self.heeds, -1) {
                 Woke::Ready => {}
                 woke => return Err(halted(woke)),
             }
@@ -93,7 +110,7 @@ impl<'a> Write for Link<'a> {
                 Err(error) if error.kind() == ErrorKind::WouldBlock => {}
                 other => return other,
             }
-            match wait(self.control, &self.stream, For::Room, self.hears, -1) {
+            match wait(self.control, &self.stream, For::Room, self.heeds, -1) {
                 Woke::Ready => {}
                 woke => return Err(halted(woke)),
             }

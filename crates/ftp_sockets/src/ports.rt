@@ -1,8 +1,8 @@
 // Data connections over real sockets.
 use crate::host::{addr_of, host_of};
 use crate::link::Link;
-use crate::wait::{For, Woke, wait};
-use ftp_drive::{Accepted, Ports};
+use crate::wait::{Heeds, Woke, wait};
+use ftp_drive::{Accepted, For, Ports, Ready};
 use ftp_endpoint::Endpoint;
 use ftp_pieces::TURNS;
 use std::io;
@@ -19,8 +19,8 @@ pub struct SocketPorts<'a, R: Net<Listener = TcpListener, Stream = TcpStream>> {
     control: &'a TcpStream,
     /// The address of this end.
     here: IpAddr,
-    /// Whether a data connection that would wait hears the control connection.
-    hears: bool,
+    /// What a read or a write of a data connection that would wait heeds of the control connection.
+    heeds: Heeds,
     listener: Option<TcpListener>,
     /// A connection that was ended, until what the peer sent too much is read.
     leaving: Option<Link<'a>>,
@@ -29,22 +29,22 @@ pub struct SocketPorts<'a, R: Net<Listener = TcpListener, Stream = TcpStream>> {
 impl<'a, R: Net<Listener = TcpListener, Stream = TcpStream>> SocketPorts<'a, R> {
     /// Data connections beside this control connection, at the address that its client reached.
     pub fn new(net: &'a R, control: &'a TcpStream) -> io::Result<SocketPorts<'a, R>> {
-        SocketPorts::beside(net, control, false)
+        SocketPorts::beside(net, control, Heeds::End)
     }
 
     /// Data connections of a client: a read or a write of one that would wait fails as `WouldBlock` where the control connection has octets
     /// or ended.
     pub fn hearing(net: &'a R, control: &'a TcpStream) -> io::Result<SocketPorts<'a, R>> {
-        SocketPorts::beside(net, control, true)
+        SocketPorts::beside(net, control, Heeds::Octets)
     }
 
-    fn beside(net: &'a R, control: &'a TcpStream, hears: bool) -> io::Result<SocketPorts<'a, R>> {
+    fn beside(net: &'a R, control: &'a TcpStream, heeds: Heeds) -> io::Result<SocketPorts<'a, R>> {
         let here = control.local_addr()?.ip().to_canonical();
         Ok(SocketPorts {
             net,
             control,
             here,
-            hears,
+            heeds,
             listener: None,
             leaving: None,
         })
@@ -70,7 +70,7 @@ impl<'a, R: Net<Listener = TcpListener, Stream = TcpStream>> SocketPorts<'a, R> 
     /// Opens a connection; ends as failed where the control connection does.
     fn open(&self, addr: SocketAddr) -> io::Result<Option<TcpStream>> {
         let begun = mio::net::TcpStream::connect(self.net, addr)?;
-        if wait(self.control, &begun, For::Room, false, OPENING_MILLIS) != Woke::Ready {
+        if wait(self.control, &begun, For::Room, Heeds::End, OPENING_MILLIS) != Woke::Ready {
             return Ok(None);
         }
         match begun.take_error()? {
@@ -82,7 +82,7 @@ impl<'a, R: Net<Listener = TcpListener, Stream = TcpStream>> SocketPorts<'a, R> 
     /// The connection that came, as a link.
     fn linked(&mut self, stream: TcpStream, peer: SocketAddr) -> Accepted<Link<'a>> {
         self.listener = None;
-        match Link::new(self.control, stream, self.hears) {
+        match Link::new(self.control, stream, self.heeds) {
             Ok(link) => Accepted::Came(link, host_of(peer)),
             Err(_) => Accepted::Refused,
         }
@@ -99,13 +99,14 @@ enum Waited {
 
 /// Waits at a port for a connection, or where `hears` for octets of the control connection.
 fn wait_at(listener: &TcpListener, control: &TcpStream, hears: bool) -> Waited {
+    let heeds = if hears { Heeds::Octets } else { Heeds::End };
     for _ in 0..TURNS {
         match listener.accept() {
             Ok((stream, peer)) => return Waited::Came(stream, peer),
             Err(error) if error.kind() == ErrorKind::WouldBlock => {}
             Err(_) => return Waited::Refused,
         }
-        match wait(control, listener, For::Octets, hears, -1) {
+        match wait(control, listener, For::Octets, heeds, -1) {
             Woke::Ready => {}
             Woke::Spoken => return Waited::Spoken,
             Woke::Ended | Woke::TimeOver | Woke::Failed => return Waited::Refused,
@@ -136,9 +137,13 @@ impl<'a, R: Net<Listener = TcpListener, Stream = TcpStream>> Ports for SocketPor
     fn connect(&mut self, endpoint: Endpoint) -> Option<Link<'a>> {
         self.finish(0);
         match self.open(addr_of(endpoint)) {
-            Ok(Some(stream)) => Link::new(self.control, stream, self.hears).ok(),
+            Ok(Some(stream)) => Link::new(self.control, stream, self.heeds).ok(),
             Ok(None) | Err(_) => None,
         }
+    }
+
+    fn wait(&mut self, stream: &mut Link<'a>, what: For, hears: bool) -> Ready {
+        stream.wait(what, hears)
     }
 
     fn close(&mut self, stream: Option<Link<'a>>) {

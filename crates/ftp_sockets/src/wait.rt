@@ -1,4 +1,5 @@
 // Waiting for the control connection and another socket together.
+use ftp_drive::For;
 use ftp_pieces::TURNS;
 use libc::net as c;
 use libc::types::pollfd;
@@ -17,30 +18,33 @@ pub(crate) enum Woke {
     Failed,
 }
 
-/// What is waited for at the other socket.
+/// What of the control connection ends a waiting.
 #[derive(Clone, Copy, Debug, PartialEq, Eq)]
-pub(crate) enum For {
+pub(crate) enum Heeds {
+    /// Its end alone, where the other socket is not ready.
+    End,
+    /// Octets too, where the other socket is not ready.
     Octets,
-    Room,
+    /// Octets, which go before the other socket; its end, where that is not ready.
+    OctetsFirst,
 }
 
-/// Waits until the other socket is ready or the control connection ended, or where `hears` has octets; for at most so many
-/// milliseconds, where that is not negative. The end is seen behind octets that are not read yet, too.
+/// Waits until the other socket is ready or what is heeded of the control connection is there; for at most so many milliseconds, where that
+/// is not negative. The end is seen behind octets that are not read yet, too.
 pub(crate) fn wait<C: AsRawFd, S: AsRawFd>(
     control: &C,
     other: &S,
     what: For,
-    hears: bool,
+    heeds: Heeds,
     millis: i32,
 ) -> Woke {
     let events = match what {
         For::Octets => c::POLLIN,
         For::Room => c::POLLOUT,
     };
-    let told = if hears {
-        c::POLLIN | c::POLLRDHUP
-    } else {
-        c::POLLRDHUP
+    let told = match heeds {
+        Heeds::End => c::POLLRDHUP,
+        Heeds::Octets | Heeds::OctetsFirst => c::POLLIN | c::POLLRDHUP,
     };
     let mut asked = [
         pollfd {
@@ -60,7 +64,7 @@ pub(crate) fn wait<C: AsRawFd, S: AsRawFd>(
             return Woke::TimeOver;
         }
         if count > 0 {
-            return woken(asked[0].revents, asked[1].revents, hears);
+            return woken(asked[0].revents, asked[1].revents, heeds);
         }
         if os::errno() != libc::EINTR {
             return Woke::Failed;
@@ -69,13 +73,16 @@ pub(crate) fn wait<C: AsRawFd, S: AsRawFd>(
     Woke::Failed
 }
 
-/// What the events of both say; the other socket goes first.
-fn woken(control: i16, other: i16, hears: bool) -> Woke {
-    if other != 0 {
+/// What the events of both say.
+fn woken(control: i16, other: i16, heeds: Heeds) -> Woke {
+    let ended = control & (c::POLLRDHUP | c::POLLHUP | c::POLLERR) != 0;
+    if heeds == Heeds::OctetsFirst && control != 0 && !ended {
+        Woke::Spoken
+    } else if other != 0 {
         Woke::Ready
     } else if control == 0 {
         Woke::Failed
-    } else if hears {
+    } else if heeds == Heeds::Octets {
         Woke::Spoken
     } else {
         Woke::Ended

@@ -1,12 +1,8 @@
 use Rattle.ftp_drive.specs.Beside.{beside}
 use Rattle.ftp_drive.specs.Deeds.{Closed}
 use Rattle.ftp_drive.proofs.Leading.{leads_then, settled_leads}
-use Rattle.ftp_drive.proofs.Going.{goes_settled}
 use Rattle.ftp_drive.proofs.Turning.{call_leads}
 use Rattle.ftp_drive.proofs.drive.act.Goals as goal
-
-pub returns-in-Receive : goal.returns-in-Receive
-returns-in-Receive g c start settles = goes_settled start _ _ c.carry.result settles c.carry.ensures
 
 pub returns-in-Listen : goal.returns-in-Listen
 returns-in-Listen g c start settles =
