@@ -1,5 +1,5 @@
 //! Every day from 1970 to 2199, and the last day of each century after, as Python's `datetime` counts them.
-use crate::report::Tried;
+use crate::report::Paper;
 use ftp_facts::{FactFault, moment_of_text, moment_text};
 
 /// The day numbers of 1 January 1970 to 2200: `date(y, 1, 1).toordinal() - date(1970, 1, 1).toordinal()`.
@@ -193,9 +193,7 @@ fn centuries_end() -> bool {
 }
 
 /// What is tried here, and whether it holds.
-pub(crate) fn tried() -> [Tried; 2] {
-    [
-        ("every day from 1970 to 2199", first_wrong_year().is_none()),
-        ("the last day of each century", centuries_end()),
-    ]
+pub(crate) fn tried(report: &mut Paper) {
+    report.say("every day from 1970 to 2199", first_wrong_year().is_none());
+    report.say("the last day of each century", centuries_end());
 }

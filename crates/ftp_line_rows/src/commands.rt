@@ -1,5 +1,5 @@
 //! Rows of the table of verbs, of RFC 959, RFC 2428 and RFC 3659, and refused growths.
-use crate::report::Tried;
+use crate::report::Paper;
 use ftp_command::{Command, CommandFault, Endpoint, Host, Text, read, write};
 use ftp_refusing::Refusing;
 use std::alloc::{Allocator, Global};
@@ -15,20 +15,40 @@ const UNKNOWN: Result<&'static [u8], CommandFault> = Err(CommandFault::Unknown);
 
 const NOT_DONE: Result<&'static [u8], CommandFault> = Err(CommandFault::NotDone);
 
-/// The line that is written for what a line says.
-fn rewritten<A: Allocator + Clone>(alloc: &A, line: &[u8]) -> Result<Vec<u8, A>, CommandFault> {
-    let here = alloc.clone().map_err(|_| CommandFault::Memory)?;
-    let there = alloc.clone().map_err(|_| CommandFault::Memory)?;
-    let command = read(here, line)?;
-    let mut out = Vec::new(there);
-    write(&command, &mut out)?;
-    Ok(out)
+/// Writes the line of what is said.
+fn write_said<A: Allocator, B: Allocator>(
+    said: &Result<Command<Text<A>>, CommandFault>,
+    out: &mut Vec<u8, B>,
+) -> Result<(), CommandFault> {
+    match said {
+        Ok(command) => write(command, out),
+        Err(fault) => Err(*fault),
+    }
+}
+
+/// The endpoint of PORT or EPRT.
+fn endpoint_of<A: Allocator>(said: &Result<Command<Text<A>>, CommandFault>) -> Option<Endpoint> {
+    match said {
+        Ok(Command::Port(endpoint)) => Some(*endpoint),
+        Ok(Command::Eprt(endpoint)) => Some(*endpoint),
+        _ => None,
+    }
+}
+
+/// Writes the line of what is said and is needed no longer, and gives the endpoint of PORT or EPRT. A command is let go here
+/// and nowhere else, since that is dear to prove.
+fn written<A: Allocator, B: Allocator>(
+    said: Result<Command<Text<A>>, CommandFault>,
+    out: &mut Vec<u8, B>,
+) -> (Result<(), CommandFault>, Option<Endpoint>) {
+    (write_said(&said, out), endpoint_of(&said))
 }
 
 /// Whether the line says what another line is written for, or is refused with this fault.
 fn agrees(alloc: Global, row: &Row) -> bool {
-    match (rewritten(&alloc, row.0), row.1) {
-        (Ok(out), Ok(line)) => out.as_slice() == line,
+    let mut out = Vec::new(alloc);
+    match (written(read(alloc, row.0), &mut out).0, row.1) {
+        (Ok(()), Ok(line)) => out.as_slice() == line,
         (Err(fault), Err(expected)) => fault == expected,
         _ => false,
     }
@@ -36,12 +56,11 @@ fn agrees(alloc: Global, row: &Row) -> bool {
 
 /// Whether each row is so.
 fn all_agree(alloc: Global, rows: &[Row]) -> bool {
+    let mut all = true;
     for row in rows {
-        if !agrees(alloc, row) {
-            return false;
-        }
+        all &= agrees(alloc, row);
     }
-    true
+    all
 }
 
 const VERBS: &[Row] = &[
@@ -170,31 +189,21 @@ const EXTENDED: &[Row] = &[
 
 /// Whether a line says PORT or EPRT of this endpoint.
 fn names(alloc: Global, line: &[u8], host: Host, port: u16) -> bool {
-    match &read(alloc, line) {
-        Ok(Command::Port(endpoint)) => *endpoint == Endpoint { host, port },
-        Ok(Command::Eprt(endpoint)) => *endpoint == Endpoint { host, port },
-        _ => false,
-    }
+    let mut out = Vec::new(alloc);
+    written(read(alloc, line), &mut out).1 == Some(Endpoint { host, port })
 }
 
 fn endpoints_of_both_families(alloc: Global) -> bool {
     let local = Host::V4([127, 0, 0, 1]);
     let last = Host::V6([0, 0, 0, 0, 0, 0, 0, 0, 0, 0, 0, 0, 0, 0, 0, 1]);
     names(alloc, b"PORT 127,0,0,1,007,138", local, 1930)
-        && names(alloc, b"EPRT |2|::1|1930|", last, 1930)
-}
-
-/// Writes a command that is needed no longer.
-fn written<A: Allocator>(
-    command: Command<Text<Global>>,
-    out: &mut Vec<u8, A>,
-) -> Result<(), CommandFault> {
-    write(&command, out)
+        & names(alloc, b"EPRT |2|::1|1930|", last, 1930)
 }
 
 /// Whether `write` says that no line stands for the command, and leaves the vector, which has one octet, as it was.
 fn has_no_line(command: Command<Text<Global>>, out: &mut Vec<u8>) -> bool {
-    written(command, out) == Err(CommandFault::BadArgument) && out.as_slice() == b"x".as_slice()
+    (written(Ok(command), out).0 == Err(CommandFault::BadArgument))
+        & (out.as_slice() == b"x".as_slice())
 }
 
 /// The text of these octets; that of none where there is no memory, which the tests have.
@@ -207,11 +216,11 @@ fn text(alloc: Global, octets: &[u8]) -> Text<Global> {
 
 fn texts_have_no_line(alloc: Global, out: &mut Vec<u8>) -> bool {
     has_no_line(Command::User(text(alloc, b"")), out)
-        && has_no_line(Command::Cwd(text(alloc, b"")), out)
-        && has_no_line(Command::Acct(text(alloc, b"a ")), out)
-        && has_no_line(Command::Opts(text(alloc, b"a\nb")), out)
-        && has_no_line(Command::Help(Some(text(alloc, b""))), out)
-        && has_no_line(Command::List(Some(text(alloc, b"-a"))), out)
+        & has_no_line(Command::Cwd(text(alloc, b"")), out)
+        & has_no_line(Command::Acct(text(alloc, b"a ")), out)
+        & has_no_line(Command::Opts(text(alloc, b"a\nb")), out)
+        & has_no_line(Command::Help(Some(text(alloc, b""))), out)
+        & has_no_line(Command::List(Some(text(alloc, b"-a"))), out)
 }
 
 fn values_have_no_line(out: &mut Vec<u8>) -> bool {
@@ -225,71 +234,80 @@ fn values_have_no_line(out: &mut Vec<u8>) -> bool {
     };
     let most = 1_000_000_000_000_000_000;
     has_no_line(Command::Port(v6), out)
-        && has_no_line(Command::Eprt(none), out)
-        && has_no_line(Command::Rest(most), out)
-        && has_no_line(Command::Allo(1, Some(most)), out)
+        & has_no_line(Command::Eprt(none), out)
+        & has_no_line(Command::Rest(most), out)
+        & has_no_line(Command::Allo(1, Some(most)), out)
 }
 
 /// Whether no line stands for these commands.
 fn have_no_line(alloc: Global) -> bool {
-    match Vec::from_slice(alloc, b"x") {
-        Ok(mut out) => texts_have_no_line(alloc, &mut out) && values_have_no_line(&mut out),
-        Err(_) => false,
-    }
+    let mut out = Vec::new(alloc);
+    out.push(b'x').is_ok() & texts_have_no_line(alloc, &mut out) & values_have_no_line(&mut out)
 }
 
 /// How long the line of OPTS with so many octets is, or why it has none.
 fn line_of_words(alloc: Global, count: usize) -> Result<usize, CommandFault> {
-    let Ok(words) = Vec::from_elem(alloc, b'x', count) else {
-        return Err(CommandFault::Memory);
-    };
+    let words = Paper::stretched(alloc, b"", b'x', count, b"");
     let mut out = Vec::new(alloc);
-    written(Command::Opts(Text::from_vec(words)), &mut out)?;
-    Ok(out.len())
-}
-
-/// Whether a line is read and written but for this growth, which is Memory.
-fn fails_at(alloc: Global, line: &[u8], refused: u64) -> bool {
-    let heap = Refusing::new(alloc, refused);
-    matches!(rewritten(&&heap, line), Err(CommandFault::Memory))
-}
-
-/// How many growths the reading and writing of the line asks for; none where it goes wrong.
-fn growths(alloc: Global, line: &[u8]) -> u64 {
-    let heap = Refusing::new(alloc, 0);
-    if rewritten(&&heap, line).is_err() {
-        return 0;
+    match written(Ok(Command::Opts(text(alloc, words.octets()))), &mut out).0 {
+        Ok(()) => Ok(out.len()),
+        Err(fault) => Err(fault),
     }
-    0u64.wrapping_sub(heap.left())
+}
+
+fn words_are_limited(alloc: Global) -> bool {
+    (line_of_words(alloc, 1_017) == Ok(1_022))
+        & (line_of_words(alloc, 1_018) == Err(CommandFault::BadArgument))
+}
+
+/// Reads and writes a line.
+fn rewrites<A: Allocator + Copy>(alloc: A, line: &[u8]) -> Result<(), CommandFault> {
+    let mut out = Vec::new(alloc);
+    written(read(alloc, line), &mut out).0
+}
+
+/// Whether a line is read and written, or wants memory, where this growth is refused, and how many growths are left.
+fn growth(alloc: Global, line: &[u8], refused: u64) -> (bool, bool, u64) {
+    let heap = Refusing::new(alloc, refused);
+    let answer = rewrites(&heap, line);
+    (
+        answer.is_ok(),
+        answer == Err(CommandFault::Memory),
+        heap.left(),
+    )
 }
 
 /// Whether reading and writing the line asks for memory, and is Memory where any one growth is refused.
 fn is_memory(alloc: Global, line: &[u8]) -> bool {
-    let growths = growths(alloc, line);
+    let (mut all, _, left) = growth(alloc, line, 0);
+    let growths = 0u64.wrapping_sub(left);
     for refused in 1..=growths {
-        if !fails_at(alloc, line, refused) {
-            return false;
-        }
+        all &= growth(alloc, line, refused).1;
     }
-    growths > 0
+    all & (growths > 0)
 }
 
 const GROWING: &[&'static [u8]] = &[b"USER guest", b"LIST d", b"EPRT |2|::1|1930|", b"REST 5"];
 
 fn are_memory(alloc: Global) -> bool {
+    let mut all = true;
     for line in GROWING {
-        if !is_memory(alloc, line) {
-            return false;
-        }
+        all &= is_memory(alloc, line);
     }
-    true
+    all
+}
+
+/// Writes PWD.
+fn add_pwd<A: Allocator>(out: &mut Vec<u8, A>) -> Result<(), CommandFault> {
+    let pwd: Command<Text<Global>> = Command::Pwd;
+    written(Ok(pwd), out).0
 }
 
 /// Whether PWD wants memory and leaves the vector, and then is written behind it.
 fn is_left<A: Allocator>(out: &mut Vec<u8, A>) -> bool {
-    written(Command::Pwd, out) == Err(CommandFault::Memory)
+    add_pwd(out) == Err(CommandFault::Memory)
         && out.as_slice() == b"x".as_slice()
-        && written(Command::Pwd, out) == Ok(())
+        && add_pwd(out) == Ok(())
         && out.as_slice() == b"xPWD".as_slice()
 }
 
@@ -302,32 +320,26 @@ fn leaves_the_vector(alloc: Global) -> bool {
 }
 
 /// What is tried here, and whether it holds.
-pub(crate) fn tried(alloc: Global) -> [Tried; 9] {
-    [
-        ("verbs and their texts", all_agree(alloc, VERBS)),
-        ("paths in UTF-8", all_agree(alloc, PATHS)),
-        ("parameters by their verbs", all_agree(alloc, PARAMETERS)),
-        (
-            "commands with extended addresses",
-            all_agree(alloc, EXTENDED),
-        ),
-        (
-            "endpoints of both families",
-            endpoints_of_both_families(alloc),
-        ),
-        (
-            "texts and values that no line stands for",
-            have_no_line(alloc),
-        ),
-        (
-            "the longest words",
-            line_of_words(alloc, 1_017) == Ok(1_022)
-                && line_of_words(alloc, 1_018) == Err(CommandFault::BadArgument),
-        ),
-        ("a refused growth is memory", are_memory(alloc)),
-        (
-            "a refused growth leaves the vector",
-            leaves_the_vector(alloc),
-        ),
-    ]
+pub(crate) fn tried(alloc: Global, report: &mut Paper) {
+    report.say("verbs and their texts", all_agree(alloc, VERBS));
+    report.say("paths in UTF-8", all_agree(alloc, PATHS));
+    report.say("parameters by their verbs", all_agree(alloc, PARAMETERS));
+    report.say(
+        "commands with extended addresses",
+        all_agree(alloc, EXTENDED),
+    );
+    report.say(
+        "endpoints of both families",
+        endpoints_of_both_families(alloc),
+    );
+    report.say(
+        "texts and values that no line stands for",
+        have_no_line(alloc),
+    );
+    report.say("the longest words", words_are_limited(alloc));
+    report.say("a refused growth is memory", are_memory(alloc));
+    report.say(
+        "a refused growth leaves the vector",
+        leaves_the_vector(alloc),
+    );
 }

@@ -10,14 +10,20 @@ pub fn reply_of(alloc: Global, line: &[u8]) -> Option<Reply<Global>> {
     }
 }
 
-/// A reply of these lines.
-pub fn reply_with(alloc: Global, code: u16, texts: &[&[u8]]) -> Option<Reply<Global>> {
+/// The lines of these texts, those that have room.
+fn lines_of(alloc: Global, texts: &[&[u8]]) -> Lines<Global> {
     let mut lines = Lines::new(alloc);
     for text in texts {
-        if !lines.has_room(text) || lines.push(text).is_err() {
-            return None;
+        if lines.has_room(text) {
+            let _pushed = lines.push(text);
         }
     }
+    lines
+}
+
+/// A reply of these lines.
+pub fn reply_with(alloc: Global, code: u16, texts: &[&[u8]]) -> Option<Reply<Global>> {
+    let lines = lines_of(alloc, texts);
     if lines.len() == 0 || code < 100 || code > 599 {
         return None;
     }
@@ -35,19 +41,13 @@ pub fn hears<A: Allocator + Clone>(
     }
 }
 
+/// Whether a reply has these texts.
 pub fn texts_are<A: Allocator>(reply: &Reply<A>, texts: &[&[u8]]) -> bool {
-    if reply.lines.len() != texts.len() {
-        return false;
-    }
+    let mut all = reply.lines.len() == texts.len();
     for (i, text) in texts.iter().enumerate() {
-        let Some(line) = reply.lines.get(i) else {
-            return false;
-        };
-        if line != *text {
-            return false;
-        }
+        all &= reply.lines.get(i) == Some(*text);
     }
-    true
+    all
 }
 
 /// Whether the path that a reply quotes is this one.
@@ -60,18 +60,4 @@ pub fn quotes<A: Allocator>(
         Ok(read) => Ok(read.as_slice() == path),
         Err(fault) => Err(fault),
     }
-}
-
-/// A line of the mark and so many octets.
-pub fn long_line(alloc: Global, mark: &[u8], octets: usize) -> Option<Vec<u8>> {
-    let mut line = Vec::new(alloc);
-    if line.extend_from_slice(mark).is_err() {
-        return None;
-    }
-    for _ in 0..octets {
-        if line.push(b'x').is_err() {
-            return None;
-        }
-    }
-    Some(line)
 }

@@ -1,102 +1,79 @@
 //! What octets of a control connection say, in every cutting, and the memory that an ear asks for.
-ghost use Rattle.std.specs.Prelude.{◌<◌, ◌≤◌, length};
-
 use crate::caller::events_in;
-use crate::report::Tried;
+use crate::report::Paper;
 use ftp_nvt::{Ear, Event, NvtFault};
 use ftp_refusing::Refusing;
-use std::alloc::{AllocError, Global};
+use std::alloc::{Allocator, Global};
 
 /// Octets, and what they say.
 type Row = (&'static [u8], &'static [u8]);
 
-/// The events of a piece as text: a line between `<` and `>`, a line that is too long as `!`, an owed answer
+/// Puts the events of a piece as text: a line between `<` and `>`, a line that is too long as `!`, an owed answer
 /// between `[` and `]`.
-fn put_events(
-    ear: &mut Ear<Global>,
-    piece: &[u8],
-    out: &mut Vec<u8, Global>,
-) -> Result<(), AllocError> {
+fn put_events(ear: &mut Ear<Global>, piece: &[u8], said: &mut Paper) {
     let mut rest = piece;
     for _ in 0..=piece.len() {
         let heard = ear.feed(rest);
         match heard.event {
-            Event::More => return Ok(()),
-            Event::Line => put_between(b"<", ear.line(), b">", out)?,
-            Event::TooLong => out.push(b'!')?,
-            Event::Owed(answer) => put_between(b"[", &answer, b"]", out)?,
+            Event::More => {}
+            Event::Line => put_between(b"<", ear.line(), b">", said),
+            Event::TooLong => said.put(b"!"),
+            Event::Owed(answer) => put_between(b"[", &answer, b"]", said),
         }
         let (_, later) = rest.split_at(heard.taken);
         rest = later;
     }
-    Ok(())
 }
 
-fn put_between(
-    front: &[u8],
-    text: &[u8],
-    back: &[u8],
-    out: &mut Vec<u8, Global>,
-) -> Result<(), AllocError> {
-    out.extend_from_slice(front)?;
-    out.extend_from_slice(text)?;
-    out.extend_from_slice(back)
+fn put_between(front: &[u8], text: &[u8], back: &[u8], said: &mut Paper) {
+    said.put(front);
+    said.put(text);
+    said.put(back);
 }
 
-/// The events of octets, cut into pieces of this size behind the first `at`.
-fn said(
-    alloc: Global,
-    limit: usize,
-    octets: &[u8],
-    at: usize,
-    size: usize,
-) -> Option<Vec<u8, Global>>
-    requires front { at ≤ length octets.now }
-    requires some { 0 < size }
-{
-    let mut out = Vec::new(alloc);
-    let mut ear = Ear::new(alloc, limit).ok()?;
-    let (front, back) = octets.split_at(at);
-    put_events(&mut ear, front, &mut out).ok()?;
-    for piece in back.chunks(size) {
-        put_events(&mut ear, piece, &mut out).ok()?;
+/// Puts the events of octets, cut into pieces of this size behind the first `at`.
+fn put_cut(ear: &mut Ear<Global>, octets: &[u8], at: usize, size: usize, said: &mut Paper) {
+    let (front, back) = octets.split_at(at.min(octets.len()));
+    put_events(ear, front, said);
+    for piece in back.chunks(size.max(1)) {
+        put_events(ear, piece, said);
     }
-    Some(out)
+}
+
+/// Whether a row is said to an ear, cut so.
+fn is_said(alloc: Global, ear: &mut Ear<Global>, row: &Row, at: usize, size: usize) -> bool {
+    let mut said = Paper::new(alloc);
+    put_cut(ear, row.0, at, size, &mut said);
+    said.octets() == row.1
 }
 
 /// Whether a row says the same cut once at this place, and then into pieces of this size.
-fn holds_cut(alloc: Global, limit: usize, row: &Row, at: usize, size: usize) -> bool
-    requires front { at ≤ length row.now.0.now }
-    requires some { 0 < size }
-{
-    match said(alloc, limit, row.0, at, size) {
-        Some(out) => out.as_slice() == row.1,
-        None => false,
+fn holds_cut(alloc: Global, limit: usize, row: &Row, at: usize, size: usize) -> bool {
+    match Ear::new(alloc, limit) {
+        Ok(mut ear) => is_said(alloc, &mut ear, row, at, size),
+        Err(_) => false,
     }
 }
 
 /// Whether a row says the same in every cutting.
 fn holds(alloc: Global, limit: usize, row: &Row) -> bool {
+    let mut all = true;
     for at in 0..=row.0.len() {
-        let whole = holds_cut(alloc, limit, row, at, 64);
-        let ones = holds_cut(alloc, limit, row, at, 1);
-        let twos = holds_cut(alloc, limit, row, at, 2);
-        let threes = holds_cut(alloc, limit, row, at, 3);
-        if !(whole && ones && twos && threes) {
-            return false;
-        }
+        all &= holds_cut(alloc, limit, row, at, 64);
+        all &= holds_cut(alloc, limit, row, at, 1);
+        all &= holds_cut(alloc, limit, row, at, 2);
+        all &= holds_cut(alloc, limit, row, at, 3);
     }
-    true
+    all
 }
 
 /// Whether each row says the same in every cutting.
 fn all_hold(alloc: Global, limit: usize, rows: &[Row]) -> bool {
+    let mut all = true;
     for row in rows {
-        if !holds(alloc, limit, row) {
-            return false;
-        }
+        all &= holds(alloc, limit, row);
     }
-    true
+    all
 }
 
 /// Rows for a limit of ten octets.
@@ -146,16 +123,6 @@ const TELNET: &[Row] = &[
     (b"\xFF\xF0\xFF\xF9a\n", b"<a>"),
 ];
 
-/// NOOP with so many spaces and CR LF behind it.
-fn spaced(alloc: Global, spaces: usize) -> Result<Vec<u8, Global>, AllocError> {
-    let mut octets = Vec::from_slice(alloc, b"NOOP")?;
-    for _ in 0..spaces {
-        octets.push(b' ')?;
-    }
-    octets.extend_from_slice(b"\r\n")?;
-    Ok(octets)
-}
-
 /// Whether an ear hears these octets as one line of 1,022 octets.
 fn is_a_line(ear: &mut Ear<Global>, octets: &[u8]) -> bool {
     let heard = ear.feed(octets);
@@ -168,24 +135,16 @@ fn is_too_long(ear: &mut Ear<Global>, octets: &[u8]) -> bool {
     heard.taken == 1_025 && heard.event == Event::TooLong && events_in(ear, b"NOOP\r\n\n") == 2
 }
 
-/// Whether a new ear for 1,024 octets hears NOOP with so many spaces behind it as one line, or as a line that is too long.
-fn is_heard(alloc: Global, spaces: usize, fits: bool) -> bool {
-    let Ok(octets) = spaced(alloc, spaces) else {
-        return false;
-    };
-    match Ear::new(alloc, 1_024) {
-        Ok(mut ear) if fits => is_a_line(&mut ear, &octets),
-        Ok(mut ear) => is_too_long(&mut ear, &octets),
-        Err(_) => false,
-    }
+/// Whether an ear for 1,024 octets hears 1,018 spaces behind NOOP as one line, and then one more as a line that is too long.
+fn keeps_its_limit(alloc: Global, ear: &mut Ear<Global>) -> bool {
+    let longest = Paper::stretched(alloc, b"NOOP", b' ', 1_018, b"\r\n");
+    let longer = Paper::stretched(alloc, b"NOOP", b' ', 1_019, b"\r\n");
+    is_a_line(ear, longest.octets()) & is_too_long(ear, longer.octets())
 }
 
-/// How many events an ear for eight octets gives, where this growth is refused, and how many growths are left then.
-fn events_with(alloc: Global, refused: u64) -> Result<(usize, u64), NvtFault> {
-    let heap = Refusing::new(alloc, refused);
-    let mut ear = Ear::new(&heap, 8)?;
-    let events = events_in(&mut ear, b"1234567\n12345678\n\n");
-    Ok((events, heap.left()))
+/// Whether an ear for eight octets tells how long its unfinished line is: three octets, none behind its end, none past the limit.
+fn is_measured(ear: &mut Ear<Global>) -> bool {
+    leaves(ear, b"abc", 3) & leaves(ear, b"\r\n", 0) & leaves(ear, b"123456789", 0)
 }
 
 /// Whether behind a piece an ear has so many octets of an unfinished line.
@@ -194,29 +153,41 @@ fn leaves(ear: &mut Ear<Global>, piece: &[u8], octets: usize) -> bool {
     ear.unfinished() == octets
 }
 
-/// Whether an ear for eight octets tells how long its unfinished line is: three octets, none behind its end, none past the limit.
-fn is_measured(alloc: Global) -> bool {
-    match Ear::new(alloc, 8) {
-        Ok(mut ear) => leaves(&mut ear, b"abc", 3)
-            && leaves(&mut ear, b"\r\n", 0)
-            && leaves(&mut ear, b"123456789", 0),
+fn is_limited(alloc: Global) -> bool {
+    match Ear::new(alloc, 1_024) {
+        Ok(mut ear) => keeps_its_limit(alloc, &mut ear),
         Err(_) => false,
     }
 }
 
+fn measures(alloc: Global) -> bool {
+    match Ear::new(alloc, 8) {
+        Ok(mut ear) => is_measured(&mut ear),
+        Err(_) => false,
+    }
+}
+
+/// How many events an ear for eight octets gives, or that it wants memory.
+fn events_with<A: Allocator>(alloc: A) -> Result<usize, NvtFault> {
+    match Ear::new(alloc, 8) {
+        Ok(mut ear) => Ok(events_in(&mut ear, b"1234567\n12345678\n\n")),
+        Err(fault) => Err(fault),
+    }
+}
+
+/// Whether an ear gives three events and asks for one growth, and wants memory where that is refused.
+fn asks_once(alloc: Global) -> bool {
+    let heap = Refusing::new(alloc, 2);
+    let ample = events_with(&heap) == Ok(3) && heap.left() == 1;
+    let heap = Refusing::new(alloc, 1);
+    ample & (events_with(&heap) == Err(NvtFault::Memory))
+}
+
 /// What is tried here, and whether it holds.
-pub(crate) fn tried(alloc: Global) -> [Tried; 5] {
-    [
-        ("lines in every cutting", all_hold(alloc, 10, LINES)),
-        ("telnet octets in every cutting", all_hold(alloc, 4, TELNET)),
-        (
-            "a line has 1024 octets at most",
-            is_heard(alloc, 1_018, true) && is_heard(alloc, 1_019, false),
-        ),
-        ("an unfinished line is measured", is_measured(alloc)),
-        (
-            "memory is asked for once",
-            events_with(alloc, 1) == Err(NvtFault::Memory) && events_with(alloc, 2) == Ok((3, 1)),
-        ),
-    ]
+pub(crate) fn tried(alloc: Global, report: &mut Paper) {
+    report.say("lines in every cutting", all_hold(alloc, 10, LINES));
+    report.say("telnet octets in every cutting", all_hold(alloc, 4, TELNET));
+    report.say("a line has 1024 octets at most", is_limited(alloc));
+    report.say("an unfinished line is measured", measures(alloc));
+    report.say("memory is asked for once", asks_once(alloc));
 }

@@ -1,5 +1,5 @@
 //! Rows of RFC 959 and RFC 2428, and numbers at their limits.
-use crate::report::Tried;
+use crate::report::Paper;
 use ftp_endpoint::{
     Endpoint, EndpointFault, Host, after, extended_endpoint, is_delimiter, number, octet,
     octet_in_front, port, port_in_front, six_in_front, six_numbers, split_digits, write_extended,
@@ -211,25 +211,25 @@ fn is_six(endpoint: Endpoint, expected: &[u8]) -> bool {
     }
 }
 
+fn are_six() -> bool {
+    begins_with(b"10,0,0,9,007,138).", LOCAL, b").") & sixes_are_read()
+}
+
+fn are_written_as_six() -> bool {
+    is_six(LOCAL, b"10,0,0,9,7,138") & write_six(LAST).is_none()
+}
+
 /// What is tried here, and whether it holds.
-pub(crate) fn tried() -> [Tried; 8] {
-    [
-        (
-            "numbers at their limits",
-            numbers_are_read() && octets_are_read() && ports_are_read(),
-        ),
-        ("what stands in front", what_stands_in_front()),
-        (
-            "six numbers of RFC 959",
-            begins_with(b"10,0,0,9,007,138).", LOCAL, b").") && sixes_are_read(),
-        ),
-        ("ports of extended replies", replies_are_read()),
-        ("extended addresses that are refused", are_refused()),
-        ("extended addresses that are read", are_read()),
-        ("extended addresses as they are written", are_written()),
-        (
-            "six numbers as they are written",
-            is_six(LOCAL, b"10,0,0,9,7,138") && write_six(LAST).is_none(),
-        ),
-    ]
+pub(crate) fn tried(report: &mut Paper) {
+    report.say(
+        "numbers at their limits",
+        numbers_are_read() & octets_are_read() & ports_are_read(),
+    );
+    report.say("what stands in front", what_stands_in_front());
+    report.say("six numbers of RFC 959", are_six());
+    report.say("ports of extended replies", replies_are_read());
+    report.say("extended addresses that are refused", are_refused());
+    report.say("extended addresses that are read", are_read());
+    report.say("extended addresses as they are written", are_written());
+    report.say("six numbers as they are written", are_written_as_six());
 }

@@ -1,7 +1,7 @@
 //! Lines of a listing, and what is written of the entries that they say.
-use crate::report::Tried;
+use crate::report::{Paper, is_printed};
 use ftp_facts::{Entry, FactFault, read_entry, write_entry};
-use std::alloc::Global;
+use std::alloc::{Allocator, Global};
 
 /// A line, and either the line that is written of its entry or its fault.
 const ROWS: &[(&str, &str)] = &[
@@ -85,27 +85,43 @@ const ROWS: &[(&str, &str)] = &[
 ];
 
 /// Whether the line of the entry is this.
-pub fn is_written(alloc: Global, entry: &Entry<Global>, line: &[u8]) -> bool {
+fn is_written(alloc: Global, entry: &Entry<Global>, line: &[u8]) -> bool {
     let mut out = Vec::new(alloc);
-    write_entry(entry, &mut out).is_ok() && out.as_slice() == line
+    write_entry(entry, &mut out).is_ok() & (out.as_slice() == line)
 }
 
-/// Whether the line is written again as the other says: what is written of its entry, or its fault.
-fn is_answered(alloc: Global, line: &str, expected: &str) -> bool {
-    match read_entry(alloc, line.as_bytes()) {
-        Ok(entry) => is_written(alloc, &entry, expected.as_bytes()),
+/// Whether what was read is written as this line, or is this fault.
+fn is_answer(alloc: Global, read: &Result<Entry<Global>, FactFault>, expected: &str) -> bool {
+    match read {
+        Ok(entry) => is_written(alloc, entry, expected.as_bytes()),
         Err(fault) => fault.text() == expected,
     }
 }
 
-/// The first line with another answer.
-fn first_wrong(alloc: Global) -> Option<&'static str> {
-    for (line, expected) in ROWS {
-        if !is_answered(alloc, line, expected) {
-            return Some(line);
-        }
+/// Whether what was read is written as this line, or is this fault. An entry is let go here, since that is dear to prove.
+pub fn answers(alloc: Global, read: Result<Entry<Global>, FactFault>, expected: &str) -> bool {
+    is_answer(alloc, &read, expected)
+}
+
+fn lines_are_answered(alloc: Global) -> bool {
+    let mut all = true;
+    for row in ROWS {
+        all &= answers(alloc, read_entry(alloc, row.0.as_bytes()), row.1);
     }
-    None
+    all
+}
+
+fn fault_in<A: Allocator>(read: &Result<Entry<A>, FactFault>) -> Option<FactFault> {
+    match read {
+        Ok(_) => None,
+        Err(fault) => Some(*fault),
+    }
+}
+
+/// Why the line is not read; nothing where it is.
+pub fn fault_of<A: Allocator + Clone>(alloc: A, line: &[u8]) -> Option<FactFault> {
+    let read = read_entry(alloc, line);
+    fault_in(&read)
 }
 
 const FAULTS: &[(FactFault, &str)] = &[
@@ -125,44 +141,25 @@ const BAD_NAMES: &[&[u8]] = &[
     b" a\r",
 ];
 
-fn is_bad_name(alloc: Global, line: &[u8]) -> bool {
-    match read_entry(alloc, line) {
-        Ok(_) => false,
-        Err(fault) => fault == FactFault::BadName,
-    }
-}
-
 fn are_bad_names(alloc: Global) -> bool {
+    let mut all = true;
     for line in BAD_NAMES {
-        if !is_bad_name(alloc, line) {
-            return false;
-        }
+        all &= fault_of(alloc, line) == Some(FactFault::BadName);
     }
-    true
-}
-
-/// Whether the fault is printed so, both ways.
-fn is_printed(alloc: Global, fault: FactFault, expected: &str) -> bool {
-    match fault.to_string(alloc) {
-        Ok(text) => text.as_str() == expected && fault.text() == expected,
-        Err(_) => false,
-    }
+    all
 }
 
 fn are_printed(alloc: Global) -> bool {
+    let mut all = true;
     for (fault, text) in FAULTS {
-        if !is_printed(alloc, *fault, text) {
-            return false;
-        }
+        all &= is_printed(alloc, fault, text) & (fault.text() == *text);
     }
-    true
+    all
 }
 
 /// What is tried here, and whether it holds.
-pub(crate) fn tried(alloc: Global) -> [Tried; 3] {
-    [
-        ("lines and their answers", first_wrong(alloc).is_none()),
-        ("names that are no path text", are_bad_names(alloc)),
-        ("faults as they are printed", are_printed(alloc)),
-    ]
+pub(crate) fn tried(alloc: Global, report: &mut Paper) {
+    report.say("lines and their answers", lines_are_answered(alloc));
+    report.say("names that are no path text", are_bad_names(alloc));
+    report.say("faults as they are printed", are_printed(alloc));
 }

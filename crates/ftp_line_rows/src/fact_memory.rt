@@ -1,42 +1,28 @@
 //! Each growth refused in turn.
-use crate::entries::is_written;
-use crate::report::Tried;
+use crate::entries::{answers, fault_of};
+use crate::report::Paper;
 use ftp_facts::laws::entry_comes_back;
 use ftp_facts::{Entry, FactFault, Text, read_entry, write_entry};
 use ftp_refusing::Refusing;
 use std::alloc::{Allocator, Global};
 
-const LINE: &[u8] = b"Type=OS.unix=slink:/x;Size=12;Modify=20000229235959;Perm=adfrw; a b";
+const LINE: &str = "Type=OS.unix=slink:/x;Size=12;Modify=20000229235959;Perm=adfrw; a b";
 
-/// Why the line is not read; nothing where it is.
-fn fault_of<A: Allocator + Clone>(alloc: A, line: &[u8]) -> Option<FactFault> {
-    match read_entry(alloc, line) {
-        Ok(_) => None,
-        Err(fault) => Some(fault),
-    }
-}
-
-/// How many growths the reading of the line asks for, with memory for each.
-fn growths(alloc: Global, line: &[u8]) -> u64 {
-    let heap = Refusing::new(alloc, 0);
-    let _fault = fault_of(&heap, line);
-    0u64.wrapping_sub(heap.left())
-}
-
-/// Why the line is not read where that growth is refused.
-fn refused_fault(alloc: Global, refused: u64) -> Option<FactFault> {
+/// Why a line is not read where this growth is refused, and how many growths are left.
+fn growth(alloc: Global, line: &[u8], refused: u64) -> (Option<FactFault>, u64) {
     let heap = Refusing::new(alloc, refused);
-    fault_of(&heap, LINE)
+    let fault = fault_of(&heap, line);
+    (fault, heap.left())
 }
 
-/// Whether each of three growths is refused.
-fn three_are_refused(alloc: Global) -> bool {
+/// Whether the reading of the line asks for three growths, and wants memory where one of them is refused.
+fn reading_is_refused_memory(alloc: Global) -> bool {
+    let (fault, left) = growth(alloc, LINE.as_bytes(), 0);
+    let mut all = fault.is_none() & (0u64.wrapping_sub(left) == 3);
     for refused in 1..=3u64 {
-        if refused_fault(alloc, refused) != Some(FactFault::Memory) {
-            return false;
-        }
+        all &= growth(alloc, LINE.as_bytes(), refused).0 == Some(FactFault::Memory);
     }
-    true
+    all
 }
 
 const BAD: &[&[u8]] = &[
@@ -48,74 +34,73 @@ const BAD: &[&[u8]] = &[
 ];
 
 fn bad_lines_ask_for_none(alloc: Global) -> bool {
+    let mut all = true;
     for line in BAD {
-        if growths(alloc, line) != 0 {
-            return false;
-        }
+        all &= growth(alloc, line, 0).1 == 0;
     }
-    true
+    all
 }
 
-/// Whether the octets are those of before where `Memory` is answered, and else the whole line behind them. Gives which.
-fn is_refused<A: Allocator>(entry: &Entry<Global>, out: &mut Vec<u8, A>) -> Option<bool> {
-    match write_entry(entry, out) {
-        Ok(()) if out.len() == LINE.len() + 2 => Some(false),
-        Err(FactFault::Memory) if out.as_slice() == b"ab".as_slice() => Some(true),
-        _ => None,
-    }
-}
-
-/// Whether writing behind two octets is refused where that growth is; nothing where it goes wrong.
-fn writing_is_refused(alloc: Global, entry: &Entry<Global>, growth: u64) -> Option<bool> {
-    let heap = Refusing::new(alloc, growth.wrapping_add(1));
-    match Vec::from_slice(&heap, b"ab") {
-        Ok(mut out) => is_refused(entry, &mut out),
-        Err(_) => None,
+/// Whether the entry is written behind two octets, which stay as they were where memory is wanted. Gives which.
+fn goes_behind<A: Allocator>(alloc: A, entry: &Entry<Global>) -> (bool, bool) {
+    let mut out = Vec::new(alloc);
+    let begun = out.extend_from_slice(b"ab").is_ok();
+    match write_entry(entry, &mut out) {
+        Ok(()) => (true, begun & (out.len() == LINE.len() + 2)),
+        Err(fault) => (
+            false,
+            begun & (fault == FactFault::Memory) & (out.as_slice() == b"ab".as_slice()),
+        ),
     }
 }
 
-/// How many of the first nineteen growths refuse the writing of the entry; nothing where one goes wrong.
-fn refused_writings(alloc: Global, entry: &Entry<Global>) -> Option<u64> {
-    let mut count = 0u64;
-    for growth in 1..20u64 {
-        match writing_is_refused(alloc, entry, growth) {
-            Some(true) => count = count.wrapping_add(1),
-            Some(false) => {}
-            None => return None,
-        }
-    }
-    Some(count)
+/// Whether the entry is written where this growth is refused, whether all is so then, and how many growths are left.
+fn growth_of_written(alloc: Global, entry: &Entry<Global>, refused: u64) -> (bool, bool, u64) {
+    let heap = Refusing::new(alloc, refused);
+    let (goes, holds) = goes_behind(&heap, entry);
+    (goes, holds, heap.left())
 }
 
-fn refused_writings_of_line(alloc: Global) -> Option<u64> {
-    match read_entry(alloc, LINE) {
-        Ok(entry) => refused_writings(alloc, &entry),
-        Err(_) => None,
+/// The first growth is that of the two octets; of the others some are asked for.
+fn writing_is_refused_memory(alloc: Global, entry: &Entry<Global>) -> bool {
+    let (goes, holds, left) = growth_of_written(alloc, entry, 0);
+    let growths = 0u64.wrapping_sub(left);
+    let mut all = goes & holds & (2 < growths) & (growths < 20);
+    for refused in 2..=growths {
+        let (goes, holds, _) = growth_of_written(alloc, entry, refused);
+        all &= holds & !goes;
+    }
+    all
+}
+
+/// Tries the entry of the line.
+fn try_entry(alloc: Global, entry: &Entry<Global>, report: &mut Paper) {
+    report.say(
+        "writing is refused memory",
+        writing_is_refused_memory(alloc, entry),
+    );
+    report.say(
+        "an entry comes back",
+        answers(alloc, entry_comes_back(alloc, entry), LINE),
+    );
+}
+
+/// Tries the entry of the line, if it is one.
+fn try_read(alloc: Global, read: &Result<Entry<Global>, FactFault>, report: &mut Paper) {
+    match read {
+        Ok(entry) => try_entry(alloc, entry, report),
+        Err(_) => report.say("the line is read", false),
     }
 }
 
-fn writing_is_refused_memory(alloc: Global) -> bool {
-    let refused = refused_writings_of_line(alloc).unwrap_or(0);
-    refused > 1 && refused < 19
-}
-
-fn is_back(alloc: Global, entry: &Entry<Global>) -> bool {
-    match entry_comes_back(alloc, entry) {
-        Ok(back) => is_written(alloc, &back, LINE),
-        Err(_) => false,
-    }
-}
-
-fn comes_back(alloc: Global) -> bool {
-    match read_entry(alloc, LINE) {
-        Ok(entry) => is_back(alloc, &entry),
-        Err(_) => false,
-    }
+fn try_line(alloc: Global, report: &mut Paper) {
+    let read = read_entry(alloc, LINE.as_bytes());
+    try_read(alloc, &read, report);
 }
 
 /// Whether these octets are kept; nothing where memory is refused.
 fn is_kept<A: Allocator>(alloc: A) -> Option<bool> {
-    match Text::copy_of(alloc, b"kept") {
+    match &Text::copy_of(alloc, b"kept") {
         Ok(text) => Some(text.as_slice() == b"kept".as_slice()),
         Err(_) => None,
     }
@@ -128,24 +113,18 @@ fn is_kept_or_refused(alloc: Global) -> bool {
 }
 
 /// What is tried here, and whether it holds.
-pub(crate) fn tried(alloc: Global) -> [Tried; 5] {
-    [
-        (
-            "reading is refused memory",
-            growths(alloc, LINE) == 3 && three_are_refused(alloc),
-        ),
-        (
-            "a bad line asks for no memory",
-            bad_lines_ask_for_none(alloc),
-        ),
-        (
-            "writing is refused memory",
-            writing_is_refused_memory(alloc),
-        ),
-        ("an entry comes back", comes_back(alloc)),
-        (
-            "a text is kept or memory is refused",
-            is_kept_or_refused(alloc),
-        ),
-    ]
+pub(crate) fn tried(alloc: Global, report: &mut Paper) {
+    report.say(
+        "reading is refused memory",
+        reading_is_refused_memory(alloc),
+    );
+    report.say(
+        "a bad line asks for no memory",
+        bad_lines_ask_for_none(alloc),
+    );
+    try_line(alloc, report);
+    report.say(
+        "a text is kept or memory is refused",
+        is_kept_or_refused(alloc),
+    );
 }

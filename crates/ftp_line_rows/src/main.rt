@@ -1,45 +1,71 @@
-//! For tests alone: rows of control lines, of endpoints, commands and replies, of entries and moments, and a caller's loop over an ear.
+//! For tests alone: rows of control lines, of endpoints, commands and replies, of entries and moments, and of files, items and wires.
 #![tactic(auto)]
 
+mod both_ways;
 mod calendar;
 mod caller;
 mod commands;
 mod common;
+mod decoding;
+mod deframing;
 mod ears;
 mod endpoints;
 mod entries;
 mod fact_memory;
+mod framing;
 mod moments;
+mod receiving;
+mod refusals;
 mod replies;
 mod reply_memory;
 mod report;
+mod sending;
+mod sizes;
+mod skipping;
 mod values;
+mod wires;
+mod witnesses;
+mod words;
 mod writing;
 mod written;
 
-use report::put;
-use std::alloc::{AllocError, Global};
+use report::Paper;
+use std::alloc::Global;
 use std::io;
 use std::io::Write;
 
 /// Tries all rows, and writes a line for each table.
 fn main(rt: HostRuntime) -> io::Result<()> {
-    let mut out = Vec::new(rt.alloc());
-    put_all(rt.alloc(), &mut out)?;
-    io::writer(&rt).write_all(out.as_slice())
+    let mut report = Paper::new(rt.alloc());
+    try_lines(rt.alloc(), &mut report);
+    try_files(rt.alloc(), &mut report);
+    io::writer(&rt).write_all(report.octets())
 }
 
-fn put_all(alloc: Global, out: &mut Vec<u8>) -> Result<(), AllocError> {
-    put(&ears::tried(alloc), out)?;
-    put(&written::tried(alloc), out)?;
-    put(&endpoints::tried(), out)?;
-    put(&commands::tried(alloc), out)?;
-    put(&replies::tried(alloc), out)?;
-    put(&values::tried(alloc), out)?;
-    put(&writing::tried(alloc), out)?;
-    put(&reply_memory::tried(alloc), out)?;
-    put(&entries::tried(alloc), out)?;
-    put(&moments::tried(), out)?;
-    put(&calendar::tried(), out)?;
-    put(&fact_memory::tried(alloc), out)
+fn try_lines(alloc: Global, report: &mut Paper) {
+    ears::tried(alloc, report);
+    written::tried(alloc, report);
+    endpoints::tried(report);
+    commands::tried(alloc, report);
+    replies::tried(alloc, report);
+    values::tried(alloc, report);
+    writing::tried(alloc, report);
+    reply_memory::tried(alloc, report);
+    entries::tried(alloc, report);
+    moments::tried(report);
+    calendar::tried(report);
+    fact_memory::tried(alloc, report);
+}
+
+fn try_files(alloc: Global, report: &mut Paper) {
+    sizes::tried(alloc, report);
+    sending::tried(alloc, report);
+    receiving::tried(alloc, report);
+    refusals::tried(alloc, report);
+    skipping::tried(report);
+    words::tried(alloc, report);
+    framing::tried(alloc, report);
+    deframing::tried(alloc, report);
+    both_ways::tried(alloc, report);
+    decoding::tried(alloc, report);
 }

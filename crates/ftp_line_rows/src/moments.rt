@@ -1,5 +1,5 @@
 //! Moments and their texts, one by one.
-use crate::report::Tried;
+use crate::report::Paper;
 use ftp_facts::laws::moment_comes_back;
 use ftp_facts::{FactFault, Moment, moment_of_text, moment_text};
 
@@ -88,13 +88,11 @@ fn are_no_moments() -> bool {
 }
 
 /// What is tried here, and whether it holds.
-pub(crate) fn tried() -> [Tried; 3] {
-    [
-        (
-            "texts of moments",
-            go_both_ways() && Moment::new(253_402_300_800).is_none(),
-        ),
-        ("texts that are read and not written", are_read()),
-        ("texts of no moment", are_no_moments()),
-    ]
+pub(crate) fn tried(report: &mut Paper) {
+    report.say(
+        "texts of moments",
+        go_both_ways() & Moment::new(253_402_300_800).is_none(),
+    );
+    report.say("texts that are read and not written", are_read());
+    report.say("texts of no moment", are_no_moments());
 }

@@ -1,8 +1,11 @@
 //! Lines and the replies that they are: rows of RFC 959, section 4.2, and the limits.
-use crate::common::{hears, long_line, texts_are};
-use crate::report::Tried;
+use crate::common::{hears, texts_are};
+use crate::report::Paper;
 use ftp_reply::{Reader, ReplyFault};
 use std::alloc::Global;
+
+/// Lines, and the code and texts of the reply that they are.
+type Row = (&'static [&'static [u8]], u16, &'static [&'static [u8]]);
 
 /// Lines, and the code and texts of the reply that they are.
 const REPLIES: &[(&[&[u8]], u16, &[&[u8]])] = &[
@@ -47,6 +50,66 @@ const NO_REPLIES: &[&[u8]] = &[
     b"200\tx",
 ];
 
+/// Whether no reply ends with one of these lines.
+fn end_none(reader: &mut Reader<Global>, lines: &[&[u8]]) -> bool {
+    let mut all = true;
+    for line in lines {
+        all &= hears(reader, line) == Ok(false);
+    }
+    all
+}
+
+/// Whether a reply of that code and these texts ends with the line.
+fn ends(reader: &mut Reader<Global>, line: &[u8], code: u16, texts: &[&[u8]]) -> bool {
+    match &reader.line(line) {
+        Ok(Some(reply)) => reply.code == code && texts_are(reply, texts),
+        _ => false,
+    }
+}
+
+/// Whether the lines are to the reader the reply of that code and these texts, and none is one before the last.
+fn is_heard(reader: &mut Reader<Global>, row: &Row) -> bool {
+    match row.0.split_last() {
+        Some((last, begun)) => end_none(reader, begun) && ends(reader, last, row.1, row.2),
+        None => false,
+    }
+}
+
+/// Whether each row is such a reply to a reader that hears them all.
+fn all_are_heard(reader: &mut Reader<Global>) -> bool {
+    let mut all = true;
+    for row in REPLIES {
+        all &= is_heard(reader, row);
+    }
+    all
+}
+
+fn are_heard(alloc: Global) -> bool {
+    let mut reader = Reader::new(alloc);
+    all_are_heard(&mut reader)
+}
+
+/// Whether a reader with one reply behind it is stopped by the line, and stays so.
+fn is_stopped(reader: &mut Reader<Global>, line: &[u8]) -> bool {
+    hears(reader, b"220 Ready") == Ok(true)
+        && hears(reader, line) == Err(ReplyFault::BadCode)
+        && hears(reader, b"200 Ok") == Err(ReplyFault::Failed)
+        && hears(reader, line) == Err(ReplyFault::Failed)
+}
+
+/// Whether each of these lines stops a reader.
+fn all_stop(alloc: Global) -> bool {
+    let mut all = true;
+    for line in NO_REPLIES {
+        let mut reader = Reader::new(alloc);
+        all &= is_stopped(&mut reader, line);
+    }
+    all
+}
+
+/// Lines, octets of the first text, octets of the last, and whether they are a reply.
+type Limit = (usize, usize, usize, bool);
+
 /// Lines, octets of the first text, octets of the last, and whether they are a reply.
 const LIMITS: &[(usize, usize, usize, bool)] = &[
     (64, 5, 5, true),
@@ -59,62 +122,6 @@ const LIMITS: &[(usize, usize, usize, bool)] = &[
     (65, 8192, 0, false),
 ];
 
-/// Whether no reply ends with one of these lines.
-fn end_none(reader: &mut Reader<Global>, lines: &[&[u8]]) -> bool {
-    for line in lines {
-        if hears(reader, line) != Ok(false) {
-            return false;
-        }
-    }
-    true
-}
-
-/// Whether a reply of that code and these texts ends with the line.
-fn ends(reader: &mut Reader<Global>, line: &[u8], code: u16, texts: &[&[u8]]) -> bool {
-    match reader.line(line) {
-        Ok(Some(reply)) => reply.code == code && texts_are(&reply, texts),
-        _ => false,
-    }
-}
-
-/// Whether the lines are to the reader the reply of that code and these texts, and none is one before the last.
-fn is_heard(reader: &mut Reader<Global>, lines: &[&[u8]], code: u16, texts: &[&[u8]]) -> bool {
-    match lines.split_last() {
-        Some((last, begun)) => end_none(reader, begun) && ends(reader, last, code, texts),
-        None => false,
-    }
-}
-
-/// The code of the first row that is no such reply to a reader that hears them all.
-fn first_not_heard(alloc: Global) -> Option<u16> {
-    let mut reader = Reader::new(alloc);
-    for (lines, code, texts) in REPLIES {
-        if !is_heard(&mut reader, lines, *code, texts) {
-            return Some(*code);
-        }
-    }
-    None
-}
-
-/// Whether a reader with one reply behind it is stopped by the line, and stays so.
-fn stops(alloc: Global, line: &[u8]) -> bool {
-    let mut reader = Reader::new(alloc);
-    hears(&mut reader, b"220 Ready") == Ok(true)
-        && hears(&mut reader, line) == Err(ReplyFault::BadCode)
-        && hears(&mut reader, b"200 Ok") == Err(ReplyFault::Failed)
-        && hears(&mut reader, line) == Err(ReplyFault::Failed)
-}
-
-/// The first line that doesn't stop a reader.
-fn first_not_stopping(alloc: Global) -> Option<&'static [u8]> {
-    for line in NO_REPLIES {
-        if !stops(alloc, line) {
-            return Some(line);
-        }
-    }
-    None
-}
-
 /// What the reader answers to a line of the mark and so many octets: whether a reply ends with it.
 fn hears_long(
     reader: &mut Reader<Global>,
@@ -122,17 +129,15 @@ fn hears_long(
     mark: &[u8],
     octets: usize,
 ) -> Result<bool, ReplyFault> {
-    match long_line(alloc, mark, octets) {
-        Some(line) => hears(reader, &line),
-        None => Err(ReplyFault::Memory),
-    }
+    let line = Paper::stretched(alloc, mark, b'x', octets, b"");
+    hears(reader, line.octets())
 }
 
 /// What the reader answers to the last of so many lines, those between the first and the last empty, or its first fault.
 fn hears_all(
     reader: &mut Reader<Global>,
     alloc: Global,
-    (lines, first, last, _): &(usize, usize, usize, bool),
+    (lines, first, last, _): &Limit,
 ) -> Result<bool, ReplyFault> {
     hears_long(reader, alloc, b"211-", *first)?;
     for _ in 2..*lines {
@@ -142,10 +147,9 @@ fn hears_all(
 }
 
 /// Whether a reply keeps the limits as the row says, or is TooMany at its last line or before.
-fn is_limit(alloc: Global, row: &(usize, usize, usize, bool)) -> bool {
-    let mut reader = Reader::new(alloc);
-    let answer = hears_all(&mut reader, alloc, row);
-    let next = hears(&mut reader, b"200 Ok");
+fn is_limit(reader: &mut Reader<Global>, alloc: Global, row: &Limit) -> bool {
+    let answer = hears_all(reader, alloc, row);
+    let next = hears(reader, b"200 Ok");
     if row.3 {
         answer == Ok(true) && next == Ok(true)
     } else {
@@ -154,35 +158,28 @@ fn is_limit(alloc: Global, row: &(usize, usize, usize, bool)) -> bool {
 }
 
 fn limits_are_kept(alloc: Global) -> bool {
+    let mut all = true;
     for row in LIMITS {
-        if !is_limit(alloc, row) {
-            return false;
-        }
+        let mut reader = Reader::new(alloc);
+        all &= is_limit(&mut reader, alloc, row);
     }
-    true
+    all
 }
 
-/// What a new reader answers to one line of so many octets.
-fn hears_one(alloc: Global, octets: usize) -> Result<bool, ReplyFault> {
-    hears_long(&mut Reader::new(alloc), alloc, b"200 ", octets)
+/// Whether a reply of one line has 8,192 octets, and one more is too many.
+fn one_line_is_limited(alloc: Global) -> bool {
+    let mut reader = Reader::new(alloc);
+    let longest = hears_long(&mut reader, alloc, b"200 ", 8192) == Ok(true);
+    longest & (hears_long(&mut reader, alloc, b"200 ", 8193) == Err(ReplyFault::TooMany))
 }
 
 /// What is tried here, and whether it holds.
-pub(crate) fn tried(alloc: Global) -> [Tried; 4] {
-    [
-        (
-            "replies of RFC 959, section 4.2",
-            first_not_heard(alloc).is_none(),
-        ),
-        (
-            "lines that begin no reply",
-            first_not_stopping(alloc).is_none(),
-        ),
-        ("limits of lines and octets", limits_are_kept(alloc)),
-        (
-            "a reply of one line has 8192 octets at most",
-            hears_one(alloc, 8192) == Ok(true)
-                && hears_one(alloc, 8193) == Err(ReplyFault::TooMany),
-        ),
-    ]
+pub(crate) fn tried(alloc: Global, report: &mut Paper) {
+    report.say("replies of RFC 959, section 4.2", are_heard(alloc));
+    report.say("lines that begin no reply", all_stop(alloc));
+    report.say("limits of lines and octets", limits_are_kept(alloc));
+    report.say(
+        "a reply of one line has 8192 octets at most",
+        one_line_is_limited(alloc),
+    );
 }

@@ -1,13 +1,11 @@
 //! Each growth refused in turn.
 use crate::common::{hears, quotes, reply_of, reply_with, texts_are};
-use crate::report::Tried;
+use crate::report::Paper;
 use ftp_refusing::Refusing;
 use ftp_reply::{Reader, Reply, ReplyFault, write};
 use std::alloc::{Allocator, Global};
 
 const LONG: [u8; 400] = [b'x'; 400];
-
-const BEGUN: &[&[u8]] = &[b"211-x", &LONG];
 
 /// Hears a line that ends no reply, once more where memory was wanted. Gives how often it was; nothing where the line
 /// is answered otherwise.
@@ -24,99 +22,100 @@ fn hears_again<A: Allocator + Clone>(reader: &mut Reader<A>, line: &[u8]) -> Opt
 
 /// Whether the last line ends the reply, with all its texts.
 fn is_ended<A: Allocator + Clone>(reader: &mut Reader<A>) -> bool {
-    match reader.line(b"211 end") {
-        Ok(Some(reply)) => texts_are(&reply, &[b"x", &LONG, b"end"]),
+    match &reader.line(b"211 end") {
+        Ok(Some(reply)) => texts_are(reply, &[b"x", &LONG, b"end"]),
         _ => false,
     }
 }
 
-/// Hears a growing reply, each line once more where memory was wanted. Gives how often it was; nothing where the reply is
-/// not of these lines.
-fn wanted<A: Allocator + Clone>(alloc: A) -> Option<u64> {
-    let mut reader = Reader::new(alloc);
-    let mut wanted = 0u64;
-    for line in BEGUN {
-        wanted = wanted.wrapping_add(hears_again(&mut reader, line)?);
+/// Hears the end of a growing reply, once more where it was not ended. Gives how often; nothing where the reply is not of
+/// these lines.
+fn ends_again<A: Allocator + Clone>(reader: &mut Reader<A>) -> Option<u64> {
+    if is_ended(reader) {
+        return Some(0);
     }
-    if is_ended(&mut reader) {
-        return Some(wanted);
-    }
-    // memory was wanted at the last line, and now is not
-    if is_ended(&mut reader) {
-        return Some(wanted.wrapping_add(1));
+    if is_ended(reader) {
+        return Some(1);
     }
     None
 }
 
-/// How many growths a growing reply asks for; nothing where it is not of these lines.
-fn growths_of_lines(alloc: Global) -> Option<u64> {
-    let heap = Refusing::new(alloc, 0);
-    match wanted(&heap) {
-        Some(0) => Some(0u64.wrapping_sub(heap.left())),
-        _ => None,
-    }
+/// Hears a growing reply, each line once more where memory was wanted. Gives how often it was; nothing where the reply is
+/// not of these lines.
+fn wanted<A: Allocator + Clone>(reader: &mut Reader<A>) -> Option<u64> {
+    let first = hears_again(reader, b"211-x")?;
+    let second = hears_again(reader, &LONG)?;
+    let last = ends_again(reader)?;
+    Some(first.wrapping_add(second).wrapping_add(last))
 }
 
-/// Whether memory is wanted once where one of so many growths is refused.
-fn is_wanted(alloc: Global, refused: u64, growths: u64) -> bool {
+fn wanted_of<A: Allocator + Clone>(alloc: A) -> Option<u64> {
+    let mut reader = Reader::new(alloc);
+    wanted(&mut reader)
+}
+
+/// How often a growing reply wants memory where this growth is refused, and how many growths are left.
+fn growth_of_lines(alloc: Global, refused: u64) -> (Option<u64>, u64) {
     let heap = Refusing::new(alloc, refused);
-    wanted(&heap) == Some(u64::from(refused <= growths))
+    let wanted = wanted_of(&heap);
+    (wanted, heap.left())
 }
 
 fn reader_is_refused(alloc: Global) -> bool {
-    let growths = growths_of_lines(alloc).unwrap_or(0);
+    let (wanted, left) = growth_of_lines(alloc, 0);
+    let growths = 0u64.wrapping_sub(left);
+    let mut all = wanted == Some(0) && 1 <= growths && growths < 20;
     for refused in 1..20u64 {
-        if !is_wanted(alloc, refused, growths) {
-            return false;
-        }
+        all &= growth_of_lines(alloc, refused).0 == Some(u64::from(refused <= growths));
     }
-    1 <= growths && growths < 20
+    all
 }
 
 const LONG_PATH: &[u8] = b"/a-path-of-more-than-eight-octets";
 
-/// Whether the reply quotes the long path where this growth is refused.
-fn quotes_long(alloc: Global, reply: &Reply<Global>, refused: u64) -> Result<bool, ReplyFault> {
+/// Whether the reply quotes the long path where this growth is refused, and how many growths are left.
+fn growth_of_path(
+    alloc: Global,
+    reply: &Reply<Global>,
+    refused: u64,
+) -> (Result<bool, ReplyFault>, u64) {
     let heap = Refusing::new(alloc, refused);
-    quotes(&heap, reply, LONG_PATH)
-}
-
-/// How many growths the path asks for; none where it is not read.
-fn growths_of_path(alloc: Global, reply: &Reply<Global>) -> u64 {
-    let heap = Refusing::new(alloc, 0);
-    if quotes(&heap, reply, LONG_PATH) != Ok(true) {
-        return 0;
-    }
-    0u64.wrapping_sub(heap.left())
+    let quoted = quotes(&heap, reply, LONG_PATH);
+    (quoted, heap.left())
 }
 
 /// Whether memory is wanted for the path where one of its growths is refused.
 fn path_is_refused(alloc: Global, reply: &Reply<Global>) -> bool {
-    let growths = growths_of_path(alloc, reply);
+    let (quoted, left) = growth_of_path(alloc, reply, 0);
+    let growths = 0u64.wrapping_sub(left);
+    let mut all = quoted == Ok(true) && 1 <= growths && growths < 20;
     for refused in 1..=growths {
-        if quotes_long(alloc, reply, refused) != Err(ReplyFault::Memory) {
-            return false;
-        }
+        all &= growth_of_path(alloc, reply, refused).0 == Err(ReplyFault::Memory);
     }
-    1 <= growths && growths < 20 && quotes_long(alloc, reply, growths + 1) == Ok(true)
+    all && growth_of_path(alloc, reply, growths.wrapping_add(1)).0 == Ok(true)
 }
 
 fn path_of_line_is_refused(alloc: Global) -> bool {
-    match reply_of(alloc, b"257 \"/a-path-of-more-than-eight-octets\" created") {
-        Some(reply) => path_is_refused(alloc, &reply),
+    match &reply_of(alloc, b"257 \"/a-path-of-more-than-eight-octets\" created") {
+        Some(reply) => path_is_refused(alloc, reply),
         None => false,
     }
 }
 
 /// Whether a line quotes no path, with the first growth refused.
 fn has_no_path(alloc: Global, line: &[u8]) -> bool {
-    match reply_of(alloc, line) {
-        Some(reply) => quotes_long(alloc, &reply, 1) == Err(ReplyFault::NoPath),
+    match &reply_of(alloc, line) {
+        Some(reply) => growth_of_path(alloc, reply, 1).0 == Err(ReplyFault::NoPath),
         None => false,
     }
 }
 
-/// Whether the reply could be written, and the octets then.
+fn lines_have_no_path(alloc: Global) -> bool {
+    has_no_path(alloc, b"257 \"/a-path-of-more-than-eight-octets")
+        & has_no_path(alloc, b"257 \"/\xC3\" created")
+}
+
+/// Whether the reply is written, and as how many octets.
 fn put<A: Allocator>(alloc: A, reply: &Reply<Global>) -> (bool, usize) {
     let mut out = Vec::new(alloc);
     let wrote = write(reply, &mut out).is_ok();
@@ -130,60 +129,53 @@ const OF_FOUR: &[&[u8]] = &[
     b"end",
 ];
 
-/// How many octets a reply of four lines is written as, where this growth is refused, and how many growths are left then.
-fn written(alloc: Global, refused: u64) -> Option<(bool, usize, u64)> {
-    let reply = reply_with(alloc, 211, OF_FOUR)?;
+/// Whether the reply of four lines is written, as how many octets, where this growth is refused, and how many growths are left.
+fn growth_of_written(alloc: Global, reply: &Reply<Global>, refused: u64) -> (bool, usize, u64) {
     let heap = Refusing::new(alloc, refused);
-    let (wrote, len) = put(&heap, &reply);
-    Some((wrote, len, heap.left()))
-}
-
-/// How many growths the written reply asks for; nothing where it is not written.
-fn growths_of_written(alloc: Global) -> Option<u64> {
-    match written(alloc, 0) {
-        Some((true, 56, left)) => Some(0u64.wrapping_sub(left)),
-        _ => None,
-    }
+    let (wrote, octets) = put(&heap, reply);
+    (wrote, octets, heap.left())
 }
 
 /// Whether the reply is written whole, or nothing of it where one of so many growths is refused.
-fn is_whole_or_none(alloc: Global, refused: u64, growths: u64) -> bool {
-    match written(alloc, refused) {
-        Some((true, 56, _)) => refused > growths,
-        Some((false, 0, _)) => refused <= growths,
-        _ => false,
+fn is_whole_or_none(alloc: Global, reply: &Reply<Global>, refused: u64, growths: u64) -> bool {
+    let (wrote, octets, _) = growth_of_written(alloc, reply, refused);
+    let whole = refused == 0 || refused > growths;
+    wrote == whole && octets == if whole { 56 } else { 0 }
+}
+
+fn all_whole_or_none(alloc: Global, reply: &Reply<Global>) -> bool {
+    let (_, _, left) = growth_of_written(alloc, reply, 0);
+    let growths = 0u64.wrapping_sub(left);
+    let mut all = 1 <= growths && growths < 20;
+    for refused in 0..20u64 {
+        all &= is_whole_or_none(alloc, reply, refused, growths);
     }
+    all
 }
 
 fn written_reply_is_refused(alloc: Global) -> bool {
-    let growths = growths_of_written(alloc).unwrap_or(0);
-    for refused in 1..20u64 {
-        if !is_whole_or_none(alloc, refused, growths) {
-            return false;
-        }
+    match &reply_with(alloc, 211, OF_FOUR) {
+        Some(reply) => all_whole_or_none(alloc, reply),
+        None => false,
     }
-    1 <= growths && growths < 20
 }
 
 /// What is tried here, and whether it holds.
-pub(crate) fn tried(alloc: Global) -> [Tried; 4] {
-    [
-        (
-            "each growth of a reader refused in turn",
-            reader_is_refused(alloc),
-        ),
-        (
-            "each growth of a path refused in turn",
-            path_of_line_is_refused(alloc),
-        ),
-        (
-            "want of memory comes after no path",
-            has_no_path(alloc, b"257 \"/a-path-of-more-than-eight-octets")
-                && has_no_path(alloc, b"257 \"/\xC3\" created"),
-        ),
-        (
-            "each growth of a written reply refused in turn",
-            written_reply_is_refused(alloc),
-        ),
-    ]
+pub(crate) fn tried(alloc: Global, report: &mut Paper) {
+    report.say(
+        "each growth of a reader refused in turn",
+        reader_is_refused(alloc),
+    );
+    report.say(
+        "each growth of a path refused in turn",
+        path_of_line_is_refused(alloc),
+    );
+    report.say(
+        "want of memory comes after no path",
+        lines_have_no_path(alloc),
+    );
+    report.say(
+        "each growth of a written reply refused in turn",
+        written_reply_is_refused(alloc),
+    );
 }

@@ -1,6 +1,6 @@
 //! The values of replies: rows of RFC 959, RFC 2428 and RFC 3659.
-use crate::common::{long_line, quotes, reply_of, reply_with};
-use crate::report::Tried;
+use crate::common::{quotes, reply_of, reply_with};
+use crate::report::Paper;
 use ftp_endpoint::{Endpoint, Host};
 use ftp_reply::{Reply, ReplyFault, extended_of, mark_of, moment_of, passive_of, size_of};
 use std::alloc::Global;
@@ -30,116 +30,23 @@ const LOWEST: Endpoint = Endpoint {
     port: 0,
 };
 
-/// What the text of a reply says, or that it says none.
-#[derive(Clone, Copy)]
-enum Value {
-    Six(Option<Endpoint>),
-    Port(Option<u16>),
-    Path(Option<&'static [u8]>),
-    Size(Option<u64>),
-    Mark(Option<u64>),
-    /// The seconds of a moment.
-    Moment(Option<u64>),
-}
-
-const VALUES: &[(&[u8], Value)] = &[
-    // 227: six numbers
-    (b"227 Entering (127,0,0,1,7,138)", Value::Six(Some(LOCAL))),
-    (b"227 Entering 127,0,0,1,7,138", Value::Six(Some(LOCAL))),
-    (b"227 Take 2 127,0,0,1,7,138", Value::Six(Some(LOCAL))),
-    (b"227 =132,235,1,2,24,131", Value::Six(Some(OTHER))),
-    (b"227 127,000,00,001,007,138.", Value::Six(Some(LOCAL))),
-    (b"227 1,2,3,4,5,6,7,8", Value::Six(Some(FIRST_SIX))),
-    (b"227 300,1,2,3,4,5,6", Value::Six(Some(FIRST_SIX))),
-    (
-        b"227 1,2,3,4,5 255,255,255,255,255,255",
-        Value::Six(Some(HIGHEST)),
-    ),
-    (b"227 0,0,0,0,0,0", Value::Six(Some(LOWEST))),
-    (b"227 Entering (127,0,0,1,7)", Value::Six(None)),
-    (b"227 127, 0,0,1,7,138", Value::Six(None)),
-    (b"227 256,0,0,1,7,138", Value::Six(None)),
-    (b"227 0127,0,0,1,7,138", Value::Six(None)),
-    (b"227 127,0,0,1,7,1389", Value::Six(None)),
-    (b"227", Value::Six(None)),
-    // 229: a port
-    (
-        b"229 Entering Extended Passive Mode (|||6446|)",
-        Value::Port(Some(6446)),
-    ),
-    (b"229 (!!!1930!)", Value::Port(Some(1930))),
-    (b"229 ((|||1|)", Value::Port(Some(1))),
-    (b"229 (|||x|) (|||21|) (|||22|)", Value::Port(Some(21))),
-    (b"229 (|||65535|)", Value::Port(Some(65535))),
-    (b"229 (|||000000000000001930|)", Value::Port(Some(1930))),
-    (b"229 ((((7()", Value::Port(Some(7))),
-    (b"229 (|||0|)", Value::Port(None)),
-    (b"229 (|||65536|)", Value::Port(None)),
-    (b"229 (||1930|)", Value::Port(None)),
-    (b"229 (|||1930!)", Value::Port(None)),
-    (b"229 (|||1930|", Value::Port(None)),
-    (b"229 |||1930|", Value::Port(None)),
-    (b"229 (~~~1930~)", Value::Port(Some(1930))),
-    (b"229 (\x7F\x7F\x7F1930\x7F)", Value::Port(None)),
-    (b"229 (11119301)", Value::Port(None)),
-    (b"229 (|||0000000000000001930|)", Value::Port(None)),
-    (b"229 (   1930 )", Value::Port(None)),
-    // 257: a quoted path
-    (
-        b"257 \"/a\"\"b\" is the current directory",
-        Value::Path(Some(b"/a\"b")),
-    ),
-    (
-        b"257 \"/usr/dm/foo\"\"bar\" directory created",
-        Value::Path(Some(b"/usr/dm/foo\"bar")),
-    ),
-    (b"257 \"/\"", Value::Path(Some(b"/"))),
-    (
-        b"257 \"/\xC3\xA9\" created",
-        Value::Path(Some(b"/\xC3\xA9")),
-    ),
-    (b"257 \"\"", Value::Path(None)),
-    (b"257 \"/\xC3\" created", Value::Path(None)),
-    (b"257 \"/\x7F\" created", Value::Path(None)),
-    (b"257 \"\"\"\"", Value::Path(Some(b"\""))),
-    (b"257 see \"a b\" and \"c\"", Value::Path(Some(b"a b"))),
-    (b"257 \"a\"\"\"x\"", Value::Path(Some(b"a\""))),
-    (b"257 created", Value::Path(None)),
-    (b"257 \"/a", Value::Path(None)),
-    (b"257 \"/a\"\"", Value::Path(None)),
-    (b"257 \"", Value::Path(None)),
-    // 213: a size
-    (b"213 0", Value::Size(Some(0))),
-    (b"213 16777216", Value::Size(Some(16777216))),
-    (b"213 000000000000000005", Value::Size(Some(5))),
-    (
-        b"213 999999999999999999",
-        Value::Size(Some(999999999999999999)),
-    ),
-    (b"213 0000000000000000005", Value::Size(None)),
-    (b"213", Value::Size(None)),
-    (b"213 5 ", Value::Size(None)),
-    (b"213 -5", Value::Size(None)),
-    (b"213 5 octets", Value::Size(None)),
-    // 213: a moment
-    (b"213 19700101000000", Value::Moment(Some(0))),
-    (b"213 20000229235959", Value::Moment(Some(951868799))),
-    (b"213 19991231235960.123", Value::Moment(Some(946684799))),
-    (b"213 20000230000000", Value::Moment(None)),
-    (b"213 2000022923595", Value::Moment(None)),
-    (b"213 20000229235959 x", Value::Moment(None)),
-    // 110: a mark
-    (b"110 MARK 65536 = 65536", Value::Mark(Some(65536))),
-    (b"110 MARK a=b = 7", Value::Mark(Some(7))),
-    (b"110 MARK = = 000000000000000009", Value::Mark(Some(9))),
-    (b"110 MARK 1 = 0000000000000000009", Value::Mark(None)),
-    (b"110 MARK yyyy = mmmm", Value::Mark(None)),
-    (b"110 mark 1 = 1", Value::Mark(None)),
-    (b"110 MARK  = 1", Value::Mark(None)),
-    (b"110 MARK 1 =1", Value::Mark(None)),
-    (b"110 MARK 1 = 1 ", Value::Mark(None)),
-    (b"110 MARK \x7F = 1", Value::Mark(None)),
-    (b"110", Value::Mark(None)),
+/// Replies 227, and the endpoints of their six numbers.
+const SIXES: &[(&'static [u8], Option<Endpoint>)] = &[
+    (b"227 Entering (127,0,0,1,7,138)", Some(LOCAL)),
+    (b"227 Entering 127,0,0,1,7,138", Some(LOCAL)),
+    (b"227 Take 2 127,0,0,1,7,138", Some(LOCAL)),
+    (b"227 =132,235,1,2,24,131", Some(OTHER)),
+    (b"227 127,000,00,001,007,138.", Some(LOCAL)),
+    (b"227 1,2,3,4,5,6,7,8", Some(FIRST_SIX)),
+    (b"227 300,1,2,3,4,5,6", Some(FIRST_SIX)),
+    (b"227 1,2,3,4,5 255,255,255,255,255,255", Some(HIGHEST)),
+    (b"227 0,0,0,0,0,0", Some(LOWEST)),
+    (b"227 Entering (127,0,0,1,7)", None),
+    (b"227 127, 0,0,1,7,138", None),
+    (b"227 256,0,0,1,7,138", None),
+    (b"227 0127,0,0,1,7,138", None),
+    (b"227 127,0,0,1,7,1389", None),
+    (b"227", None),
 ];
 
 /// Whether a reply names this endpoint, or none.
@@ -150,19 +57,103 @@ fn is_endpoint(reply: &Reply<Global>, endpoint: Option<Endpoint>) -> bool {
     }
 }
 
-/// Whether a reply names this port, or none.
-fn is_port(reply: &Reply<Global>, port: Option<u16>) -> bool {
-    match extended_of(reply) {
-        Ok(read) => port == Some(read),
-        Err(fault) => port.is_none() && fault == ReplyFault::NoEndpoint,
+/// Whether there is a reply, which names this endpoint, or none.
+fn names(reply: Option<Reply<Global>>, endpoint: Option<Endpoint>) -> bool {
+    match &reply {
+        Some(reply) => is_endpoint(reply, endpoint),
+        None => false,
     }
 }
 
-/// Whether a number was read, or none.
-fn is_number(read: Result<u64, ReplyFault>, number: Option<u64>) -> bool {
-    match read {
-        Ok(read) => number == Some(read),
-        Err(fault) => number.is_none() && fault == ReplyFault::NoNumber,
+fn endpoints_are_named(alloc: Global) -> bool {
+    let mut all = true;
+    for row in SIXES {
+        all &= names(reply_of(alloc, row.0), row.1);
+    }
+    all
+}
+
+fn lines_are_joined(alloc: Global) -> bool {
+    let three: &[&[u8]] = &[b"Here", b"1,2,3,4,5,6", b"end"];
+    let cut: &[&[u8]] = &[b"1,2,3", b",4,5,6"];
+    names(reply_with(alloc, 227, three), Some(FIRST_SIX)) & names(reply_with(alloc, 227, cut), None)
+}
+
+/// What is asked of a reply.
+#[derive(Clone, Copy)]
+enum Asked {
+    Port,
+    Size,
+    /// The seconds of a moment.
+    Moment,
+    Mark,
+}
+
+/// Replies, and the numbers that they say.
+const NUMBERS: &[(Asked, &'static [u8], Option<u64>)] = &[
+    // 229: a port
+    (
+        Asked::Port,
+        b"229 Entering Extended Passive Mode (|||6446|)",
+        Some(6446),
+    ),
+    (Asked::Port, b"229 (!!!1930!)", Some(1930)),
+    (Asked::Port, b"229 ((|||1|)", Some(1)),
+    (Asked::Port, b"229 (|||x|) (|||21|) (|||22|)", Some(21)),
+    (Asked::Port, b"229 (|||65535|)", Some(65535)),
+    (Asked::Port, b"229 (|||000000000000001930|)", Some(1930)),
+    (Asked::Port, b"229 ((((7()", Some(7)),
+    (Asked::Port, b"229 (|||0|)", None),
+    (Asked::Port, b"229 (|||65536|)", None),
+    (Asked::Port, b"229 (||1930|)", None),
+    (Asked::Port, b"229 (|||1930!)", None),
+    (Asked::Port, b"229 (|||1930|", None),
+    (Asked::Port, b"229 |||1930|", None),
+    (Asked::Port, b"229 (~~~1930~)", Some(1930)),
+    (Asked::Port, b"229 (\x7F\x7F\x7F1930\x7F)", None),
+    (Asked::Port, b"229 (11119301)", None),
+    (Asked::Port, b"229 (|||0000000000000001930|)", None),
+    (Asked::Port, b"229 (   1930 )", None),
+    // 213: a size
+    (Asked::Size, b"213 0", Some(0)),
+    (Asked::Size, b"213 16777216", Some(16777216)),
+    (Asked::Size, b"213 000000000000000005", Some(5)),
+    (
+        Asked::Size,
+        b"213 999999999999999999",
+        Some(999999999999999999),
+    ),
+    (Asked::Size, b"213 0000000000000000005", None),
+    (Asked::Size, b"213", None),
+    (Asked::Size, b"213 5 ", None),
+    (Asked::Size, b"213 -5", None),
+    (Asked::Size, b"213 5 octets", None),
+    // 213: a moment
+    (Asked::Moment, b"213 19700101000000", Some(0)),
+    (Asked::Moment, b"213 20000229235959", Some(951868799)),
+    (Asked::Moment, b"213 19991231235960.123", Some(946684799)),
+    (Asked::Moment, b"213 20000230000000", None),
+    (Asked::Moment, b"213 2000022923595", None),
+    (Asked::Moment, b"213 20000229235959 x", None),
+    // 110: a mark
+    (Asked::Mark, b"110 MARK 65536 = 65536", Some(65536)),
+    (Asked::Mark, b"110 MARK a=b = 7", Some(7)),
+    (Asked::Mark, b"110 MARK = = 000000000000000009", Some(9)),
+    (Asked::Mark, b"110 MARK 1 = 0000000000000000009", None),
+    (Asked::Mark, b"110 MARK yyyy = mmmm", None),
+    (Asked::Mark, b"110 mark 1 = 1", None),
+    (Asked::Mark, b"110 MARK  = 1", None),
+    (Asked::Mark, b"110 MARK 1 =1", None),
+    (Asked::Mark, b"110 MARK 1 = 1 ", None),
+    (Asked::Mark, b"110 MARK \x7F = 1", None),
+    (Asked::Mark, b"110", None),
+];
+
+/// The port that a reply says.
+fn port_of(reply: &Reply<Global>) -> Result<u64, ReplyFault> {
+    match extended_of(reply) {
+        Ok(port) => Ok(u64::from(port)),
+        Err(fault) => Err(fault),
     }
 }
 
@@ -174,77 +165,116 @@ fn seconds_of(reply: &Reply<Global>) -> Result<u64, ReplyFault> {
     }
 }
 
-/// Whether the reply says this value.
-fn says(alloc: Global, reply: &Reply<Global>, value: &Value) -> bool {
-    match value {
-        Value::Six(endpoint) => is_endpoint(reply, *endpoint),
-        Value::Port(port) => is_port(reply, *port),
-        Value::Path(Some(path)) => quotes(alloc, reply, path) == Ok(true),
-        Value::Path(None) => quotes(alloc, reply, b"") == Err(ReplyFault::NoPath),
-        Value::Size(size) => is_number(size_of(reply), *size),
-        Value::Mark(mark) => is_number(mark_of(reply), *mark),
-        Value::Moment(seconds) => is_number(seconds_of(reply), *seconds),
+/// The number that is asked for, or why there is none.
+fn number_of(reply: &Reply<Global>, asked: Asked) -> Result<u64, ReplyFault> {
+    match asked {
+        Asked::Port => port_of(reply),
+        Asked::Size => size_of(reply),
+        Asked::Moment => seconds_of(reply),
+        Asked::Mark => mark_of(reply),
     }
 }
 
-/// Whether the line is a reply that says this value.
-fn is_said(alloc: Global, line: &[u8], value: &Value) -> bool {
-    match reply_of(alloc, line) {
-        Some(reply) => says(alloc, &reply, value),
+/// Whether the reply says this number, or none.
+fn is_number(reply: &Reply<Global>, asked: Asked, number: Option<u64>) -> bool {
+    let none = match asked {
+        Asked::Port => ReplyFault::NoEndpoint,
+        _ => ReplyFault::NoNumber,
+    };
+    match number_of(reply, asked) {
+        Ok(read) => number == Some(read),
+        Err(fault) => number.is_none() && fault == none,
+    }
+}
+
+/// Whether the line is a reply that says this number, or none.
+fn says(alloc: Global, asked: Asked, line: &[u8], number: Option<u64>) -> bool {
+    match &reply_of(alloc, line) {
+        Some(reply) => is_number(reply, asked, number),
         None => false,
     }
 }
 
-/// The first line that doesn't say its value.
-fn first_not_said(alloc: Global) -> Option<&'static [u8]> {
-    for (line, value) in VALUES {
-        if !is_said(alloc, line, value) {
-            return Some(line);
-        }
+fn numbers_are_said(alloc: Global) -> bool {
+    let mut all = true;
+    for row in NUMBERS {
+        all &= says(alloc, row.0, row.1, row.2);
     }
-    None
+    all
 }
 
-/// Whether a reply of these texts names this endpoint, or none.
-fn names(alloc: Global, texts: &[&[u8]], endpoint: Option<Endpoint>) -> bool {
-    match reply_with(alloc, 227, texts) {
-        Some(reply) => is_endpoint(&reply, endpoint),
+/// Replies 257, and their quoted paths.
+const PATHS: &[(&'static [u8], Option<&'static [u8]>)] = &[
+    (b"257 \"/a\"\"b\" is the current directory", Some(b"/a\"b")),
+    (
+        b"257 \"/usr/dm/foo\"\"bar\" directory created",
+        Some(b"/usr/dm/foo\"bar"),
+    ),
+    (b"257 \"/\"", Some(b"/")),
+    (b"257 \"/\xC3\xA9\" created", Some(b"/\xC3\xA9")),
+    (b"257 \"\"", None),
+    (b"257 \"/\xC3\" created", None),
+    (b"257 \"/\x7F\" created", None),
+    (b"257 \"\"\"\"", Some(b"\"")),
+    (b"257 see \"a b\" and \"c\"", Some(b"a b")),
+    (b"257 \"a\"\"\"x\"", Some(b"a\"")),
+    (b"257 created", None),
+    (b"257 \"/a", None),
+    (b"257 \"/a\"\"", None),
+    (b"257 \"", None),
+];
+
+/// Whether the reply quotes this path, or none.
+fn is_quoted(alloc: Global, reply: &Reply<Global>, path: Option<&[u8]>) -> bool {
+    match path {
+        Some(path) => quotes(alloc, reply, path) == Ok(true),
+        None => quotes(alloc, reply, b"") == Err(ReplyFault::NoPath),
+    }
+}
+
+/// Whether the line is a reply that quotes this path, or none.
+fn is_path(alloc: Global, line: &[u8], path: Option<&[u8]>) -> bool {
+    match &reply_of(alloc, line) {
+        Some(reply) => is_quoted(alloc, reply, path),
         None => false,
     }
+}
+
+fn paths_are_quoted(alloc: Global) -> bool {
+    let mut all = true;
+    for row in PATHS {
+        all &= is_path(alloc, row.0, row.1);
+    }
+    all
 }
 
 /// Whether a path of so many octets is read, or none.
-fn is_long_path(alloc: Global, octets: usize) -> Option<bool> {
-    let mut line = long_line(alloc, b"257 \"", octets)?;
-    line.push(b'"').ok()?;
-    let reply = reply_of(alloc, &line)?;
-    Some(quotes(alloc, &reply, b"").is_ok())
+fn is_long_path(alloc: Global, octets: usize, reads: bool) -> bool {
+    let path = Paper::stretched(alloc, b"", b'x', octets, b"");
+    let line = Paper::stretched(alloc, b"257 \"", b'x', octets, b"\"");
+    let read = if reads { Some(path.octets()) } else { None };
+    is_path(alloc, line.octets(), read)
 }
 
 /// Whether a mark of so many octets is 1, or none.
 fn says_long_mark(alloc: Global, octets: usize, mark: Option<u64>) -> bool {
-    let Some(mut line) = long_line(alloc, b"110 MARK ", octets) else {
-        return false;
-    };
-    line.extend_from_slice(b" = 1").is_ok() && is_said(alloc, &line, &Value::Mark(mark))
+    let line = Paper::stretched(alloc, b"110 MARK ", b'x', octets, b" = 1");
+    says(alloc, Asked::Mark, line.octets(), mark)
 }
 
 /// What is tried here, and whether it holds.
-pub(crate) fn tried(alloc: Global) -> [Tried; 4] {
-    [
-        ("values of replies", first_not_said(alloc).is_none()),
-        (
-            "endpoints of 227 in several lines",
-            names(alloc, &[b"Here", b"1,2,3,4,5,6", b"end"], Some(FIRST_SIX))
-                && names(alloc, &[b"1,2,3", b",4,5,6"], None),
-        ),
-        (
-            "a path of 257 has 900 octets at most",
-            is_long_path(alloc, 900) == Some(true) && is_long_path(alloc, 901) == Some(false),
-        ),
-        (
-            "a mark of 110 has 255 octets at most",
-            says_long_mark(alloc, 255, Some(1)) && says_long_mark(alloc, 256, None),
-        ),
-    ]
+pub(crate) fn tried(alloc: Global, report: &mut Paper) {
+    report.say(
+        "values of replies",
+        endpoints_are_named(alloc) & numbers_are_said(alloc) & paths_are_quoted(alloc),
+    );
+    report.say("endpoints of 227 in several lines", lines_are_joined(alloc));
+    report.say(
+        "a path of 257 has 900 octets at most",
+        is_long_path(alloc, 900, true) & is_long_path(alloc, 901, false),
+    );
+    report.say(
+        "a mark of 110 has 255 octets at most",
+        says_long_mark(alloc, 255, Some(1)) & says_long_mark(alloc, 256, None),
+    );
 }

@@ -1,6 +1,6 @@
 //! Replies as they are written, and the faults as they are printed.
 use crate::common::reply_with;
-use crate::report::Tried;
+use crate::report::{Paper, is_printed};
 use ftp_reply::{Reply, ReplyFault, write};
 use std::alloc::{AllocError, Global};
 
@@ -35,22 +35,21 @@ const FAULTS: &[(ReplyFault, &str)] = &[
     (ReplyFault::Failed, "Q7 Failed"),
 ];
 
-/// Whether the reply is written as these octets.
-fn is_written(alloc: Global, code: u16, texts: &[&[u8]], octets: &[u8]) -> bool {
-    let mut out = Vec::new(alloc);
-    match reply_with(alloc, code, texts) {
-        Some(reply) => write(&reply, &mut out).is_ok() && out.as_slice() == octets,
+/// Whether there is a reply, which is written as these octets.
+fn is_written(reply: Option<Reply<Global>>, out: &mut Vec<u8>, octets: &[u8]) -> bool {
+    match &reply {
+        Some(reply) => write(reply, out).is_ok() && out.as_slice() == octets,
         None => false,
     }
 }
 
 fn are_written(alloc: Global) -> bool {
+    let mut all = true;
     for (code, texts, octets) in WRITTEN {
-        if !is_written(alloc, *code, texts, octets) {
-            return false;
-        }
+        let mut out = Vec::new(alloc);
+        all &= is_written(reply_with(alloc, *code, texts), &mut out, octets);
     }
-    true
+    all
 }
 
 /// Whether a reply of three lines, line by line, has their text.
@@ -59,34 +58,23 @@ fn is_built(alloc: Global) -> Result<bool, AllocError> {
     reply.push(b" Type=dir; /a")?;
     reply.push(b"End")?;
     Ok(
-        reply.text() == b"Listing\n Type=dir; /a\nEnd".as_slice()
-            && reply.lines.octets() == 23
-            && reply.lines.get(3).is_none(),
+        (reply.text() == b"Listing\n Type=dir; /a\nEnd".as_slice())
+            & (reply.lines.octets() == 23)
+            & reply.lines.get(3).is_none(),
     )
 }
 
-/// Whether the fault is printed so.
-fn is_printed(alloc: Global, fault: ReplyFault, text: &str) -> bool {
-    match format!(in alloc; "{fault}") {
-        Ok(printed) => printed.as_str() == text,
-        Err(_) => false,
-    }
-}
-
 fn are_printed(alloc: Global) -> bool {
+    let mut all = true;
     for (fault, text) in FAULTS {
-        if !is_printed(alloc, *fault, text) {
-            return false;
-        }
+        all &= is_printed(alloc, fault, text);
     }
-    true
+    all
 }
 
 /// What is tried here, and whether it holds.
-pub(crate) fn tried(alloc: Global) -> [Tried; 3] {
-    [
-        ("written as RFC 959, section 4.2", are_written(alloc)),
-        ("a reply by its parts", is_built(alloc) == Ok(true)),
-        ("faults are printed with their numbers", are_printed(alloc)),
-    ]
+pub(crate) fn tried(alloc: Global, report: &mut Paper) {
+    report.say("written as RFC 959, section 4.2", are_written(alloc));
+    report.say("a reply by its parts", is_built(alloc) == Ok(true));
+    report.say("faults are printed with their numbers", are_printed(alloc));
 }

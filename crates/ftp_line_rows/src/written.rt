@@ -1,8 +1,8 @@
 //! How texts are written as lines, and what a refused growth leaves.
-use crate::report::Tried;
-use ftp_nvt::{NvtFault, put_line};
+use crate::report::Paper;
+use ftp_nvt::put_line;
 use ftp_refusing::Refusing;
-use std::alloc::Global;
+use std::alloc::{Allocator, Global};
 
 /// Texts, and how they are written.
 const WRITTEN: &[(&'static [u8], &'static [u8])] = &[
@@ -17,56 +17,49 @@ const WRITTEN: &[(&'static [u8], &'static [u8])] = &[
 
 fn is_written(alloc: Global, text: &[u8], expected: &[u8]) -> bool {
     let mut out = Vec::new(alloc);
-    put_line(text, &mut out).is_ok() && out.as_slice() == expected
+    put_line(text, &mut out).is_ok() & (out.as_slice() == expected)
 }
 
 fn are_written(alloc: Global) -> bool {
+    let mut all = true;
     for row in WRITTEN {
-        if !is_written(alloc, row.0, row.1) {
-            return false;
-        }
+        all &= is_written(alloc, row.0, row.1);
     }
-    true
+    all
 }
 
 const TEXT: &[u8] = b"257 \"/\xFF\r\" is the current directory, and more than a growth";
 
-/// Whether the text behind a line is written where this growth is refused: Memory, with the vector as it was.
-fn is_kept(alloc: Global, refused: u64) -> bool {
+/// Whether the text is written behind a line, which stays as it was where memory is wanted. Gives which.
+fn goes_behind<A: Allocator>(alloc: A) -> (bool, bool) {
+    let mut out = Vec::new(alloc);
+    let begun = out.extend_from_slice(b"220 Ready\r\n").is_ok();
+    let goes = put_line(TEXT, &mut out).is_ok();
+    let stays = out.as_slice() == b"220 Ready\r\n".as_slice();
+    (goes, begun & (goes != stays))
+}
+
+/// Whether the text goes behind a line where this growth is refused, whether all is so then, and how many growths are left.
+fn growth(alloc: Global, refused: u64) -> (bool, bool, u64) {
     let heap = Refusing::new(alloc, refused);
-    let Ok(mut out) = Vec::from_slice(&heap, b"220 Ready\r\n") else {
-        return false;
-    };
-    put_line(TEXT, &mut out) == Err(NvtFault::Memory)
-        && out.as_slice() == b"220 Ready\r\n".as_slice()
+    let (goes, holds) = goes_behind(&heap);
+    (goes, holds, heap.left())
 }
 
-/// How many growths the text behind a line asks for, with that of the line; none where it goes wrong.
-fn growths(alloc: Global) -> u64 {
-    let heap = Refusing::new(alloc, 0);
-    let Ok(mut out) = Vec::from_slice(&heap, b"220 Ready\r\n") else {
-        return 0;
-    };
-    if put_line(TEXT, &mut out).is_err() {
-        return 0;
-    }
-    0u64.wrapping_sub(heap.left())
-}
-
+/// The first growth is that of the line.
 fn each_is_kept(alloc: Global) -> bool {
-    let growths = growths(alloc);
+    let (goes, holds, left) = growth(alloc, 0);
+    let growths = 0u64.wrapping_sub(left);
+    let mut all = goes & holds;
     for refused in 2..=growths {
-        if !is_kept(alloc, refused) {
-            return false;
-        }
+        let (goes, holds, _) = growth(alloc, refused);
+        all &= holds & !goes;
     }
-    growths > 2
+    all & (growths > 2)
 }
 
 /// What is tried here, and whether it holds.
-pub(crate) fn tried(alloc: Global) -> [Tried; 2] {
-    [
-        ("texts are written", are_written(alloc)),
-        ("each growth of a written line refused", each_is_kept(alloc)),
-    ]
+pub(crate) fn tried(alloc: Global, report: &mut Paper) {
+    report.say("texts are written", are_written(alloc));
+    report.say("each growth of a written line refused", each_is_kept(alloc));
 }

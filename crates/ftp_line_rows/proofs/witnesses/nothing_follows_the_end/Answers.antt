@@ -3,7 +3,7 @@ use Rattle.std.specs.Option.{is_some}
 use Rattle.ftp_repr.specs.Signs.{Sign}
 use Rattle.ftp_repr.specs.Items.{given_signs}
 use Rattle.ftp_repr.specs.Sending.{has_sent_end, still_to_send}
-use Rattle.ftp_repr_rows.proofs.witnesses.nothing_follows_the_end.Goals as goal
+use Rattle.ftp_line_rows.proofs.witnesses.nothing_follows_the_end.Goals as goal
 
 front_nil : (xs ys : List Sign) → xs ++ ys ≡ [] → xs ≡ []
 front_nil [] ys e = refl

@@ -1,14 +1,15 @@
-use crate::report::Tried;
+use crate::report::Paper;
 use crate::wires::{
-    ASCII_BLOCK, ASCII_RECORD_BLOCK, ASCII_STREAM, FILE_BLOCK, How, RECORD_BLOCK, RECORD_STREAM,
+    ASCII_BLOCK, ASCII_RECORD_BLOCK, ASCII_STREAM, FILE_BLOCK, RECORD_BLOCK, RECORD_STREAM,
     reads_as,
 };
-use ftp_mode::{Deframer, FaultAt, FrameFault, Mode, Part, Step};
+use ftp_mode::{Deframer, FrameFault, Mode, Part};
 use ftp_repr::Structure;
-use std::alloc::{AllocError, Global};
+use ftp_representation::Representation;
+use std::alloc::Global;
 
 /// A wire, the file that it settles and its fault, by hand from RFC 959, sections 3.4.1, 3.4.2 and 3.5.
-type Row<'a> = (How, &'a [u8], &'a [u8], Option<FrameFault>);
+type Row<'a> = (Representation, &'a [u8], &'a [u8], Option<FrameFault>);
 
 const WIRES: &[Row<'static>] = &[
     (
@@ -129,125 +130,122 @@ const WIRES: &[Row<'static>] = &[
 ];
 
 /// Whether a row holds, by pieces of each of these sizes.
-fn row_holds(alloc: Global, row: &Row<'_>, sizes: &[usize]) -> bool {
-    let (how, wire, file, fault) = *row;
+fn holds(alloc: Global, row: &Row<'_>, sizes: &[usize]) -> bool {
+    let mut all = true;
     for size in sizes {
-        if !reads_as(alloc, how, wire, file, fault, *size) {
-            return false;
-        }
+        all &= reads_as(alloc, row.0, row.1, (row.2, row.3), *size);
     }
-    true
+    all
 }
 
 /// Whether each row holds.
 fn all_hold(alloc: Global) -> bool {
+    let mut all = true;
     for row in WIRES {
-        if !row_holds(alloc, row, &[1, 2, 3, 64]) {
-            return false;
-        }
+        all &= holds(alloc, row, &[1, 2, 3, 64]);
     }
-    true
-}
-
-/// A block of so many octets of one kind.
-fn block(alloc: Global, header: &[u8], octet: u8, count: usize) -> Result<Vec<u8>, AllocError> {
-    let mut wire = Vec::from_slice(alloc, header)?;
-    for _ in 0..count {
-        wire.push(octet)?;
-    }
-    Ok(wire)
+    all
 }
 
 /// Whether a block of 65,535 octets is read.
-fn reads_a_full_block(alloc: Global) -> Result<bool, AllocError> {
-    let file = block(alloc, &[], b'x', 65_535)?;
-    let wire = block(alloc, &[0x40, 0xFF, 0xFF], b'x', 65_535)?;
-    let row = (FILE_BLOCK, wire.as_slice(), file.as_slice(), None);
-    Ok(row_holds(alloc, &row, &[1, 4096, 70_000]))
+fn reads_a_full_block(alloc: Global) -> bool {
+    let file = Paper::stretched(alloc, b"", b'x', 65_535, b"");
+    let wire = Paper::stretched(alloc, b"\x40\xFF\xFF", b'x', 65_535, b"");
+    let row = (FILE_BLOCK, wire.octets(), file.octets(), None);
+    holds(alloc, &row, &[1, 4096, 70_000])
 }
 
 /// Whether a marker of 255 octets is read over.
-fn reads_a_full_marker(alloc: Global) -> Result<bool, AllocError> {
-    let wire = block(alloc, &[0xD0, 0x00, 0xFF], b'~', 255)?;
+fn reads_a_full_marker(alloc: Global) -> bool {
+    let wire = Paper::stretched(alloc, b"\xD0\x00\xFF", b'~', 255, b"");
     let file: &[u8] = &[0x0A];
-    let row = (RECORD_BLOCK, wire.as_slice(), file, None);
-    Ok(row_holds(alloc, &row, &[1, 64, 300]))
+    holds(
+        alloc,
+        &(RECORD_BLOCK, wire.octets(), file, None),
+        &[1, 64, 300],
+    )
+}
+
+/// Whether so many octets are taken, and this part comes of them.
+fn gives(deframer: &mut Deframer, piece: &[u8], taken: usize, part: Part<'_>) -> bool {
+    match deframer.feed(piece) {
+        Ok(step) => (step.taken == taken) & (step.part == part),
+        Err(_) => false,
+    }
+}
+
+/// Whether this fault comes behind so many octets.
+fn fails(deframer: &mut Deframer, piece: &[u8], taken: usize, fault: FrameFault) -> bool {
+    match deframer.feed(piece) {
+        Ok(_) => false,
+        Err(met) => (met.taken == taken) & (met.fault == fault),
+    }
 }
 
 /// Whether a marker is lent once it is whole.
-fn lends_a_marker() -> bool {
-    let mut deframer = Deframer::new(Mode::Block, Structure::File);
-    let more = Ok(Step {
-        taken: 5,
-        part: Part::Need,
-    });
-    let ended = Ok(Step {
-        taken: 3,
-        part: Part::Marker,
-    });
-    deframer.feed(b"\x10\x00\x0565") == more
-        && deframer.feed(b"536\x00") == ended
-        && deframer.marker() == b"65536".as_slice()
+fn lends_a_marker(deframer: &mut Deframer) -> bool {
+    gives(deframer, b"\x10\x00\x0565", 5, Part::Need)
+        & gives(deframer, b"536\x00", 3, Part::Marker)
+        & (deframer.marker() == b"65536".as_slice())
 }
 
 /// Whether a reader that met a fault stays so.
-fn stays_faulty() -> bool {
-    let mut deframer = Deframer::new(Mode::Stream, Structure::Record);
+fn stays_faulty(deframer: &mut Deframer) -> bool {
     let fault = FrameFault::BadEscape(1);
-    let met = deframer.feed(&[0xFF, 0x04, 0x61]) == Err(FaultAt { taken: 2, fault });
-    let again = deframer.feed(&[0x61]) == Err(FaultAt { taken: 0, fault });
+    let met = fails(deframer, &[0xFF, 0x04, 0x61], 2, fault);
+    let again = fails(deframer, &[0x61], 0, fault);
     deframer.broken();
-    met && again && deframer.end() == Err(fault)
+    met & again & (deframer.end() == Err(fault))
 }
 
 /// Whether the end of a record that came is still given behind a break; then the end of file is missing.
-fn gives_what_came() -> bool {
-    let mut deframer = Deframer::new(Mode::Block, Structure::Record);
+fn gives_what_came(deframer: &mut Deframer) -> bool {
     let data: &[u8] = b"a";
-    let given = Ok(Step {
-        taken: 4,
-        part: Part::Data(data),
-    });
-    let came = deframer.feed(b"\x80\x00\x01a") == given;
+    let came = gives(deframer, b"\x80\x00\x01a", 4, Part::Data(data));
     deframer.broken();
-    let ended = Ok(Step {
-        taken: 0,
-        part: Part::EndRecord,
-    });
-    let fault = FrameFault::EndedEarly;
-    came && deframer.feed(&[]) == ended && deframer.feed(&[]) == Err(FaultAt { taken: 0, fault })
+    came & gives(deframer, &[], 0, Part::EndRecord)
+        & fails(deframer, &[], 0, FrameFault::EndedEarly)
 }
 
 /// Whether nothing is missing where a connection breaks behind an end of file.
-fn is_whole_behind_its_end() -> bool {
-    let mut deframer = Deframer::new(Mode::Block, Structure::File);
-    let ended = Ok(Step {
-        taken: 3,
-        part: Part::EndFile,
-    });
-    let came = deframer.feed(&[0x40, 0x00, 0x00]) == ended;
+fn is_whole_behind_its_end(deframer: &mut Deframer) -> bool {
+    let came = gives(deframer, &[0x40, 0x00, 0x00], 3, Part::EndFile);
     deframer.broken();
-    came && deframer.end() == Ok(())
+    came & deframer.end().is_ok()
+}
+
+fn try_files(report: &mut Paper) {
+    let mut deframer = Deframer::new(Mode::Block, Structure::File);
+    report.say("a marker is lent", lends_a_marker(&mut deframer));
+}
+
+fn try_records(report: &mut Paper) {
+    let mut deframer = Deframer::new(Mode::Stream, Structure::Record);
+    report.say("a fault stays", stays_faulty(&mut deframer));
+}
+
+fn try_breaks(report: &mut Paper) {
+    let mut records = Deframer::new(Mode::Block, Structure::Record);
+    report.say(
+        "a break leaves what was read",
+        gives_what_came(&mut records),
+    );
+    let mut file = Deframer::new(Mode::Block, Structure::File);
+    report.say(
+        "behind an end of file a break breaks nothing",
+        is_whole_behind_its_end(&mut file),
+    );
 }
 
 /// What is tried here, and whether it holds.
-pub(crate) fn tried(alloc: Global) -> [Tried; 7] {
-    [
-        ("wires read with their faults", all_hold(alloc)),
-        (
-            "a block of 65535 octets",
-            reads_a_full_block(alloc) == Ok(true),
-        ),
-        (
-            "a marker of 255 octets before an end",
-            reads_a_full_marker(alloc) == Ok(true),
-        ),
-        ("a marker is lent", lends_a_marker()),
-        ("a fault stays", stays_faulty()),
-        ("a break leaves what was read", gives_what_came()),
-        (
-            "behind an end of file a break breaks nothing",
-            is_whole_behind_its_end(),
-        ),
-    ]
+pub(crate) fn tried(alloc: Global, report: &mut Paper) {
+    report.say("wires read with their faults", all_hold(alloc));
+    report.say("a block of 65535 octets", reads_a_full_block(alloc));
+    report.say(
+        "a marker of 255 octets before an end",
+        reads_a_full_marker(alloc),
+    );
+    try_files(report);
+    try_records(report);
+    try_breaks(report);
 }

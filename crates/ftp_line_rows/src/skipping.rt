@@ -1,4 +1,4 @@
-use crate::report::Tried;
+use crate::report::Paper;
 use ftp_repr::{Kind, Skipped, skip};
 
 /// A line end and a carriage return: seven octets in type A.
@@ -45,32 +45,32 @@ fn holds_cut(row: &Row, cut: usize) -> bool {
 fn holds_by_octets(row: &Row) -> bool {
     let (kind, left, expected) = *row;
     let mut skipped = skip(kind, left, &[]);
-    for (at, octet) in FILE.chunks(1).enumerate() {
-        skipped = go_on(kind, skipped, at, octet);
+    let mut at = 0usize;
+    for octet in FILE {
+        skipped = go_on(kind, skipped, at, &[*octet]);
+        at = at.wrapping_add(1);
     }
     skipped == expected
 }
 
 fn holds(row: &Row) -> bool {
     let (kind, left, expected) = *row;
+    let mut all = (skip(kind, left, FILE) == expected) & holds_by_octets(row);
     for cut in 0..=FILE.len() {
-        if !holds_cut(row, cut) {
-            return false;
-        }
+        all &= holds_cut(row, cut);
     }
-    skip(kind, left, FILE) == expected && holds_by_octets(row)
+    all
 }
 
 fn all_hold() -> bool {
+    let mut all = true;
     for row in ROWS {
-        if !holds(row) {
-            return false;
-        }
+        all &= holds(row);
     }
-    true
+    all
 }
 
 /// What is tried here, and whether it holds.
-pub(crate) fn tried() -> [Tried; 1] {
-    [("places of a file whole and in every cut", all_hold())]
+pub(crate) fn tried(report: &mut Paper) {
+    report.say("places of a file whole and in every cut", all_hold());
 }

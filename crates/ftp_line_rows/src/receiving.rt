@@ -1,6 +1,6 @@
-use crate::report::Tried;
-use ftp_repr::{Item, Kind, Receiver, ReprFault, Structure};
-use std::alloc::{Allocator, Global};
+use crate::report::Paper;
+use ftp_repr::{Item, Kind, Receiver, Structure};
+use std::alloc::Global;
 
 /// Items in a type and structure, the file at a clean end behind them, and at a break.
 type Reading<'a> = (Kind, Structure, &'a [Item<'a>], &'a [u8], &'a [u8]);
@@ -104,67 +104,63 @@ const READINGS: &[Reading<'static>] = &[
     (Kind::Image, Structure::Record, &[Item::EndFile], &[], &[]),
 ];
 
-/// Hands an item to a receiver in two parts, cut at this place.
-fn take_cut<A: Allocator>(
-    receiver: &mut Receiver,
-    item: Item<'_>,
-    cut: usize,
-    out: &mut Vec<u8, A>,
-) -> Result<(), ReprFault> {
+/// Hands an item to a receiver, octets in two parts, cut at this place.
+fn takes_cut(receiver: &mut Receiver, item: Item<'_>, cut: usize, out: &mut Vec<u8>) -> bool {
     match item {
-        Item::Octets(octets) if cut <= octets.len() => {
-            let (front, back) = octets.split_at(cut);
-            receiver.take(Item::Octets(front), out)?;
-            receiver.take(Item::Octets(back), out)
+        Item::Octets(octets) => {
+            let (front, back) = octets.split_at(cut.min(octets.len()));
+            receiver.take(Item::Octets(front), out).is_ok()
+                & receiver.take(Item::Octets(back), out).is_ok()
         }
-        _ => receiver.take(item, out),
+        _ => receiver.take(item, out).is_ok(),
     }
 }
 
-/// Whether the row's file comes of its items, at a clean end or at a break.
-fn is_received(
-    alloc: Global,
-    reading: &Reading<'_>,
+/// Hands items to a receiver, and a clean end or a break.
+fn takes_all(
+    receiver: &mut Receiver,
+    items: &[Item<'_>],
     cut: usize,
     breaks: bool,
-) -> Result<bool, ReprFault> {
-    let (kind, structure, items, clean, broken) = *reading;
-    let mut receiver = Receiver::new(kind, structure);
-    let mut out = Vec::new(alloc);
+    out: &mut Vec<u8>,
+) -> bool {
+    let mut all = true;
     for item in items {
-        take_cut(&mut receiver, *item, cut, &mut out)?;
+        all &= takes_cut(receiver, *item, cut, out);
     }
     if breaks {
         receiver.broken();
     }
-    receiver.end(&mut out)?;
-    Ok(out.as_slice() == if breaks { broken } else { clean })
+    all & receiver.end(out).is_ok()
+}
+
+/// Whether the row's file comes of its items, at a clean end or at a break.
+fn is_received(alloc: Global, reading: &Reading<'_>, cut: usize, breaks: bool) -> bool {
+    let mut receiver = Receiver::new(reading.0, reading.1);
+    let mut out = Vec::new(alloc);
+    let taken = takes_all(&mut receiver, reading.2, cut, breaks, &mut out);
+    let expected = if breaks { reading.4 } else { reading.3 };
+    taken & (out.as_slice() == expected)
 }
 
 /// Whether a row holds, cut at each place.
-fn row_holds(alloc: Global, reading: &Reading<'_>) -> Result<bool, ReprFault> {
+fn holds(alloc: Global, reading: &Reading<'_>) -> bool {
+    let mut all = true;
     for cut in 0..=10 {
-        if !is_received(alloc, reading, cut, false)? || !is_received(alloc, reading, cut, true)? {
-            return Ok(false);
-        }
+        all &= is_received(alloc, reading, cut, false) & is_received(alloc, reading, cut, true);
     }
-    Ok(true)
+    all
 }
 
-/// The first row that does not hold.
-fn first_wrong(alloc: Global) -> Result<Option<usize>, ReprFault> {
-    for (at, reading) in READINGS.iter().enumerate() {
-        if !row_holds(alloc, reading)? {
-            return Ok(Some(at));
-        }
+fn all_hold(alloc: Global) -> bool {
+    let mut all = true;
+    for reading in READINGS {
+        all &= holds(alloc, reading);
     }
-    Ok(None)
+    all
 }
 
 /// What is tried here, and whether it holds.
-pub(crate) fn tried(alloc: Global) -> [Tried; 1] {
-    [(
-        "items are received in any pieces",
-        first_wrong(alloc) == Ok(None),
-    )]
+pub(crate) fn tried(alloc: Global, report: &mut Paper) {
+    report.say("items are received in any pieces", all_hold(alloc));
 }
