@@ -11,6 +11,7 @@ ghost use Rattle.ftp_client_machine.specs.View as view;
 
 use ftp_client_dialogue::Dialogue;
 use ftp_client_machine::client::Failure;
+use ftp_client_replies::hear_octet;
 use ftp_endpoint::Host;
 use ftp_ends::Wants;
 use ftp_facts::Text;
@@ -104,7 +105,7 @@ impl<A: Allocator + Clone, F: Carries<A>> Counted<A, F> {
     {
         let mut taken = 0;
         while taken < piece.len() && self.dialogue.may_hear() {
-            if self.dialogue.octet(piece[taken]).is_err() {
+            if hear_octet(&mut self.dialogue, piece[taken]).is_err() {
                 self.shorten();
                 return taken + 1;
             }

@@ -1,6 +1,7 @@
 pub mod RunLemmas
-pub mod StartLemmas
 pub mod HeardLemmas
 pub mod CarryLemmas
 pub mod OctetLemmas
 pub mod AgainLemmas
+pub mod JudgedLemmas
+pub mod AwaitedLemmas

@@ -10,8 +10,3 @@ is_under_way Places.Waiting = true
 is_under_way (Places.Doing step) = true
 is_under_way (Places.Transferring transfer) = true
 is_under_way (Places.Told answer) = false
-
--- its transfer's command was sent
-abbrev pub is_transferring : {A F : Type 0} → Place A F → Bool
-is_transferring (Places.Transferring transfer) = true
-is_transferring place = false

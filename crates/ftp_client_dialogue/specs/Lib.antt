@@ -1,2 +1,4 @@
 pub mod Calm
 pub mod Client
+pub mod Judged
+pub mod Replies

@@ -8,7 +8,7 @@ use crate::dialogue::Dialogue;
 use crate::place::Place;
 use ftp_client_machine::client::{Abort, DataConnection, Ending, Replied, Step};
 use ftp_command::Command;
-use ftp_judging::{Carries, judged};
+use ftp_judging::Carries;
 use std::alloc::{AllocError, Allocator};
 use std::mem;
 
@@ -113,20 +113,10 @@ impl<A: Allocator + Clone, F: Carries<A>> Dialogue<A, F> {
             return Ok(());
         };
         let place = mem::replace(&mut self.place, Place::Doing(Step::Last));
-        let Some(transfer) = place.into_transfer() else {
-            return Ok(());
-        };
-        let Ok(answer) = judged(
-            ending,
-            transfer.abort,
-            code,
-            &self.op,
-            transfer.flow,
-            &self.alloc,
-        ) else {
-            return Err(AllocError);
-        };
-        self.finish_read(answer)
+        match place.judged(ending, code, &self.op, &self.alloc) {
+            Ok(answer) => self.finish_read(answer),
+            Err(error) => Err(error),
+        }
     }
 }
 

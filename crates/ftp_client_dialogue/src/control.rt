@@ -1,15 +1,14 @@
-// The control connection: replies as they come, and octets (RFC 959, sections 4.2 and 5.4).
-ghost use Rattle.std.specs.Prelude.{◌≡◌, ◌<◌, ◌≤◌, IsTrue, OnErr, OnOk, length, take};
+// The octets of the control connection, and how far the client has come (RFC 959, sections 4.2 and 5.4).
+ghost use Rattle.std.specs.Prelude.{◌≡◌, ◌<◌, ◌≤◌, IfOk, IfSome, IsTrue, OnErr, length, take};
 ghost use Rattle.ftp_client_machine.specs.Calls.{gives_control, hears_octet, is_sound, may_hear};
-ghost use Rattle.ftp_client_machine.specs.Dialogue.{answered, job_answered, stand_answered};
-ghost use Rattle.ftp_judging.specs.Verdict.{verdict_in};
 
 use crate::dialogue::Dialogue;
 use crate::finishing::is_sound;
 use crate::place::Place;
-use ftp_client_machine::client::{Failure, Standing};
+use ftp_client_machine::client::Standing;
+use ftp_endpoint::Host;
 use ftp_hearing::Heard;
-use ftp_judging::{Carries, Verdict, verdict_of};
+use ftp_judging::Carries;
 use ftp_reply::Reply;
 use std::alloc::{AllocError, Allocator};
 
@@ -17,22 +16,33 @@ use std::alloc::{AllocError, Allocator};
 const OWED_LIMIT: usize = 1024;
 
 impl<A: Allocator + Clone, F: Carries<A>> Dialogue<A, F> {
+    ghost use Rattle.ftp_client_dialogue.specs.Calm.{is_under_way};
     ghost use Rattle.ftp_client_dialogue.specs.Client.{shorted, view_of};
+    ghost use Rattle.ftp_client_dialogue.specs.Replies.{reply_answered};
 
-    /// Takes an octet. Refused memory, the client is short of it, as it was before the octet.
-    pub fn octet(&mut self, octet: u8) -> Result<(), AllocError>
+    /// Takes an octet, and hands out the reply that ends with it, which is to be answered then. Refused memory, the client is short of it,
+    /// as it was before the octet.
+    pub fn hear(&mut self, octet: u8) -> Result<Option<Reply<A>>, AllocError>
         requires { IsTrue (is_sound (view_of F.flow self.old).standing) }
-        ensures ok { OnOk result (view_of F.flow self.new ≡ hears_octet (view_of F.flow self.old) octet) }
+        ensures ok { IfOk result (λ reply. reply_answered reply (view_of F.flow self.new) ≡ hears_octet (view_of F.flow self.old) octet) }
+        ensures calm { IfOk result (λ reply. IfSome reply (λ some. IsTrue (is_sound (view_of F.flow self.new).standing))) }
+        ensures kept { IfOk result (λ reply. IfSome reply (λ some. shorted (view_of F.flow self.new) ≡ shorted (view_of F.flow self.old))) }
         ensures err { OnErr result (shorted (view_of F.flow self.new) ≡ shorted (view_of F.flow self.old)) }
         ensures sound { OnErr result (IsTrue (is_sound (view_of F.flow self.new).standing)) }
     {
-        match self.hearing.octet(octet)? {
-            Heard::Nothing => Ok(()),
-            Heard::Owed(answer) => self.output.put(&answer),
-            Heard::Reply(reply) => self.answered(&reply),
+        let Ok(heard) = self.hearing.octet(octet) else {
+            return Err(AllocError);
+        };
+        match heard {
+            Heard::Nothing => Ok(None),
+            Heard::Reply(reply) => Ok(Some(reply)),
+            Heard::Owed(answer) => match self.output.put(&answer) {
+                Ok(()) => Ok(None),
+                Err(error) => Err(error),
+            },
             Heard::Misplaced => {
                 self.strange();
-                Ok(())
+                Ok(None)
             }
         }
     }
@@ -54,62 +64,25 @@ impl<A: Allocator + Clone, F: Carries<A>> Dialogue<A, F> {
         self.output.give(room)
     }
 
-    /// A reply came.
-    #[tactic(auto, unfolding(ftp_client_machine::specs::Dialogue::answered))]
-    fn answered(&mut self, reply: &Reply<A>) -> Result<(), AllocError>
-        requires { IsTrue (is_sound self.old.standing) }
-        ensures ok { OnOk result (view_of F.flow self.new ≡ answered reply.now.code reply.now.lines (view_of F.flow self.old)) }
-        ensures err { OnErr result (shorted (view_of F.flow self.new) ≡ shorted (view_of F.flow self.old)) }
-        ensures sound { OnErr result (IsTrue (is_sound self.new.standing)) }
+    /// How far it has come with the server.
+    pub fn standing(&self) -> Standing
+        ensures { result ≡ (view_of F.flow self.now).standing }
     {
-        let verdict = verdict_of(reply.code);
-        match verdict {
-            Verdict::Closing => {
-                self.fail(Failure::Lost);
-                Ok(())
-            }
-            Verdict::Displaced => {
-                self.strange();
-                Ok(())
-            }
-            _ => self.stand_answered(verdict, reply),
-        }
+        self.standing
     }
 
-    /// Who is answered: the greeting, USER, PASS, or the operation under way.
-    fn stand_answered(&mut self, verdict: Verdict, reply: &Reply<A>) -> Result<(), AllocError>
-        requires { IsTrue (is_sound self.old.standing) }
-        ensures ok { OnOk result (view_of F.flow self.new
-            ≡ stand_answered self.old.standing (verdict_in verdict) reply.now.code reply.now.lines (view_of F.flow self.old)) }
-        ensures err { OnErr result (shorted (view_of F.flow self.new) ≡ shorted (view_of F.flow self.old)) }
-        ensures sound { OnErr result (IsTrue (is_sound self.new.standing)) }
+    /// The host of the server.
+    pub fn peer(&self) -> Host
+        ensures { result ≡ (view_of F.flow self.now).peer }
     {
-        match self.standing {
-            Standing::Greeting => self.greeted(verdict, reply.code),
-            Standing::User => self.user_answered(verdict),
-            Standing::Pass => self.pass_answered(verdict),
-            Standing::Entered => self.job_answered(verdict, reply),
-            Standing::Failed(_) => Ok(()),
-        }
+        self.peer
     }
 
-    /// A reply that comes while an operation is under way, or that nobody waits for.
-    fn job_answered(&mut self, verdict: Verdict, reply: &Reply<A>) -> Result<(), AllocError>
-        ensures ok { OnOk result (view_of F.flow self.new
-            ≡ job_answered (view_of F.flow self.old).job (verdict_in verdict) reply.now.code reply.now.lines (view_of F.flow self.old)) }
-        ensures err { OnErr result (shorted (view_of F.flow self.new) ≡ shorted (view_of F.flow self.old)) }
-        ensures sound { OnErr result (IsTrue (is_sound self.new.standing)) }
+    /// How far the operation that was begun last has come.
+    pub fn place(&self) -> &Place<A, F>
+        ensures place { result.now ≡ self.now.place }
+        ensures calm { IsTrue (is_under_way result.now) → IsTrue (is_sound (view_of F.flow self.now).standing) }
     {
-        match &self.place {
-            Place::Doing(step) => {
-                let step = *step;
-                self.step_answered(step, verdict, reply)
-            }
-            Place::Transferring(_) => self.transfer_answered(verdict, reply),
-            Place::Idle | Place::Waiting | Place::Told(_) => {
-                self.strange();
-                Ok(())
-            }
-        }
+        &self.place
     }
 }

@@ -3,6 +3,7 @@ ghost use Rattle.std.specs.Prelude.{IsTrue};
 ghost use Rattle.ftp_client_machine.specs.Calls.{is_sound};
 ghost use Rattle.ftp_client_dialogue.specs.Calm.{is_under_way};
 
+use crate::letting_go::let_go_op;
 use crate::place::Place;
 use ftp_client_machine::client::{DataConnection, Standing};
 use ftp_endpoint::Host;
@@ -45,7 +46,7 @@ impl<A: Allocator, F: Drop> Drop for Dialogue<A, F> {
             here: _,
             peer: _,
             standing: _,
-            op: _,
+            op,
             place: _,
             run: _,
             settings: _,
@@ -54,5 +55,6 @@ impl<A: Allocator, F: Drop> Drop for Dialogue<A, F> {
             hearing: _,
             output: _,
         } = self;
+        let_go_op(op);
     }
 }

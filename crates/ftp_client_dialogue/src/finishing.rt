@@ -8,6 +8,7 @@ ghost use Rattle.ftp_client_machine.specs.View.{done_with, dropped, failure_said
 ghost use Rattle.ftp_plan.specs.Tries.{next_op, run_in};
 
 use crate::dialogue::Dialogue;
+use crate::letting_go::{let_go, let_go_op};
 use crate::place::Place;
 use ftp_client_machine::client::{DataConnection, Failure, Standing, Step};
 use ftp_facts::Text;
@@ -15,6 +16,7 @@ use ftp_judging::Carries;
 use ftp_operation::{Answer, Op};
 use ftp_plan::{Next, is_size, next_in};
 use std::alloc::{AllocError, Allocator};
+use std::mem;
 
 impl<A: Allocator + Clone, F: Carries<A>> Dialogue<A, F> {
     ghost use Rattle.ftp_client_dialogue.specs.Calm.{is_under_way};
@@ -30,7 +32,7 @@ impl<A: Allocator + Clone, F: Carries<A>> Dialogue<A, F> {
     }
 
     /// The operation is answered; no link of it is needed. A run goes on with its next operation.
-    pub(crate) fn finish(&mut self, answer: Answer<A>) -> Result<(), AllocError>
+    pub fn finish(&mut self, answer: Answer<A>) -> Result<(), AllocError>
         ensures ok { OnOk result (view_of F.flow self.new ≡ finishes (said_of answer) (view_of F.flow self.old)) }
         ensures err { OnErr result (shorted (view_of F.flow self.new) ≡ shorted (view_of F.flow self.old)) }
         ensures sound { OnErr result (IsTrue (is_sound self.new.standing)) }
@@ -38,6 +40,7 @@ impl<A: Allocator + Clone, F: Carries<A>> Dialogue<A, F> {
     {
         match &self.place {
             Place::Idle | Place::Waiting | Place::Told(_) => {
+                self.drop_link();
                 self.tell(answer);
                 Ok(())
             }
@@ -46,10 +49,9 @@ impl<A: Allocator + Clone, F: Carries<A>> Dialogue<A, F> {
     }
 
     /// The answer stands until it is taken.
-    fn tell(&mut self, answer: Answer<A>)
-        ensures { view_of F.flow self.new ≡ done_with (said_of answer) (dropped (view_of F.flow self.old)) }
+    pub(crate) fn tell(&mut self, answer: Answer<A>)
+        ensures { view_of F.flow self.new ≡ done_with (said_of answer) (view_of F.flow self.old) }
     {
-        self.drop_link();
         self.place = Place::Told(answer);
         self.run = None;
     }
@@ -64,6 +66,7 @@ impl<A: Allocator + Clone, F: Carries<A>> Dialogue<A, F> {
     {
         match self.next(&answer) {
             Ok(Next::Nothing) => {
+                self.drop_link();
                 self.tell(answer);
                 Ok(())
             }
@@ -99,7 +102,7 @@ impl<A: Allocator + Clone, F: Carries<A>> Dialogue<A, F> {
         ensures place { self.new.place ≡ self.old.place }
         ensures view { view_of F.flow self.new ≡ record (view_of F.flow self.old) { job = job_of F.flow op self.old.place } }
     {
-        self.op = op;
+        let_go_op(mem::replace(&mut self.op, op));
     }
 
     /// The next operation of a run begins.
@@ -147,7 +150,7 @@ impl<A: Allocator + Clone, F: Carries<A>> Dialogue<A, F> {
     }
 
     /// The server said what has no place.
-    pub(crate) fn strange(&mut self)
+    pub fn strange(&mut self)
         ensures { view_of F.flow self.new ≡ strange (view_of F.flow self.old) }
     {
         self.fail(Failure::Strange);
@@ -179,9 +182,6 @@ impl<A: Allocator + Clone, F: Carries<A>> Dialogue<A, F> {
         }
     }
 }
-
-/// Lets an answer go. A function of its own, since each drop of an answer is proved anew.
-fn let_go<A: Allocator>(_answer: Answer<A>) {}
 
 /// Whether a link, or a port that is listened at, stands.
 pub(crate) fn stands(connection: DataConnection) -> bool

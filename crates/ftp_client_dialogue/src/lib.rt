@@ -7,6 +7,7 @@ mod control;
 mod dialogue;
 mod finishing;
 mod holding;
+mod letting_go;
 mod link;
 mod login;
 mod octets;

@@ -1,49 +1,23 @@
 // The login (RFC 959, section 5.4).
 ghost use Rattle.std.specs.Prelude.{◌≡◌, IsTrue, OnErr, OnOk};
 ghost use Rattle.ftp_client_machine.specs.Calls.{is_sound};
-ghost use Rattle.ftp_client_machine.specs.Dialogue.{greeted, login_ends, pass_answered, sends, user_answered};
+ghost use Rattle.ftp_client_machine.specs.Dialogue.{login_ends, sends};
 ghost use Rattle.ftp_client_machine.specs.declared.client.Standing.TheVariants as Stands;
 ghost use Rattle.ftp_command.specs.declared.command.Command.TheVariants as Commands;
-ghost use Rattle.ftp_judging.specs.Verdict.{verdict_in};
 
 use crate::dialogue::Dialogue;
 use crate::place::Place;
 use ftp_client_machine::client::Standing;
 use ftp_command::{Command, Text as Argument};
-use ftp_judging::{Carries, Verdict};
+use ftp_judging::Carries;
 use std::alloc::{AllocError, Allocator};
 
 impl<A: Allocator + Clone, F: Carries<A>> Dialogue<A, F> {
     ghost use Rattle.ftp_client_dialogue.specs.Client.{view_of};
 
-    /// After a greeting USER is sent; 120 is skipped, and another greeting has no place (own choice).
-    pub(crate) fn greeted(&mut self, verdict: Verdict, code: u16) -> Result<(), AllocError>
-        requires { self.old.standing ≡ Standing.Greeting }
-        ensures ok { OnOk result (view_of F.flow self.new ≡ greeted (verdict_in verdict) code (view_of F.flow self.old)) }
-        ensures err { OnErr result (view_of F.flow self.new ≡ view_of F.flow self.old) }
-    {
-        match verdict {
-            Verdict::Completion => self.send_user(),
-            Verdict::Preliminary => {
-                if code != 120 {
-                    self.strange();
-                }
-                Ok(())
-            }
-            Verdict::Intermediate | Verdict::Negative => {
-                self.strange();
-                Ok(())
-            }
-            Verdict::Closing | Verdict::Displaced => {
-                self.strange();
-                Ok(())
-            }
-        }
-    }
-
     /// USER is sent, and its reply awaited.
-    fn send_user(&mut self) -> Result<(), AllocError>
-        requires { self.old.standing ≡ Standing.Greeting }
+    pub fn send_user(&mut self) -> Result<(), AllocError>
+        requires { (view_of F.flow self.old).standing ≡ Standing.Greeting }
         ensures ok { OnOk result (view_of F.flow self.new
             ≡ sends (Commands.User (view_of F.flow self.old).user) (record (view_of F.flow self.old) { standing = Stands.User })) }
         ensures err { OnErr result (view_of F.flow self.new ≡ view_of F.flow self.old) }
@@ -54,25 +28,9 @@ impl<A: Allocator + Clone, F: Carries<A>> Dialogue<A, F> {
         Ok(())
     }
 
-    /// PASS is sent where USER is answered that it is needed.
-    pub(crate) fn user_answered(&mut self, verdict: Verdict) -> Result<(), AllocError>
-        requires { self.old.standing ≡ Standing.User }
-        ensures ok { OnOk result (view_of F.flow self.new ≡ user_answered (verdict_in verdict) (view_of F.flow self.old)) }
-        ensures err { OnErr result (view_of F.flow self.new ≡ view_of F.flow self.old) }
-    {
-        match verdict {
-            Verdict::Intermediate => self.send_pass(),
-            Verdict::Completion | Verdict::Negative => self.login_ends(),
-            Verdict::Preliminary | Verdict::Closing | Verdict::Displaced => {
-                self.strange();
-                Ok(())
-            }
-        }
-    }
-
     /// PASS is sent, and its reply awaited.
-    fn send_pass(&mut self) -> Result<(), AllocError>
-        requires { self.old.standing ≡ Standing.User }
+    pub fn send_pass(&mut self) -> Result<(), AllocError>
+        requires { (view_of F.flow self.old).standing ≡ Standing.User }
         ensures ok { OnOk result (view_of F.flow self.new
             ≡ sends (Commands.Pass (view_of F.flow self.old).pass) (record (view_of F.flow self.old) { standing = Stands.Pass })) }
         ensures err { OnErr result (view_of F.flow self.new ≡ view_of F.flow self.old) }
@@ -83,27 +41,8 @@ impl<A: Allocator + Clone, F: Carries<A>> Dialogue<A, F> {
         Ok(())
     }
 
-    /// What PASS is answered with ends the login, a refusal too.
-    pub(crate) fn pass_answered(&mut self, verdict: Verdict) -> Result<(), AllocError>
-        requires { self.old.standing ≡ Standing.Pass }
-        ensures ok { OnOk result (view_of F.flow self.new ≡ pass_answered (verdict_in verdict) (view_of F.flow self.old)) }
-        ensures err { OnErr result (view_of F.flow self.new ≡ view_of F.flow self.old) }
-    {
-        match verdict {
-            Verdict::Completion | Verdict::Negative => self.login_ends(),
-            Verdict::Preliminary | Verdict::Intermediate => {
-                self.strange();
-                Ok(())
-            }
-            Verdict::Closing | Verdict::Displaced => {
-                self.strange();
-                Ok(())
-            }
-        }
-    }
-
     /// Operations are sent from now on, and one that waits begins.
-    fn login_ends(&mut self) -> Result<(), AllocError>
+    pub fn login_ends(&mut self) -> Result<(), AllocError>
         requires { IsTrue (is_sound self.old.standing) }
         ensures ok { OnOk result (view_of F.flow self.new ≡ login_ends (view_of F.flow self.old)) }
         ensures err { OnErr result (view_of F.flow self.new ≡ view_of F.flow self.old) }

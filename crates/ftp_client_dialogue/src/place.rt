@@ -1,15 +1,16 @@
 // How far an operation has come (RFC 959, section 5.4).
-ghost use Rattle.std.specs.Prelude.{◌≡◌, ◌<◌, ◌≤◌, ℕ, List, IfErr, IfNone, IfOk, IfSome, false, length, option_map, take};
+ghost use Rattle.std.specs.Prelude.{◌≡◌, ◌<◌, ◌≤◌, ℕ, List, IfErr, IfOk, length, option_map, take};
 ghost use Rattle.ftp_operation.specs.Answer.{Memory, said_of};
 ghost use Rattle.ftp_operation.specs.declared.op.Op.{Op};
 ghost use Rattle.ftp_client_machine.specs.Calls.{report_of_job};
 ghost use Rattle.ftp_client_machine.specs.View.{failed_job};
 
-use ftp_client_machine::client::{Abort, Replied, Step};
+use crate::letting_go::let_go;
+use ftp_client_machine::client::{Abort, Ending, Replied, Step};
 use ftp_facts::Text;
-use ftp_judging::Carries;
+use ftp_judging::{Carries, judged};
 use ftp_operation::{Answer, Op};
-use std::alloc::Allocator;
+use std::alloc::{AllocError, Allocator};
 
 /// A transfer whose command was sent; `F` is what it carries.
 #[derive(Drop)]
@@ -37,15 +38,16 @@ pub enum Place<A: Allocator, F: Drop> {
 impl<A: Allocator, F: Drop> Drop for Place<A, F> {
     fn drop(self) {
         match self {
-            Place::Idle | Place::Waiting | Place::Doing(_) => {}
-            Place::Transferring(_) | Place::Told(_) => {}
+            Place::Idle | Place::Waiting | Place::Doing(_) | Place::Transferring(_) => {}
+            Place::Told(answer) => let_go(answer),
         }
     }
 }
 
 impl<A: Allocator, F: Carries<A>> Place<A, F> {
-    ghost use Rattle.ftp_client_dialogue.specs.Calm.{is_transferring, is_under_way};
+    ghost use Rattle.ftp_client_dialogue.specs.Calm.{is_under_way};
     ghost use Rattle.ftp_client_dialogue.specs.Client.{JobNotYet, job_heard, job_left, job_noted, job_of, job_unsent, job_went};
+    ghost use Rattle.ftp_client_dialogue.specs.Judged.{job_judged};
 
     /// Notes the mmmm of a 110 reply to an upload.
     pub(crate) fn note(&mut self, op: &Op<Text<A>>, mark: Option<u64>)
@@ -96,14 +98,25 @@ impl<A: Allocator, F: Carries<A>> Place<A, F> {
         }
     }
 
-    /// The transfer whose command was sent.
-    pub(crate) fn into_transfer(self) -> Option<Transfer<F>>
-        ensures transfer { IfSome result (λ transfer. self ≡ Place.Transferring transfer) }
-        ensures none { IfNone result (is_transferring self ≡ false) }
+    /// What a transfer is answered, by its final reply's code and its link's end.
+    pub(crate) fn judged(
+        self,
+        ending: Ending,
+        code: u16,
+        op: &Op<Text<A>>,
+        alloc: &A,
+    ) -> Result<Option<Answer<A>>, AllocError>
+        ensures { IfOk result (λ answer. option_map said_of answer ≡ job_judged ending code (job_of F.flow op.now self)) }
     {
         match self {
-            Place::Transferring(transfer) => Some(transfer),
-            Place::Idle | Place::Waiting | Place::Doing(_) | Place::Told(_) => None,
+            Place::Transferring(transfer) => {
+                judged(ending, transfer.abort, code, op, transfer.flow, alloc)
+            }
+            Place::Told(answer) => {
+                let_go(answer);
+                Ok(None)
+            }
+            Place::Idle | Place::Waiting | Place::Doing(_) => Ok(None),
         }
     }
 

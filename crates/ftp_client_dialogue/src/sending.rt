@@ -46,14 +46,9 @@ impl<A: Allocator + Clone, F: Carries<A>> Dialogue<A, F> {
                 Ok(())
             }
             Step::Last => self.place_last(),
-            Step::Kind => self.place_step(Step::Kind),
-            Step::Structure => self.place_step(Step::Structure),
-            Step::Mode => self.place_step(Step::Mode),
-            Step::Port => self.place_step(Step::Port),
-            Step::Passive => self.place_step(Step::Passive),
-            Step::Connect => self.place_step(Step::Connect),
-            Step::Restart => self.place_step(Step::Restart),
-            Step::Source => self.place_step(Step::Source),
+            Step::Kind | Step::Structure | Step::Mode => self.place_step(step),
+            Step::Port | Step::Passive | Step::Connect => self.place_step(step),
+            Step::Restart | Step::Source => self.place_step(step),
         }
     }
 
@@ -68,7 +63,7 @@ impl<A: Allocator + Clone, F: Carries<A>> Dialogue<A, F> {
     }
 
     /// The operation goes on behind a step that was answered well.
-    pub(crate) fn go_on(&mut self, step: Step) -> Result<(), AllocError>
+    pub fn go_on(&mut self, step: Step) -> Result<(), AllocError>
         requires { IsTrue (is_sound self.old.standing) }
         ensures ok { OnOk result (view_of F.flow self.new ≡ goes_on self.old.op step (view_of F.flow self.old)) }
         ensures err { OnErr result (view_of F.flow self.new ≡ view_of F.flow self.old) }
@@ -139,7 +134,7 @@ impl<A: Allocator + Clone, F: Carries<A>> Dialogue<A, F> {
     }
 
     /// Whether EPRT or EPSV is sent, and not PORT or PASV.
-    pub(crate) fn is_extended(&self) -> bool
+    pub fn is_extended(&self) -> bool
         ensures { result ≡ is_extended (view_of F.flow self.now) self.now.op }
     {
         asks_extended(how_of(&self.op)) || is_v6(self.peer)

@@ -13,6 +13,7 @@ ghost use Rattle.ftp_client_machine.specs.Failing.{short};
 
 use crate::dialogue::Dialogue;
 use crate::finishing::failure_answer;
+use crate::letting_go::let_go_op;
 use crate::place::Place;
 use ftp_client_machine::client::{DataConnection, Standing};
 use ftp_endpoint::Host;
@@ -72,26 +73,17 @@ impl<A: Allocator + Clone, F: Carries<A>> Dialogue<A, F> {
         ensures sent { OnErr result (can_be_sent op && is_sound (view_of F.flow self.old).standing ≡ true) }
         ensures err { OnErr result (short (view_of F.flow self.new) ≡ short (record (view_of F.flow self.old) { job = Waiting op; run = None })) }
     {
-        let sendable = can_be_sent(&op);
-        self.op = op;
-        self.run = None;
-        match self.standing {
-            Standing::Failed(failure) => self.place = Place::Told(failure_answer(failure)),
-            Standing::Entered => {
-                if sendable {
-                    return self.start_now();
-                }
-                self.place = Place::Told(Answer::BadOperation);
-            }
-            Standing::Greeting | Standing::User | Standing::Pass => {
-                self.place = if sendable {
-                    Place::Waiting
-                } else {
-                    Place::Told(Answer::BadOperation)
-                };
-            }
+        if let Standing::Failed(failure) = self.standing {
+            let_go_op(op);
+            self.tell(failure_answer(failure));
+            return Ok(());
         }
-        Ok(())
+        if !can_be_sent(&op) {
+            let_go_op(op);
+            self.tell(Answer::BadOperation);
+            return Ok(());
+        }
+        self.start_op(op, None)
     }
 
     /// Begins an upload over breaks. Refused memory, it is answered so.
@@ -103,13 +95,11 @@ impl<A: Allocator + Clone, F: Carries<A>> Dialogue<A, F> {
             ≡ short (record (view_of F.flow self.old) { job = Waiting (first_try (over_breaks path octets how)); run = Some (run_of (over_breaks path octets how)) })) }
     {
         if let Standing::Failed(failure) = self.standing {
-            self.run = None;
-            self.place = Place::Told(failure_answer(failure));
+            self.tell(failure_answer(failure));
             return Ok(());
         }
         if !can_be_tried(&path, &octets, how) {
-            self.run = None;
-            self.place = Place::Told(Answer::BadOperation);
+            self.tell(Answer::BadOperation);
             return Ok(());
         }
         self.start_run(Run {
@@ -129,9 +119,26 @@ impl<A: Allocator + Clone, F: Carries<A>> Dialogue<A, F> {
         ensures err { OnErr result (shorted (view_of F.flow self.new) ≡ shorted (record (view_of F.flow self.old) { job = Told Memory })) }
         ensures standing { OnErr result (self.new.standing ≡ self.old.standing) }
     {
-        self.place = Place::Told(Answer::Memory);
-        self.op = ftp_plan::first_try(&run, &self.alloc)?;
-        self.run = Some(run);
+        match ftp_plan::first_try(&run, &self.alloc) {
+            Ok(op) => self.start_op(op, Some(run)),
+            Err(error) => {
+                self.place = Place::Told(Answer::Memory);
+                Err(error)
+            }
+        }
+    }
+
+    /// An operation that can be sent begins, alone or as the first of a run: behind the login, or at once. Refused memory, it is answered
+    /// so.
+    fn start_op(&mut self, op: Op<Text<A>>, run: Option<Run<A>>) -> Result<(), AllocError>
+        requires { IsTrue (is_sound self.old.standing) }
+        ensures ok { OnOk result (view_of F.flow self.new
+            ≡ started_by self.old.standing op (record (view_of F.flow self.old) { run = option_map run_in run })) }
+        ensures err { OnErr result (shorted (view_of F.flow self.new) ≡ shorted (record (view_of F.flow self.old) { job = Told Memory })) }
+        ensures standing { OnErr result (self.new.standing ≡ self.old.standing) }
+    {
+        self.run = run;
+        let_go_op(mem::replace(&mut self.op, op));
         if let Standing::Entered = self.standing {
             return self.start_now();
         }

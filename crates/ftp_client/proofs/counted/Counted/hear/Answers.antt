@@ -15,7 +15,7 @@ loop-taken-preserved g c =
     record {
       within = omega arith;
       count = c.loop-taken.invariant.count;
-      view = ok_at c.octet.result _ (sym c.is_err.ensures.value ∙ c.if-is_err.false) c.octet.ensures.ok
+      view = ok_at c.hear_octet.result _ (sym c.is_err.ensures.value ∙ c.if-is_err.false) c.hear_octet.ensures.ok
           ∙ ap (λ w. hears_octet w (slice_index piece n)) c.loop-taken.invariant.view
           ∙ sym (hears_next v piece n less);
       may = may_more v piece n c.loop-taken.invariant.may

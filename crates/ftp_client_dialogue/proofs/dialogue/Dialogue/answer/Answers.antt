@@ -1,26 +1,23 @@
-use Rattle.std.proofs.Common.{◌≡◌, ◌∙◌, sym, ap, subst, refl}
+use Rattle.std.proofs.Common.{sym, ap, subst, refl}
 use Rattle.std.specs.Prelude.{IsTrue}
+use Rattle.std.specs.Option.{option_map}
 use Rattle.std.proofs.lemmas.Result.{on_ok_weaker}
-use Rattle.ftp_client_machine.specs.Dialogue.{finishes_read, judged}
+use Rattle.ftp_operation.specs.Answer.{said_of}
 use Rattle.ftp_client_machine.specs.View.{View}
 use Rattle.ftp_client_dialogue.specs.Calm.{is_under_way}
-use Rattle.ftp_client_dialogue.specs.Client.{in_transfer, job_of, transfer_of, view_of}
-use Rattle.ftp_client_dialogue.specs.declared.place.Place.TheVariants as Places
-use Rattle.ftp_client_dialogue.proofs.CarryLemmas.{read_alike}
+use Rattle.ftp_client_dialogue.specs.Client.{job_of, transfer_of, view_of}
+use Rattle.ftp_client_dialogue.proofs.JudgedLemmas.{answer_follows}
 use Rattle.ftp_client_dialogue.proofs.dialogue.Dialogue.answer.Goals as goal
 
-pub returns-clause-ok : goal.returns-clause-ok
-returns-clause-ok g c =
+pub returns-in-Ok-clause-ok : goal.returns-in-Ok-clause-ok
+returns-in-Ok-clause-ok g c =
     let d = c.args.self.now in
     let v : View = view_of g.F.Carries.flow d in
-    let t = c.in-Some.transfer in
-    let place : d.place ≡ Places.Transferring t = sym c.replace-place.ensures.value ∙ c.in-Some.ensures.transfer in
-    let sound = d.calm (subst (λ p. IsTrue (is_under_way p)) (sym place) refl) in
-    on_ok_weaker c.finish_read.result (λ is.
-    is
-    ∙ ap (λ a. let u : View = record v { job = job_of g.F.Carries.flow d.op c.replace-place.new.dest } in finishes_read a u) c.in-Ok.ensures
-    ∙ ap (λ p. let u : View = record v { job = job_of g.F.Carries.flow d.op p } in finishes_read (judged c.args.ending t.abort c.args.code d.op (g.F.Carries.flow d.op t.flow)) u) c.replace-place.ensures.after
-    ∙ read_alike (judged c.args.ending t.abort c.args.code d.op (g.F.Carries.flow d.op t.flow)) d.op (transfer_of g.F.Carries.flow d.op t) v sound
-    ∙ ap (λ p. let w : View = record v { job = job_of g.F.Carries.flow d.op p } in
-    in_transfer (λ op transfer u. finishes_read (judged c.args.ending transfer.abort c.args.code op transfer.flow) u) w) (sym place))
+    let u : View = record v { job = job_of g.F.Carries.flow d.op c.replace-place.new.dest } in
+    let sound = d.calm (subst (λ p. IsTrue (is_under_way p)) (sym c.in-Transferring.is) refl) in
+    on_ok_weaker c.finish_read.result (λ now.
+    answer_follows (view_of g.F.Carries.flow c.finish_read.new.self) u v d.op (transfer_of g.F.Carries.flow d.op c.in-Transferring.field-0) c.args.ending c.args.code
+    (job_of g.F.Carries.flow d.op c.replace-place.result) (option_map said_of c.in-Ok.answer) (ap (job_of g.F.Carries.flow d.op) c.in-Transferring.is) sound
+    (ap (λ p. let w : View = record v { job = job_of g.F.Carries.flow d.op p } in w) c.replace-place.ensures.after)
+    (ap (job_of g.F.Carries.flow d.op) c.replace-place.ensures.value) c.in-Ok.ensures now)
     c.finish_read.ensures.ok

@@ -1,6 +1,6 @@
-use Rattle.std.proofs.Common.{◌∙◌, None, ap}
+use Rattle.std.proofs.Common.{◌∙◌, ap}
 use Rattle.ftp_client_machine.specs.Tries.{over_breaks}
-use Rattle.ftp_client_machine.specs.View.{View, Told}
+use Rattle.ftp_client_machine.specs.View.{View, done_with}
 use Rattle.ftp_client_dialogue.specs.Client.{view_of}
 use Rattle.ftp_client_dialogue.proofs.RunLemmas.{failed_uploads}
 use Rattle.ftp_client_dialogue.proofs.dialogue.Dialogue.upload.Goals as goal
@@ -8,5 +8,6 @@ use Rattle.ftp_client_dialogue.proofs.dialogue.Dialogue.upload.Goals as goal
 pub returns-in-Failed-clause-ok : goal.returns-in-Failed-clause-ok
 returns-in-Failed-clause-ok g c =
     let v : View = view_of g.F.Carries.flow c.args.self.now in
-    ap (λ said. let w : View = record v { job = Told said; run = None } in w) c.failure_answer.ensures
+    c.tell.ensures
+    ∙ ap (λ said. done_with said v) c.failure_answer.ensures
     ∙ failed_uploads (over_breaks c.args.path c.args.octets c.args.how) v c.in-Failed.failure c.in-Failed.is

@@ -1,11 +1,10 @@
 use Rattle.std.proofs.Common.{◌∙◌, ◌++◌, sym, ap}
-use Rattle.std.proofs.lemmas.Result.{on_ok_weaker}
 use Rattle.ftp_client_machine.specs.Dialogue.{answered}
 use Rattle.ftp_client_machine.specs.View.{View, strange}
 use Rattle.ftp_hearing.specs.Comes.{acts}
 use Rattle.ftp_client_dialogue.specs.Client.{view_of}
 use Rattle.ftp_client_dialogue.proofs.HeardLemmas.{ear_is, gathered_is, seen}
-use Rattle.ftp_client_dialogue.proofs.dialogue.Dialogue.octet.Goals as goal
+use Rattle.ftp_client_dialogue.proofs.dialogue.Dialogue.hear.Goals as goal
 
 pub returns-in-Nothing-clause-ok : goal.returns-in-Nothing-clause-ok
 returns-in-Nothing-clause-ok g c =
@@ -14,31 +13,26 @@ returns-in-Nothing-clause-ok g c =
     let held = c.octet.new.self in
     seen d.standing c.requires held.ear held.gathered v
     ∙ ap (λ h. acts h held v) (sym c.in-Nothing.is)
-    ∙ sym (c.in_ok-octet.ensures v c.requires (ear_is d.standing c.requires d.hearing.ear) (gathered_is d.standing c.requires d.hearing.gathered))
+    ∙ sym (c.in-Ok.ensures v c.requires (ear_is d.standing c.requires d.hearing.ear) (gathered_is d.standing c.requires d.hearing.gathered))
 
-pub returns-in-Owed-clause-ok : goal.returns-in-Owed-clause-ok
-returns-in-Owed-clause-ok g c =
+pub returns-in-Ok-put-clause-ok : goal.returns-in-Ok-put-clause-ok
+returns-in-Ok-put-clause-ok g c =
     let d = c.args.self.now in
     let v : View = view_of g.F.Carries.flow d in
     let held = c.octet.new.self in
-    on_ok_weaker c.put.result (λ put.
-    ap (λ o. let w : View = record (view_of g.F.Carries.flow (record d { hearing = held })) { owed = o } in w) put
+    ap (λ o. let w : View = record (view_of g.F.Carries.flow (record d { hearing = held })) { owed = o } in w) c.in-Ok-put.ensures.ok
     ∙ seen d.standing c.requires held.ear held.gathered (record v { owed = d.output ++ c.in-Owed.answer })
     ∙ ap (λ h. acts h held v) (sym c.in-Owed.is)
-    ∙ sym (c.in_ok-octet.ensures v c.requires (ear_is d.standing c.requires d.hearing.ear) (gathered_is d.standing c.requires d.hearing.gathered)))
-    c.put.ensures.ok
+    ∙ sym (c.in-Ok.ensures v c.requires (ear_is d.standing c.requires d.hearing.ear) (gathered_is d.standing c.requires d.hearing.gathered))
 
 pub returns-in-Reply-clause-ok : goal.returns-in-Reply-clause-ok
 returns-in-Reply-clause-ok g c =
     let d = c.args.self.now in
     let v : View = view_of g.F.Carries.flow d in
     let held = c.octet.new.self in
-    on_ok_weaker c.answered.result (λ is.
-    is
-    ∙ ap (λ w. answered c.in-Reply.reply.code c.in-Reply.reply.lines w) (seen d.standing c.requires held.ear held.gathered v)
+    ap (λ w. answered c.in-Reply.reply.code c.in-Reply.reply.lines w) (seen d.standing c.requires held.ear held.gathered v)
     ∙ ap (λ h. acts h held v) (sym c.in-Reply.is)
-    ∙ sym (c.in_ok-octet.ensures v c.requires (ear_is d.standing c.requires d.hearing.ear) (gathered_is d.standing c.requires d.hearing.gathered)))
-    c.answered.ensures.ok
+    ∙ sym (c.in-Ok.ensures v c.requires (ear_is d.standing c.requires d.hearing.ear) (gathered_is d.standing c.requires d.hearing.gathered))
 
 pub returns-in-Misplaced-clause-ok : goal.returns-in-Misplaced-clause-ok
 returns-in-Misplaced-clause-ok g c =
@@ -48,4 +42,4 @@ returns-in-Misplaced-clause-ok g c =
     c.strange.ensures
     ∙ ap (λ w. strange w) (seen d.standing c.requires held.ear held.gathered v)
     ∙ ap (λ h. acts h held v) (sym c.in-Misplaced.is)
-    ∙ sym (c.in_ok-octet.ensures v c.requires (ear_is d.standing c.requires d.hearing.ear) (gathered_is d.standing c.requires d.hearing.gathered))
+    ∙ sym (c.in-Ok.ensures v c.requires (ear_is d.standing c.requires d.hearing.ear) (gathered_is d.standing c.requires d.hearing.gathered))
