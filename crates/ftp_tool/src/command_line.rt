@@ -1,63 +1,80 @@
 // The command line: one level of subcommands.
-use crate::fetching::{get_command, list_command, put_command};
+use crate::fetching::{GET, LS, PUT};
 use crate::help;
-use crate::serving::serve_command;
+use crate::serving::SERVE;
 use crate::task::Task;
-use clap::{Arg, ArgAction, ArgMatches, Command};
+use crate::words::{Form, Subcommand, Word, subcommand_of};
+use clap::{ArgMatches, Command};
 use ftp_programs::{Direction, Representation, number_of, representation_of};
 use std::alloc::{AllocError, Global};
 
+/// The subcommands, each with its words.
+const SUBCOMMANDS: &[Subcommand<'static>] = &[DIALOGUE, FACTS, FRAME, SERVE, GET, PUT, LS];
+
+const DIALOGUE: Subcommand<'static> = Subcommand {
+    name: "dialogue",
+    about: "answers the octets of a control connection from standard input",
+    help: help::DIALOGUE,
+    words: &[Word {
+        name: "piece",
+        form: Form::Else("N", "0"),
+        help: "octets that are read at a time, or 0 for what a read gives",
+    }],
+    options: &[],
+};
+
+const FACTS: Subcommand<'static> = Subcommand {
+    name: "facts",
+    about: "writes the entry of each line of standard input, or its fault",
+    help: help::FACTS,
+    words: &[],
+    options: &[],
+};
+
+const FRAME: Subcommand<'static> = Subcommand {
+    name: "frame",
+    about: "writes standard input as the octets of a data connection, or the other way round",
+    help: help::FRAME,
+    words: &[
+        Word {
+            name: "type",
+            form: Form::Needed("A|I"),
+            help: "ASCII or image",
+        },
+        Word {
+            name: "stru",
+            form: Form::Needed("F|R"),
+            help: "file or record structure",
+        },
+        Word {
+            name: "mode",
+            form: Form::Needed("S|B"),
+            help: "stream or block mode",
+        },
+        Word {
+            name: "marks",
+            form: Form::Flag,
+            help: "writes restart markers, in type I with file structure and block mode",
+        },
+        Word {
+            name: "read",
+            form: Form::Flag,
+            help: "reads the octets of a data connection from standard input and writes the file",
+        },
+    ],
+    options: &[],
+};
+
 /// The words that the program knows.
 pub fn command<'a>(alloc: Global) -> Result<Command<'a>, AllocError> {
-    let piece = Arg::new(alloc, "piece")
-        .long("piece")
-        .value_name("N")
-        .help("octets that are read at a time, or 0 for what a read gives")
-        .default_value("0")
-        .action(ArgAction::Set);
-    let dialogue = Command::new(alloc, "dialogue")
-        .about("answers the octets of a control connection from standard input")
-        .after_help(help::DIALOGUE)
-        .arg(piece)?;
-    let facts = Command::new(alloc, "facts")
-        .about("writes the entry of each line of standard input, or its fault")
-        .after_help(help::FACTS);
-    let marks = Arg::new(alloc, "marks")
-        .long("marks")
-        .help("writes restart markers, in type I with file structure and block mode")
-        .action(ArgAction::SetTrue);
-    let read = Arg::new(alloc, "read")
-        .long("read")
-        .help("reads the octets of a data connection from standard input and writes the file")
-        .action(ArgAction::SetTrue);
-    let frame = Command::new(alloc, "frame")
-        .about("writes standard input as the octets of a data connection, or the other way round")
-        .after_help(help::FRAME)
-        .arg(needed(alloc, "type", "A|I").help("ASCII or image"))?
-        .arg(needed(alloc, "stru", "F|R").help("file or record structure"))?
-        .arg(needed(alloc, "mode", "S|B").help("stream or block mode"))?
-        .arg(marks)?
-        .arg(read)?;
-    Command::new(alloc, "ftp_tool")
+    let mut program = Command::new(alloc, "ftp_tool")
         .version(help::VERSION)
         .about("an FTP server and client, and their parts over standard input and output")
-        .subcommand_required(true)
-        .subcommand(dialogue)?
-        .subcommand(facts)?
-        .subcommand(frame)?
-        .subcommand(serve_command(alloc)?)?
-        .subcommand(get_command(alloc)?)?
-        .subcommand(put_command(alloc)?)?
-        .subcommand(list_command(alloc)?)
-}
-
-/// An option that has to be there.
-pub fn needed<'a>(alloc: Global, name: &'a str, values: &'a str) -> Arg<'a> {
-    Arg::new(alloc, name)
-        .long(name)
-        .value_name(values)
-        .required(true)
-        .action(ArgAction::Set)
+        .subcommand_required(true);
+    for subcommand in SUBCOMMANDS {
+        program = program.subcommand(subcommand_of(alloc, *subcommand)?)?;
+    }
+    Ok(program)
 }
 
 /// The task of words that the program knows; none where a value is none of its option.

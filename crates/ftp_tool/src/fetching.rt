@@ -1,77 +1,96 @@
 // The subcommands `get`, `put` and `ls`: their words.
 use crate::help;
-use clap::{Arg, ArgAction, ArgMatches, Command};
+use crate::words::{Form, Subcommand, Word};
+use clap::ArgMatches;
 use ftp_fetch::{Asked, Task, place_of};
 use ftp_operation::How;
 use ftp_programs::representation_of;
-use std::alloc::{AllocError, Global};
 
 /// The words of `get`.
-pub fn get_command<'a>(alloc: Global) -> Result<Command<'a>, AllocError> {
-    let command = Command::new(alloc, "get")
-        .about("downloads a file from a server")
-        .after_help(help::GET)
-        .arg(place(alloc))?
-        .arg(file(alloc).help("the file to write; without it, one of the name that PATH ends in"))?;
-    with_options(alloc, command)
-}
+pub const GET: Subcommand<'static> = Subcommand {
+    name: "get",
+    about: "downloads a file from a server",
+    help: help::GET,
+    words: &[
+        PLACE,
+        Word {
+            name: "file",
+            form: Form::Place("FILE"),
+            help: "the file to write; without it, one of the name that PATH ends in",
+        },
+    ],
+    options: OPTIONS,
+};
 
 /// The words of `put`.
-pub fn put_command<'a>(alloc: Global) -> Result<Command<'a>, AllocError> {
-    let command = Command::new(alloc, "put")
-        .about("uploads a file to a server")
-        .after_help(help::PUT)
-        .arg(file(alloc).required(true).help("the file to read"))?
-        .arg(place(alloc))?;
-    with_options(alloc, command)
-}
+pub const PUT: Subcommand<'static> = Subcommand {
+    name: "put",
+    about: "uploads a file to a server",
+    help: help::PUT,
+    words: &[
+        Word {
+            name: "file",
+            form: Form::NeededPlace("FILE"),
+            help: "the file to read",
+        },
+        PLACE,
+    ],
+    options: OPTIONS,
+};
 
 /// The words of `ls`.
-pub fn list_command<'a>(alloc: Global) -> Result<Command<'a>, AllocError> {
-    let command = Command::new(alloc, "ls")
-        .about("lists a directory of a server")
-        .after_help(help::LS)
-        .arg(place(alloc))?;
-    with_options(alloc, command)
-}
+pub const LS: Subcommand<'static> = Subcommand {
+    name: "ls",
+    about: "lists a directory of a server",
+    help: help::LS,
+    words: &[PLACE],
+    options: OPTIONS,
+};
 
-fn place<'a>(alloc: Global) -> Arg<'a> {
-    Arg::new(alloc, "place")
-        .value_name("HOST:PORT/PATH")
-        .help("the server, its port (21 where none is written), and the path there")
-        .required(true)
-        .action(ArgAction::Set)
-}
-
-fn file<'a>(alloc: Global) -> Arg<'a> {
-    Arg::new(alloc, "file")
-        .value_name("FILE")
-        .action(ArgAction::Set)
-}
+const PLACE: Word<'static> = Word {
+    name: "place",
+    form: Form::NeededPlace("HOST:PORT/PATH"),
+    help: "the server, its port (21 where none is written), and the path there",
+};
 
 /// The options that all three have.
-fn with_options<'a>(alloc: Global, command: Command<'a>) -> Result<Command<'a>, AllocError> {
-    let command = command
-        .arg(option(alloc, "user", "U").default_value("anonymous"))?
-        .arg(option(alloc, "password-file", "F").help("a file of mode 600 with the password"))?
-        .arg(flag(alloc, "active").help("the server opens the data connection"))?
-        .arg(flag(alloc, "extended").help("EPSV and EPRT over IPv4 too"))?;
-    command
-        .arg(option(alloc, "type", "A|I").default_value("I"))?
-        .arg(option(alloc, "stru", "F|R").default_value("F"))?
-        .arg(option(alloc, "mode", "S|B").default_value("S"))
-}
-
-fn option<'a>(alloc: Global, name: &'a str, values: &'a str) -> Arg<'a> {
-    Arg::new(alloc, name)
-        .long(name)
-        .value_name(values)
-        .action(ArgAction::Set)
-}
-
-fn flag<'a>(alloc: Global, name: &'a str) -> Arg<'a> {
-    Arg::new(alloc, name).long(name).action(ArgAction::SetTrue)
-}
+const OPTIONS: &[Word<'static>] = &[
+    Word {
+        name: "user",
+        form: Form::Else("U", "anonymous"),
+        help: "",
+    },
+    Word {
+        name: "password-file",
+        form: Form::Given("F"),
+        help: "a file of mode 600 with the password",
+    },
+    Word {
+        name: "active",
+        form: Form::Flag,
+        help: "the server opens the data connection",
+    },
+    Word {
+        name: "extended",
+        form: Form::Flag,
+        help: "EPSV and EPRT over IPv4 too",
+    },
+    Word {
+        name: "type",
+        form: Form::Else("A|I", "I"),
+        help: "",
+    },
+    Word {
+        name: "stru",
+        form: Form::Else("F|R", "F"),
+        help: "",
+    },
+    Word {
+        name: "mode",
+        form: Form::Else("S|B", "S"),
+        help: "",
+    },
+];
 
 /// Whether a subcommand is one of these.
 pub fn is_one(name: &str) -> bool {
@@ -102,7 +121,11 @@ fn how_of(words: &ArgMatches<'_>) -> Option<How> {
 }
 
 /// What is to be done; none where a file has no name.
-pub fn task_of<'a>(name: &str, words: &'a ArgMatches<'_>, asked: &Asked<'a>) -> Option<Task<'a>> {
+pub fn fetch_task_of<'a>(
+    name: &str,
+    words: &'a ArgMatches<'_>,
+    asked: &Asked<'a>,
+) -> Option<Task<'a>> {
     if name == "ls" {
         return Some(Task::List);
     }

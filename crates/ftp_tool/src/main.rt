@@ -6,9 +6,12 @@ mod fetching;
 mod help;
 mod serving;
 mod task;
+mod words;
 
 use anyhow::Result;
-use clap::ArgMatches;
+use clap::{ArgMatches, Error};
+use command_line::command;
+use std::alloc::Global;
 use std::env;
 use std::env::Env;
 use std::fs::Files;
@@ -42,25 +45,53 @@ where
     F: Write,
 {
     let words: Vec<String> = env::args(rt)?.collect(rt.alloc())?;
-    let matches = match command_line::command(rt.alloc())?.try_get_matches_from(words.as_slice()) {
-        Ok(matches) => matches,
-        Err(error) => {
-            error.print(rt)?;
-            return Ok(error.exit_code() as u8);
-        }
-    };
-    if let Some(("serve", words)) = matches.subcommand() {
-        return match serving::serving_of(words) {
-            Some(job) => Ok(ftp_serve::serve(rt, job)?),
-            None => bad_words(rt),
-        };
+    match matches_of(rt.alloc(), words.as_slice()) {
+        Ok(matches) => obey(rt, &matches, faults),
+        Err(error) => tell(rt, &error),
     }
-    if let Some((name, words)) = matches.subcommand() {
-        if fetching::is_one(name) {
-            return fetch(rt, name, words);
-        }
+}
+
+/// What the words of a command line are.
+fn matches_of<'a>(
+    alloc: Global,
+    words: &'a [String],
+) -> std::result::Result<ArgMatches<'a>, Error> {
+    command(alloc)?.try_get_matches_from(words)
+}
+
+/// Tells what is wrong with a command line, or the help that it asks for, and gives the exit status.
+fn tell<R: Print + Eprint>(rt: &R, error: &Error) -> Result<u8> {
+    error.print(rt)?;
+    Ok(error.exit_code() as u8)
+}
+
+/// Does what the words of a command line ask for.
+fn obey<R, F>(rt: &R, words: &ArgMatches<'_>, faults: &mut F) -> Result<u8>
+where
+    R: Input
+        + Print
+        + Eprint
+        + Env
+        + Files
+        + AllocGlobal
+        + Clock
+        + Net<Listener = TcpListener, Stream = TcpStream>,
+    F: Write,
+{
+    match words.subcommand() {
+        Some(("serve", words)) => serve(rt, words),
+        Some((name, words)) if fetching::is_one(name) => fetch(rt, name, words),
+        _ => perform_task(rt, words, faults),
     }
-    match command_line::task_of(&matches) {
+}
+
+/// Does what `dialogue`, `facts` or `frame` asks for.
+fn perform_task<R, F>(rt: &R, words: &ArgMatches<'_>, faults: &mut F) -> Result<u8>
+where
+    R: Input + Print + Eprint + AllocGlobal,
+    F: Write,
+{
+    match command_line::task_of(words) {
         Some(task) => Ok(perform(
             rt.alloc(),
             task,
@@ -68,6 +99,22 @@ where
             &mut std::io::writer(rt),
             faults,
         )),
+        None => bad_words(rt),
+    }
+}
+
+/// Does what `serve` asks for.
+fn serve<R>(rt: &R, words: &ArgMatches<'_>) -> Result<u8>
+where
+    R: Print
+        + Eprint
+        + Files
+        + AllocGlobal
+        + Clock
+        + Net<Listener = TcpListener, Stream = TcpStream>,
+{
+    match serving::serving_of(words) {
+        Some(job) => Ok(ftp_serve::serve(rt, job)?),
         None => bad_words(rt),
     }
 }
@@ -80,7 +127,7 @@ where
     let Some(asked) = fetching::asked_of(words) else {
         return bad_words(rt);
     };
-    match fetching::task_of(name, words, &asked) {
+    match fetching::fetch_task_of(name, words, &asked) {
         Some(task) => Ok(ftp_fetch::fetch(rt, &asked, task)?),
         None => bad_words(rt),
     }
