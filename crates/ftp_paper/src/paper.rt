@@ -47,6 +47,12 @@ impl Paper {
         self.put(b"\n");
     }
 
+    /// A line for what is tried: whether it holds.
+    pub fn holds(&mut self, what: &str, holds: bool) {
+        self.put(if holds { b"holds: " } else { b"WRONG: " });
+        self.line(what.as_bytes());
+    }
+
     pub fn number(&mut self, value: u64) {
         let mut buffer = Buffer::new();
         self.put(buffer.format(value).as_bytes());

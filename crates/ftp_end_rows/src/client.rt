@@ -1,0 +1,13 @@
+//! Plays the rows of a script on a client, and writes what comes of each as a dialogue.
+mod answer;
+mod desk;
+mod event;
+mod lines;
+mod plays;
+mod request;
+mod row;
+mod run;
+mod stage;
+mod verb;
+
+pub use row::play_all;

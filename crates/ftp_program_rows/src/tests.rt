@@ -1,7 +1,0 @@
-mod dialogues;
-mod fact_lines;
-mod forms;
-mod frames;
-mod pieces;
-mod wires;
-mod words;
