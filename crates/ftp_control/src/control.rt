@@ -71,6 +71,7 @@ impl<R: Read + Drop, W: Write + Drop> Control<R, W> {
         requires { unheard_of self.old ≡ [] }
         ensures ok { OnOk result (Consumes (left_of R.remaining self.old) (left_of R.remaining self.new) (unheard_of self.new)) }
         ensures none { IfOk result (λ count. count ≡ 0 → IsAtEnd (left_of R.remaining self.new) × (unheard_of self.new ≡ [])) }
+        ensures count { IfOk result (λ count. count ≡ length (unheard_of self.new)) }
         ensures err { OnErr result (Keeps (left_of R.remaining self.old) (left_of R.remaining self.new)) }
         ensures kept { OnErr result (unheard_of self.new ≡ []) }
         ensures written { written_of W.contents self.new ≡ written_of W.contents self.old }
