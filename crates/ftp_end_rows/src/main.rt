@@ -5,6 +5,7 @@
 mod client;
 mod drive;
 mod programs;
+mod replies;
 mod server;
 
 use std::io;
@@ -21,7 +22,8 @@ fn main(rt: HostRuntime) -> io::Result<()> {
     out.write_all(server::play_all(rt.alloc(), servers).text())?;
     out.write_all(client::play_all(rt.alloc(), clients).text())?;
     out.write_all(drive::try_all(rt.alloc()).text())?;
-    out.write_all(programs::try_all(rt.alloc()).text())
+    out.write_all(programs::try_all(rt.alloc()).text())?;
+    out.write_all(replies::try_all(rt.alloc()).text())
 }
 
 /// The rows of a server, and those of a client.

@@ -1,10 +1,10 @@
-//! Rows of the replies of RFC 959, RFC 2389, RFC 2428 and RFC 3659, as they go out, and of the lines of LIST.
+// Rows of the replies of RFC 959, RFC 2389, RFC 2428 and RFC 3659, as they go out, and of the lines of LIST.
 ghost use Rattle.std.specs.Prelude.{◌≡◌, []};
 
-use crate::report::Tried;
 use ftp_endpoint::{Endpoint, Host};
 use ftp_facts::Moment;
 use ftp_output::{Output, put_dir_line, put_file_line};
+use ftp_paper::Paper;
 use ftp_path::{Path, is_path_text};
 use ftp_refusing::Refusing;
 use ftp_server_machine::{Facts, Text};
@@ -194,29 +194,32 @@ fn is_dir_line(alloc: Global, wanted: &[u8]) -> bool {
     put_dir_line(b"d", &mut line).is_ok() && line.as_slice() == wanted
 }
 
-/// What is tried here, and whether it holds.
-pub(crate) fn tried(alloc: Global) -> [Tried; 3] {
-    [
-        ("replies as they go out", all_go_out(alloc)),
-        (
-            "room is reserved once",
-            !is_had(alloc, 1) && is_had(alloc, 2),
-        ),
-        (
-            "lines of LIST",
-            is_line(
-                alloc,
-                Moment {
-                    seconds: 946_684_800,
-                },
-                b"-rw-r--r-- 1 ftp ftp          3 Jan  1  2000 x",
-            ) && is_line(
-                alloc,
-                Moment {
-                    seconds: 946_684_799,
-                },
-                b"-rw-r--r-- 1 ftp ftp          3 Dec 31  1999 x",
-            ) && is_dir_line(alloc, b"drwxr-xr-x 1 ftp ftp          0 Jan  1  1970 d"),
-        ),
-    ]
+/// Whether memory is asked for once.
+fn reserves_once(alloc: Global) -> bool {
+    !is_had(alloc, 1) && is_had(alloc, 2)
+}
+
+fn lists(alloc: Global) -> bool {
+    is_line(
+        alloc,
+        Moment {
+            seconds: 946_684_800,
+        },
+        b"-rw-r--r-- 1 ftp ftp          3 Jan  1  2000 x",
+    ) && is_line(
+        alloc,
+        Moment {
+            seconds: 946_684_799,
+        },
+        b"-rw-r--r-- 1 ftp ftp          3 Dec 31  1999 x",
+    ) && is_dir_line(alloc, b"drwxr-xr-x 1 ftp ftp          0 Jan  1  1970 d")
+}
+
+/// Tries all rows, and writes a line for each table.
+pub fn try_all(alloc: Global) -> Paper {
+    let mut paper = Paper::new(alloc);
+    paper.holds("replies as they go out", all_go_out(alloc));
+    paper.holds("room is reserved once", reserves_once(alloc));
+    paper.holds("lines of LIST", lists(alloc));
+    paper
 }
