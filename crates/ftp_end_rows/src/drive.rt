@@ -1,5 +1,15 @@
-//! Rows of a server between its connections.
+//! Rows of a server, and of a client, between its connections.
+mod asking;
 mod peer;
 mod runs;
 
-pub use runs::try_all;
+use ftp_paper::Paper;
+use std::alloc::Global;
+
+/// Tries all rows, and writes a line for each table.
+pub fn try_all(alloc: Global) -> Paper {
+    let mut paper = Paper::new(alloc);
+    runs::tried(alloc, &mut paper);
+    asking::tried(alloc, &mut paper);
+    paper
+}

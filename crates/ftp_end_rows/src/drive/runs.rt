@@ -167,6 +167,18 @@ fn aborts(alloc: Global) -> bool {
     )
 }
 
+/// Whether an upload of 200,000 octets is broken off behind two pieces of 65,536.
+fn aborts_an_upload(alloc: Global) -> bool {
+    let mut run = short();
+    run.said = b"USER anonymous\r\nPASV\r\nSTOR f\r\nABOR\r\nSIZE f\r\nQUIT\r\n";
+    run.owed =
+        b"220 Ready\r\n230 Logged in\r\n227 Entering Passive Mode (127,0,0,1,7,138)\r\n150 Opening data connection\r\n426 Transfer broken\r\n226 Abort done\r\n213 131072\r\n221 Goodbye\r\n";
+    run.piece = 1;
+    run.sends = 200_000;
+    run.silent = 2;
+    ends(alloc, run, false)
+}
+
 fn quits(alloc: Global) -> bool {
     speaks(
         alloc,
@@ -185,9 +197,8 @@ fn ends_in_between(alloc: Global) -> bool {
     )
 }
 
-/// Tries all rows, and writes a line for each table.
-pub fn try_all(alloc: Global) -> Paper {
-    let mut paper = Paper::new(alloc);
+/// Puts a line for each table.
+pub fn tried(alloc: Global, paper: &mut Paper) {
     paper.holds("whole runs in pieces", is_whole_in_pieces(alloc, NEVER));
     paper.holds(
         "whole runs in pieces, where lines come during an upload",
@@ -201,5 +212,5 @@ pub fn try_all(alloc: Global) -> Paper {
         "the end in the middle of a download",
         ends_in_between(alloc),
     );
-    paper
+    paper.holds("ABOR in the middle of an upload", aborts_an_upload(alloc));
 }
