@@ -1,0 +1,3 @@
+pub mod Field
+pub mod Line
+pub mod Report

@@ -1,0 +1,10 @@
+//! Scripts of operations: what each line asks, and how each answer is reported (own choice); no IO.
+#![tactic(auto)]
+
+mod fault;
+mod field;
+mod report;
+
+pub use fault::LineFault;
+pub use field::{octets_of, put_field};
+pub use report::report_of;
