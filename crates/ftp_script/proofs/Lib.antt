@@ -1,1 +1,3 @@
+pub mod CutLemmas
 pub mod FieldLemmas
+pub mod ReportLemmas

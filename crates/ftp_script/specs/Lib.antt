@@ -1,3 +1,4 @@
 pub mod Field
 pub mod Line
 pub mod Report
+pub mod Verb

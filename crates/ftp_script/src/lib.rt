@@ -3,8 +3,13 @@
 
 mod fault;
 mod field;
+mod how;
+mod line;
+mod parts;
 mod report;
+mod verb;
 
 pub use fault::LineFault;
 pub use field::{octets_of, put_field};
+pub use line::{login_of, op_of};
 pub use report::report_of;

@@ -1,0 +1,6 @@
+-- What is written where nothing failed.
+use Rattle.std.proofs.Common.{Result, Ok, Err, OnOk}
+
+pub on_ok : {T E : Type 0} (r : Result T E) (P Q : Type 0) → (P → Q) → OnOk r P → OnOk r Q
+on_ok (Ok x) P Q step p = step p
+on_ok (Err e) P Q step p = tt

@@ -1,0 +1,171 @@
+// A line: a login or an operation.
+ghost use Rattle.std.specs.Prelude.{◌≡◌, map, IfErr, IfOk};
+ghost use Rattle.std.specs.List.{slice_split};
+ghost use Rattle.ftp_script.specs.Line.{Reads, alone_op, giving_op, is_space, login_in, login_value, login_with, op_in, op_value, op_with, path_op, taking_op};
+
+use crate::fault::LineFault;
+use crate::parts::{giving, giving_from, none, pair, path, taking, taking_from};
+use crate::verb::{Alone, Giving, OnPath, Taking, Verb, verb_of};
+use ftp_facts::Text;
+use ftp_operation::{How, Login, Op};
+use std::alloc::Allocator;
+
+/// The operation that a line says, given without its end.
+#[tactic(auto, unfolding(crate::specs::Line::op_value))]
+pub fn op_of<A: Allocator + Copy>(alloc: A, line: &[u8]) -> Result<Op<Text<A>>, LineFault>
+    ensures { Reads (λ op. op) result (op_value line.now) }
+{
+    match fields_of(alloc, line) {
+        Ok(fields) => op_in(alloc, fields.as_slice()),
+        Err(fault) => Err(fault),
+    }
+}
+
+fn op_in<A: Allocator + Copy>(alloc: A, fields: &[&[u8]]) -> Result<Op<Text<A>>, LineFault>
+    ensures { Reads (λ op. op) result (op_in (map (λ field. field.now) fields.now)) }
+{
+    match fields {
+        [word, fields @ ..] => match verb_of(word) {
+            Some(verb) => op_with(alloc, verb, fields),
+            None => Err(LineFault::Unfit),
+        },
+        [] => Err(LineFault::Unfit),
+    }
+}
+
+/// The operation of a verb and the fields behind it.
+fn op_with<A: Allocator + Copy>(
+    alloc: A,
+    verb: Verb,
+    fields: &[&[u8]],
+) -> Result<Op<Text<A>>, LineFault>
+    ensures { Reads (λ op. op) result (op_with verb (map (λ field. field.now) fields.now)) }
+{
+    match verb {
+        Verb::Alone(verb) => match none(fields) {
+            Ok(()) => Ok(alone_op(verb)),
+            Err(fault) => Err(fault),
+        },
+        Verb::OnPath(verb) => match path(alloc, fields) {
+            Ok(path) => Ok(path_op(verb, path)),
+            Err(fault) => Err(fault),
+        },
+        Verb::Rename => match pair(alloc, fields) {
+            Ok((from, to)) => Ok(Op::Rename(from, to)),
+            Err(fault) => Err(fault),
+        },
+        Verb::Taking(verb) => match taking(alloc, fields) {
+            Ok((how, path)) => Ok(taking_op(verb, how, path)),
+            Err(fault) => Err(fault),
+        },
+        Verb::TakingFrom => match taking_from(alloc, fields) {
+            Ok((how, path, number)) => Ok(Op::GetFrom(path, number, how)),
+            Err(fault) => Err(fault),
+        },
+        Verb::Giving(verb) => match giving(alloc, fields) {
+            Ok((how, path, octets)) => Ok(giving_op(verb, how, path, octets)),
+            Err(fault) => Err(fault),
+        },
+        Verb::GivingFrom => match giving_from(alloc, fields) {
+            Ok((how, path, number, octets)) => Ok(Op::PutFrom(path, number, octets, how)),
+            Err(fault) => Err(fault),
+        },
+    }
+}
+
+fn alone_op<A: Allocator>(verb: Alone) -> Op<Text<A>>
+    ensures { result ≡ alone_op verb }
+{
+    match verb {
+        Alone::Where => Op::Where,
+        Alone::Up => Op::Up,
+    }
+}
+
+fn path_op<A: Allocator>(verb: OnPath, path: Text<A>) -> Op<Text<A>>
+    ensures { result ≡ path_op verb path }
+{
+    match verb {
+        OnPath::ChangeDir => Op::ChangeDir(path),
+        OnPath::MakeDir => Op::MakeDir(path),
+        OnPath::RemoveDir => Op::RemoveDir(path),
+        OnPath::Delete => Op::Delete(path),
+        OnPath::Modified => Op::Modified(path),
+        OnPath::Facts => Op::Facts(path),
+    }
+}
+
+fn taking_op<A: Allocator>(verb: Taking, how: How, path: Text<A>) -> Op<Text<A>>
+    ensures { result ≡ taking_op verb how path }
+{
+    match verb {
+        Taking::Get => Op::Get(path, how),
+        Taking::Size => Op::Size(path, how),
+        Taking::Entries => Op::List(path, how),
+        Taking::Names => Op::Names(path, how),
+    }
+}
+
+fn giving_op<A: Allocator>(verb: Giving, how: How, path: Text<A>, octets: Text<A>) -> Op<Text<A>>
+    ensures { result ≡ giving_op verb how path octets }
+{
+    match verb {
+        Giving::Put => Op::Put(path, octets, how),
+        Giving::Append => Op::Append(path, octets, how),
+    }
+}
+
+/// The login that a line says, given without its end.
+#[tactic(auto, unfolding(crate::specs::Line::login_value))]
+pub fn login_of<A: Allocator + Copy>(alloc: A, line: &[u8]) -> Result<Login<A>, LineFault>
+    ensures { Reads (λ login. (login.user, login.pass)) result (login_value line.now) }
+{
+    match fields_of(alloc, line) {
+        Ok(fields) => login_in(alloc, fields.as_slice()),
+        Err(fault) => Err(fault),
+    }
+}
+
+fn login_in<A: Allocator + Copy>(alloc: A, fields: &[&[u8]]) -> Result<Login<A>, LineFault>
+    ensures { Reads (λ login. (login.user, login.pass)) result (login_in (map (λ field. field.now) fields.now)) }
+{
+    let [word, fields @ ..] = fields else {
+        return Err(LineFault::Unfit);
+    };
+    if *word != b"login".as_slice() {
+        return Err(LineFault::Unfit);
+    }
+    match pair(alloc, fields) {
+        Ok((user, pass)) => login_with(user, pass),
+        Err(fault) => Err(fault),
+    }
+}
+
+fn login_with<A: Allocator>(user: Text<A>, pass: Text<A>) -> Result<Login<A>, LineFault>
+    ensures { Reads (λ login. (login.user, login.pass)) result (login_with (user, pass)) }
+{
+    match Login::new(user, pass) {
+        Some(login) => Ok(login),
+        None => Err(LineFault::Unfit),
+    }
+}
+
+/// The fields of a line: what stands between its spaces.
+fn fields_of<A: Allocator>(alloc: A, line: &[u8]) -> Result<Vec<&[u8], A>, LineFault>
+    ensures fields { IfOk result (λ fields. map (λ field. field.now) fields.items ≡ slice_split is_space line.now) }
+    ensures fault { IfErr result (λ fault. fault ≡ LineFault.Memory) }
+{
+    let mut fields = Vec::new(alloc);
+    let mut rest = line;
+    while let Some(end) = rest.iter().position(|octet| *octet == b' ') {
+        let (field, more) = rest.split_at(end);
+        if fields.push(field).is_err() {
+            return Err(LineFault::Memory);
+        }
+        rest = &more[1..];
+    }
+    if fields.push(rest).is_err() {
+        return Err(LineFault::Memory);
+    }
+    Ok(fields)
+}
