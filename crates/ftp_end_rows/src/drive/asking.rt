@@ -6,9 +6,8 @@ use ftp_client_drive::{Control, drive_client};
 use ftp_client_machine::Near;
 use ftp_endpoint::Host;
 use ftp_facts::Text;
-use ftp_failing::{FailingReader, FailingWriter};
 use ftp_operation::{Answer, How, Login, Op};
-use ftp_paper::Paper;
+use ftp_paper::{FailingReader, FailingWriter, Paper};
 use ftp_representation::{Kind, Mode, Representation, Structure};
 use std::alloc::{AllocError, Global};
 

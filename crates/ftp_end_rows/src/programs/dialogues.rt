@@ -1,7 +1,6 @@
 // The rows of docs/PROTOCOL.md, and readers, writers and allocators that fail.
 use ftp_dialogue::dialogue;
-use ftp_failing::{FailingReader, FailingWriter};
-use ftp_paper::Paper;
+use ftp_paper::{FailingReader, FailingWriter, Paper};
 use ftp_refusing::Refusing;
 use std::alloc::Global;
 

@@ -1,6 +1,5 @@
 // Lines with entries and faults, and readers, writers and allocators that fail.
-use ftp_failing::{FailingReader, FailingWriter};
-use ftp_paper::Paper;
+use ftp_paper::{FailingReader, FailingWriter, Paper};
 use ftp_programs::facts;
 use ftp_refusing::Refusing;
 use std::alloc::Global;

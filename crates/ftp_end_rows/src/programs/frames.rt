@@ -3,8 +3,7 @@ use crate::programs::forms::{
     ASCII_FILE_BLOCK, ASCII_FILE_STREAM, IMAGE_FILE_BLOCK, IMAGE_FILE_STREAM, IMAGE_RECORD_BLOCK,
     IMAGE_RECORD_STREAM,
 };
-use ftp_failing::{FailingReader, FailingWriter};
-use ftp_paper::Paper;
+use ftp_paper::{FailingReader, FailingWriter, Paper};
 use ftp_programs::{Direction, Representation, frame};
 use ftp_refusing::Refusing;
 use std::alloc::Global;

@@ -1,6 +1,5 @@
 // Octets written and read call by call, and readers and writers that fail.
-use ftp_failing::{FailingReader, FailingWriter};
-use ftp_paper::Paper;
+use ftp_paper::{FailingReader, FailingWriter, Paper};
 use ftp_pieces::{Failed, get, put};
 use std::alloc::Global;
 

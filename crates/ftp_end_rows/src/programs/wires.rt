@@ -4,8 +4,7 @@ use crate::programs::forms::{
     IMAGE_RECORD_STREAM,
 };
 use crate::programs::frames::{ROWS, Row as FileRow};
-use ftp_failing::{FailingReader, FailingWriter};
-use ftp_paper::Paper;
+use ftp_paper::{FailingReader, FailingWriter, Paper};
 use ftp_programs::{Direction, Representation, frame};
 use ftp_refusing::Refusing;
 use std::alloc::{Allocator, Global};
