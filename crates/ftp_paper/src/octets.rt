@@ -2,11 +2,19 @@
 use crate::tally::fixed;
 use std::alloc::{AllocError, Global};
 
+/// The drawn sequence: each number is the one before times `FACTOR`, with `STEP` added, modulo `MODULUS`.
+const FACTOR: u32 = 1_103_515_245;
+
+const STEP: u32 = 12_345;
+
+const MODULUS: u32 = 1 << 31;
+
 /// The octets of a text, in which `\r`, `\n`, `\0`, `\\` and `\x` with two hexadecimal digits in capitals are one octet each; `@` and a
-/// count of one to six digits are so many octets of the fixed sequence.
+/// count of one to six digits are so many octets of the fixed sequence, `%` and such a count so many of the drawn one.
 pub fn octets_of(alloc: Global, text: &[u8]) -> Result<Vec<u8>, AllocError> {
     match text {
         [b'@', count @ ..] if is_count(count) => fixed_octets(alloc, number(count)),
+        [b'%', count @ ..] if is_count(count) => drawn_octets(alloc, number(count)),
         _ => written_octets(alloc, text),
     }
 }
@@ -22,6 +30,27 @@ fn fixed_octets(alloc: Global, count: u64) -> Result<Vec<u8>, AllocError> {
         octets.push(fixed(place))?;
     }
     Ok(octets)
+}
+
+/// So many octets of the drawn sequence: bits 16 to 23 of numbers below 2^31, of which the first is 1.
+fn drawn_octets(alloc: Global, count: u64) -> Result<Vec<u8>, AllocError> {
+    let mut octets = Vec::new(alloc);
+    let mut state = 1u32;
+    for _ in 0..count {
+        octets.push(octet_of(state))?;
+        state = drawn(state);
+    }
+    Ok(octets)
+}
+
+/// The octet that a number of the drawn sequence stands for.
+fn octet_of(state: u32) -> u8 {
+    ((state >> 16) % 256) as u8
+}
+
+/// The number that follows one of the drawn sequence.
+fn drawn(state: u32) -> u32 {
+    state.wrapping_mul(FACTOR).wrapping_add(STEP) % MODULUS
 }
 
 fn written_octets(alloc: Global, text: &[u8]) -> Result<Vec<u8>, AllocError> {

@@ -23,6 +23,9 @@ pub fn say<P: Plays>(end: &mut P, desk: &mut Desk, text: &[u8], behind: &[u8]) {
 fn hear<P: Plays>(end: &mut P, desk: &mut Desk, octets: &[u8]) {
     let mut rest = octets;
     for _ in 0..octets.len() {
+        if rest.is_empty() {
+            break;
+        }
         let taken = hear_some(end, desk, rest).min(rest.len());
         if taken == 0 {
             break;

@@ -73,15 +73,6 @@ impl Desk {
         }
     }
 
-    /// So many control octets come, drawn by a fixed rule.
-    pub fn say_noise(&mut self, count: u64) {
-        let mut state = 959;
-        for _ in 0..count {
-            state = drawn(state);
-            self.say(&[(state >> 24) as u8]);
-        }
-    }
-
     /// The control octets of the next call.
     pub fn next_piece(&self) -> &[u8] {
         let all = self.octets.as_slice();
@@ -149,9 +140,4 @@ impl Desk {
             self.paper.fill();
         }
     }
-}
-
-/// The next of a fixed row of drawn numbers.
-pub fn drawn(state: u32) -> u32 {
-    state.wrapping_mul(1_664_525).wrapping_add(1_013_904_223)
 }

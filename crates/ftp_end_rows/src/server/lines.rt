@@ -2,7 +2,7 @@
 use crate::server::desk::Desk;
 use crate::server::event::event_of;
 use crate::server::plays::Plays;
-use crate::server::stage::{come, come_fixed, come_noise, give, settle, show_wants, weigh};
+use crate::server::stage::{come, come_fixed, give, settle, show_wants, weigh};
 use crate::server::uploads::{fronts, try_aborts};
 use crate::server::verb::{Verb, verb_of};
 use ftp_paper::{number, split};
@@ -28,14 +28,12 @@ fn act<P: Plays>(end: &mut P, desk: &mut Desk, verb: Verb, line: &[u8]) {
     match verb {
         Verb::Says => desk.say_lines(rest, 1),
         Verb::Octets => desk.say_text(rest),
-        Verb::Noise => desk.say_noise(number(rest)),
         Verb::Times => repeat(end, desk, rest),
         Verb::Happens(happening) => end.happens(event_of(happening, rest)),
         Verb::Tree => end.show_tree(desk.alloc, &mut desk.paper),
         Verb::Held => show_held(end, desk),
         Verb::Data => come_text(end, desk, rest),
         Verb::Bytes => come_fixed(end, desk, number(rest)),
-        Verb::Noisy => come_noise(end, desk, number(rest)),
         Verb::Out => give(end, desk, number(rest).min(1_000) as usize),
         Verb::Fronts => fronts(end, desk, rest),
         Verb::Aborts => try_aborts(end, desk, number(rest)),

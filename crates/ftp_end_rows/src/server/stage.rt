@@ -1,5 +1,5 @@
 // A server to which something happens, and what comes of it.
-use crate::server::desk::{Desk, ROOM, drawn};
+use crate::server::desk::{Desk, ROOM};
 use crate::server::plays::Plays;
 use ftp_endpoint::write_extended;
 use ftp_ends::Wants;
@@ -84,15 +84,6 @@ fn fill(piece: &mut [u8; ROOM], at: u64) {
     for octet in piece {
         *octet = fixed(place);
         place = place.wrapping_add(1);
-    }
-}
-
-/// So many data octets come, drawn by a fixed rule.
-pub fn come_noise<P: Plays>(end: &mut P, desk: &mut Desk, count: u64) {
-    let mut state = 959;
-    for _ in 0..count {
-        state = drawn(state);
-        come(end, desk, &[(state >> 24) as u8]);
     }
 }
 
