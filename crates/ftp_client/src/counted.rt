@@ -11,7 +11,9 @@ ghost use Rattle.ftp_client_machine.specs.View as view;
 
 use ftp_client_dialogue::Dialogue;
 use ftp_client_machine::client::Failure;
-use ftp_client_replies::hear_octet;
+use ftp_client_replies::{
+    data_end, data_fault, data_opened, data_refused, hear_octet, listen_refused, listening,
+};
 use ftp_endpoint::Host;
 use ftp_ends::Wants;
 use ftp_facts::Text;
@@ -137,7 +139,7 @@ impl<A: Allocator + Clone, F: Carries<A>> Counted<A, F> {
         ensures { HoldsIfRoom (counted_of F.flow self.old) (counted_of F.flow self.new)
             (listening port (counted_of F.flow self.old).view) (listening_short port (counted_of F.flow self.old).view) }
     {
-        if self.dialogue.listening(port).is_err() {
+        if listening(&mut self.dialogue, port).is_err() {
             self.shorten();
         }
     }
@@ -147,7 +149,7 @@ impl<A: Allocator + Clone, F: Carries<A>> Counted<A, F> {
         ensures { HoldsIfRoom (counted_of F.flow self.old) (counted_of F.flow self.new)
             (listen_refused (counted_of F.flow self.old).view) (listen_refused_short (counted_of F.flow self.old).view) }
     {
-        if self.dialogue.listen_refused().is_err() {
+        if listen_refused(&mut self.dialogue).is_err() {
             self.shorten();
         }
     }
@@ -157,7 +159,7 @@ impl<A: Allocator + Clone, F: Carries<A>> Counted<A, F> {
         ensures { HoldsIfRoom (counted_of F.flow self.old) (counted_of F.flow self.new)
             (data_opened host (counted_of F.flow self.old).view) (data_opened_short (counted_of F.flow self.old).view) }
     {
-        if self.dialogue.data_opened(host).is_err() {
+        if data_opened(&mut self.dialogue, host).is_err() {
             self.shorten();
         }
     }
@@ -167,7 +169,7 @@ impl<A: Allocator + Clone, F: Carries<A>> Counted<A, F> {
         ensures { HoldsIfRoom (counted_of F.flow self.old) (counted_of F.flow self.new)
             (data_refused (counted_of F.flow self.old).view) (data_refused_short (counted_of F.flow self.old).view) }
     {
-        if self.dialogue.data_refused().is_err() {
+        if data_refused(&mut self.dialogue).is_err() {
             self.shorten();
         }
     }
@@ -195,7 +197,7 @@ impl<A: Allocator + Clone, F: Carries<A>> Counted<A, F> {
         ensures { HoldsIfRoom (counted_of F.flow self.old) (counted_of F.flow self.new)
             (data_end (counted_of F.flow self.old).view) (data_end_short (counted_of F.flow self.old).view) }
     {
-        if self.dialogue.data_end().is_err() {
+        if data_end(&mut self.dialogue).is_err() {
             self.shorten();
         }
     }
@@ -205,7 +207,7 @@ impl<A: Allocator + Clone, F: Carries<A>> Counted<A, F> {
         ensures { HoldsIfRoom (counted_of F.flow self.old) (counted_of F.flow self.new)
             (data_fault (counted_of F.flow self.old).view) (data_fault_short (counted_of F.flow self.old).view) }
     {
-        if self.dialogue.data_fault().is_err() {
+        if data_fault(&mut self.dialogue).is_err() {
             self.shorten();
         }
     }

@@ -1,5 +1,4 @@
-//! What a client makes of replies, links and octets: its dialogue with a server, operation after operation, without input or output
-//! (RFC 959, sections 2.3 and 5.4).
+//! What a client does in its dialogue with a server, operation after operation, without input or output (RFC 959, sections 2.3 and 5.4).
 #![tactic(auto)]
 
 mod carrying;
