@@ -1,23 +1,10 @@
 -- Octets of the data connection that are given.
-use Rattle.std.proofs.Common.{◌≡◌, ◌∙◌, ℕ, List, refl, ap}
-use Rattle.ftp_operation.specs.declared.op.Op.{Op}
-use Rattle.ftp_client_machine.specs.Calls.{gives_data, goes_by, went}
+use Rattle.std.proofs.Common.{◌≡◌, ℕ, refl, ap}
+use Rattle.ftp_client_machine.specs.Calls.{gives_data, goes_by}
 use Rattle.ftp_client_machine.specs.Dialogue.{carries_on}
-use Rattle.ftp_client_machine.specs.View.{View, Job, Idle, Waiting, Doing, Transferring, Told, Flow, Sending, Receiving, failed_job}
+use Rattle.ftp_client_machine.specs.View.{View, Job, Idle, Waiting, Doing, Transferring, Told, failed_job}
 use Rattle.ftp_operation.specs.Answer.{Memory}
 use Rattle.ftp_client_dialogue.specs.Client.{job_went, shorted}
-
-went_none : (flow : Flow) → went 0 flow ≡ flow
-went_none (Sending left mark) = refl
-went_none (Receiving decoder mark) = refl
-
--- none that went out change nothing
-pub went_none_job : (job : Job) → job_went 0 job ≡ job
-went_none_job Idle = refl
-went_none_job (Waiting op) = refl
-went_none_job (Doing op step) = refl
-went_none_job (Transferring op transfer) = ap (λ flow. Transferring op (record transfer { flow = flow })) (went_none transfer.flow)
-went_none_job (Told answer) = refl
 
 goes_on_by : (count : ℕ) (job : Job) (v : View) → (let w : View = record v { job = job_went count job } in let u : View = record v { job = job } in carries_on w ≡ goes_by count job u)
 goes_on_by count Idle v = refl
