@@ -1,0 +1,30 @@
+// Files and directories that a row needs.
+use std::fs::{Files, OpenOptions, Permissions};
+use std::io::Write;
+use std::os::unix::fs::{OpenOptionsExt, PermissionsExt};
+use std::{fs, io};
+
+/// Makes a file with that text and mode, in place of the one that stands there.
+pub(crate) fn file<R: Files>(rt: &R, place: &str, text: &str, mode: u32) -> io::Result<()> {
+    let mut how = OpenOptions::new();
+    let mut file = how
+        .write(true)
+        .create(true)
+        .truncate(true)
+        .mode(mode)
+        .open(rt, place)?;
+    file.write_all(text.as_bytes())?;
+    fs::set_permissions(rt, place, Permissions::from_mode(mode))
+}
+
+/// Makes directories in one another whose path, without the first, has 1,004 octets.
+pub(crate) fn deep<R: Files + AllocGlobal>(rt: &R, place: &str) -> io::Result<()> {
+    let mut place = String::from_str(rt.alloc(), place)?;
+    for _ in 0..4u32 {
+        place.push_str("/")?;
+        for _ in 0..25u32 {
+            place.push_str("directory-")?;
+        }
+    }
+    fs::create_dir_all(rt, place.as_str())
+}
