@@ -76,7 +76,7 @@ fn asks<N: Near<Global>>(alloc: Global, mut client: N, way: Way, done: bool) -> 
     begin(alloc, &mut client);
     let mut writer = FailingWriter::new(alloc, way.piece, way.write);
     let mut control = Control::new(FailingReader::new(SAID, way.piece, way.read), &mut writer);
-    let mut ports = Peer::new(0, NEVER);
+    let mut ports = Peer::new(0, NEVER, 0);
     let answer = drive_client(&mut client, &mut control, &mut ports);
     if done {
         is_done(&answer) && writer.taken() == SENT && ports.taken() == 3

@@ -1,17 +1,19 @@
-// A client's side of data connections that is the same each time: it opens each port, sends so many octets, and speaks at a time of its choice.
+// A client's side of data connections that is the same each time: it opens each port, sends so many octets, has no room at first, and speaks at
+// a time of its choice.
 use ftp_drive::{Accepted, For, Ports, Ready, Watch};
 use ftp_endpoint::{Endpoint, Host};
 use ftp_facts::Moment;
 use std::io;
-use std::io::{Read, Write};
+use std::io::{Error, ErrorKind, Read, Write};
 
 /// The client's host.
 pub(crate) const PEER: Host = Host::V4([10, 0, 0, 2]);
 
-/// A data connection that gives so many octets, and takes and counts any.
+/// A data connection that gives so many octets, and takes and counts any behind so many writes that find no room.
 #[derive(Drop)]
 pub(crate) struct Link {
     rest: usize,
+    full: u32,
     taken: u64,
 }
 
@@ -26,6 +28,10 @@ impl Read for Link {
 
 impl Write for Link {
     fn write(&mut self, octets: &[u8]) -> io::Result<usize> {
+        if self.full > 0 {
+            self.full -= 1;
+            return Err(Error::from(ErrorKind::WouldBlock));
+        }
         self.taken = self.taken.wrapping_add(octets.len() as u64);
         Ok(octets.len())
     }
@@ -42,15 +48,18 @@ pub(crate) struct Client {
     sends: usize,
     /// How often a data connection is waited for, where that hears, before the control connection speaks first.
     silent: u32,
+    /// How many writes of each data connection find no room.
+    full: u32,
     /// How many octets came over data connections that are closed.
     taken: u64,
 }
 
 impl Client {
-    pub(crate) fn new(sends: usize, silent: u32) -> Client {
+    pub(crate) fn new(sends: usize, silent: u32, full: u32) -> Client {
         Client {
             sends,
             silent,
+            full,
             taken: 0,
         }
     }
@@ -63,6 +72,7 @@ impl Client {
     fn link(&self) -> Link {
         Link {
             rest: self.sends,
+            full: self.full,
             taken: 0,
         }
     }

@@ -1,5 +1,5 @@
-// Runs over a tree in memory: in pieces of several sizes, with each read and each write of the control connection failed in turn, and with a
-// client that speaks while a download is under way.
+// Runs over a tree in memory: in pieces of several sizes, with each read and each write of the control connection failed in turn, with a client
+// that speaks while a download is under way, and with one that has no room for it at first.
 use crate::drive::peer::{Client, PEER, Still};
 use ftp_carried::Carried;
 use ftp_drive::{Control, drive_server};
@@ -46,9 +46,9 @@ fn server(alloc: Global) -> Result<Server<Global, MemTree<Global>, Carried<Globa
 
 /// A run: what the client says and is owed, and how its connections go.
 #[derive(Clone, Copy)]
-struct Run {
-    said: &'static [u8],
-    owed: &'static [u8],
+struct Run<'a> {
+    said: &'a [u8],
+    owed: &'a [u8],
     /// The most octets of the control connection that one call moves.
     piece: usize,
     /// The read and the write of the control connection that fail, counted from 0.
@@ -58,12 +58,14 @@ struct Run {
     sends: usize,
     /// How often a data connection is waited for before the client speaks.
     silent: u32,
+    /// How many writes of a download find no room.
+    full: u32,
     /// How many octets the client is sent over data connections.
     taken: u64,
 }
 
 /// The run whose calls move few octets.
-fn short() -> Run {
+fn short() -> Run<'static> {
     Run {
         said: SAID,
         owed: OWED,
@@ -72,12 +74,13 @@ fn short() -> Run {
         write: NEVER,
         sends: 3,
         silent: NEVER,
+        full: 0,
         taken: 0,
     }
 }
 
 /// Whether a run breaks off, behind a beginning of what is owed, or else writes all of it.
-fn ends(alloc: Global, run: Run, breaks: bool) -> bool {
+fn ends(alloc: Global, run: Run<'_>, breaks: bool) -> bool {
     match server(alloc) {
         Ok(server) => drives(alloc, server, run, breaks),
         Err(_) => false,
@@ -88,7 +91,7 @@ fn ends(alloc: Global, run: Run, breaks: bool) -> bool {
 fn drives<S: Far<Global, MemTree<Global>>>(
     alloc: Global,
     mut server: S,
-    run: Run,
+    run: Run<'_>,
     breaks: bool,
 ) -> bool {
     let mut writer = FailingWriter::new(alloc, run.piece, run.write);
@@ -96,7 +99,7 @@ fn drives<S: Far<Global, MemTree<Global>>>(
         FailingReader::new(run.said, run.piece, run.read),
         &mut writer,
     );
-    let mut client = Client::new(run.sends, run.silent);
+    let mut client = Client::new(run.sends, run.silent, run.full);
     let ended = drive_server(&mut server, &mut control, &mut client, &mut Still {});
     match ended {
         Ok(()) => !breaks && writer.taken() == run.owed && client.taken() == run.taken,
@@ -196,6 +199,56 @@ fn ends_in_between(alloc: Global) -> bool {
     )
 }
 
+/// How many lines come while a download finds no room, and for how many writes it finds none.
+const LINES: u32 = 300;
+
+const FULL: u32 = 1_000;
+
+/// A text, then another so many times, and a third.
+fn repeated(alloc: Global, before: &[u8], each: &[u8], behind: &[u8]) -> Paper {
+    let mut paper = Paper::new(alloc);
+    paper.put(before);
+    for _ in 0..LINES {
+        paper.put(each);
+    }
+    paper.put(behind);
+    paper
+}
+
+/// Whether in each of the pieces a download of 200,000 octets arrives whole that finds no room at first, and the lines that come meanwhile are
+/// answered in their order behind it.
+fn waits(alloc: Global) -> bool {
+    let said = repeated(
+        alloc,
+        b"USER anonymous\r\nPASV\r\nSTOR f\r\nPASV\r\nRETR f\r\n",
+        b"NOOP\r\n",
+        b"QUIT\r\n",
+    );
+    let owed = repeated(
+        alloc,
+        b"220 Ready\r\n230 Logged in\r\n227 Entering Passive Mode (127,0,0,1,7,138)\r\n150 Opening data connection\r\n226 Transfer complete\r\n227 Entering Passive Mode (127,0,0,1,7,138)\r\n150 Opening data connection\r\n226 Transfer complete\r\n",
+        b"200 Ok\r\n",
+        b"221 Goodbye\r\n",
+    );
+    for piece in PIECES {
+        let run = Run {
+            said: said.text(),
+            owed: owed.text(),
+            piece: *piece,
+            read: NEVER,
+            write: NEVER,
+            sends: 200_000,
+            silent: 7,
+            full: FULL,
+            taken: 200_000,
+        };
+        if !ends(alloc, run, false) {
+            return false;
+        }
+    }
+    true
+}
+
 /// Puts a line for each table.
 pub fn tried(alloc: Global, paper: &mut Paper) {
     paper.holds("whole runs in pieces", is_whole_in_pieces(alloc, NEVER));
@@ -212,4 +265,5 @@ pub fn tried(alloc: Global, paper: &mut Paper) {
         ends_in_between(alloc),
     );
     paper.holds("ABOR in the middle of an upload", aborts_an_upload(alloc));
+    paper.holds("300 lines while a download finds no room", waits(alloc));
 }
