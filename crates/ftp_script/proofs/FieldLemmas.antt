@@ -1,12 +1,8 @@
 -- What a field says, octet by octet.
 use Rattle.std.proofs.Common.{◌≡◌, ℕ, List, [], ◌∷◌, ◌++◌, Option, Some, None, option_map, refl, sym, ap, ◌∙◌, append_assoc, append-nil}
 use Rattle.ftp_facts.specs.Value.{and_then}
-use Rattle.ftp_script.specs.Field.{said_before, said_from, turn}
+use Rattle.ftp_script.specs.Field.{said_before, said_from, stepped, turn, with_front}
 use Rattle.ftp_script.specs.declared.field.Place.{Place}
-
--- octets, and then others, where there are others
-abbrev pub with_front : List ℕ → Option (List ℕ) → Option (List ℕ)
-with_front front rest = option_map (λ octets. front ++ octets) rest
 
 joined : (front octets : List ℕ) (given : Option ℕ) → front ++ said_before given octets ≡ (front ++ said_before given []) ++ octets
 joined front octets None = ap (λ f. f ++ octets) (sym (append-nil front))
@@ -16,11 +12,37 @@ carried : (front : List ℕ) (given : Option ℕ) (rest : Option (List ℕ)) →
 carried front given None = refl
 carried front given (Some octets) = ap Some (joined front octets given)
 
+-- where a turn leads, with what was said before
+abbrev led : List ℕ → Option (Place × Option ℕ) → Option (Place × List ℕ)
+led front t = option_map (λ t. (t.0, front ++ said_before t.1 [])) t
+
+-- what stands in a Some
+abbrev held : Option (Place × List ℕ) → Place × List ℕ → Place × List ℕ
+held None other = other
+held (Some step) other = step
+
 -- one octet is taken
-pub takes : (front text : List ℕ) (octet : ℕ) (place next : Place) (given : Option ℕ) → turn place octet ≡ Some (next, given) → with_front front (said_from (octet ∷ text) place) ≡ with_front (front ++ said_before given []) (said_from text next)
-takes front text octet place next given e =
-    ap (λ o. with_front front (and_then o (λ t. option_map (said_before t.1) (said_from text t.0)))) e ∙ carried front given (said_from text next)
+pub takes : (front new text : List ℕ) (octet : ℕ) (place next : Place) → stepped front place octet ≡ Some (next, new)
+    → with_front front (said_from (octet ∷ text) place) ≡ with_front new (said_from text next)
+takes front new text octet place next is = by (turn place octet) is
+  where
+    by : (t : Option (Place × Option ℕ)) → led front t ≡ Some (next, new)
+        → with_front front (and_then t (λ t. option_map (said_before t.1) (said_from text t.0))) ≡ with_front new (said_from text next)
+    by None e = absurd (cc)
+    by (Some t) e =
+        carried front t.1 (said_from text t.0)
+        ∙ ap (λ (step : Place × List ℕ). with_front step.1 (said_from text step.0)) (ap (λ o. held o (next, new)) e)
 
 -- an octet that has no place there
-pub stops : (front text : List ℕ) (octet : ℕ) (place : Place) → turn place octet ≡ None → with_front front (said_from (octet ∷ text) place) ≡ None
-stops front text octet place e = ap (λ o. with_front front (and_then o (λ t. option_map (said_before t.1) (said_from text t.0)))) e
+pub stops : (front text : List ℕ) (octet : ℕ) (place : Place) → stepped front place octet ≡ None → with_front front (said_from (octet ∷ text) place) ≡ None
+stops front text octet place is = by (turn place octet) is
+  where
+    by : (t : Option (Place × Option ℕ)) → led front t ≡ None
+        → with_front front (and_then t (λ t. option_map (said_before t.1) (said_from text t.0))) ≡ None
+    by None e = refl
+    by (Some t) e = absurd (cc)
+
+-- nothing stands in front
+pub alone : (rest : Option (List ℕ)) → with_front [] rest ≡ rest
+alone None = refl
+alone (Some octets) = refl

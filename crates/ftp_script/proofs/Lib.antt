@@ -1,3 +1,2 @@
-pub mod CutLemmas
 pub mod FieldLemmas
 pub mod ReportLemmas

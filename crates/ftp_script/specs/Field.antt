@@ -1,5 +1,5 @@
 -- A field of a script: octets, some of them written by an escape (own choice).
-use Rattle.std.specs.Prelude.{ℕ, ◌+◌, ◌-◌, ◌*◌, ◌/◌, ◌%◌, ◌==◌, ◌&&◌, Bool, not, nat_le, nat_lt, nat_eq, List, [], ◌∷◌, length, flat_map, Option, Some, None, option_map, if◌then◌else◌}
+use Rattle.std.specs.Prelude.{ℕ, ◌+◌, ◌-◌, ◌*◌, ◌/◌, ◌%◌, ◌==◌, ◌&&◌, ◌++◌, Bool, not, nat_le, nat_lt, nat_eq, List, [], ◌∷◌, length, flat_map, Option, Some, None, option_map, if◌then◌else◌}
 use Rattle.std.specs.Cmp.Lexicographic.{pointwise}
 use Rattle.ftp_facts.specs.Value.{and_then}
 use Rattle.ftp_script.specs.declared.field.Place.{Place}
@@ -48,6 +48,14 @@ said_from [] Escape = None
 said_from [] High = None
 said_from [] (Low high) = None
 said_from (octet ∷ text) place = and_then (turn place octet) (λ t. option_map (said_before t.1) (said_from text t.0))
+
+-- octets, and then others, where there are others
+abbrev pub with_front : List ℕ → Option (List ℕ) → Option (List ℕ)
+with_front front rest = option_map (λ octets. front ++ octets) rest
+
+-- where an octet leads, and all octets that are said by then
+abbrev pub stepped : List ℕ → Place → ℕ → Option (Place × List ℕ)
+stepped front place octet = option_map (λ t. (t.0, front ++ said_before t.1 [])) (turn place octet)
 
 -- `\e`, the field of no octets
 abbrev pub empty_field : List ℕ

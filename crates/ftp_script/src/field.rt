@@ -1,6 +1,6 @@
 // A field: octets, some of them written by an escape.
-ghost use Rattle.std.specs.Prelude.{◌≡◌, ◌≤◌, ◌++◌, [], Some, flat_map, option_map, OnOk, IfSome};
-ghost use Rattle.ftp_script.specs.Field.{digit_octet, digit_value, digits_octet, field_text, field_value, is_plain, letter_octet, other_written, said_before, said_from, turn, written};
+ghost use Rattle.std.specs.Prelude.{◌≡◌, ◌≤◌, ◌++◌, ◌∷◌, [], Some, flat_map, option_map, OnOk, IfSome};
+ghost use Rattle.ftp_script.specs.Field.{backslash, digit_octet, digit_value, digits_octet, field_text, field_value, is_plain, letter_octet, other_written, said_before, said_from, stepped, turn, with_front, written};
 ghost use Rattle.ftp_script.specs.Line.{Reads};
 ghost use Rattle.ftp_script.specs.declared.field.Place.TheVariants.{Between};
 
@@ -26,14 +26,11 @@ pub fn octets_of<A: Allocator + Copy>(alloc: A, field: &[u8]) -> Result<Text<A>,
     ensures { Reads (λ octets. octets) result (field_value field.now) }
 {
     if field == b"\\e".as_slice() {
-        return copied(alloc, b"");
-    }
-    if field.is_empty() {
-        return Err(LineFault::Unfit);
-    }
-    match said(alloc, field) {
-        Ok(octets) => copied(alloc, octets.as_slice()),
-        Err(fault) => Err(fault),
+        copied(alloc, b"")
+    } else if field.is_empty() {
+        Err(LineFault::Unfit)
+    } else {
+        said(alloc, field)
     }
 }
 
@@ -47,23 +44,44 @@ fn copied<A: Allocator>(alloc: A, octets: &[u8]) -> Result<Text<A>, LineFault>
 }
 
 /// The octets that a text says.
-fn said<A: Allocator>(alloc: A, text: &[u8]) -> Result<Vec<u8, A>, LineFault>
-    ensures { Reads (λ octets. octets.items) result (said_from text.now Between) }
+#[tactic(auto, using(crate::proofs::FieldLemmas::alone))]
+fn said<A: Allocator + Copy>(alloc: A, text: &[u8]) -> Result<Text<A>, LineFault>
+    ensures { Reads (λ octets. octets) result (said_from text.now Between) }
 {
     let mut octets = Vec::new(alloc);
+    match put_said(text, &mut octets) {
+        Ok(()) => copied(alloc, octets.as_slice()),
+        Err(fault) => Err(fault),
+    }
+}
+
+/// Appends the octets that a text says.
+fn put_said<A: Allocator>(text: &[u8], out: &mut Vec<u8, A>) -> Result<(), LineFault>
+    ensures { Reads (λ _. out.new.items) result (with_front out.old.items (said_from text.now Between)) }
+{
     let mut place = Place::Between;
     for octet in text {
-        let Some((next, given)) = turn(place, *octet) else {
-            return Err(LineFault::Unfit);
-        };
-        if put(given, &mut octets).is_err() {
-            return Err(LineFault::Memory);
+        match step(place, *octet, out) {
+            Ok(next) => place = next,
+            Err(fault) => return Err(fault),
         }
-        place = next;
     }
     match place {
-        Place::Between => Ok(octets),
+        Place::Between => Ok(()),
         _ => Err(LineFault::Unfit),
+    }
+}
+
+/// Where an octet leads; what is said by then is appended.
+fn step<A: Allocator>(place: Place, octet: u8, out: &mut Vec<u8, A>) -> Result<Place, LineFault>
+    ensures { Reads (λ next. (next, out.new.items)) result (stepped out.old.items place octet) }
+{
+    match turn(place, octet) {
+        Some((next, given)) => match put(given, out) {
+            Ok(()) => Ok(next),
+            Err(AllocError) => Err(LineFault::Memory),
+        },
+        None => Err(LineFault::Unfit),
     }
 }
 
@@ -192,14 +210,17 @@ fn put_other<A: Allocator>(octet: u8, out: &mut Vec<u8, A>) -> Result<(), AllocE
     ensures { OnOk result (out.new.items ≡ out.old.items ++ other_written octet) }
 {
     if is_plain(octet) {
-        return out.extend_from_slice(&[octet]);
+        out.extend_from_slice(&[octet])
+    } else {
+        put_digits(digit_octet(octet / 16), digit_octet(octet % 16), out)
     }
-    out.extend_from_slice(&[
-        b'\\',
-        b'x',
-        digit_octet(octet / 16),
-        digit_octet(octet % 16),
-    ])
+}
+
+/// Appends an escape by two digits.
+fn put_digits<A: Allocator>(high: u8, low: u8, out: &mut Vec<u8, A>) -> Result<(), AllocError>
+    ensures { OnOk result (out.new.items ≡ out.old.items ++ (backslash ∷ 120 ∷ high ∷ low ∷ [])) }
+{
+    out.extend_from_slice(&[b'\\', b'x', high, low])
 }
 
 /// A hexadecimal digit.

@@ -1,5 +1,5 @@
 // A line: a login or an operation.
-ghost use Rattle.std.specs.Prelude.{◌≡◌, map, IfErr, IfOk};
+ghost use Rattle.std.specs.Prelude.{◌≡◌, map, IfOk};
 ghost use Rattle.std.specs.List.{slice_split};
 ghost use Rattle.ftp_script.specs.Line.{Reads, alone_op, giving_op, is_space, login_in, login_value, login_with, op_in, op_value, op_with, path_op, taking_op};
 
@@ -8,7 +8,7 @@ use crate::parts::{giving, giving_from, none, pair, path, taking, taking_from};
 use crate::verb::{Alone, Giving, OnPath, Taking, Verb, verb_of};
 use ftp_facts::Text;
 use ftp_operation::{How, Login, Op};
-use std::alloc::Allocator;
+use std::alloc::{AllocError, Allocator};
 
 /// The operation that a line says, given without its end.
 #[tactic(auto, unfolding(crate::specs::Line::op_value))]
@@ -17,7 +17,7 @@ pub fn op_of<A: Allocator + Copy>(alloc: A, line: &[u8]) -> Result<Op<Text<A>>, 
 {
     match fields_of(alloc, line) {
         Ok(fields) => op_in(alloc, fields.as_slice()),
-        Err(fault) => Err(fault),
+        Err(AllocError) => Err(LineFault::Memory),
     }
 }
 
@@ -122,7 +122,7 @@ pub fn login_of<A: Allocator + Copy>(alloc: A, line: &[u8]) -> Result<Login<A>, 
 {
     match fields_of(alloc, line) {
         Ok(fields) => login_in(alloc, fields.as_slice()),
-        Err(fault) => Err(fault),
+        Err(AllocError) => Err(LineFault::Memory),
     }
 }
 
@@ -151,21 +151,8 @@ fn login_with<A: Allocator>(user: Text<A>, pass: Text<A>) -> Result<Login<A>, Li
 }
 
 /// The fields of a line: what stands between its spaces.
-fn fields_of<A: Allocator>(alloc: A, line: &[u8]) -> Result<Vec<&[u8], A>, LineFault>
-    ensures fields { IfOk result (λ fields. map (λ field. field.now) fields.items ≡ slice_split is_space line.now) }
-    ensures fault { IfErr result (λ fault. fault ≡ LineFault.Memory) }
+fn fields_of<A: Allocator>(alloc: A, line: &[u8]) -> Result<Vec<&[u8], A>, AllocError>
+    ensures { IfOk result (λ fields. map (λ field. field.now) fields.items ≡ slice_split is_space line.now) }
 {
-    let mut fields = Vec::new(alloc);
-    let mut rest = line;
-    while let Some(end) = rest.iter().position(|octet| *octet == b' ') {
-        let (field, more) = rest.split_at(end);
-        if fields.push(field).is_err() {
-            return Err(LineFault::Memory);
-        }
-        rest = &more[1..];
-    }
-    if fields.push(rest).is_err() {
-        return Err(LineFault::Memory);
-    }
-    Ok(fields)
+    line.split(|octet| *octet == b' ').collect(alloc)
 }
