@@ -1,2 +1,3 @@
 pub mod FieldLemmas
 pub mod ReportLemmas
+pub mod ScriptLemmas

@@ -1,4 +1,5 @@
 pub mod Field
 pub mod Line
 pub mod Report
+pub mod Script
 pub mod Verb

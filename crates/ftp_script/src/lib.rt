@@ -1,4 +1,4 @@
-//! Scripts of operations: what each line asks, and how each answer is reported (own choice); no IO.
+//! Scripts of operations: what a script and each of its lines ask, and how each answer is reported (own choice); no IO.
 #![tactic(auto)]
 
 mod fault;
@@ -7,9 +7,11 @@ mod how;
 mod line;
 mod parts;
 mod report;
+mod script;
 mod verb;
 
 pub use fault::LineFault;
 pub use field::{octets_of, put_field};
 pub use line::{login_of, op_of};
 pub use report::report_of;
+pub use script::{Script, ScriptFault, script_of};
