@@ -1,3 +1,4 @@
 pub mod FieldLemmas
 pub mod ReportLemmas
 pub mod ScriptLemmas
+pub mod WrittenLemmas

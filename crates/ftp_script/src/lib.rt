@@ -4,6 +4,7 @@
 mod fault;
 mod field;
 mod how;
+pub mod laws;
 mod line;
 mod parts;
 mod report;
