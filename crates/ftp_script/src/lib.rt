@@ -8,6 +8,7 @@ pub mod laws;
 mod line;
 mod parts;
 mod report;
+pub mod rows;
 mod script;
 mod verb;
 

@@ -1,0 +1,60 @@
+-- Worked rows: what lines and scripts say, and what is reported. Each is a theorem that computes.
+use Rattle.std.specs.Prelude.{◌≡◌, true, false, codes, [], ◌∷◌, ◌++◌, Some, None, Ok, Err}
+use Rattle.ftp_operation.specs.declared.op.How.{How}
+use Rattle.ftp_operation.specs.declared.op.Op.TheVariants as Ops
+use Rattle.ftp_representation.specs.declared.representation.Kind.TheVariants.{Ascii, Image}
+use Rattle.ftp_representation.specs.declared.representation.Structure.TheVariants.{File, Record}
+use Rattle.ftp_representation.specs.declared.representation.Mode.TheVariants.{Stream, Block}
+use Rattle.ftp_script.specs.Field.{field_text, field_value}
+use Rattle.ftp_script.specs.Line.{how_with, login_value, op_value}
+use Rattle.ftp_script.specs.Script.{script_value}
+
+-- `IFSpn`
+abbrev pub plain : How
+plain = how_with Image File Stream false false false
+
+-- `ARBaem`
+abbrev pub other : How
+other = how_with Ascii Record Block true true true
+
+-- each form of a line, with its parts in their order
+abbrev pub OperationsSaid : Type 0
+OperationsSaid =
+    (op_value (codes "where") ≡ Some Ops.Where)
+    × (op_value (codes "up") ≡ Some Ops.Up)
+    × (op_value (codes "cd d") ≡ Some (Ops.ChangeDir (codes "d")))
+    × (op_value (codes "mkdir d") ≡ Some (Ops.MakeDir (codes "d")))
+    × (op_value (codes "rmdir d") ≡ Some (Ops.RemoveDir (codes "d")))
+    × (op_value (codes "delete f") ≡ Some (Ops.Delete (codes "f")))
+    × (op_value (codes "modified f") ≡ Some (Ops.Modified (codes "f")))
+    × (op_value (codes "facts f") ≡ Some (Ops.Facts (codes "f")))
+    × (op_value (codes "rename f g") ≡ Some (Ops.Rename (codes "f") (codes "g")))
+
+-- those with a representation
+abbrev pub TransfersSaid : Type 0
+TransfersSaid =
+    (op_value (codes "put IFSpn f abc") ≡ Some (Ops.Put (codes "f") (codes "abc") plain))
+    × (op_value (codes "append ARBaem f abc") ≡ Some (Ops.Append (codes "f") (codes "abc") other))
+    × (op_value (codes "putfrom IFSpn f 3 abc") ≡ Some (Ops.PutFrom (codes "f") 3 (codes "abc") plain))
+    × (op_value (codes "get ARBaem f") ≡ Some (Ops.Get (codes "f") other))
+    × (op_value (codes "getfrom IFSpn f 007") ≡ Some (Ops.GetFrom (codes "f") 7 plain))
+    × (op_value (codes "size ARBaem f") ≡ Some (Ops.Size (codes "f") other))
+    × (op_value (codes "list IFSpn f") ≡ Some (Ops.List (codes "f") plain))
+    × (op_value (codes "names IFSpn f") ≡ Some (Ops.Names (codes "f") plain))
+
+-- a login, a script whose last line lacks its end, a faulty third line, and a script without a line
+abbrev pub ScriptsSaid : Type 0
+ScriptsSaid =
+    (login_value (codes "login guest secret") ≡ Some (codes "guest", codes "secret"))
+    × (script_value (codes "login a b" ++ 10 ∷ codes "where" ++ 10 ∷ codes "up") ≡ Ok ((codes "a", codes "b"), Ops.Where ∷ Ops.Up ∷ []))
+    × (script_value (codes "login a b" ++ 10 ∷ codes "where" ++ 10 ∷ codes "cd" ++ 10 ∷ codes "up" ++ 10 ∷ []) ≡ Err 3)
+    × (script_value [] ≡ Err 1)
+
+-- fields: each escape
+abbrev pub FieldsSaid : Type 0
+FieldsSaid =
+    (field_value (92 ∷ 115 ∷ 92 ∷ 110 ∷ 92 ∷ 114 ∷ 92 ∷ 92 ∷ []) ≡ Some (32 ∷ 10 ∷ 13 ∷ 92 ∷ []))
+    × (field_value (97 ∷ 92 ∷ 120 ∷ 102 ∷ 48 ∷ []) ≡ Some (97 ∷ 240 ∷ []))
+    × (field_value (92 ∷ 101 ∷ []) ≡ Some [])
+    × (field_value [] ≡ None)
+    × (field_text (97 ∷ 10 ∷ 0 ∷ 255 ∷ []) ≡ 97 ∷ 92 ∷ 110 ∷ 92 ∷ 120 ∷ 48 ∷ 48 ∷ 92 ∷ 120 ∷ 102 ∷ 102 ∷ [])
