@@ -1,4 +1,4 @@
-//! For tests alone: rows of control lines, of endpoints, commands and replies, of entries and moments, and of files, items and wires.
+//! For tests alone: rows of control lines, of endpoints, commands and replies, of entries and moments, of scripts, and of files, items and wires.
 #![tactic(auto)]
 
 mod both_ways;
@@ -19,6 +19,7 @@ mod refusals;
 mod replies;
 mod reply_memory;
 mod report;
+mod scripts;
 mod sending;
 mod sizes;
 mod skipping;
@@ -55,6 +56,7 @@ fn try_lines(alloc: Global, report: &mut Paper) {
     moments::tried(report);
     calendar::tried(report);
     fact_memory::tried(alloc, report);
+    scripts::tried(alloc, report);
 }
 
 fn try_files(alloc: Global, report: &mut Paper) {
