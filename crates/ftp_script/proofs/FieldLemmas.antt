@@ -1,6 +1,9 @@
 -- What a field says, octet by octet.
-use Rattle.std.proofs.Common.{◌≡◌, ℕ, List, [], ◌∷◌, ◌++◌, Option, Some, None, option_map, refl, sym, ap, ◌∙◌, append_assoc, append-nil}
+use Rattle.std.proofs.Common.{◌≡◌, ℕ, List, [], ◌∷◌, ◌++◌, Option, Some, None, option_map, Err, refl, sym, ap, ◌∙◌, append_assoc, append-nil}
 use Rattle.ftp_facts.specs.Value.{and_then}
+use Rattle.ftp_script.specs.Line.{Reads}
+use Rattle.ftp_script.specs.declared.fault.LineFault.{LineFault}
+use Rattle.ftp_script.specs.declared.fault.LineFault.TheVariants.{Unfit, Memory}
 use Rattle.ftp_script.specs.Field.{said_before, said_from, stepped, turn, with_front}
 use Rattle.ftp_script.specs.declared.field.Place.{Place}
 
@@ -46,3 +49,9 @@ stops front text octet place is = by (turn place octet) is
 pub alone : (rest : Option (List ℕ)) → with_front [] rest ≡ rest
 alone None = refl
 alone (Some octets) = refl
+
+-- why an octet is refused is why the text is
+pub refuses : {X Y : Type 0} (seen : X → Place × List ℕ) (sees : Y → List ℕ) (fault : LineFault) (front text : List ℕ) (octet : ℕ) (place : Place) (whole : Option (List ℕ))
+    → with_front front (said_from (octet ∷ text) place) ≡ whole → Reads seen (Err fault) (stepped front place octet) → Reads sees (Err fault) whole
+refuses seen sees Unfit front text octet place whole same is = sym same ∙ stops front text octet place is
+refuses seen sees Memory front text octet place whole same is = tt

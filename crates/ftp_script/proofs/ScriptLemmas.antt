@@ -48,6 +48,11 @@ kept : (front : List (Op (List ℕ))) (op : Op (List ℕ)) (number : ℕ) (behin
 kept front op number (Ok ops) = ap (λ l. Ok l) (sym (append_assoc front (op ∷ []) ops))
 kept front op number (Err later) = refl
 
+-- nothing stands in front
+pub none_behind : (said : Result (List (Op (List ℕ))) ℕ) → ops_behind [] said ≡ said
+none_behind (Ok ops) = refl
+none_behind (Err number) = refl
+
 -- a line that says an operation
 op_said : (front new : List (Op (List ℕ))) (line : List ℕ) (number : ℕ) (behind : Result (List (Op (List ℕ))) ℕ)
     → option_map (λ op. front ++ op ∷ []) (op_value line) ≡ Some new

@@ -77,9 +77,23 @@ fn with_ops<A: Allocator + Copy>(
     ensures { ReadsAll (λ script. ((script.login.user, script.login.pass), script.ops.items)) result
         (script_from (Some (login.user, login.pass)) (map (λ line. line.now) lines.now)) }
 {
+    match ops_of(alloc, lines) {
+        Ok(ops) => Ok(Script { login, ops }),
+        Err(fault) => Err(fault),
+    }
+}
+
+/// The operations of lines, the first of which is the second line of its script.
+#[tactic(auto, using(crate::proofs::ScriptLemmas::none_behind))]
+fn ops_of<A: Allocator + Copy>(
+    alloc: A,
+    lines: &[&[u8]],
+) -> Result<Vec<Op<Text<A>>, A>, ScriptFault>
+    ensures { ReadsAll (λ ops. ops.items) result (ops_value 2 (map (λ line. line.now) lines.now)) }
+{
     let mut ops = Vec::new(alloc);
     match put_ops(alloc, lines, &mut ops) {
-        Ok(()) => Ok(Script { login, ops }),
+        Ok(()) => Ok(ops),
         Err(fault) => Err(fault),
     }
 }
