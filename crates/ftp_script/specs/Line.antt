@@ -23,6 +23,8 @@ use Rattle.ftp_script.specs.declared.verb.OnPath.{OnPath}
 use Rattle.ftp_script.specs.declared.verb.OnPath.TheVariants.{ChangeDir, MakeDir, RemoveDir, Delete, Modified, Facts}
 use Rattle.ftp_script.specs.declared.verb.Taking.{Taking}
 use Rattle.ftp_script.specs.declared.verb.Taking.TheVariants.{Get, Size, Entries, Names}
+use Rattle.ftp_script.specs.declared.verb.Part.{Part}
+use Rattle.ftp_script.specs.declared.verb.Part.TheVariants.{GetFrom, Peek}
 use Rattle.ftp_script.specs.declared.verb.Giving.{Giving}
 use Rattle.ftp_script.specs.declared.verb.Giving.TheVariants.{Put, Append}
 use Rattle.ftp_script.specs.declared.verb.Verb.{Verb}
@@ -139,6 +141,10 @@ taking_op Size how path = Ops.Size path how
 taking_op Entries how path = Ops.List path how
 taking_op Names how path = Ops.Names path how
 
+abbrev pub part_op : Part → How → List ℕ → ℕ → Op (List ℕ)
+part_op GetFrom how path number = Ops.GetFrom path number how
+part_op Peek how path number = Ops.Peek path number how
+
 abbrev pub giving_op : Giving → How → List ℕ → List ℕ → Op (List ℕ)
 giving_op Put how path octets = Ops.Put path octets how
 giving_op Append how path octets = Ops.Append path octets how
@@ -149,7 +155,7 @@ op_with (verbs.Alone verb) fields = option_map (λ _. alone_op verb) (none_in fi
 op_with (verbs.OnPath verb) fields = option_map (path_op verb) (path_in fields)
 op_with verbs.Rename fields = option_map (λ t. Ops.Rename t.0 t.1) (pair_in fields)
 op_with (verbs.Taking verb) fields = option_map (λ t. taking_op verb t.0 t.1) (taking_in fields)
-op_with verbs.TakingFrom fields = option_map (λ t. Ops.GetFrom t.1 t.2 t.0) (taking_from_in fields)
+op_with (verbs.Part verb) fields = option_map (λ t. part_op verb t.0 t.1 t.2) (taking_from_in fields)
 op_with (verbs.Giving verb) fields = option_map (λ t. giving_op verb t.0 t.1 t.2) (giving_in fields)
 op_with verbs.GivingFrom fields = option_map (λ t. Ops.PutFrom t.1 t.2 t.3 t.0) (giving_from_in fields)
 

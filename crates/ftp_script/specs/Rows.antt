@@ -38,6 +38,7 @@ TransfersSaid =
     × (op_value (codes "putfrom IFSpn f 3 abc") ≡ Some (Ops.PutFrom (codes "f") 3 (codes "abc") plain))
     × (op_value (codes "get ARBaem f") ≡ Some (Ops.Get (codes "f") other))
     × (op_value (codes "getfrom IFSpn f 007") ≡ Some (Ops.GetFrom (codes "f") 7 plain))
+    × (op_value (codes "peek IFSpn f 3") ≡ Some (Ops.Peek (codes "f") 3 plain))
     × (op_value (codes "size ARBaem f") ≡ Some (Ops.Size (codes "f") other))
     × (op_value (codes "list IFSpn f") ≡ Some (Ops.List (codes "f") plain))
     × (op_value (codes "names IFSpn f") ≡ Some (Ops.Names (codes "f") plain))

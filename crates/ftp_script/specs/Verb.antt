@@ -4,6 +4,7 @@ use Rattle.std.specs.Cmp.Lexicographic.{pointwise}
 use Rattle.ftp_script.specs.declared.verb.Alone.TheVariants.{Where, Up}
 use Rattle.ftp_script.specs.declared.verb.OnPath.TheVariants.{ChangeDir, MakeDir, RemoveDir, Delete, Modified, Facts}
 use Rattle.ftp_script.specs.declared.verb.Taking.TheVariants.{Get, Size, Entries, Names}
+use Rattle.ftp_script.specs.declared.verb.Part.TheVariants.{GetFrom, Peek}
 use Rattle.ftp_script.specs.declared.verb.Giving.TheVariants.{Put, Append}
 use Rattle.ftp_script.specs.declared.verb.Verb.{Verb}
 use Rattle.ftp_script.specs.declared.verb.Verb.TheVariants as verbs
@@ -23,7 +24,8 @@ word_of (verbs.Taking Get) = codes "get"
 word_of (verbs.Taking Size) = codes "size"
 word_of (verbs.Taking Entries) = codes "list"
 word_of (verbs.Taking Names) = codes "names"
-word_of verbs.TakingFrom = codes "getfrom"
+word_of (verbs.Part GetFrom) = codes "getfrom"
+word_of (verbs.Part Peek) = codes "peek"
 word_of (verbs.Giving Put) = codes "put"
 word_of (verbs.Giving Append) = codes "append"
 word_of verbs.GivingFrom = codes "putfrom"

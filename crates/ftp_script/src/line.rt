@@ -1,11 +1,11 @@
 // A line: a login or an operation.
 ghost use Rattle.std.specs.Prelude.{◌≡◌, map, IfOk};
 ghost use Rattle.std.specs.List.{slice_split};
-ghost use Rattle.ftp_script.specs.Line.{Reads, alone_op, giving_op, is_space, login_in, login_value, login_with, op_in, op_value, op_with, path_op, taking_op};
+ghost use Rattle.ftp_script.specs.Line.{Reads, alone_op, giving_op, is_space, login_in, login_value, login_with, op_in, op_value, op_with, part_op, path_op, taking_op};
 
 use crate::fault::LineFault;
 use crate::parts::{giving, giving_from, none, pair, path, taking, taking_from};
-use crate::verb::{Alone, Giving, OnPath, Taking, Verb, verb_of};
+use crate::verb::{Alone, Giving, OnPath, Part, Taking, Verb, verb_of};
 use ftp_facts::Text;
 use ftp_operation::{How, Login, Op};
 use std::alloc::{AllocError, Allocator};
@@ -58,8 +58,8 @@ fn op_with<A: Allocator + Copy>(
             Ok((how, path)) => Ok(taking_op(verb, how, path)),
             Err(fault) => Err(fault),
         },
-        Verb::TakingFrom => match taking_from(alloc, fields) {
-            Ok((how, path, number)) => Ok(Op::GetFrom(path, number, how)),
+        Verb::Part(verb) => match taking_from(alloc, fields) {
+            Ok((how, path, number)) => Ok(part_op(verb, how, path, number)),
             Err(fault) => Err(fault),
         },
         Verb::Giving(verb) => match giving(alloc, fields) {
@@ -103,6 +103,15 @@ fn taking_op<A: Allocator>(verb: Taking, how: How, path: Text<A>) -> Op<Text<A>>
         Taking::Size => Op::Size(path, how),
         Taking::Entries => Op::List(path, how),
         Taking::Names => Op::Names(path, how),
+    }
+}
+
+fn part_op<A: Allocator>(verb: Part, how: How, path: Text<A>, number: u64) -> Op<Text<A>>
+    ensures { result ≡ part_op verb how path number }
+{
+    match verb {
+        Part::GetFrom => Op::GetFrom(path, number, how),
+        Part::Peek => Op::Peek(path, number, how),
     }
 }
 

@@ -30,6 +30,15 @@ pub(crate) enum Taking {
     Names,
 }
 
+/// A verb by which a part of a file is had, in a representation; a number says which.
+#[derive(Clone, Copy)]
+pub(crate) enum Part {
+    /// From an offset on.
+    GetFrom,
+    /// The first octets.
+    Peek,
+}
+
 /// A verb by which octets go to a path, in a representation.
 #[derive(Clone, Copy)]
 pub(crate) enum Giving {
@@ -44,14 +53,13 @@ pub(crate) enum Verb {
     OnPath(OnPath),
     Rename,
     Taking(Taking),
-    /// From an offset on.
-    TakingFrom,
+    Part(Part),
     Giving(Giving),
     /// From an offset on.
     GivingFrom,
 }
 
-const VERBS: [Verb; 17] = [
+const VERBS: [Verb; 18] = [
     Verb::Alone(Alone::Where),
     Verb::Alone(Alone::Up),
     Verb::OnPath(OnPath::ChangeDir),
@@ -65,7 +73,8 @@ const VERBS: [Verb; 17] = [
     Verb::Taking(Taking::Size),
     Verb::Taking(Taking::Entries),
     Verb::Taking(Taking::Names),
-    Verb::TakingFrom,
+    Verb::Part(Part::GetFrom),
+    Verb::Part(Part::Peek),
     Verb::Giving(Giving::Put),
     Verb::Giving(Giving::Append),
     Verb::GivingFrom,
@@ -107,7 +116,8 @@ fn word_of(verb: Verb) -> &'static [u8]
         Verb::Taking(Taking::Size) => b"size",
         Verb::Taking(Taking::Entries) => b"list",
         Verb::Taking(Taking::Names) => b"names",
-        Verb::TakingFrom => b"getfrom",
+        Verb::Part(Part::GetFrom) => b"getfrom",
+        Verb::Part(Part::Peek) => b"peek",
         Verb::Giving(Giving::Put) => b"put",
         Verb::Giving(Giving::Append) => b"append",
         Verb::GivingFrom => b"putfrom",
