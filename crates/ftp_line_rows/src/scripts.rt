@@ -23,6 +23,7 @@ const READ: &[(&[u8], usize)] = &[
         4,
     ),
     (b"login a b\ngetfrom IFSpn f 000000000000000007\n", 1),
+    (b"login a b\npeek IFSpn f 3\n", 1),
     (b"login a b\ncd \\s\\n\\r\\\\\\x00\\xff~!\n", 1),
 ];
 
@@ -60,6 +61,7 @@ const REFUSED: &[(&[u8], usize)] = &[
     (b"login a b\nget f\n", 2),
     (b"login a b\ngetfrom IFSpn f\n", 2),
     (b"login a b\ngetfrom IFSpn f 0000000000000000007\n", 2),
+    (b"login a b\npeek IFSpn f\n", 2),
     (b"login a b\nsize IFSxn f\n", 2),
     (b"login a b\nlist IFSpx f\n", 2),
     (b"login a b\nnames IFSpnx f\n", 2),
