@@ -1,5 +1,5 @@
 // Octets in pages, of which each but the last is full: none is copied when more come.
-ghost use Rattle.std.specs.Prelude.{◌≡◌, ◌≤◌, ◌<◌, ◌++◌, ◌↔◌, IfOk, IsTrue, OnErr, OnOk, drop, length, take};
+ghost use Rattle.std.specs.Prelude.{◌≡◌, ◌≤◌, ◌<◌, ◌++◌, ◌↔◌, [], IfOk, IsTrue, OnErr, OnOk, drop, length, take};
 ghost use Rattle.std.specs.List.{concat};
 ghost use Rattle.ftp_pages.specs.Pages.{HasRoom, IsPaged, page_octets};
 
@@ -61,8 +61,20 @@ fn open_page<A: Allocator + Clone>(pages: &mut Vec<Page<A>, A>) -> Result<(), Al
         return Ok(());
     }
     let alloc = pages.allocator().clone()?;
-    pages.push(Vec::new(alloc))?;
+    let page = new_page(pages.is_empty(), alloc)?;
+    pages.push(page)?;
     Ok(())
+}
+
+/// A page with no octets. The first of a file grows with it, each behind it has its whole room at once, as more than a page came before.
+fn new_page<A: Allocator>(first: bool, alloc: A) -> Result<Page<A>, AllocError>
+    ensures { IfOk result (λ page. page.items ≡ []) }
+{
+    if first {
+        Ok(Vec::new(alloc))
+    } else {
+        Vec::with_capacity(alloc, PAGE)
+    }
 }
 
 /// Whether there is a last page that has room.

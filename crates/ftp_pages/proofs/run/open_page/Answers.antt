@@ -11,14 +11,14 @@ full lent pages same answer room = true≢false (sym (answer.1 (subst (λ l. Has
 pub returns-clause-paged : goal.returns-clause-paged
 returns-clause-paged g c =
     subst (λ l. IsPaged (page_octets l)) (sym c.in_ok-push.ensures.items)
-    (opened c.args.pages.now.items c.new.result c.requires (full _ _ c.as_slice.ensures.value c.if-has_room.ensures) c.new.ensures.items).paged
+    (opened c.args.pages.now.items _ c.requires (full _ _ c.as_slice.ensures.value c.if-has_room.ensures) c.in_ok-page.ensures).paged
 
 pub returns-clause-room : goal.returns-clause-room
 returns-clause-room g c =
     subst (λ l. HasRoom (page_octets l)) (sym c.in_ok-push.ensures.items)
-    (opened c.args.pages.now.items c.new.result c.requires (full _ _ c.as_slice.ensures.value c.if-has_room.ensures) c.new.ensures.items).room
+    (opened c.args.pages.now.items _ c.requires (full _ _ c.as_slice.ensures.value c.if-has_room.ensures) c.in_ok-page.ensures).room
 
 pub returns-clause-same : goal.returns-clause-same
 returns-clause-same g c =
     ap (λ l. concat (page_octets l)) c.in_ok-push.ensures.items
-    ∙ (opened c.args.pages.now.items c.new.result c.requires (full _ _ c.as_slice.ensures.value c.if-has_room.ensures) c.new.ensures.items).octets
+    ∙ (opened c.args.pages.now.items _ c.requires (full _ _ c.as_slice.ensures.value c.if-has_room.ensures) c.in_ok-page.ensures).octets
