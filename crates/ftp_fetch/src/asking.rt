@@ -1,5 +1,6 @@
 // One operation over a control connection of its own.
 use crate::login::login_of;
+use crate::noticed::{Noticed, Noticing};
 use crate::place::{Asked, Place};
 use crate::request::{Request, Wish, begin, request_of};
 use crate::stop::{Stage, Stop, at};
@@ -29,12 +30,17 @@ const PROBES: i32 = 4;
 const GOODBYE_MILLIS: u16 = 500;
 
 /// Asks once, over a control connection of its own.
-pub(crate) fn ask<R>(rt: &R, asked: &Asked<'_>, wish: Wish<'_>) -> Result<Answer<Global>, Stop>
+pub(crate) fn ask<R>(
+    rt: &R,
+    asked: &Asked<'_>,
+    wish: Wish<'_>,
+    noticed: &mut Noticed,
+) -> Result<Answer<Global>, Stop>
 where
     R: Net<Listener = TcpListener, Stream = TcpStream> + Files + Env + AllocGlobal,
 {
     let login = at(Stage::Login, login_of(rt, asked))?;
-    ask_as(rt, asked, &mut Some(login), wish)
+    ask_as(rt, asked, &mut Some(login), wish, noticed)
 }
 
 /// Asks once, as a user.
@@ -43,12 +49,13 @@ fn ask_as<R>(
     asked: &Asked<'_>,
     login: &mut Option<Login<Global>>,
     wish: Wish<'_>,
+    noticed: &mut Noticed,
 ) -> Result<Answer<Global>, Stop>
 where
     R: Net<Listener = TcpListener, Stream = TcpStream> + AllocGlobal,
 {
     let mut request = at(Stage::Asking, requested(rt.alloc(), asked, wish))?;
-    connect_and_ask(rt, asked.place, login, &mut request)
+    connect_and_ask(rt, asked.place, login, &mut request, noticed)
 }
 
 fn requested(alloc: Global, asked: &Asked<'_>, wish: Wish<'_>) -> io::Result<Request> {
@@ -61,14 +68,15 @@ fn connect_and_ask<R>(
     place: Place<'_>,
     login: &mut Option<Login<Global>>,
     request: &mut Request,
+    noticed: &mut Noticed,
 ) -> Result<Answer<Global>, Stop>
 where
     R: Net<Listener = TcpListener, Stream = TcpStream> + AllocGlobal,
 {
-    let stream = at(Stage::Connection, connected(rt, place))?;
+    let stream = at(Stage::Connection, connected(rt, place.host, place.port))?;
     at(
         Stage::Connection,
-        talk_and_leave(rt, login, request, &stream),
+        talk_and_leave(rt, login, request, &stream, noticed),
     )
 }
 
@@ -78,21 +86,22 @@ fn talk_and_leave<R>(
     login: &mut Option<Login<Global>>,
     request: &mut Request,
     stream: &TcpStream,
+    noticed: &mut Noticed,
 ) -> io::Result<Answer<Global>>
 where
     R: Net<Listener = TcpListener, Stream = TcpStream> + AllocGlobal,
 {
-    let answer = talk(rt, login, request, stream)?;
+    let answer = talk(rt, login, request, stream, noticed)?;
     let _gone = leave(stream);
     Ok(answer)
 }
 
 /// A control connection.
-fn connected<R>(rt: &R, place: Place<'_>) -> io::Result<TcpStream>
+pub(crate) fn connected<R>(rt: &R, host: &str, port: u16) -> io::Result<TcpStream>
 where
     R: Net<Listener = TcpListener, Stream = TcpStream>,
 {
-    let stream = TcpStream::connect(rt, (place.host, place.port))?;
+    let stream = TcpStream::connect(rt, (host, port))?;
     stream.set_nodelay(true)?;
     keep_alive(&stream, IDLE_SECONDS, PROBE_SECONDS, PROBES)?;
     Ok(stream)
@@ -111,6 +120,7 @@ fn talk<R>(
     login: &mut Option<Login<Global>>,
     request: &mut Request,
     stream: &TcpStream,
+    noticed: &mut Noticed,
 ) -> io::Result<Answer<Global>>
 where
     R: Net<Listener = TcpListener, Stream = TcpStream> + AllocGlobal,
@@ -118,7 +128,8 @@ where
     let here = host_of(stream.local_addr()?);
     let peer = host_of(stream.peer_addr()?);
     let mut ports = SocketPorts::hearing(rt, stream)?;
-    Ok(answer_between(rt.alloc(), (here, peer), login, request, stream, &mut ports))
+    let heard = Noticing::new(stream, noticed);
+    Ok(answer_between(rt.alloc(), (here, peer), login, request, heard, &mut ports))
 }
 
 /// Makes a client between two hosts, which asks.
@@ -127,7 +138,7 @@ fn answer_between<R>(
     (here, peer): (Host, Host),
     login: &mut Option<Login<Global>>,
     request: &mut Request,
-    stream: &TcpStream,
+    heard: Noticing<'_>,
     ports: &mut SocketPorts<'_, R>,
 ) -> Answer<Global>
 where
@@ -135,7 +146,7 @@ where
 {
     match login.take() {
         Some(login) => match client_of(alloc, login, here, peer) {
-            Some(client) => answer_of(client, request, stream, ports),
+            Some(client) => answer_of(client, request, heard, ports),
             None => Answer::Memory,
         },
         None => Answer::Memory,
@@ -156,7 +167,7 @@ fn client_of(
 fn answer_of<R, N>(
     client: N,
     request: &mut Request,
-    stream: &TcpStream,
+    heard: Noticing<'_>,
     ports: &mut SocketPorts<'_, R>,
 ) -> Answer<Global>
 where
@@ -165,7 +176,8 @@ where
 {
     let mut client = client;
     begin(&mut client, request);
-    let mut control = Control::new(stream, stream);
+    let writer = heard.stream();
+    let mut control = Control::new(heard, writer);
     let answer = drive_client(&mut client, &mut control, ports);
     ports.finish(i32::from(GOODBYE_MILLIS));
     answer.unwrap_or(Answer::Lost)

@@ -2,6 +2,7 @@
 use crate::asking::ask;
 use crate::file::write_over;
 use crate::listing::{entry_lines, name_lines};
+use crate::noticed::Noticed;
 use crate::place::Asked;
 use crate::request::Wish;
 use crate::stop::{Stage, Stop, at};
@@ -40,46 +41,57 @@ pub fn fetch<R>(rt: &R, asked: &Asked<'_>, task: Task<'_>) -> io::Result<u8>
 where
     R: Net<Listener = TcpListener, Stream = TcpStream> + Files + Env + Print + Eprint + AllocGlobal,
 {
-    match answer_to(rt, asked, task) {
-        Ok(answer) => finish(rt, task, &answer),
+    let mut noticed = Noticed::new();
+    match answer_to(rt, asked, task, &mut noticed) {
+        Ok(answer) => finish(rt, task, &answer, &noticed),
         Err(stop) => stop.tell(rt),
     }
 }
 
 /// What the server answers.
-fn answer_to<R>(rt: &R, asked: &Asked<'_>, task: Task<'_>) -> Result<Answer<Global>, Stop>
+fn answer_to<R>(
+    rt: &R,
+    asked: &Asked<'_>,
+    task: Task<'_>,
+    noticed: &mut Noticed,
+) -> Result<Answer<Global>, Stop>
 where
     R: Net<Listener = TcpListener, Stream = TcpStream> + Files + Env + AllocGlobal,
 {
     match task {
-        Task::Get(_) => ask(rt, asked, Wish::Get),
-        Task::Put(file) => put(rt, asked, file),
-        Task::List => list(rt, asked),
+        Task::Get(_) => ask(rt, asked, Wish::Get, noticed),
+        Task::Put(file) => put(rt, asked, file, noticed),
+        Task::List => list(rt, asked, noticed),
     }
 }
 
 /// Uploads a file.
-fn put<R>(rt: &R, asked: &Asked<'_>, file: &str) -> Result<Answer<Global>, Stop>
+fn put<R>(
+    rt: &R,
+    asked: &Asked<'_>,
+    file: &str,
+    noticed: &mut Noticed,
+) -> Result<Answer<Global>, Stop>
 where
     R: Net<Listener = TcpListener, Stream = TcpStream> + Files + Env + AllocGlobal,
 {
     let octets = at(Stage::Reading, fs::read(rt, file))?;
-    ask(rt, asked, Wish::Put(octets.as_slice()))
+    ask(rt, asked, Wish::Put(octets.as_slice()), noticed)
 }
 
 /// The entries of a directory, or its names where MLSD is not known there (RFC 959, section 4.2.2).
-fn list<R>(rt: &R, asked: &Asked<'_>) -> Result<Answer<Global>, Stop>
+fn list<R>(rt: &R, asked: &Asked<'_>, noticed: &mut Noticed) -> Result<Answer<Global>, Stop>
 where
     R: Net<Listener = TcpListener, Stream = TcpStream> + Files + Env + AllocGlobal,
 {
-    match ask(rt, asked, Wish::Entries) {
-        Ok(Answer::Refused(UNKNOWN | NOT_IMPLEMENTED)) => ask(rt, asked, Wish::Names),
+    match ask(rt, asked, Wish::Entries, noticed) {
+        Ok(Answer::Refused(UNKNOWN | NOT_IMPLEMENTED)) => ask(rt, asked, Wish::Names, noticed),
         listed => listed,
     }
 }
 
 /// Keeps what the server answers, or tells why it is none of what is wished for.
-fn finish<R>(rt: &R, task: Task<'_>, answer: &Answer<Global>) -> io::Result<u8>
+fn finish<R>(rt: &R, task: Task<'_>, answer: &Answer<Global>, noticed: &Noticed) -> io::Result<u8>
 where
     R: Files + Print + Eprint + AllocGlobal,
 {
@@ -95,7 +107,7 @@ where
             write(rt, entry_lines(rt.alloc(), entries.as_slice()))
         }
         (Task::List, Answer::Names(names)) => write(rt, name_lines(rt.alloc(), names.as_slice())),
-        _ => tell(rt, answer),
+        _ => tell(rt, answer, noticed),
     }
 }
 

@@ -6,6 +6,7 @@ mod fetching;
 mod file;
 mod listing;
 mod login;
+mod noticed;
 mod place;
 mod request;
 mod stop;

@@ -1,4 +1,5 @@
 // What an answer that is none of those wished for tells, in a sentence and an exit status.
+use crate::noticed::Noticed;
 use ftp_operation::Answer;
 use std::alloc::Global;
 use std::io;
@@ -14,9 +15,15 @@ const BAD_WORDS: u8 = 2;
 const FAILED: u8 = 3;
 
 /// Tells on standard error why an operation was not done, and gives the exit status.
-pub(crate) fn tell<R: Eprint>(rt: &R, answer: &Answer<Global>) -> io::Result<u8> {
+pub(crate) fn tell<R: Eprint>(
+    rt: &R,
+    answer: &Answer<Global>,
+    noticed: &Noticed,
+) -> io::Result<u8> {
     match answer {
-        Answer::Refused(code) => eprintln!(rt; "error: the server refuses it, by a reply {code}")?,
+        Answer::Refused(code) => {
+            eprintln!(rt; "error: the server refuses it: {}", noticed.refusal(*code))?
+        }
         Answer::Broken { got, mark: _ } => eprintln!(rt;
             "error: the data connection broke behind {} octets; no file is written",
             got.as_slice().len()
