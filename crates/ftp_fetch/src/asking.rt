@@ -129,7 +129,9 @@ where
     let peer = host_of(stream.peer_addr()?);
     let mut ports = SocketPorts::hearing(rt, stream)?;
     let heard = Noticing::new(stream, noticed);
-    Ok(answer_between(rt.alloc(), (here, peer), login, request, heard, &mut ports))
+    let answer = answer_between(rt.alloc(), (here, peer), login, request, heard, &mut ports);
+    noticed.add_opened(ports.opened());
+    Ok(answer)
 }
 
 /// Makes a client between two hosts, which asks.

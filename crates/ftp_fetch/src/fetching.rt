@@ -102,13 +102,21 @@ where
                 at(Stage::Writing, write_over(rt, file, octets.as_slice())),
             )
         }
-        (Task::Put(_), Answer::Done) => Ok(DONE),
+        (Task::Put(_), Answer::Done) => tell_tries(rt, noticed.opened()),
         (Task::List, Answer::Entries(entries)) => {
             write(rt, entry_lines(rt.alloc(), entries.as_slice()))
         }
         (Task::List, Answer::Names(names)) => write(rt, name_lines(rt.alloc(), names.as_slice())),
         _ => tell(rt, answer, noticed),
     }
+}
+
+/// Tells how many tries an upload took, where it was more than one: each has a data connection of its own.
+fn tell_tries<R: Eprint>(rt: &R, tries: u32) -> io::Result<u8> {
+    if tries > 1 {
+        eprintln!(rt; "note: the upload took {tries} tries")?;
+    }
+    Ok(DONE)
 }
 
 /// Writes lines to standard output.

@@ -1,4 +1,4 @@
-// What is noticed of a server beside its answer: the line of its replies that came last.
+// What is noticed of a server beside its answer: the line of its replies that came last, and how many data connections were opened.
 use std::fmt::{Display, Formatter};
 use std::io::Read;
 use std::net::TcpStream;
@@ -18,6 +18,8 @@ pub(crate) struct Noticed {
     len: usize,
     /// Whether that line came whole.
     is_whole: bool,
+    /// How many data connections were opened, over all control connections.
+    opened: u32,
 }
 
 impl Noticed {
@@ -27,7 +29,18 @@ impl Noticed {
             line: [0; LINE_LIMIT],
             len: 0,
             is_whole: false,
+            opened: 0,
         }
+    }
+
+    /// So many data connections more were opened.
+    pub(crate) fn add_opened(&mut self, count: u32) {
+        self.opened = self.opened.saturating_add(count);
+    }
+
+    /// How many data connections were opened.
+    pub(crate) fn opened(&self) -> u32 {
+        self.opened
     }
 
     /// A refusal by a code: the line of the reply, where that came last and begins with the code, and else the code alone.

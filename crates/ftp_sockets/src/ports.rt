@@ -24,6 +24,8 @@ pub struct SocketPorts<'a, R: Net<Listener = TcpListener, Stream = TcpStream>> {
     listener: Option<TcpListener>,
     /// A connection that was ended, until what the peer sent too much is read.
     leaving: Option<Link<'a>>,
+    /// How many data connections were opened.
+    opened: u32,
 }
 
 impl<'a, R: Net<Listener = TcpListener, Stream = TcpStream>> SocketPorts<'a, R> {
@@ -47,7 +49,13 @@ impl<'a, R: Net<Listener = TcpListener, Stream = TcpStream>> SocketPorts<'a, R> 
             heeds,
             listener: None,
             leaving: None,
+            opened: 0,
         })
+    }
+
+    /// How many data connections were opened so far, by either end.
+    pub fn opened(&self) -> u32 {
+        self.opened
     }
 
     /// Waits at most so many milliseconds until the peer has ended the last data connection too.
@@ -82,10 +90,17 @@ impl<'a, R: Net<Listener = TcpListener, Stream = TcpStream>> SocketPorts<'a, R> 
     /// The connection that came, as a link.
     fn linked(&mut self, stream: TcpStream, peer: SocketAddr) -> Accepted<Link<'a>> {
         self.listener = None;
-        match Link::new(self.control, stream, self.heeds) {
-            Ok(link) => Accepted::Came(link, host_of(peer)),
-            Err(_) => Accepted::Refused,
+        match self.counted(stream) {
+            Some(link) => Accepted::Came(link, host_of(peer)),
+            None => Accepted::Refused,
         }
+    }
+
+    /// An open connection as a link, which is counted.
+    fn counted(&mut self, stream: TcpStream) -> Option<Link<'a>> {
+        let link = Link::new(self.control, stream, self.heeds).ok()?;
+        self.opened = self.opened.saturating_add(1);
+        Some(link)
     }
 }
 
@@ -137,7 +152,7 @@ impl<'a, R: Net<Listener = TcpListener, Stream = TcpStream>> Ports for SocketPor
     fn connect(&mut self, endpoint: Endpoint) -> Option<Link<'a>> {
         self.finish(0);
         match self.open(addr_of(endpoint)) {
-            Ok(Some(stream)) => Link::new(self.control, stream, self.heeds).ok(),
+            Ok(Some(stream)) => self.counted(stream),
             Ok(None) | Err(_) => None,
         }
     }
