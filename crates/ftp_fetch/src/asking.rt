@@ -30,7 +30,7 @@ const PROBES: i32 = 4;
 const GOODBYE_MILLIS: u16 = 500;
 
 /// Asks once, over a control connection of its own.
-pub(crate) fn ask<R>(
+pub(crate) fn ask_once<R>(
     rt: &R,
     asked: &Asked<'_>,
     wish: Wish<'_>,
@@ -62,7 +62,7 @@ fn requested(alloc: Global, asked: &Asked<'_>, wish: Wish<'_>) -> io::Result<Req
     Ok(request_of(alloc, asked, wish)?)
 }
 
-/// Opens a control connection, does one operation over it, and closes it.
+/// Opens a control connection, does one operation over it, and closes it. A connection that breaks at once was one that ended.
 fn connect_and_ask<R>(
     rt: &R,
     place: Place<'_>,
@@ -74,10 +74,10 @@ where
     R: Net<Listener = TcpListener, Stream = TcpStream> + AllocGlobal,
 {
     let stream = at(Stage::Connection, connected(rt, place.host, place.port))?;
-    at(
-        Stage::Connection,
-        talk_and_leave(rt, login, request, &stream, noticed),
-    )
+    match talk_and_leave(rt, login, request, &stream, noticed) {
+        Ok(answer) => Ok(answer),
+        Err(_) => Ok(Answer::Lost),
+    }
 }
 
 /// Does one operation over a control connection, and says goodbye.

@@ -1,5 +1,5 @@
 // What the subcommands `get`, `put` and `ls` do.
-use crate::asking::ask;
+use crate::again::ask;
 use crate::file::write_over;
 use crate::listing::{entry_lines, name_lines};
 use crate::noticed::Noticed;
@@ -56,7 +56,7 @@ fn answer_to<R>(
     noticed: &mut Noticed,
 ) -> Result<Answer<Global>, Stop>
 where
-    R: Net<Listener = TcpListener, Stream = TcpStream> + Files + Env + AllocGlobal,
+    R: Net<Listener = TcpListener, Stream = TcpStream> + Files + Env + Eprint + AllocGlobal,
 {
     match task {
         Task::Get(_) => ask(rt, asked, Wish::Get, noticed),
@@ -73,7 +73,7 @@ fn put<R>(
     noticed: &mut Noticed,
 ) -> Result<Answer<Global>, Stop>
 where
-    R: Net<Listener = TcpListener, Stream = TcpStream> + Files + Env + AllocGlobal,
+    R: Net<Listener = TcpListener, Stream = TcpStream> + Files + Env + Eprint + AllocGlobal,
 {
     let octets = at(Stage::Reading, fs::read(rt, file))?;
     ask(rt, asked, Wish::Put(octets.as_slice()), noticed)
@@ -82,7 +82,7 @@ where
 /// The entries of a directory, or its names where MLSD is not known there (RFC 959, section 4.2.2).
 fn list<R>(rt: &R, asked: &Asked<'_>, noticed: &mut Noticed) -> Result<Answer<Global>, Stop>
 where
-    R: Net<Listener = TcpListener, Stream = TcpStream> + Files + Env + AllocGlobal,
+    R: Net<Listener = TcpListener, Stream = TcpStream> + Files + Env + Eprint + AllocGlobal,
 {
     match ask(rt, asked, Wish::Entries, noticed) {
         Ok(Answer::Refused(UNKNOWN | NOT_IMPLEMENTED)) => ask(rt, asked, Wish::Names, noticed),

@@ -1,6 +1,7 @@
 //! The programs `get`, `put` and `ls`: files and listings over real connections to a server (RFC 959; RFC 3659).
 #![tactic(auto)]
 
+mod again;
 mod asking;
 mod fetching;
 mod file;

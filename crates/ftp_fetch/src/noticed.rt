@@ -10,6 +10,9 @@ const LINE_LIMIT: usize = 512;
 /// What stands for an octet that a terminal might obey, or that is of no text.
 const HIDDEN: char = '?';
 
+/// The code of a server that ends the control connection (RFC 959, section 4.2.2).
+const NOT_AVAILABLE: u16 = 421;
+
 /// What was noticed so far.
 #[derive(Drop)]
 pub(crate) struct Noticed {
@@ -43,14 +46,35 @@ impl Noticed {
         self.opened
     }
 
-    /// A refusal by a code: the line of the reply, where that came last and begins with the code, and else the code alone.
+    /// A refusal by a code, as it is told: the line of the reply, and where that is not known the code alone.
     pub(crate) fn refusal(&self, code: u16) -> Refusal<'_> {
+        Refusal {
+            code,
+            line: self.last(code),
+        }
+    }
+
+    /// Why the server ends the control connection, as it is told behind a sentence; nothing where it does not say.
+    pub(crate) fn farewell(&self) -> Farewell<'_> {
+        Farewell {
+            line: self.last(NOT_AVAILABLE),
+        }
+    }
+
+    /// The line that came last, where it is whole and begins with this code; else an empty one.
+    fn last(&self, code: u16) -> &[u8] {
         let line = self.line.get(..self.len).unwrap_or(&[]);
         if self.is_whole && code_of(line) == Some(code) {
-            Refusal { code, line }
+            line
         } else {
-            Refusal { code, line: &[] }
+            &[]
         }
+    }
+
+    /// A control connection begins, on which no line came.
+    fn begin(&mut self) {
+        self.len = 0;
+        self.is_whole = false;
     }
 
     /// Keeps octets of replies.
@@ -93,6 +117,7 @@ pub(crate) struct Noticing<'a> {
 
 impl<'a> Noticing<'a> {
     pub(crate) fn new(stream: &'a TcpStream, noticed: &'a mut Noticed) -> Noticing<'a> {
+        noticed.begin();
         Noticing { stream, noticed }
     }
 
@@ -111,7 +136,7 @@ impl<'a> Read for Noticing<'a> {
     }
 }
 
-/// A refusal, as it is told: by the code, and by the text of the server where that is known.
+/// The text of a server, or its code where the text is not known.
 #[derive(Clone, Copy)]
 pub(crate) struct Refusal<'a> {
     code: u16,
@@ -124,18 +149,38 @@ impl<'a> Display for Refusal<'a> {
         if self.line.is_empty() {
             return write!(formatter, "{}", self.code);
         }
-        for chunk in self.line.utf8_chunks() {
-            write_plain(chunk.valid(), formatter)?;
-            if !chunk.invalid().is_empty() {
-                formatter.write_char(HIDDEN)?;
-            }
-        }
-        Ok(())
+        write_plain(self.line, formatter)
     }
 }
 
-/// Writes a text of a server for a terminal: none of its control characters, which a hostile server could rule the terminal by.
-fn write_plain<W: fmt::Write>(text: &str, formatter: &mut Formatter<W>) -> fmt::Result {
+/// A colon and the text of a server that ended the control connection, or nothing.
+#[derive(Clone, Copy)]
+pub(crate) struct Farewell<'a> {
+    line: &'a [u8],
+}
+
+impl<'a> Display for Farewell<'a> {
+    fn fmt<W: fmt::Write>(&self, formatter: &mut Formatter<W>) -> fmt::Result {
+        if self.line.is_empty() {
+            return Ok(());
+        }
+        formatter.write_str(": ")?;
+        write_plain(self.line, formatter)
+    }
+}
+
+/// Writes octets of a server for a terminal: none of its control characters, by which a hostile server could rule it.
+fn write_plain<W: fmt::Write>(octets: &[u8], formatter: &mut Formatter<W>) -> fmt::Result {
+    for chunk in octets.utf8_chunks() {
+        write_text(chunk.valid(), formatter)?;
+        if !chunk.invalid().is_empty() {
+            formatter.write_char(HIDDEN)?;
+        }
+    }
+    Ok(())
+}
+
+fn write_text<W: fmt::Write>(text: &str, formatter: &mut Formatter<W>) -> fmt::Result {
     for each in text.chars() {
         formatter.write_char(if each.is_control() { HIDDEN } else { each })?;
     }

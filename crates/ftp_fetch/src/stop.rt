@@ -34,6 +34,14 @@ pub(crate) fn at<T: Drop>(stage: Stage, done: io::Result<T>) -> Result<T, Stop> 
 }
 
 impl Stop {
+    /// Whether no control connection was made.
+    pub(crate) fn is_of_connection(&self) -> bool {
+        match self.stage {
+            Stage::Connection => true,
+            Stage::Login | Stage::Asking | Stage::Reading | Stage::Writing => false,
+        }
+    }
+
     /// Tells why on standard error, and gives the exit status: 2 for a bad login, and else 3.
     pub(crate) fn tell<R: Eprint>(&self, rt: &R) -> io::Result<u8> {
         let (what, status) = match self.stage {

@@ -28,6 +28,10 @@ pub(crate) fn tell<R: Eprint>(
             "error: the data connection broke behind {} octets; no file is written",
             got.as_slice().len()
         )?,
+        Answer::Lost => eprintln!(rt;
+            "error: the control connection ended{}; it may be done in part",
+            noticed.farewell()
+        )?,
         other => eprintln!(rt; "error: {}", sentence(other))?,
     }
     Ok(status(answer))
@@ -38,7 +42,6 @@ fn sentence(answer: &Answer<Global>) -> &'static str {
         Answer::BadOperation => "the path is no path that can be sent",
         Answer::Unopened => "no data connection was opened, and nothing is done",
         Answer::Foreign => "another host than the server's was named, or came",
-        Answer::Lost => "the control connection ended; it may be done in part",
         Answer::Memory => "out of memory",
         _ => "the server says what has no place",
     }

@@ -15,4 +15,5 @@ pub use host::host_of;
 pub use link::Link;
 pub use options::keep_alive;
 pub use ports::SocketPorts;
+pub use wait::pause;
 pub use watch::SystemWatch;

@@ -1,4 +1,4 @@
-// Waiting for the control connection and another socket together.
+// Waiting for the control connection and another socket together, or for nothing.
 use ftp_drive::For;
 use ftp_pieces::TURNS;
 use libc::net as c;
@@ -87,4 +87,10 @@ fn woken(control: i16, other: i16, heeds: Heeds) -> Woke {
     } else {
         Woke::Ended
     }
+}
+
+/// Waits so many milliseconds; a signal may end that early.
+pub fn pause(millis: u16) {
+    let mut nothing: [pollfd; 0] = [];
+    let _count = c::poll(&mut nothing, i32::from(millis));
 }
