@@ -1,42 +1,75 @@
 // Files of this end.
-use std::alloc::Global;
-use std::fs::{Files, OpenFile, OpenOptions};
-use std::io::{ErrorKind, Write};
-use std::os::unix::fs::OpenOptionsExt;
+use std::alloc::{AllocError, Global};
+use std::fs::{Files, OpenFile, OpenOptions, Permissions};
+use std::io::{Error, ErrorKind, Write};
+use std::os::unix::fs::{OpenOptionsExt, PermissionsExt};
 use std::{fs, io};
 
 /// What a file is called behind its own name while it is written.
 const BESIDE: &str = ".ftp-part";
 
-/// The permissions of a new file, less the umask.
+/// The permissions of a file that has no predecessor, less the umask.
 const NEW_MODE: u32 = 0o666;
 
-/// Writes a file beside its name, flushes it, and moves it over the name. Where that fails, what was written beside is removed again.
+/// Writes a file beside its name, flushes it, and moves it over the name. It keeps the permissions of the file that it replaces.
+/// Where that fails, what was written beside is removed again.
 pub(crate) fn write_over<R: Files + AllocGlobal>(
     files: &R,
     file: &str,
     octets: &[u8],
 ) -> io::Result<()> {
-    let mut beside: String<Global> = String::from_str(files.alloc(), file)?;
+    let beside = beside(files.alloc(), file)?;
+    let written = replace(files, file, beside.as_str(), octets);
+    removed_unless(files, beside.as_str(), written)
+}
+
+fn beside(alloc: Global, file: &str) -> Result<String<Global>, AllocError> {
+    let mut beside: String<Global> = String::from_str(alloc, file)?;
     beside.push_str(BESIDE)?;
-    let written = write_beside(files, file, beside.as_str(), octets);
+    Ok(beside)
+}
+
+/// What was written beside is removed, unless it was written.
+fn removed_unless<R: Files>(files: &R, beside: &str, written: io::Result<()>) -> io::Result<()> {
     if written.is_err() {
-        let _gone = fs::remove_file(files, beside.as_str());
+        let _gone = fs::remove_file(files, beside);
     }
     written
 }
 
-fn write_beside<R: Files>(files: &R, file: &str, beside: &str, octets: &[u8]) -> io::Result<()> {
-    let mut opened = create(files, beside)?;
-    opened.write_all(octets)?;
-    opened.sync_all()?;
+fn replace<R: Files>(files: &R, file: &str, beside: &str, octets: &[u8]) -> io::Result<()> {
+    write_beside(files, file, beside, octets)?;
     fs::rename(files, beside, file)
 }
 
+fn write_beside<R: Files>(files: &R, file: &str, beside: &str, octets: &[u8]) -> io::Result<()> {
+    let kept = kept_mode(files, file)?;
+    let mut opened = create(files, beside, kept.unwrap_or(NEW_MODE))?;
+    opened.write_all(octets)?;
+    if let Some(mode) = kept {
+        opened.set_permissions(Permissions::from_mode(mode))?;
+    }
+    opened.sync_all()
+}
+
+/// The permissions of the file that is replaced, if there is one; what is neither a file nor a link is not replaced.
+fn kept_mode<R: Files>(files: &R, file: &str) -> io::Result<Option<u32>> {
+    match fs::symlink_metadata(files, file) {
+        Ok(found) if found.is_file() => Ok(Some(found.permissions().mode() & 0o777)),
+        Ok(found) if found.is_symlink() => Ok(None),
+        Ok(_) => Err(Error::new(
+            ErrorKind::InvalidInput,
+            "a directory or a device has that name",
+        )),
+        Err(error) if error.kind() == ErrorKind::NotFound => Ok(None),
+        Err(error) => Err(error),
+    }
+}
+
 /// Makes the file to be written; one that an interrupted write left goes first.
-fn create<R: Files>(files: &R, beside: &str) -> io::Result<R::File> {
+fn create<R: Files>(files: &R, beside: &str, mode: u32) -> io::Result<R::File> {
     let mut how = OpenOptions::new();
-    how.write(true).create_new(true).mode(NEW_MODE);
+    how.write(true).create_new(true).mode(mode);
     match how.open(files, beside) {
         Err(error) if error.kind() == ErrorKind::AlreadyExists => {
             fs::remove_file(files, beside)?;
