@@ -1,12 +1,12 @@
 // What the subcommands `get`, `put` and `ls` do.
 use crate::again::ask;
-use crate::file::write_over;
+use crate::download::{Download, save};
 use crate::listing::{entry_lines, name_lines};
 use crate::noticed::Noticed;
 use crate::place::Asked;
 use crate::request::Wish;
 use crate::stop::{Stage, Stop, at};
-use crate::telling::tell;
+use crate::telling::{DONE, tell};
 use ftp_operation::Answer;
 use std::alloc::{AllocError, Global};
 use std::env::Env;
@@ -14,9 +14,6 @@ use std::fs::Files;
 use std::io::{Eprint, Print, Write};
 use std::net::{Net, TcpListener, TcpStream};
 use std::{fs, io};
-
-/// A program that did all that it was asked for.
-const DONE: u8 = 0;
 
 /// The code of the reply to a command that is not known (RFC 959, section 4.2.2).
 const UNKNOWN: u16 = 500;
@@ -27,8 +24,8 @@ const NOT_IMPLEMENTED: u16 = 502;
 /// What is to be done at a place.
 #[derive(Clone, Copy)]
 pub enum Task<'a> {
-    /// The file is downloaded into this one of this end: written beside its name, and moved over it once it is whole.
-    Get(&'a str),
+    /// The file is downloaded.
+    Get(Download<'a>),
     /// This file of this end is uploaded.
     Put(&'a str),
     /// The entries of the directory go to standard output, or its names where the server has no machine listing.
@@ -96,12 +93,7 @@ where
     R: Files + Print + Eprint + AllocGlobal,
 {
     match (task, answer) {
-        (Task::Get(file), Answer::Octets(octets)) => {
-            done(
-                rt,
-                at(Stage::Writing, write_over(rt, file, octets.as_slice())),
-            )
-        }
+        (Task::Get(download), answer) => save(rt, download, answer, noticed),
         (Task::Put(_), Answer::Done) => tell_tries(rt, noticed.opened()),
         (Task::List, Answer::Entries(entries)) => {
             write(rt, entry_lines(rt.alloc(), entries.as_slice()))
@@ -123,12 +115,4 @@ fn tell_tries<R: Eprint>(rt: &R, tries: u32) -> io::Result<u8> {
 fn write<R: Print>(rt: &R, lines: Result<Vec<u8, Global>, AllocError>) -> io::Result<u8> {
     io::writer(rt).write_all(lines?.as_slice())?;
     Ok(DONE)
-}
-
-/// The exit status of what was done last.
-fn done<R: Eprint>(rt: &R, last: Result<(), Stop>) -> io::Result<u8> {
-    match last {
-        Ok(()) => Ok(DONE),
-        Err(stop) => stop.tell(rt),
-    }
 }

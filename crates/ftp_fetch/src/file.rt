@@ -5,8 +5,8 @@ use std::io::{Error, ErrorKind, Write};
 use std::os::unix::fs::{OpenOptionsExt, PermissionsExt};
 use std::{fs, io};
 
-/// What a file is called behind its own name while it is written.
-const BESIDE: &str = ".ftp-part";
+/// What a file is called behind its own name while it is written, and where a part of it is kept.
+pub(crate) const BESIDE: &str = ".ftp-part";
 
 /// The permissions of a file that has no predecessor, less the umask.
 const NEW_MODE: u32 = 0o666;
@@ -20,6 +20,17 @@ pub(crate) fn write_over<R: Files + AllocGlobal>(
 ) -> io::Result<()> {
     let beside = beside(files.alloc(), file)?;
     let written = replace(files, file, beside.as_str(), octets);
+    removed_unless(files, beside.as_str(), written)
+}
+
+/// Writes a part of a file beside its name, and leaves it there. Where that fails, what was written is removed again.
+pub(crate) fn write_part<R: Files + AllocGlobal>(
+    files: &R,
+    file: &str,
+    octets: &[u8],
+) -> io::Result<()> {
+    let beside = beside(files.alloc(), file)?;
+    let written = write_beside(files, file, beside.as_str(), octets);
     removed_unless(files, beside.as_str(), written)
 }
 

@@ -3,6 +3,7 @@
 
 mod again;
 mod asking;
+mod download;
 mod fetching;
 mod file;
 mod listing;
@@ -13,5 +14,6 @@ mod request;
 mod stop;
 mod telling;
 
+pub use download::Download;
 pub use fetching::{Task, fetch};
 pub use place::{Asked, Place, place_of};

@@ -5,14 +5,17 @@ use std::alloc::Global;
 use std::io;
 use std::io::Eprint;
 
+/// All that was asked for is done.
+pub(crate) const DONE: u8 = 0;
+
 /// Refused, or broken off.
-const REFUSED: u8 = 1;
+pub(crate) const REFUSED: u8 = 1;
 
 /// A path that can't be sent.
 const BAD_WORDS: u8 = 2;
 
-/// The control connection failed, or memory was refused.
-const FAILED: u8 = 3;
+/// The control connection or a device failed, or memory was refused.
+pub(crate) const FAILED: u8 = 3;
 
 /// Tells on standard error why an operation was not done, and gives the exit status.
 pub(crate) fn tell<R: Eprint>(

@@ -2,7 +2,7 @@
 use crate::help;
 use crate::words::{Form, Subcommand, Word};
 use clap::ArgMatches;
-use ftp_fetch::{Asked, Task, place_of};
+use ftp_fetch::{Asked, Download, Task, place_of};
 use ftp_operation::How;
 use ftp_programs::representation_of;
 
@@ -17,6 +17,11 @@ pub const GET: Subcommand<'static> = Subcommand {
             name: "file",
             form: Form::Place("FILE"),
             help: "the file to write; without it, one of the name that PATH ends in",
+        },
+        Word {
+            name: "keep",
+            form: Form::Flag,
+            help: "keeps the octets of a download that broke, in FILE.ftp-part",
         },
     ],
     options: OPTIONS,
@@ -136,6 +141,9 @@ pub fn fetch_task_of<'a>(
     Some(if name == "put" {
         Task::Put(file)
     } else {
-        Task::Get(file)
+        Task::Get(Download {
+            file,
+            keep: words.get_flag("keep"),
+        })
     })
 }

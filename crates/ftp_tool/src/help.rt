@@ -49,25 +49,29 @@ Example:
 /// Behind the help of `get`.
 pub const GET: &str = "\
 HOST is an address or a name, an IPv6 address in brackets; PATH is sent to the server as it stands behind the slash. The file is
-written beside its name, and moved over it once it is whole. The password of anonymous is none; that of another user is in the
-environment, in FTP_PASSWORD, or in the file that --password-file names. Everything goes in cleartext, passwords too.
+written beside its name, as FILE.ftp-part, and moved over it once it is whole; it keeps the permissions of the file that it replaces.
+With --keep what came before the data connection broke stays in FILE.ftp-part. Where the control connection ends, all is done anew over
+another one, at most four times, behind 1, 2, 4 and 8 seconds; each is told on standard error.
+The password of anonymous is none; that of another user is in the environment, in FTP_PASSWORD, or in the file that --password-file
+names. Everything goes in cleartext, passwords too.
 Status: 0 done; 1 refused, or the data connection broke; 2 bad command line, login or path; 3 the control connection or a device failed,
-or memory was refused. All but 0 are told on standard error.
+or memory was refused. All but 0 are told on standard error, a refusal with the server's text.
 
 Example:
   ftp_tool get 127.0.0.1:2121/pub/a.txt a.txt";
 
 /// Behind the help of `put`.
 pub const PUT: &str = "\
-HOST, PATH, passwords and status are as with get. An upload in type I and file structure goes on where the server has it after a
-break, at most 16 times.
+HOST, PATH, passwords, status and what is done where the control connection ends are as with get; an upload begins anew then. Where the
+data connection alone breaks, an upload in type I and file structure goes on where the server has it, by at most 16 tries; more than one
+are told on standard error.
 
 Example:
   FTP_PASSWORD=secret ftp_tool put a.txt 127.0.0.1:2121/a.txt --user guest";
 
 /// Behind the help of `ls`.
 pub const LS: &str = "\
-HOST, PATH, passwords and status are as with get; no PATH is the directory of the login.
+HOST, PATH, passwords, status and what is done where the control connection ends are as with get; no PATH is the directory of the login.
 Output: the entries of the directory, as a machine listing has them (RFC 3659, section 7.2); where the server knows no MLSD, the names
 that NLST gives. Each has LF at its end.
 
