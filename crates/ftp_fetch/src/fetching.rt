@@ -1,6 +1,6 @@
 // What the subcommands `get`, `put` and `ls` do.
 use crate::again::ask;
-use crate::download::{Download, save};
+use crate::download::{Download, get, save};
 use crate::listing::{entry_lines, name_lines};
 use crate::noticed::Noticed;
 use crate::place::Asked;
@@ -56,7 +56,7 @@ where
     R: Net<Listener = TcpListener, Stream = TcpStream> + Files + Env + Eprint + AllocGlobal,
 {
     match task {
-        Task::Get(_) => ask(rt, asked, Wish::Get, noticed),
+        Task::Get(download) => get(rt, asked, download, noticed),
         Task::Put(file) => put(rt, asked, file, noticed),
         Task::List => list(rt, asked, noticed),
     }

@@ -1,8 +1,10 @@
 // Files of this end.
+use ftp_facts::Moment;
 use std::alloc::{AllocError, Global};
-use std::fs::{Files, OpenFile, OpenOptions, Permissions};
+use std::fs::{FileTimes, Files, OpenFile, OpenOptions, Permissions};
 use std::io::{Error, ErrorKind, Write};
 use std::os::unix::fs::{OpenOptionsExt, PermissionsExt};
+use std::time::{Duration, SystemTime, UNIX_EPOCH};
 use std::{fs, io};
 
 /// What a file is called behind its own name while it is written, and where a part of it is kept.
@@ -11,15 +13,16 @@ pub(crate) const BESIDE: &str = ".ftp-part";
 /// The permissions of a file that has no predecessor, less the umask.
 const NEW_MODE: u32 = 0o666;
 
-/// Writes a file beside its name, flushes it, and moves it over the name. It keeps the permissions of the file that it replaces.
-/// Where that fails, what was written beside is removed again.
+/// Writes a file beside its name, flushes it, and moves it over the name. It keeps the permissions of the file that it replaces; its last change
+/// was at the moment, where there is one. Where that fails, what was written beside is removed again.
 pub(crate) fn write_over<R: Files + AllocGlobal>(
     files: &R,
     file: &str,
     octets: &[u8],
+    moment: Option<Moment>,
 ) -> io::Result<()> {
     let beside = beside(files.alloc(), file)?;
-    let written = replace(files, file, beside.as_str(), octets);
+    let written = replace(files, file, beside.as_str(), octets, moment);
     removed_unless(files, beside.as_str(), written)
 }
 
@@ -30,7 +33,7 @@ pub(crate) fn write_part<R: Files + AllocGlobal>(
     octets: &[u8],
 ) -> io::Result<()> {
     let beside = beside(files.alloc(), file)?;
-    let written = write_beside(files, file, beside.as_str(), octets);
+    let written = write_beside(files, file, beside.as_str(), octets, None);
     removed_unless(files, beside.as_str(), written)
 }
 
@@ -48,17 +51,32 @@ fn removed_unless<R: Files>(files: &R, beside: &str, written: io::Result<()>) ->
     written
 }
 
-fn replace<R: Files>(files: &R, file: &str, beside: &str, octets: &[u8]) -> io::Result<()> {
-    write_beside(files, file, beside, octets)?;
+fn replace<R: Files>(
+    files: &R,
+    file: &str,
+    beside: &str,
+    octets: &[u8],
+    moment: Option<Moment>,
+) -> io::Result<()> {
+    write_beside(files, file, beside, octets, moment)?;
     fs::rename(files, beside, file)
 }
 
-fn write_beside<R: Files>(files: &R, file: &str, beside: &str, octets: &[u8]) -> io::Result<()> {
+fn write_beside<R: Files>(
+    files: &R,
+    file: &str,
+    beside: &str,
+    octets: &[u8],
+    moment: Option<Moment>,
+) -> io::Result<()> {
     let kept = kept_mode(files, file)?;
     let mut opened = create(files, beside, kept.unwrap_or(NEW_MODE))?;
     opened.write_all(octets)?;
     if let Some(mode) = kept {
         opened.set_permissions(Permissions::from_mode(mode))?;
+    }
+    if let Some(moment) = moment {
+        opened.set_times(FileTimes::new().set_modified(time_of(moment)?))?;
     }
     opened.sync_all()
 }
@@ -87,5 +105,13 @@ fn create<R: Files>(files: &R, beside: &str, mode: u32) -> io::Result<R::File> {
             how.open(files, beside)
         }
         opened => opened,
+    }
+}
+
+/// The system's time of a moment.
+fn time_of(moment: Moment) -> io::Result<SystemTime> {
+    match UNIX_EPOCH.checked_add(Duration::from_secs(moment.seconds)) {
+        Some(time) => Ok(time),
+        None => Err(Error::from(ErrorKind::InvalidInput)),
     }
 }

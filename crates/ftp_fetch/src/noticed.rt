@@ -1,4 +1,6 @@
-// What is noticed of a server beside its answer: the line of its replies that came last, and how many data connections were opened.
+// What is noticed of a server beside its answer: the line of its replies that came last, how many data connections were opened, and the moment
+// of a file.
+use ftp_facts::Moment;
 use std::fmt::{Display, Formatter};
 use std::io::Read;
 use std::net::TcpStream;
@@ -23,6 +25,7 @@ pub(crate) struct Noticed {
     is_whole: bool,
     /// How many data connections were opened, over all control connections.
     opened: u32,
+    moment: Option<Moment>,
 }
 
 impl Noticed {
@@ -33,6 +36,7 @@ impl Noticed {
             len: 0,
             is_whole: false,
             opened: 0,
+            moment: None,
         }
     }
 
@@ -44,6 +48,16 @@ impl Noticed {
     /// How many data connections were opened.
     pub(crate) fn opened(&self) -> u32 {
         self.opened
+    }
+
+    /// The server's moment of the file.
+    pub(crate) fn set_moment(&mut self, moment: Moment) {
+        self.moment = Some(moment);
+    }
+
+    /// The server's moment of the file, where that was asked for and is known.
+    pub(crate) fn moment(&self) -> Option<Moment> {
+        self.moment
     }
 
     /// A refusal by a code, as it is told: the line of the reply, and where that is not known the code alone.

@@ -10,6 +10,8 @@ use std::alloc::{AllocError, Global};
 #[derive(Clone, Copy)]
 pub(crate) enum Wish<'a> {
     Get,
+    /// The moment of the last change of a file (RFC 3659, section 3).
+    Moment,
     /// These octets are to be the file.
     Put(&'a [u8]),
     /// The entries, with their facts.
@@ -42,6 +44,7 @@ pub(crate) fn request_of(
     let path = Text::copy_of(alloc, asked.place.path.as_bytes())?;
     match wish {
         Wish::Get => Ok(Request::One(Some(Op::Get(path, asked.how)))),
+        Wish::Moment => Ok(Request::One(Some(Op::Modified(path)))),
         Wish::Entries => Ok(Request::One(Some(Op::List(path, asked.how)))),
         Wish::Names => Ok(Request::One(Some(Op::Names(path, asked.how)))),
         Wish::Put(octets) => {

@@ -23,6 +23,11 @@ pub const GET: Subcommand<'static> = Subcommand {
             form: Form::Flag,
             help: "keeps the octets of a download that broke, in FILE.ftp-part",
         },
+        Word {
+            name: "moment",
+            form: Form::Flag,
+            help: "the last change of FILE is at the server's moment of it",
+        },
     ],
     options: OPTIONS,
 };
@@ -144,6 +149,7 @@ pub fn fetch_task_of<'a>(
         Task::Get(Download {
             file,
             keep: words.get_flag("keep"),
+            moment: words.get_flag("moment"),
         })
     })
 }

@@ -50,7 +50,8 @@ Example:
 pub const GET: &str = "\
 HOST is an address or a name, an IPv6 address in brackets; PATH is sent to the server as it stands behind the slash. The file is
 written beside its name, as FILE.ftp-part, and moved over it once it is whole; it keeps the permissions of the file that it replaces.
-With --keep what came before the data connection broke stays in FILE.ftp-part. Where the control connection ends, all is done anew over
+With --keep what came before the data connection broke stays in FILE.ftp-part. With --moment the server is asked first when PATH was
+changed last, which FILE has then; where it does not know that, standard error has a note. Where the control connection ends, all is done anew over
 another one, at most four times, behind 1, 2, 4 and 8 seconds; each is told on standard error.
 The password of anonymous is none; that of another user is in the environment, in FTP_PASSWORD, or in the file that --password-file
 names. Everything goes in cleartext, passwords too.
