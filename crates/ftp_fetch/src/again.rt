@@ -11,6 +11,7 @@ use std::env::Env;
 use std::fs::Files;
 use std::io::Eprint;
 use std::net::{Net, TcpListener, TcpStream};
+use std::time::Clock;
 
 /// How long is waited before each further control connection, in seconds.
 const WAITS: [u16; 4] = [1, 2, 4, 8];
@@ -35,7 +36,7 @@ pub(crate) fn ask<R>(
     noticed: &mut Noticed,
 ) -> Result<Answer<Global>, Stop>
 where
-    R: Net<Listener = TcpListener, Stream = TcpStream> + Files + Env + Eprint + AllocGlobal,
+    R: Net<Listener = TcpListener, Stream = TcpStream> + Files + Env + Eprint + Clock + AllocGlobal,
 {
     let answered = ask_once(rt, asked, wish, noticed);
     match loss_of(&answered) {
@@ -52,7 +53,7 @@ fn ask_again<R>(
     noticed: &mut Noticed,
 ) -> Result<Answer<Global>, Stop>
 where
-    R: Net<Listener = TcpListener, Stream = TcpStream> + Files + Env + Eprint + AllocGlobal,
+    R: Net<Listener = TcpListener, Stream = TcpStream> + Files + Env + Eprint + Clock + AllocGlobal,
 {
     let mut loss = Loss::Ended;
     for seconds in WAITS {

@@ -1,7 +1,8 @@
 // One operation over a control connection of its own.
 use crate::login::login_of;
 use crate::noticed::{Noticed, Noticing};
-use crate::place::{Asked, Place};
+use crate::place::Asked;
+use crate::progress::MeteredPorts;
 use crate::request::{Request, Wish, begin, request_of};
 use crate::stop::{Stage, Stop, at};
 use ftp_carrying::Carrying;
@@ -10,14 +11,14 @@ use ftp_client_drive::{Control, drive_client};
 use ftp_client_machine::Near;
 use ftp_endpoint::Host;
 use ftp_operation::{Answer, Login};
-use ftp_sockets::{SocketPorts, host_of, keep_alive, say_goodbye};
+use ftp_sockets::{host_of, keep_alive, say_goodbye};
 use std::alloc::Global;
 use std::env::Env;
 use std::fs::Files;
 use std::io;
-use std::io::Write;
+use std::io::{Eprint, Write};
 use std::net::{Net, TcpListener, TcpStream};
-use std::time::Duration;
+use std::time::{Clock, Duration};
 
 /// After so many seconds without an octet the first probe of a silent server goes, then each so many, and so often.
 const IDLE_SECONDS: i32 = 120;
@@ -37,7 +38,7 @@ pub(crate) fn ask_once<R>(
     noticed: &mut Noticed,
 ) -> Result<Answer<Global>, Stop>
 where
-    R: Net<Listener = TcpListener, Stream = TcpStream> + Files + Env + AllocGlobal,
+    R: Net<Listener = TcpListener, Stream = TcpStream> + Files + Env + Eprint + Clock + AllocGlobal,
 {
     let login = at(Stage::Login, login_of(rt, asked))?;
     ask_as(rt, asked, &mut Some(login), wish, noticed)
@@ -52,10 +53,10 @@ fn ask_as<R>(
     noticed: &mut Noticed,
 ) -> Result<Answer<Global>, Stop>
 where
-    R: Net<Listener = TcpListener, Stream = TcpStream> + AllocGlobal,
+    R: Net<Listener = TcpListener, Stream = TcpStream> + Eprint + Clock + AllocGlobal,
 {
     let mut request = at(Stage::Asking, requested(rt.alloc(), asked, wish))?;
-    connect_and_ask(rt, asked.place, login, &mut request, noticed)
+    connect_and_ask(rt, asked, login, &mut request, noticed)
 }
 
 fn requested(alloc: Global, asked: &Asked<'_>, wish: Wish<'_>) -> io::Result<Request> {
@@ -65,16 +66,19 @@ fn requested(alloc: Global, asked: &Asked<'_>, wish: Wish<'_>) -> io::Result<Req
 /// Opens a control connection, does one operation over it, and closes it. A connection that breaks at once was one that ended.
 fn connect_and_ask<R>(
     rt: &R,
-    place: Place<'_>,
+    asked: &Asked<'_>,
     login: &mut Option<Login<Global>>,
     request: &mut Request,
     noticed: &mut Noticed,
 ) -> Result<Answer<Global>, Stop>
 where
-    R: Net<Listener = TcpListener, Stream = TcpStream> + AllocGlobal,
+    R: Net<Listener = TcpListener, Stream = TcpStream> + Eprint + Clock + AllocGlobal,
 {
-    let stream = at(Stage::Connection, connected(rt, place.host, place.port))?;
-    match talk_and_leave(rt, login, request, &stream, noticed) {
+    let stream = at(
+        Stage::Connection,
+        connected(rt, asked.place.host, asked.place.port),
+    )?;
+    match talk_and_leave(rt, asked, login, request, &stream, noticed) {
         Ok(answer) => Ok(answer),
         Err(_) => Ok(Answer::Lost),
     }
@@ -83,15 +87,16 @@ where
 /// Does one operation over a control connection, and says goodbye.
 fn talk_and_leave<R>(
     rt: &R,
+    asked: &Asked<'_>,
     login: &mut Option<Login<Global>>,
     request: &mut Request,
     stream: &TcpStream,
     noticed: &mut Noticed,
 ) -> io::Result<Answer<Global>>
 where
-    R: Net<Listener = TcpListener, Stream = TcpStream> + AllocGlobal,
+    R: Net<Listener = TcpListener, Stream = TcpStream> + Eprint + Clock + AllocGlobal,
 {
-    let answer = talk(rt, login, request, stream, noticed)?;
+    let answer = talk(rt, asked, login, request, stream, noticed)?;
     let _gone = leave(stream);
     Ok(answer)
 }
@@ -117,17 +122,18 @@ fn leave(stream: &TcpStream) -> io::Result<()> {
 /// Does one operation over a control connection.
 fn talk<R>(
     rt: &R,
+    asked: &Asked<'_>,
     login: &mut Option<Login<Global>>,
     request: &mut Request,
     stream: &TcpStream,
     noticed: &mut Noticed,
 ) -> io::Result<Answer<Global>>
 where
-    R: Net<Listener = TcpListener, Stream = TcpStream> + AllocGlobal,
+    R: Net<Listener = TcpListener, Stream = TcpStream> + Eprint + Clock + AllocGlobal,
 {
     let here = host_of(stream.local_addr()?);
     let peer = host_of(stream.peer_addr()?);
-    let mut ports = SocketPorts::hearing(rt, stream)?;
+    let mut ports = MeteredPorts::hearing(rt, stream, asked.progress)?;
     let heard = Noticing::new(stream, noticed);
     let answer = answer_between(rt.alloc(), (here, peer), login, request, heard, &mut ports);
     noticed.add_opened(ports.opened());
@@ -141,10 +147,10 @@ fn answer_between<R>(
     login: &mut Option<Login<Global>>,
     request: &mut Request,
     heard: Noticing<'_>,
-    ports: &mut SocketPorts<'_, R>,
+    ports: &mut MeteredPorts<'_, R>,
 ) -> Answer<Global>
 where
-    R: Net<Listener = TcpListener, Stream = TcpStream>,
+    R: Net<Listener = TcpListener, Stream = TcpStream> + Eprint + Clock,
 {
     match login.take() {
         Some(login) => match client_of(alloc, login, here, peer) {
@@ -170,10 +176,10 @@ fn answer_of<R, N>(
     client: N,
     request: &mut Request,
     heard: Noticing<'_>,
-    ports: &mut SocketPorts<'_, R>,
+    ports: &mut MeteredPorts<'_, R>,
 ) -> Answer<Global>
 where
-    R: Net<Listener = TcpListener, Stream = TcpStream>,
+    R: Net<Listener = TcpListener, Stream = TcpStream> + Eprint + Clock,
     N: Near<Global>,
 {
     let mut client = client;

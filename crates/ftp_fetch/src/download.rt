@@ -14,6 +14,7 @@ use std::fs::Files;
 use std::io;
 use std::io::Eprint;
 use std::net::{Net, TcpListener, TcpStream};
+use std::time::Clock;
 
 /// A download.
 #[derive(Clone, Copy)]
@@ -34,7 +35,7 @@ pub(crate) fn get<R>(
     noticed: &mut Noticed,
 ) -> Result<Answer<Global>, Stop>
 where
-    R: Net<Listener = TcpListener, Stream = TcpStream> + Files + Env + Eprint + AllocGlobal,
+    R: Net<Listener = TcpListener, Stream = TcpStream> + Files + Env + Eprint + Clock + AllocGlobal,
 {
     if download.moment {
         let answer = ask(rt, asked, Wish::Moment, noticed)?;

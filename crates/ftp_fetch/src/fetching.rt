@@ -13,6 +13,7 @@ use std::env::Env;
 use std::fs::Files;
 use std::io::{Eprint, Print, Write};
 use std::net::{Net, TcpListener, TcpStream};
+use std::time::Clock;
 use std::{fs, io};
 
 /// The code of the reply to a command that is not known (RFC 959, section 4.2.2).
@@ -36,7 +37,13 @@ pub enum Task<'a> {
 /// memory was refused. All but 0 are told on standard error.
 pub fn fetch<R>(rt: &R, asked: &Asked<'_>, task: Task<'_>) -> io::Result<u8>
 where
-    R: Net<Listener = TcpListener, Stream = TcpStream> + Files + Env + Print + Eprint + AllocGlobal,
+    R: Net<Listener = TcpListener, Stream = TcpStream>
+        + Files
+        + Env
+        + Print
+        + Eprint
+        + Clock
+        + AllocGlobal,
 {
     let mut noticed = Noticed::new();
     match answer_to(rt, asked, task, &mut noticed) {
@@ -53,7 +60,7 @@ fn answer_to<R>(
     noticed: &mut Noticed,
 ) -> Result<Answer<Global>, Stop>
 where
-    R: Net<Listener = TcpListener, Stream = TcpStream> + Files + Env + Eprint + AllocGlobal,
+    R: Net<Listener = TcpListener, Stream = TcpStream> + Files + Env + Eprint + Clock + AllocGlobal,
 {
     match task {
         Task::Get(download) => get(rt, asked, download, noticed),
@@ -70,7 +77,7 @@ fn put<R>(
     noticed: &mut Noticed,
 ) -> Result<Answer<Global>, Stop>
 where
-    R: Net<Listener = TcpListener, Stream = TcpStream> + Files + Env + Eprint + AllocGlobal,
+    R: Net<Listener = TcpListener, Stream = TcpStream> + Files + Env + Eprint + Clock + AllocGlobal,
 {
     let octets = at(Stage::Reading, fs::read(rt, file))?;
     ask(rt, asked, Wish::Put(octets.as_slice()), noticed)
@@ -79,7 +86,7 @@ where
 /// The entries of a directory, or its names where MLSD is not known there (RFC 959, section 4.2.2).
 fn list<R>(rt: &R, asked: &Asked<'_>, noticed: &mut Noticed) -> Result<Answer<Global>, Stop>
 where
-    R: Net<Listener = TcpListener, Stream = TcpStream> + Files + Env + Eprint + AllocGlobal,
+    R: Net<Listener = TcpListener, Stream = TcpStream> + Files + Env + Eprint + Clock + AllocGlobal,
 {
     match ask(rt, asked, Wish::Entries, noticed) {
         Ok(Answer::Refused(UNKNOWN | NOT_IMPLEMENTED)) => ask(rt, asked, Wish::Names, noticed),

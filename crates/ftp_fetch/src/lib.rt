@@ -10,6 +10,7 @@ mod listing;
 mod login;
 mod noticed;
 mod place;
+mod progress;
 mod request;
 mod stop;
 mod telling;

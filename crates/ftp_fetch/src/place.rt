@@ -23,6 +23,8 @@ pub struct Asked<'a> {
     /// The file that has the password; its owner alone may use it.
     pub password_file: Option<&'a str>,
     pub how: How,
+    /// Whether a transfer that takes more than a second is told of, each second at most.
+    pub progress: bool,
 }
 
 impl<'a> Place<'a> {

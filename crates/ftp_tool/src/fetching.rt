@@ -86,6 +86,11 @@ const OPTIONS: &[Word<'static>] = &[
         help: "EPSV and EPRT over IPv4 too",
     },
     Word {
+        name: "progress",
+        form: Form::Flag,
+        help: "tells how far a transfer is, each second; without it where standard error is a terminal",
+    },
+    Word {
         name: "type",
         form: Form::Else("A|I", "I"),
         help: "",
@@ -107,13 +112,14 @@ pub fn is_one(name: &str) -> bool {
     name == "get" || name == "put" || name == "ls"
 }
 
-/// What is asked of which server; none where a value is none of its option.
-pub fn asked_of<'a>(words: &'a ArgMatches<'_>) -> Option<Asked<'a>> {
+/// What is asked of which server; none where a value is none of its option. At a terminal progress is told.
+pub fn asked_of<'a>(words: &'a ArgMatches<'_>, is_terminal: bool) -> Option<Asked<'a>> {
     Some(Asked {
         place: place_of(words.get_str("place")?)?,
         user: words.get_str("user")?,
         password_file: words.get_str("password-file"),
         how: how_of(words)?,
+        progress: is_terminal || words.get_flag("progress"),
     })
 }
 

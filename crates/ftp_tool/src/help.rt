@@ -51,8 +51,10 @@ pub const GET: &str = "\
 HOST is an address or a name, an IPv6 address in brackets; PATH is sent to the server as it stands behind the slash. The file is
 written beside its name, as FILE.ftp-part, and moved over it once it is whole; it keeps the permissions of the file that it replaces.
 With --keep what came before the data connection broke stays in FILE.ftp-part. With --moment the server is asked first when PATH was
-changed last, which FILE has then; where it does not know that, standard error has a note. Where the control connection ends, all is done anew over
-another one, at most four times, behind 1, 2, 4 and 8 seconds; each is told on standard error.
+changed last, which FILE has then; where the server does not know it, standard error has a note. With --progress, and where standard
+error is a terminal, it has the octets of a transfer that takes more than a second, each second at most.
+Where the control connection ends, all is done anew over another one, at most four times, behind 1, 2, 4 and 8 seconds; each is told
+on standard error.
 The password of anonymous is none; that of another user is in the environment, in FTP_PASSWORD, or in the file that --password-file
 names. Everything goes in cleartext, passwords too.
 Status: 0 done; 1 refused, or the data connection broke; 2 bad command line, login or path; 3 the control connection or a device failed,
@@ -63,8 +65,8 @@ Example:
 
 /// Behind the help of `put`.
 pub const PUT: &str = "\
-HOST, PATH, passwords, status and what is done where the control connection ends are as with get; an upload begins anew then. Where the
-data connection alone breaks, an upload in type I and file structure goes on where the server has it, by at most 16 tries; more than one
+HOST, PATH, passwords, status, progress and what is done where the control connection ends are as with get; an upload begins anew
+then. Where the data connection alone breaks, an upload in type I and file structure goes on where the server has it, by at most 16 tries; more than one
 are told on standard error.
 
 Example:
@@ -72,7 +74,8 @@ Example:
 
 /// Behind the help of `ls`.
 pub const LS: &str = "\
-HOST, PATH, passwords, status and what is done where the control connection ends are as with get; no PATH is the directory of the login.
+HOST, PATH, passwords, status, progress and what is done where the control connection ends are as with get; no PATH is the directory
+of the login.
 Output: the entries of the directory, as a machine listing has them (RFC 3659, section 7.2); where the server knows no MLSD, the names
 that NLST gives. Each has LF at its end.
 

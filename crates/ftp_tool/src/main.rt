@@ -15,7 +15,7 @@ use std::alloc::Global;
 use std::env;
 use std::env::Env;
 use std::fs::Files;
-use std::io::{Eprint, Read, Write};
+use std::io::{Eprint, IsTerminal, Read, Write};
 use std::net::{Net, TcpListener, TcpStream};
 use std::process::ExitCode;
 use std::time::Clock;
@@ -42,7 +42,7 @@ where
         + AllocGlobal
         + Clock
         + Net<Listener = TcpListener, Stream = TcpStream>,
-    F: Write,
+    F: Write + IsTerminal,
 {
     let words: Vec<String> = env::args(rt)?.collect(rt.alloc())?;
     match matches_of(rt.alloc(), words.as_slice()) {
@@ -76,11 +76,13 @@ where
         + AllocGlobal
         + Clock
         + Net<Listener = TcpListener, Stream = TcpStream>,
-    F: Write,
+    F: Write + IsTerminal,
 {
     match words.subcommand() {
         Some(("serve", words)) => serve(rt, words),
-        Some((name, words)) if fetching::is_one(name) => fetch(rt, name, words),
+        Some((name, words)) if fetching::is_one(name) => {
+            fetch(rt, name, words, faults.is_terminal())
+        }
         _ => perform_task(rt, words, faults),
     }
 }
@@ -119,12 +121,18 @@ where
     }
 }
 
-/// Does what `get`, `put` or `ls` asks for.
-fn fetch<R>(rt: &R, name: &str, words: &ArgMatches<'_>) -> Result<u8>
+/// Does what `get`, `put` or `ls` asks for, where standard error may be a terminal.
+fn fetch<R>(rt: &R, name: &str, words: &ArgMatches<'_>, is_terminal: bool) -> Result<u8>
 where
-    R: Print + Eprint + Env + Files + AllocGlobal + Net<Listener = TcpListener, Stream = TcpStream>,
+    R: Print
+        + Eprint
+        + Env
+        + Files
+        + AllocGlobal
+        + Clock
+        + Net<Listener = TcpListener, Stream = TcpStream>,
 {
-    let Some(asked) = fetching::asked_of(words) else {
+    let Some(asked) = fetching::asked_of(words, is_terminal) else {
         return bad_words(rt);
     };
     match fetching::fetch_task_of(name, words, &asked) {
