@@ -58,7 +58,10 @@ fn notice_moment<R: Eprint>(rt: &R, answer: &Answer<Global>, noticed: &mut Notic
             true
         }
         Answer::Strange => {
-            let _told = eprintln!(rt; "note: the server tells no moment of the file");
+            let _told = eprintln!(rt;
+                "note: the server tells no moment of the file{}",
+                noticed.said()
+            );
             true
         }
         _ => false,
@@ -81,9 +84,7 @@ pub(crate) fn save<R: Files + Eprint + AllocGlobal>(
 ) -> io::Result<u8> {
     match answer {
         Answer::Octets(octets) => write(rt, download.file, octets.as_slice(), noticed.moment()),
-        Answer::Broken { got, mark: _ } if download.keep && !got.as_slice().is_empty() => {
-            keep(rt, download.file, got.as_slice())
-        }
+        Answer::Broken { got, mark: _ } => save_part(rt, download, got.as_slice()),
         _ => tell(rt, answer, noticed),
     }
 }
@@ -99,6 +100,22 @@ fn write<R: Files + Eprint + AllocGlobal>(
         Ok(()) => Ok(DONE),
         Err(stop) => stop.tell(rt),
     }
+}
+
+/// Keeps the octets that came before a break where they are to be kept, and tells of the break.
+fn save_part<R: Files + Eprint + AllocGlobal>(
+    rt: &R,
+    download: Download<'_>,
+    octets: &[u8],
+) -> io::Result<u8> {
+    if download.keep && !octets.is_empty() {
+        return keep(rt, download.file, octets);
+    }
+    eprintln!(rt;
+        "error: the data connection broke behind {} octets; no file is written",
+        octets.len()
+    )?;
+    Ok(REFUSED)
 }
 
 /// Keeps the octets that came before a break, and tells where they are.

@@ -69,9 +69,16 @@ impl Noticed {
     }
 
     /// Why the server ends the control connection, as it is told behind a sentence; nothing where it does not say.
-    pub(crate) fn farewell(&self) -> Farewell<'_> {
-        Farewell {
+    pub(crate) fn farewell(&self) -> Said<'_> {
+        Said {
             line: self.last(NOT_AVAILABLE),
+        }
+    }
+
+    /// What the server said last, whole or not, as it is told behind a sentence.
+    pub(crate) fn said(&self) -> Said<'_> {
+        Said {
+            line: self.line.get(..self.len).unwrap_or(&[]),
         }
     }
 
@@ -167,13 +174,13 @@ impl<'a> Display for Refusal<'a> {
     }
 }
 
-/// A colon and the text of a server that ended the control connection, or nothing.
+/// A colon and what a server said, or nothing where that is not known.
 #[derive(Clone, Copy)]
-pub(crate) struct Farewell<'a> {
+pub(crate) struct Said<'a> {
     line: &'a [u8],
 }
 
-impl<'a> Display for Farewell<'a> {
+impl<'a> Display for Said<'a> {
     fn fmt<W: fmt::Write>(&self, formatter: &mut Formatter<W>) -> fmt::Result {
         if self.line.is_empty() {
             return Ok(());

@@ -27,14 +27,16 @@ pub(crate) fn tell<R: Eprint>(
         Answer::Refused(code) => {
             eprintln!(rt; "error: the server refuses it: {}", noticed.refusal(*code))?
         }
-        Answer::Broken { got, mark: _ } => eprintln!(rt;
-            "error: the data connection broke behind {} octets; no file is written",
-            got.as_slice().len()
-        )?,
         Answer::Lost => eprintln!(rt;
             "error: the control connection ended{}; it may be done in part",
             noticed.farewell()
         )?,
+        Answer::Strange => {
+            eprintln!(rt;
+                "error: the server says what has no place{}",
+                noticed.said()
+            )?
+        }
         other => eprintln!(rt; "error: {}", sentence(other))?,
     }
     Ok(status(answer))
@@ -45,8 +47,9 @@ fn sentence(answer: &Answer<Global>) -> &'static str {
         Answer::BadOperation => "the path is no path that can be sent",
         Answer::Unopened => "no data connection was opened, and nothing is done",
         Answer::Foreign => "another host than the server's was named, or came",
+        Answer::Broken { got: _, mark: _ } => "the data connection broke; it may be done in part",
         Answer::Memory => "out of memory",
-        _ => "the server says what has no place",
+        _ => "the server answers what was not asked",
     }
 }
 
