@@ -162,10 +162,11 @@ impl<'a, R: Net<Listener = TcpListener, Stream = TcpStream>> Ports for SocketPor
     }
 
     fn close(&mut self, stream: Option<Link<'a>>) {
-        self.finish(0);
         let Some(link) = stream else {
+            self.listener = None;
             return;
         };
+        self.finish(0);
         if link.end().is_ok() {
             self.leaving = Some(link);
         }
