@@ -1,4 +1,4 @@
-//! Whole scripts: how many operations they have, or which line is refused; the reports of answers; each growth refused in turn.
+//! Whole scripts: how many orders they have, or which line is refused; the reports of answers; each growth refused in turn.
 use crate::report::Paper;
 use ftp_facts::{Moment, Text};
 use ftp_operation::Answer;
@@ -6,7 +6,7 @@ use ftp_refusing::Refusing;
 use ftp_script::{ScriptFault, report_of, script_of};
 use std::alloc::{AllocError, Allocator, Global};
 
-/// Scripts, and how many operations each has.
+/// Scripts, and how many orders each has.
 const READ: &[(&[u8], usize)] = &[
     (b"login anonymous \\e\n", 0),
     (b"login guest secret\nwhere\nup\n", 2),
@@ -18,6 +18,7 @@ const READ: &[(&[u8], usize)] = &[
     (b"login a b\nrename f g\n", 1),
     (b"login a b\nput IFSpn f abc\nappend ARBaem f x\\ny\n", 2),
     (b"login a b\nputfrom IFSpn f 3 abc\n", 1),
+    (b"login a b\nupload IFSpn f abc\nupload AFSpn f x\n", 2),
     (
         b"login a b\nget IFSpn f\nsize AFSpn f\nlist IFSpn \\e\nnames IFSpn d\n",
         4,
@@ -57,6 +58,8 @@ const REFUSED: &[(&[u8], usize)] = &[
     (b"login a b\nappend IXSpn f a\n", 2),
     (b"login a b\nputfrom IFSpn f a\n", 2),
     (b"login a b\nputfrom IFSpn f -1 a\n", 2),
+    (b"login a b\nupload IFSpn f\n", 2),
+    (b"login a b\nupload IFSpn f 3 a\n", 2),
     (b"login a b\nget IFXpn f\n", 2),
     (b"login a b\nget f\n", 2),
     (b"login a b\ngetfrom IFSpn f\n", 2),
@@ -77,18 +80,18 @@ const REFUSED: &[(&[u8], usize)] = &[
     (b"login a b\nwhere\ncd\nup\n", 3),
 ];
 
-/// How many operations a script has.
+/// How many orders a script has.
 fn count_of<A: Allocator + Copy>(alloc: A, script: &[u8]) -> Result<usize, ScriptFault> {
     match script_of(alloc, script) {
-        Ok(script) => Ok(script.ops.len()),
+        Ok(script) => Ok(script.orders.len()),
         Err(fault) => Err(fault),
     }
 }
 
-/// Whether so many operations were read.
-fn has_ops(read: Result<usize, ScriptFault>, count: usize) -> bool {
+/// Whether so many orders were read.
+fn has_orders(read: Result<usize, ScriptFault>, count: usize) -> bool {
     match read {
-        Ok(ops) => ops == count,
+        Ok(orders) => orders == count,
         Err(_) => false,
     }
 }
@@ -104,7 +107,7 @@ fn is_refused(read: Result<usize, ScriptFault>, fault: ScriptFault) -> bool {
 fn are_read(alloc: Global) -> bool {
     let mut all = true;
     for row in READ {
-        all &= has_ops(count_of(alloc, row.0), row.1);
+        all &= has_orders(count_of(alloc, row.0), row.1);
     }
     all
 }
@@ -119,10 +122,10 @@ fn are_refused(alloc: Global) -> bool {
 
 const SCRIPT: &[u8] = b"login a b\nput IFSpn f abc\nrename f g\nwhere\n";
 
-/// Whether memory was wanted for the script above; `None` where neither it was, nor its operations were read.
+/// Whether memory was wanted for the script above; `None` where neither it was, nor its orders were read.
 fn wants_memory(read: Result<usize, ScriptFault>) -> Option<bool> {
     match read {
-        Ok(ops) => (ops == 3).then_some(false),
+        Ok(orders) => (orders == 3).then_some(false),
         Err(ScriptFault::Memory) => Some(true),
         Err(ScriptFault::Line(_)) => None,
     }
@@ -198,7 +201,7 @@ fn are_reported(alloc: Global) -> bool {
 
 /// What is tried here, and whether it holds.
 pub(crate) fn tried(alloc: Global, report: &mut Paper) {
-    report.say("scripts and their operations", are_read(alloc));
+    report.say("scripts and their orders", are_read(alloc));
     report.say("the first line that fits no form", are_refused(alloc));
     report.say(
         "a refused growth of a script is memory or a smaller one does",

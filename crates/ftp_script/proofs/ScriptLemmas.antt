@@ -4,9 +4,9 @@ use Rattle.std.proofs.Math.Seq.{drop-cons}
 use Rattle.std.proofs.lemmas.List.{map-append}
 use Rattle.std.specs.Prelude.{if◌then◌else◌}
 use Rattle.ftp_facts.specs.Listing.{but_empty_last}
-use Rattle.ftp_operation.specs.declared.op.Op.{Op}
-use Rattle.ftp_script.specs.Line.{op_value}
-use Rattle.ftp_script.specs.Script.{ops_behind, ops_value, with_line}
+use Rattle.ftp_script.specs.declared.order.Order.{Order}
+use Rattle.ftp_script.specs.Line.{order_value}
+use Rattle.ftp_script.specs.Script.{orders_behind, orders_value, with_line}
 
 -- ---- lines
 
@@ -37,58 +37,58 @@ left_in seen pieces lines last is some =
     ∙ sym (ap (λ l. but_empty_last (map seen l)) is ∙ ap but_empty_last (map-append seen lines (last ∷ [])) ∙ last_line (map seen lines) (seen last)
     ∙ ap (λ b. if b then map seen lines else map seen lines ++ seen last ∷ []) some)
 
--- ---- operations
+-- ---- orders
 
--- an operation, and those of later lines
-abbrev op_and : ℕ → Option (Op (List ℕ)) → Result (List (Op (List ℕ))) ℕ → Result (List (Op (List ℕ))) ℕ
-op_and number said behind = with_line (λ op ops. op ∷ ops) number said behind
+-- an order, and those of later lines
+abbrev order_and : ℕ → Option (Order (List ℕ)) → Result (List (Order (List ℕ))) ℕ → Result (List (Order (List ℕ))) ℕ
+order_and number said behind = with_line (λ order orders. order ∷ orders) number said behind
 
-kept : (front : List (Op (List ℕ))) (op : Op (List ℕ)) (number : ℕ) (behind : Result (List (Op (List ℕ))) ℕ)
-    → ops_behind front (op_and number (Some op) behind) ≡ ops_behind (front ++ op ∷ []) behind
-kept front op number (Ok ops) = ap (λ l. Ok l) (sym (append_assoc front (op ∷ []) ops))
-kept front op number (Err later) = refl
+kept : (front : List (Order (List ℕ))) (order : Order (List ℕ)) (number : ℕ) (behind : Result (List (Order (List ℕ))) ℕ)
+    → orders_behind front (order_and number (Some order) behind) ≡ orders_behind (front ++ order ∷ []) behind
+kept front order number (Ok orders) = ap (λ l. Ok l) (sym (append_assoc front (order ∷ []) orders))
+kept front order number (Err later) = refl
 
 -- nothing stands in front
-pub none_behind : (said : Result (List (Op (List ℕ))) ℕ) → ops_behind [] said ≡ said
-none_behind (Ok ops) = refl
+pub none_behind : (said : Result (List (Order (List ℕ))) ℕ) → orders_behind [] said ≡ said
+none_behind (Ok orders) = refl
 none_behind (Err number) = refl
 
--- a line that says an operation
-op_said : (front new : List (Op (List ℕ))) (line : List ℕ) (number : ℕ) (behind : Result (List (Op (List ℕ))) ℕ)
-    → option_map (λ op. front ++ op ∷ []) (op_value line) ≡ Some new
-    → ops_behind front (op_and number (op_value line) behind) ≡ ops_behind new behind
-op_said front new line number behind is = by (op_value line) is
+-- a line that says an order
+order_said : (front new : List (Order (List ℕ))) (line : List ℕ) (number : ℕ) (behind : Result (List (Order (List ℕ))) ℕ)
+    → option_map (λ order. front ++ order ∷ []) (order_value line) ≡ Some new
+    → orders_behind front (order_and number (order_value line) behind) ≡ orders_behind new behind
+order_said front new line number behind is = by (order_value line) is
   where
-    by : (said : Option (Op (List ℕ))) → option_map (λ op. front ++ op ∷ []) said ≡ Some new → ops_behind front (op_and number said behind) ≡ ops_behind new behind
+    by : (said : Option (Order (List ℕ))) → option_map (λ order. front ++ order ∷ []) said ≡ Some new → orders_behind front (order_and number said behind) ≡ orders_behind new behind
     by None e = absurd (cc)
-    by (Some op) e =
-        let same : front ++ op ∷ [] ≡ new = cc in
-        kept front op number behind ∙ ap (λ ops. ops_behind ops behind) same
+    by (Some order) e =
+        let same : front ++ order ∷ [] ≡ new = cc in
+        kept front order number behind ∙ ap (λ orders. orders_behind orders behind) same
 
 -- a line that says none
-op_unsaid : (front : List (Op (List ℕ))) (line : List ℕ) (number : ℕ) (behind : Result (List (Op (List ℕ))) ℕ)
-    → option_map (λ op. front ++ op ∷ []) (op_value line) ≡ None
-    → ops_behind front (op_and number (op_value line) behind) ≡ Err number
-op_unsaid front line number behind is = by (op_value line) is
+order_unsaid : (front : List (Order (List ℕ))) (line : List ℕ) (number : ℕ) (behind : Result (List (Order (List ℕ))) ℕ)
+    → option_map (λ order. front ++ order ∷ []) (order_value line) ≡ None
+    → orders_behind front (order_and number (order_value line) behind) ≡ Err number
+order_unsaid front line number behind is = by (order_value line) is
   where
-    by : (said : Option (Op (List ℕ))) → option_map (λ op. front ++ op ∷ []) said ≡ None → ops_behind front (op_and number said behind) ≡ Err number
+    by : (said : Option (Order (List ℕ))) → option_map (λ order. front ++ order ∷ []) said ≡ None → orders_behind front (order_and number said behind) ≡ Err number
     by None e = refl
-    by (Some op) e = absurd (cc)
+    by (Some order) e = absurd (cc)
 
 -- one line more is read
-pub line_read : {X : Type 0} (seen : X → List ℕ) (front new : List (Op (List ℕ))) (lines : List X) (at number : ℕ) (d : X) → at < length lines
-    → option_map (λ op. front ++ op ∷ []) (op_value (seen (get_or lines at d))) ≡ Some new
-    → ops_behind new (ops_value (number + 1) (map seen (drop (at + 1) lines))) ≡ ops_behind front (ops_value number (map seen (drop at lines)))
+pub line_read : {X : Type 0} (seen : X → List ℕ) (front new : List (Order (List ℕ))) (lines : List X) (at number : ℕ) (d : X) → at < length lines
+    → option_map (λ order. front ++ order ∷ []) (order_value (seen (get_or lines at d))) ≡ Some new
+    → orders_behind new (orders_value (number + 1) (map seen (drop (at + 1) lines))) ≡ orders_behind front (orders_value number (map seen (drop at lines)))
 line_read seen front new lines at number d inside is =
     let next : at + 1 ≡ suc at = omega arith in
-    let behind = ops_value (number + 1) (map seen (drop (suc at) lines)) in
-    ap (λ k. ops_behind new (ops_value (number + 1) (map seen (drop k lines)))) next
-    ∙ sym (ap (λ rest. ops_behind front (ops_value number (map seen rest))) (drop-cons lines at d inside) ∙ op_said front new (seen (get_or lines at d)) number behind is)
+    let behind = orders_value (number + 1) (map seen (drop (suc at) lines)) in
+    ap (λ k. orders_behind new (orders_value (number + 1) (map seen (drop k lines)))) next
+    ∙ sym (ap (λ rest. orders_behind front (orders_value number (map seen rest))) (drop-cons lines at d inside) ∙ order_said front new (seen (get_or lines at d)) number behind is)
 
 -- a line is refused
-pub line_refused : {X : Type 0} (seen : X → List ℕ) (front : List (Op (List ℕ))) (lines : List X) (at number : ℕ) (d : X) → at < length lines
-    → option_map (λ op. front ++ op ∷ []) (op_value (seen (get_or lines at d))) ≡ None
-    → ops_behind front (ops_value number (map seen (drop at lines))) ≡ Err number
+pub line_refused : {X : Type 0} (seen : X → List ℕ) (front : List (Order (List ℕ))) (lines : List X) (at number : ℕ) (d : X) → at < length lines
+    → option_map (λ order. front ++ order ∷ []) (order_value (seen (get_or lines at d))) ≡ None
+    → orders_behind front (orders_value number (map seen (drop at lines))) ≡ Err number
 line_refused seen front lines at number d inside is =
-    ap (λ rest. ops_behind front (ops_value number (map seen rest))) (drop-cons lines at d inside)
-    ∙ op_unsaid front (seen (get_or lines at d)) number (ops_value (number + 1) (map seen (drop (suc at) lines))) is
+    ap (λ rest. orders_behind front (orders_value number (map seen rest))) (drop-cons lines at d inside)
+    ∙ order_unsaid front (seen (get_or lines at d)) number (orders_value (number + 1) (map seen (drop (suc at) lines))) is

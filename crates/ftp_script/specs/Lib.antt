@@ -1,5 +1,6 @@
 pub mod Field
 pub mod Line
+pub mod Order
 pub mod Report
 pub mod Rows
 pub mod Script

@@ -1,4 +1,4 @@
--- A line of a script: a login or an operation, as fields with one SP between them (own choice).
+-- A line of a script: a login or an order, as fields with one SP between them (own choice).
 use Rattle.std.specs.Prelude.{◌≡◌, ◌==◌, ◌&&◌, ℕ, Bool, true, false, nat_eq, List, [], ◌∷◌, codes, find, Result, Ok, Err, Option, Some, None, option_map, if◌then◌else◌}
 use Rattle.std.specs.Bool.{then_some}
 use Rattle.std.specs.List.{slice_split}
@@ -17,6 +17,8 @@ use Rattle.ftp_operation.specs.declared.op.Op.{Op}
 use Rattle.ftp_operation.specs.declared.op.Op.TheVariants as Ops
 use Rattle.ftp_script.specs.declared.fault.LineFault.{LineFault}
 use Rattle.ftp_script.specs.declared.fault.LineFault.TheVariants.{Unfit, Memory}
+use Rattle.ftp_script.specs.declared.order.Order.{Order}
+use Rattle.ftp_script.specs.declared.order.Order.TheVariants.{Once, Tries}
 use Rattle.ftp_script.specs.declared.verb.Alone.{Alone}
 use Rattle.ftp_script.specs.declared.verb.Alone.TheVariants.{Where, Up}
 use Rattle.ftp_script.specs.declared.verb.OnPath.{OnPath}
@@ -121,7 +123,7 @@ giving_from_in (how ∷ path ∷ number ∷ octets ∷ []) =
     and_then (taking_from_in (how ∷ path ∷ number ∷ [])) (λ t. option_map (λ o. (t.0, t.1, t.2, o)) (field_value octets))
 giving_from_in fields = None
 
--- ---- operations
+-- ---- orders
 
 abbrev pub alone_op : Alone → Op (List ℕ)
 alone_op Where = Ops.Where
@@ -149,28 +151,29 @@ abbrev pub giving_op : Giving → How → List ℕ → List ℕ → Op (List ℕ
 giving_op Put how path octets = Ops.Put path octets how
 giving_op Append how path octets = Ops.Append path octets how
 
--- the operation of a verb and the fields behind it
-abbrev pub op_with : Verb → List (List ℕ) → Option (Op (List ℕ))
-op_with (verbs.Alone verb) fields = option_map (λ _. alone_op verb) (none_in fields)
-op_with (verbs.OnPath verb) fields = option_map (path_op verb) (path_in fields)
-op_with verbs.Rename fields = option_map (λ t. Ops.Rename t.0 t.1) (pair_in fields)
-op_with (verbs.Taking verb) fields = option_map (λ t. taking_op verb t.0 t.1) (taking_in fields)
-op_with (verbs.Part verb) fields = option_map (λ t. part_op verb t.0 t.1 t.2) (taking_from_in fields)
-op_with (verbs.Giving verb) fields = option_map (λ t. giving_op verb t.0 t.1 t.2) (giving_in fields)
-op_with verbs.GivingFrom fields = option_map (λ t. Ops.PutFrom t.1 t.2 t.3 t.0) (giving_from_in fields)
+-- what is asked by a verb and the fields behind it
+abbrev pub order_with : Verb → List (List ℕ) → Option (Order (List ℕ))
+order_with (verbs.Alone verb) fields = option_map (λ _. Once (alone_op verb)) (none_in fields)
+order_with (verbs.OnPath verb) fields = option_map (λ p. Once (path_op verb p)) (path_in fields)
+order_with verbs.Rename fields = option_map (λ t. Once (Ops.Rename t.0 t.1)) (pair_in fields)
+order_with (verbs.Taking verb) fields = option_map (λ t. Once (taking_op verb t.0 t.1)) (taking_in fields)
+order_with (verbs.Part verb) fields = option_map (λ t. Once (part_op verb t.0 t.1 t.2)) (taking_from_in fields)
+order_with (verbs.Giving verb) fields = option_map (λ t. Once (giving_op verb t.0 t.1 t.2)) (giving_in fields)
+order_with verbs.GivingFrom fields = option_map (λ t. Once (Ops.PutFrom t.1 t.2 t.3 t.0)) (giving_from_in fields)
+order_with verbs.Upload fields = option_map (λ t. Tries t.1 t.2 t.0) (giving_in fields)
 
--- the operation that fields say: the first is a verb's word
-abbrev pub op_in : List (List ℕ) → Option (Op (List ℕ))
-op_in [] = None
-op_in (word ∷ fields) = and_then (find (is_named word) VERBS) (λ verb. op_with verb fields)
+-- what fields ask: the first is a verb's word
+abbrev pub order_in : List (List ℕ) → Option (Order (List ℕ))
+order_in [] = None
+order_in (word ∷ fields) = and_then (find (is_named word) VERBS) (λ verb. order_with verb fields)
 
 -- it stands between fields
 abbrev pub is_space : ℕ → Bool
 is_space octet = octet == space
 
--- the operation that a line says
-unfoldable pub op_value : List ℕ → Option (Op (List ℕ))
-op_value line = op_in (slice_split is_space line)
+-- what a line asks: an operation, tried once, or an upload over breaks
+unfoldable pub order_value : List ℕ → Option (Order (List ℕ))
+order_value line = order_in (slice_split is_space line)
 
 -- ---- the login
 

@@ -5,8 +5,9 @@ use Rattle.ftp_operation.specs.declared.op.Op.TheVariants as Ops
 use Rattle.ftp_representation.specs.declared.representation.Kind.TheVariants.{Ascii, Image}
 use Rattle.ftp_representation.specs.declared.representation.Structure.TheVariants.{File, Record}
 use Rattle.ftp_representation.specs.declared.representation.Mode.TheVariants.{Stream, Block}
+use Rattle.ftp_script.specs.declared.order.Order.TheVariants.{Once, Tries}
 use Rattle.ftp_script.specs.Field.{field_text, field_value}
-use Rattle.ftp_script.specs.Line.{how_with, login_value, op_value}
+use Rattle.ftp_script.specs.Line.{how_with, login_value, order_value}
 use Rattle.ftp_script.specs.Script.{script_value}
 
 -- `IFSpn`
@@ -20,34 +21,35 @@ other = how_with Ascii Record Block true true true
 -- each form of a line, with its parts in their order
 abbrev pub OperationsSaid : Type 0
 OperationsSaid =
-    (op_value (codes "where") ≡ Some Ops.Where)
-    × (op_value (codes "up") ≡ Some Ops.Up)
-    × (op_value (codes "cd d") ≡ Some (Ops.ChangeDir (codes "d")))
-    × (op_value (codes "mkdir d") ≡ Some (Ops.MakeDir (codes "d")))
-    × (op_value (codes "rmdir d") ≡ Some (Ops.RemoveDir (codes "d")))
-    × (op_value (codes "delete f") ≡ Some (Ops.Delete (codes "f")))
-    × (op_value (codes "modified f") ≡ Some (Ops.Modified (codes "f")))
-    × (op_value (codes "facts f") ≡ Some (Ops.Facts (codes "f")))
-    × (op_value (codes "rename f g") ≡ Some (Ops.Rename (codes "f") (codes "g")))
+    (order_value (codes "where") ≡ Some (Once Ops.Where))
+    × (order_value (codes "up") ≡ Some (Once Ops.Up))
+    × (order_value (codes "cd d") ≡ Some (Once (Ops.ChangeDir (codes "d"))))
+    × (order_value (codes "mkdir d") ≡ Some (Once (Ops.MakeDir (codes "d"))))
+    × (order_value (codes "rmdir d") ≡ Some (Once (Ops.RemoveDir (codes "d"))))
+    × (order_value (codes "delete f") ≡ Some (Once (Ops.Delete (codes "f"))))
+    × (order_value (codes "modified f") ≡ Some (Once (Ops.Modified (codes "f"))))
+    × (order_value (codes "facts f") ≡ Some (Once (Ops.Facts (codes "f"))))
+    × (order_value (codes "rename f g") ≡ Some (Once (Ops.Rename (codes "f") (codes "g"))))
 
 -- those with a representation
 abbrev pub TransfersSaid : Type 0
 TransfersSaid =
-    (op_value (codes "put IFSpn f abc") ≡ Some (Ops.Put (codes "f") (codes "abc") plain))
-    × (op_value (codes "append ARBaem f abc") ≡ Some (Ops.Append (codes "f") (codes "abc") other))
-    × (op_value (codes "putfrom IFSpn f 3 abc") ≡ Some (Ops.PutFrom (codes "f") 3 (codes "abc") plain))
-    × (op_value (codes "get ARBaem f") ≡ Some (Ops.Get (codes "f") other))
-    × (op_value (codes "getfrom IFSpn f 007") ≡ Some (Ops.GetFrom (codes "f") 7 plain))
-    × (op_value (codes "peek IFSpn f 3") ≡ Some (Ops.Peek (codes "f") 3 plain))
-    × (op_value (codes "size ARBaem f") ≡ Some (Ops.Size (codes "f") other))
-    × (op_value (codes "list IFSpn f") ≡ Some (Ops.List (codes "f") plain))
-    × (op_value (codes "names IFSpn f") ≡ Some (Ops.Names (codes "f") plain))
+    (order_value (codes "put IFSpn f abc") ≡ Some (Once (Ops.Put (codes "f") (codes "abc") plain)))
+    × (order_value (codes "append ARBaem f abc") ≡ Some (Once (Ops.Append (codes "f") (codes "abc") other)))
+    × (order_value (codes "putfrom IFSpn f 3 abc") ≡ Some (Once (Ops.PutFrom (codes "f") 3 (codes "abc") plain)))
+    × (order_value (codes "upload ARBaem f abc") ≡ Some (Tries (codes "f") (codes "abc") other))
+    × (order_value (codes "get ARBaem f") ≡ Some (Once (Ops.Get (codes "f") other)))
+    × (order_value (codes "getfrom IFSpn f 007") ≡ Some (Once (Ops.GetFrom (codes "f") 7 plain)))
+    × (order_value (codes "peek IFSpn f 3") ≡ Some (Once (Ops.Peek (codes "f") 3 plain)))
+    × (order_value (codes "size ARBaem f") ≡ Some (Once (Ops.Size (codes "f") other)))
+    × (order_value (codes "list IFSpn f") ≡ Some (Once (Ops.List (codes "f") plain)))
+    × (order_value (codes "names IFSpn f") ≡ Some (Once (Ops.Names (codes "f") plain)))
 
 -- a login, a script whose last line lacks its end, a faulty third line, and a script without a line
 abbrev pub ScriptsSaid : Type 0
 ScriptsSaid =
     (login_value (codes "login guest secret") ≡ Some (codes "guest", codes "secret"))
-    × (script_value (codes "login a b" ++ 10 ∷ codes "where" ++ 10 ∷ codes "up") ≡ Ok ((codes "a", codes "b"), Ops.Where ∷ Ops.Up ∷ []))
+    × (script_value (codes "login a b" ++ 10 ∷ codes "where" ++ 10 ∷ codes "up") ≡ Ok ((codes "a", codes "b"), Once Ops.Where ∷ Once Ops.Up ∷ []))
     × (script_value (codes "login a b" ++ 10 ∷ codes "where" ++ 10 ∷ codes "cd" ++ 10 ∷ codes "up" ++ 10 ∷ []) ≡ Err 3)
     × (script_value [] ≡ Err 1)
 

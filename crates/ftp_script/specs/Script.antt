@@ -1,8 +1,8 @@
--- A script: a login, and then operations, one a line (own choice).
+-- A script: a login, and then orders, one a line (own choice).
 use Rattle.std.specs.Prelude.{◌≡◌, ◌+◌, ℕ, List, [], ◌∷◌, ◌++◌, Result, Ok, Err, Option, Some, None}
 use Rattle.ftp_facts.specs.Listing.{lines_of}
-use Rattle.ftp_operation.specs.declared.op.Op.{Op}
-use Rattle.ftp_script.specs.Line.{login_value, op_value}
+use Rattle.ftp_script.specs.declared.order.Order.{Order}
+use Rattle.ftp_script.specs.Line.{login_value, order_value}
 use Rattle.ftp_script.specs.declared.fault.LineFault.{LineFault}
 use Rattle.ftp_script.specs.declared.fault.LineFault.TheVariants as LineFaults
 use Rattle.ftp_script.specs.declared.script.ScriptFault.{ScriptFault}
@@ -14,27 +14,27 @@ with_line join number None behind = Err number
 with_line join number (Some value) (Err later) = Err later
 with_line join number (Some value) (Ok values) = Ok (join value values)
 
--- the operations of lines, whose first has this number
-abbrev pub ops_value : ℕ → List (List ℕ) → Result (List (Op (List ℕ))) ℕ
-ops_value number [] = Ok []
-ops_value number (line ∷ lines) = with_line (λ op ops. op ∷ ops) number (op_value line) (ops_value (number + 1) lines)
+-- the orders of lines, whose first has this number
+abbrev pub orders_value : ℕ → List (List ℕ) → Result (List (Order (List ℕ))) ℕ
+orders_value number [] = Ok []
+orders_value number (line ∷ lines) = with_line (λ order orders. order ∷ orders) number (order_value line) (orders_value (number + 1) lines)
 
--- operations in front of those that follow
-abbrev pub ops_behind : List (Op (List ℕ)) → Result (List (Op (List ℕ))) ℕ → Result (List (Op (List ℕ))) ℕ
-ops_behind front (Ok ops) = Ok (front ++ ops)
-ops_behind front (Err number) = Err number
+-- orders in front of those that follow
+abbrev pub orders_behind : List (Order (List ℕ)) → Result (List (Order (List ℕ))) ℕ → Result (List (Order (List ℕ))) ℕ
+orders_behind front (Ok orders) = Ok (front ++ orders)
+orders_behind front (Err number) = Err number
 
--- the login of the first line, and the operations of the others
-abbrev pub script_from : Option (List ℕ × List ℕ) → List (List ℕ) → Result ((List ℕ × List ℕ) × List (Op (List ℕ))) ℕ
-script_from login lines = with_line (λ login ops. (login, ops)) 1 login (ops_value 2 lines)
+-- the login of the first line, and the orders of the others
+abbrev pub script_from : Option (List ℕ × List ℕ) → List (List ℕ) → Result ((List ℕ × List ℕ) × List (Order (List ℕ))) ℕ
+script_from login lines = with_line (λ login orders. (login, orders)) 1 login (orders_value 2 lines)
 
--- the login and the operations of lines: the first is the login, and lines count from 1
-abbrev pub script_in : List (List ℕ) → Result ((List ℕ × List ℕ) × List (Op (List ℕ))) ℕ
+-- the login and the orders of lines: the first is the login, and lines count from 1
+abbrev pub script_in : List (List ℕ) → Result ((List ℕ × List ℕ) × List (Order (List ℕ))) ℕ
 script_in [] = Err 1
 script_in (line ∷ lines) = script_from (login_value line) lines
 
 -- what a script says, or the number of the first line that is refused; each line is ended by LF, which the last may lack
-abbrev pub script_value : List ℕ → Result ((List ℕ × List ℕ) × List (Op (List ℕ))) ℕ
+abbrev pub script_value : List ℕ → Result ((List ℕ × List ℕ) × List (Order (List ℕ))) ℕ
 script_value text = script_in (lines_of text)
 
 -- what is read is the value, seen so; a line is refused where this is the first that says nothing, or memory ran out

@@ -29,6 +29,7 @@ word_of (verbs.Part Peek) = codes "peek"
 word_of (verbs.Giving Put) = codes "put"
 word_of (verbs.Giving Append) = codes "append"
 word_of verbs.GivingFrom = codes "putfrom"
+word_of verbs.Upload = codes "upload"
 
 -- a word is that of a verb
 abbrev pub is_named : List ℕ → Verb → Bool

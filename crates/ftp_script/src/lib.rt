@@ -6,6 +6,7 @@ mod field;
 mod how;
 pub mod laws;
 mod line;
+mod order;
 mod parts;
 mod report;
 pub mod rows;
@@ -14,6 +15,7 @@ mod verb;
 
 pub use fault::LineFault;
 pub use field::{octets_of, put_field};
-pub use line::{login_of, op_of};
+pub use line::{login_of, order_of};
+pub use order::Order;
 pub use report::report_of;
 pub use script::{Script, ScriptFault, script_of};

@@ -1,73 +1,80 @@
-// A line: a login or an operation.
+// A line: a login or an order.
 ghost use Rattle.std.specs.Prelude.{◌≡◌, map, IfOk};
 ghost use Rattle.std.specs.List.{slice_split};
-ghost use Rattle.ftp_script.specs.Line.{Reads, alone_op, giving_op, is_space, login_in, login_value, login_with, op_in, op_value, op_with, part_op, path_op, taking_op};
+ghost use Rattle.ftp_script.specs.Line.{Reads, alone_op, giving_op, is_space, login_in, login_value, login_with, order_in, order_value, order_with, part_op, path_op, taking_op};
 
 use crate::fault::LineFault;
+use crate::order::Order;
 use crate::parts::{giving, giving_from, none, pair, path, taking, taking_from};
 use crate::verb::{Alone, Giving, OnPath, Part, Taking, Verb, verb_of};
 use ftp_facts::Text;
 use ftp_operation::{How, Login, Op};
 use std::alloc::{AllocError, Allocator};
 
-/// The operation that a line says, given without its end.
-#[tactic(auto, unfolding(crate::specs::Line::op_value))]
-pub fn op_of<A: Allocator + Copy>(alloc: A, line: &[u8]) -> Result<Op<Text<A>>, LineFault>
-    ensures { Reads (λ op. op) result (op_value line.now) }
+/// What a line asks, given without its end.
+#[tactic(auto, unfolding(crate::specs::Line::order_value))]
+pub fn order_of<A: Allocator + Copy>(alloc: A, line: &[u8]) -> Result<Order<Text<A>>, LineFault>
+    ensures { Reads (λ order. order) result (order_value line.now) }
 {
     match fields_of(alloc, line) {
-        Ok(fields) => op_in(alloc, fields.as_slice()),
+        Ok(fields) => order_in(alloc, fields.as_slice()),
         Err(AllocError) => Err(LineFault::Memory),
     }
 }
 
-fn op_in<A: Allocator + Copy>(alloc: A, fields: &[&[u8]]) -> Result<Op<Text<A>>, LineFault>
-    ensures { Reads (λ op. op) result (op_in (map (λ field. field.now) fields.now)) }
+fn order_in<A: Allocator + Copy>(alloc: A, fields: &[&[u8]]) -> Result<Order<Text<A>>, LineFault>
+    ensures { Reads (λ order. order) result (order_in (map (λ field. field.now) fields.now)) }
 {
     match fields {
         [word, fields @ ..] => match verb_of(word) {
-            Some(verb) => op_with(alloc, verb, fields),
+            Some(verb) => order_with(alloc, verb, fields),
             None => Err(LineFault::Unfit),
         },
         [] => Err(LineFault::Unfit),
     }
 }
 
-/// The operation of a verb and the fields behind it.
-fn op_with<A: Allocator + Copy>(
+/// What is asked by a verb and the fields behind it.
+fn order_with<A: Allocator + Copy>(
     alloc: A,
     verb: Verb,
     fields: &[&[u8]],
-) -> Result<Op<Text<A>>, LineFault>
-    ensures { Reads (λ op. op) result (op_with verb (map (λ field. field.now) fields.now)) }
+) -> Result<Order<Text<A>>, LineFault>
+    ensures { Reads (λ order. order) result (order_with verb (map (λ field. field.now) fields.now)) }
 {
     match verb {
         Verb::Alone(verb) => match none(fields) {
-            Ok(()) => Ok(alone_op(verb)),
+            Ok(()) => Ok(Order::Once(alone_op(verb))),
             Err(fault) => Err(fault),
         },
         Verb::OnPath(verb) => match path(alloc, fields) {
-            Ok(path) => Ok(path_op(verb, path)),
+            Ok(path) => Ok(Order::Once(path_op(verb, path))),
             Err(fault) => Err(fault),
         },
         Verb::Rename => match pair(alloc, fields) {
-            Ok((from, to)) => Ok(Op::Rename(from, to)),
+            Ok((from, to)) => Ok(Order::Once(Op::Rename(from, to))),
             Err(fault) => Err(fault),
         },
         Verb::Taking(verb) => match taking(alloc, fields) {
-            Ok((how, path)) => Ok(taking_op(verb, how, path)),
+            Ok((how, path)) => Ok(Order::Once(taking_op(verb, how, path))),
             Err(fault) => Err(fault),
         },
         Verb::Part(verb) => match taking_from(alloc, fields) {
-            Ok((how, path, number)) => Ok(part_op(verb, how, path, number)),
+            Ok((how, path, number)) => Ok(Order::Once(part_op(verb, how, path, number))),
             Err(fault) => Err(fault),
         },
         Verb::Giving(verb) => match giving(alloc, fields) {
-            Ok((how, path, octets)) => Ok(giving_op(verb, how, path, octets)),
+            Ok((how, path, octets)) => Ok(Order::Once(giving_op(verb, how, path, octets))),
             Err(fault) => Err(fault),
         },
         Verb::GivingFrom => match giving_from(alloc, fields) {
-            Ok((how, path, number, octets)) => Ok(Op::PutFrom(path, number, octets, how)),
+            Ok((how, path, number, octets)) => {
+                Ok(Order::Once(Op::PutFrom(path, number, octets, how)))
+            }
+            Err(fault) => Err(fault),
+        },
+        Verb::Upload => match giving(alloc, fields) {
+            Ok((how, path, octets)) => Ok(Order::Tries { path, octets, how }),
             Err(fault) => Err(fault),
         },
     }

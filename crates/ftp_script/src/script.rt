@@ -1,21 +1,22 @@
-// A whole script: a login, and operations behind it.
+// A whole script: a login, and orders behind it.
 ghost use Rattle.std.specs.Prelude.{◌≡◌, ◌==◌, ◌++◌, ◌∷◌, [], map, option_map, IfOk, Some};
 ghost use Rattle.std.specs.List.{slice_split};
 ghost use Rattle.ftp_facts.specs.Listing.{but_empty_last, line_feed};
-ghost use Rattle.ftp_script.specs.Line.{Reads, op_value};
-ghost use Rattle.ftp_script.specs.Script.{ReadsAll, at_line, ops_behind, ops_value, script_from, script_in, script_value};
+ghost use Rattle.ftp_script.specs.Line.{Reads, order_value};
+ghost use Rattle.ftp_script.specs.Script.{ReadsAll, at_line, orders_behind, orders_value, script_from, script_in, script_value};
 
 use crate::fault::LineFault;
-use crate::line::{login_of, op_of};
+use crate::line::{login_of, order_of};
+use crate::order::Order;
 use ftp_facts::Text;
-use ftp_operation::{Login, Op};
+use ftp_operation::Login;
 use std::alloc::{AllocError, Allocator};
 
-/// What a script asks: who logs in, and the operations, one after another.
+/// What a script asks: who logs in, and the orders, one after another.
 #[derive(Drop)]
 pub struct Script<A: Allocator> {
     pub login: Login<A>,
-    pub ops: Vec<Op<Text<A>>, A>,
+    pub orders: Vec<Order<Text<A>>, A>,
 }
 
 /// Why a text is no script.
@@ -29,7 +30,7 @@ pub enum ScriptFault {
 
 /// What a script says. Each line is ended by LF, which the last may lack; a script without a line lacks its first.
 pub fn script_of<A: Allocator + Copy>(alloc: A, text: &[u8]) -> Result<Script<A>, ScriptFault>
-    ensures { ReadsAll (λ script. ((script.login.user, script.login.pass), script.ops.items)) result (script_value text.now) }
+    ensures { ReadsAll (λ script. ((script.login.user, script.login.pass), script.orders.items)) result (script_value text.now) }
 {
     match pieces_of(alloc, text) {
         Ok(pieces) => script_in(alloc, but_empty_last(pieces.as_slice())),
@@ -57,58 +58,58 @@ fn but_empty_last<'a, 'b>(pieces: &'b [&'a [u8]]) -> &'b [&'a [u8]]
 }
 
 fn script_in<A: Allocator + Copy>(alloc: A, lines: &[&[u8]]) -> Result<Script<A>, ScriptFault>
-    ensures { ReadsAll (λ script. ((script.login.user, script.login.pass), script.ops.items)) result (script_in (map (λ line. line.now) lines.now)) }
+    ensures { ReadsAll (λ script. ((script.login.user, script.login.pass), script.orders.items)) result (script_in (map (λ line. line.now) lines.now)) }
 {
     match lines {
         [first, lines @ ..] => match login_of(alloc, first) {
-            Ok(login) => with_ops(alloc, login, lines),
+            Ok(login) => with_orders(alloc, login, lines),
             Err(fault) => Err(at_line(1, fault)),
         },
         [] => Err(ScriptFault::Line(1)),
     }
 }
 
-/// The login, and the operations of the lines behind it, the first of which is the second line.
-fn with_ops<A: Allocator + Copy>(
+/// The login, and the orders of the lines behind it, the first of which is the second line.
+fn with_orders<A: Allocator + Copy>(
     alloc: A,
     login: Login<A>,
     lines: &[&[u8]],
 ) -> Result<Script<A>, ScriptFault>
-    ensures { ReadsAll (λ script. ((script.login.user, script.login.pass), script.ops.items)) result
+    ensures { ReadsAll (λ script. ((script.login.user, script.login.pass), script.orders.items)) result
         (script_from (Some (login.user, login.pass)) (map (λ line. line.now) lines.now)) }
 {
-    match ops_of(alloc, lines) {
-        Ok(ops) => Ok(Script { login, ops }),
+    match orders_of(alloc, lines) {
+        Ok(orders) => Ok(Script { login, orders }),
         Err(fault) => Err(fault),
     }
 }
 
-/// The operations of lines, the first of which is the second line of its script.
+/// The orders of lines, the first of which is the second line of its script.
 #[tactic(auto, using(crate::proofs::ScriptLemmas::none_behind))]
-fn ops_of<A: Allocator + Copy>(
+fn orders_of<A: Allocator + Copy>(
     alloc: A,
     lines: &[&[u8]],
-) -> Result<Vec<Op<Text<A>>, A>, ScriptFault>
-    ensures { ReadsAll (λ ops. ops.items) result (ops_value 2 (map (λ line. line.now) lines.now)) }
+) -> Result<Vec<Order<Text<A>>, A>, ScriptFault>
+    ensures { ReadsAll (λ orders. orders.items) result (orders_value 2 (map (λ line. line.now) lines.now)) }
 {
-    let mut ops = Vec::new(alloc);
-    match put_ops(alloc, lines, &mut ops) {
-        Ok(()) => Ok(ops),
+    let mut orders = Vec::new(alloc);
+    match put_orders(alloc, lines, &mut orders) {
+        Ok(()) => Ok(orders),
         Err(fault) => Err(fault),
     }
 }
 
-/// Appends the operations of lines, the first of which is the second line of its script.
-fn put_ops<A: Allocator + Copy>(
+/// Appends the orders of lines, the first of which is the second line of its script.
+fn put_orders<A: Allocator + Copy>(
     alloc: A,
     lines: &[&[u8]],
-    ops: &mut Vec<Op<Text<A>>, A>,
+    orders: &mut Vec<Order<Text<A>>, A>,
 ) -> Result<(), ScriptFault>
-    ensures { ReadsAll (λ _. ops.new.items) result (ops_behind ops.old.items (ops_value 2 (map (λ line. line.now) lines.now))) }
+    ensures { ReadsAll (λ _. orders.new.items) result (orders_behind orders.old.items (orders_value 2 (map (λ line. line.now) lines.now))) }
 {
     let mut number = 2;
     for line in lines {
-        match put_op(alloc, line, ops) {
+        match put_order(alloc, line, orders) {
             Ok(()) => number += 1,
             Err(fault) => return Err(at_line(number, fault)),
         }
@@ -116,25 +117,28 @@ fn put_ops<A: Allocator + Copy>(
     Ok(())
 }
 
-/// Appends the operation of a line.
-fn put_op<A: Allocator + Copy>(
+/// Appends the order of a line.
+fn put_order<A: Allocator + Copy>(
     alloc: A,
     line: &[u8],
-    ops: &mut Vec<Op<Text<A>>, A>,
+    orders: &mut Vec<Order<Text<A>>, A>,
 ) -> Result<(), LineFault>
-    ensures { Reads (λ _. ops.new.items) result (option_map (λ op. ops.old.items ++ op ∷ []) (op_value line.now)) }
+    ensures { Reads (λ _. orders.new.items) result (option_map (λ order. orders.old.items ++ order ∷ []) (order_value line.now)) }
 {
-    match op_of(alloc, line) {
-        Ok(op) => keep(op, ops),
+    match order_of(alloc, line) {
+        Ok(order) => keep(order, orders),
         Err(fault) => Err(fault),
     }
 }
 
-/// Keeps an operation behind others.
-fn keep<A: Allocator>(op: Op<Text<A>>, ops: &mut Vec<Op<Text<A>>, A>) -> Result<(), LineFault>
-    ensures { Reads (λ _. ops.new.items) result (Some (ops.old.items ++ op ∷ [])) }
+/// Keeps an order behind others.
+fn keep<A: Allocator>(
+    order: Order<Text<A>>,
+    orders: &mut Vec<Order<Text<A>>, A>,
+) -> Result<(), LineFault>
+    ensures { Reads (λ _. orders.new.items) result (Some (orders.old.items ++ order ∷ [])) }
 {
-    match ops.push(op) {
+    match orders.push(order) {
         Ok(_) => Ok(()),
         Err(_) => Err(LineFault::Memory),
     }

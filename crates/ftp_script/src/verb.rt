@@ -46,7 +46,7 @@ pub(crate) enum Giving {
     Append,
 }
 
-/// What begins the line of an operation.
+/// What begins the line of an order.
 #[derive(Clone, Copy)]
 pub(crate) enum Verb {
     Alone(Alone),
@@ -57,9 +57,11 @@ pub(crate) enum Verb {
     Giving(Giving),
     /// From an offset on.
     GivingFrom,
+    /// Over breaks.
+    Upload,
 }
 
-const VERBS: [Verb; 18] = [
+const VERBS: [Verb; 19] = [
     Verb::Alone(Alone::Where),
     Verb::Alone(Alone::Up),
     Verb::OnPath(OnPath::ChangeDir),
@@ -78,6 +80,7 @@ const VERBS: [Verb; 18] = [
     Verb::Giving(Giving::Put),
     Verb::Giving(Giving::Append),
     Verb::GivingFrom,
+    Verb::Upload,
 ];
 
 /// The verb of a word.
@@ -121,5 +124,6 @@ fn word_of(verb: Verb) -> &'static [u8]
         Verb::Giving(Giving::Put) => b"put",
         Verb::Giving(Giving::Append) => b"append",
         Verb::GivingFrom => b"putfrom",
+        Verb::Upload => b"upload",
     }
 }

@@ -1,7 +1,7 @@
 use Rattle.std.proofs.Common.{refl}
-use Rattle.ftp_script.specs.Line.{op_value}
+use Rattle.ftp_script.specs.Line.{order_value}
 use Rattle.ftp_script.proofs.rows.transfers.Goals as goal
 
 pub returns : goal.returns
-unfolding op_value
-returns c = (refl, refl, refl, refl, refl, refl, refl, refl, refl)
+unfolding order_value
+returns c = (refl, refl, refl, refl, refl, refl, refl, refl, refl, refl)
