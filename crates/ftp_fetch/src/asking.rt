@@ -28,7 +28,7 @@ const PROBE_SECONDS: i32 = 30;
 const PROBES: i32 = 4;
 
 /// How long a server is waited for behind an operation, in milliseconds.
-const GOODBYE_MILLIS: u16 = 500;
+pub(crate) const GOODBYE_MILLIS: u16 = 500;
 
 /// Asks once, over a control connection of its own.
 pub(crate) fn ask_once<R>(
@@ -113,7 +113,7 @@ where
 }
 
 /// Says that no more commands come, and waits a moment for the server's last reply.
-fn leave(stream: &TcpStream) -> io::Result<()> {
+pub(crate) fn leave(stream: &TcpStream) -> io::Result<()> {
     let mut writer = stream;
     writer.write_all(b"QUIT\r\n")?;
     say_goodbye(stream, Duration::from_millis(u64::from(GOODBYE_MILLIS)))
@@ -162,7 +162,7 @@ where
 }
 
 /// A client between two hosts; none where memory is refused.
-fn client_of(
+pub(crate) fn client_of(
     alloc: Global,
     login: Login<Global>,
     here: Host,

@@ -1,4 +1,5 @@
-//! The programs `get`, `put` and `ls`: files and listings over real connections to a server (RFC 959; RFC 3659).
+//! The programs `get`, `put` and `ls`: files and listings over real connections to a server; `run`: a script of operations over one (RFC 959;
+//! RFC 3659).
 #![tactic(auto)]
 
 mod again;
@@ -12,9 +13,11 @@ mod noticed;
 mod place;
 mod progress;
 mod request;
+mod running;
 mod stop;
 mod telling;
 
 pub use download::Download;
 pub use fetching::{Task, fetch};
 pub use place::{Asked, Place, place_of};
+pub use running::run;

@@ -10,6 +10,8 @@ pub(crate) enum Stage {
     Connection,
     Reading,
     Writing,
+    Script,
+    Report,
 }
 
 /// What was under way, and what failed.
@@ -50,6 +52,8 @@ impl Stop {
             Stage::Connection => ("no connection", 3),
             Stage::Reading => ("the file is not read", 3),
             Stage::Writing => ("the file is not written", 3),
+            Stage::Script => ("the script is not read", 3),
+            Stage::Report => ("no report", 3),
         };
         eprintln!(rt; "error: {what}: {}", self.error)?;
         Ok(status)
