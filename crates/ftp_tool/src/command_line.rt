@@ -1,6 +1,7 @@
 // The command line: one level of subcommands.
 use crate::fetching::{GET, LS, PUT};
 use crate::help;
+use crate::running::RUN;
 use crate::serving::SERVE;
 use crate::task::Task;
 use crate::words::{Form, Subcommand, Word, subcommand_of};
@@ -9,7 +10,7 @@ use ftp_programs::{Direction, Representation, number_of, representation_of};
 use std::alloc::{AllocError, Global};
 
 /// The subcommands, each with its words.
-const SUBCOMMANDS: &[Subcommand<'static>] = &[DIALOGUE, FACTS, FRAME, SERVE, GET, PUT, LS];
+const SUBCOMMANDS: &[Subcommand<'static>] = &[DIALOGUE, FACTS, FRAME, SERVE, RUN, GET, PUT, LS];
 
 const DIALOGUE: Subcommand<'static> = Subcommand {
     name: "dialogue",

@@ -4,6 +4,7 @@
 mod command_line;
 mod fetching;
 mod help;
+mod running;
 mod serving;
 mod task;
 mod words;
@@ -80,6 +81,7 @@ where
 {
     match words.subcommand() {
         Some(("serve", words)) => serve(rt, words),
+        Some(("run", words)) => run_script(rt, words),
         Some((name, words)) if fetching::is_one(name) => {
             fetch(rt, name, words, faults.is_terminal())
         }
@@ -121,6 +123,17 @@ where
     }
 }
 
+/// Does what `run` asks for.
+fn run_script<R>(rt: &R, words: &ArgMatches<'_>) -> Result<u8>
+where
+    R: Input + Print + Eprint + AllocGlobal + Net<Listener = TcpListener, Stream = TcpStream>,
+{
+    match running::server_of(words) {
+        Some((host, port)) => Ok(ftp_fetch::run(rt, host, port)?),
+        None => bad_words(rt),
+    }
+}
+
 /// Does what `get`, `put` or `ls` asks for, where standard error may be a terminal.
 fn fetch<R>(rt: &R, name: &str, words: &ArgMatches<'_>, is_terminal: bool) -> Result<u8>
 where
@@ -144,7 +157,7 @@ where
 /// Tells what the values of options are.
 fn bad_words<R: Eprint>(rt: &R) -> Result<u8> {
     eprintln!(rt;
-        "error: a number is decimal digits, at most 4294967295; a port is at most 65535; types are A and I, structures F and R, modes S and B; an address is in numbers; a place is HOST:PORT/PATH"
+        "error: a number is decimal digits, at most 4294967295; a port is at most 65535, and of a server not 0; types are A and I, structures F and R, modes S and B; an address is in numbers; a place is HOST:PORT/PATH"
     )?;
     Ok(BAD_COMMAND_LINE)
 }

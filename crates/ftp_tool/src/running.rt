@@ -1,0 +1,35 @@
+// The subcommand `run`: its words.
+use crate::help;
+use crate::words::{Form, Subcommand, Word};
+use clap::ArgMatches;
+use ftp_programs::number_of;
+
+/// The words of `run`.
+pub const RUN: Subcommand<'static> = Subcommand {
+    name: "run",
+    about: "does the script of operations of standard input at a server",
+    help: help::RUN,
+    words: &[
+        Word {
+            name: "host",
+            form: Form::Needed("A"),
+            help: "the server: an address or a name",
+        },
+        Word {
+            name: "port",
+            form: Form::Needed("N"),
+            help: "the port that it listens at, 1 to 65535",
+        },
+    ],
+    options: &[],
+};
+
+/// The host and the port of the server; none where a value is none of its option.
+pub fn server_of<'a>(words: &'a ArgMatches<'_>) -> Option<(&'a str, u16)> {
+    let host = words.get_str("host")?;
+    let port = u16::try_from(number_of(words.get_str("port")?)?).ok()?;
+    if host.is_empty() || port == 0 {
+        return None;
+    }
+    Some((host, port))
+}
