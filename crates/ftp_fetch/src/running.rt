@@ -2,6 +2,7 @@
 use crate::asking::{GOODBYE_MILLIS, client_of, connected, leave};
 use crate::request::{Request, begin};
 use crate::stop::{Stage, Stop, at};
+use crate::telling::{DONE, FAILED, REFUSED};
 use ftp_client_drive::{Control, drive_client};
 use ftp_client_machine::Near;
 use ftp_drive::Ports;
@@ -14,17 +15,8 @@ use std::io;
 use std::io::{Eprint, Read, Write};
 use std::net::{Net, TcpListener, TcpStream};
 
-/// All that was asked for was had.
-const DONE: u8 = 0;
-
-/// Something was refused, or broke off.
-const REFUSED: u8 = 1;
-
 /// A line of the script fits no form.
 const BAD_SCRIPT: u8 = 2;
-
-/// The control connection failed, or memory was refused.
-const FAILED: u8 = 3;
 
 /// The orders of a script.
 type Orders = Vec<Order<Text<Global>>, Global>;
