@@ -1,0 +1,38 @@
+// Connections of this process with itself, over the loopback.
+use crate::socket::Socket;
+use ftp_pieces::TURNS;
+use std::io;
+use std::io::{Error, ErrorKind};
+use std::net::{Net, SocketAddr, TcpListener, TcpStream};
+
+/// The octets of the host of both ends.
+pub(crate) const LOOPBACK: [u8; 4] = [127, 0, 0, 1];
+
+/// Listens at a port of the loopback that the system chooses.
+pub(crate) fn bound<R>(net: &R) -> io::Result<TcpListener>
+where
+    R: Net<Listener = TcpListener, Stream = TcpStream>,
+{
+    TcpListener::bind(net, SocketAddr::from((LOOPBACK, 0)))
+}
+
+/// Connects to a port that this process listens at: the socket that connects, and the one that comes.
+pub(crate) fn joined<R>(net: &R, listener: &TcpListener) -> io::Result<(Socket, Socket)>
+where
+    R: Net<Listener = TcpListener, Stream = TcpStream>,
+{
+    let stream = TcpStream::connect(net, listener.local_addr()?)?;
+    let came = accepted(listener, stream.local_addr()?)?;
+    Ok((Socket::new(stream)?, Socket::new(came)?))
+}
+
+/// The connection that comes from an address; another process that connected before is let go.
+fn accepted(listener: &TcpListener, address: SocketAddr) -> io::Result<TcpStream> {
+    for _ in 0..TURNS {
+        let (stream, peer) = listener.accept()?;
+        if peer == address {
+            return Ok(stream);
+        }
+    }
+    Err(Error::from(ErrorKind::TimedOut))
+}
