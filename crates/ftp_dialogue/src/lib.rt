@@ -9,4 +9,5 @@ pub mod laws;
 mod refusal;
 mod serving;
 
+pub use accounts::two_accounts;
 pub use dialogues::dialogue;

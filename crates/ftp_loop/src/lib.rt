@@ -5,7 +5,12 @@ mod carrying;
 mod client;
 mod end;
 mod joining;
+mod making;
+mod orders;
 mod pair;
+mod playing;
 mod server;
 mod side;
 mod socket;
+
+pub use playing::play;
