@@ -1,6 +1,7 @@
 // The command line: one level of subcommands.
 use crate::fetching::{GET, LS, PUT};
 use crate::help;
+use crate::looping::LOOP;
 use crate::running::RUN;
 use crate::serving::SERVE;
 use crate::task::Task;
@@ -10,7 +11,9 @@ use ftp_programs::{Direction, Representation, number_of, representation_of};
 use std::alloc::{AllocError, Global};
 
 /// The subcommands, each with its words.
-const SUBCOMMANDS: &[Subcommand<'static>] = &[DIALOGUE, FACTS, FRAME, SERVE, RUN, GET, PUT, LS];
+const SUBCOMMANDS: &[Subcommand<'static>] = &[
+    DIALOGUE, FACTS, FRAME, LOOP, SERVE, RUN, GET, PUT, LS,
+];
 
 const DIALOGUE: Subcommand<'static> = Subcommand {
     name: "dialogue",

@@ -59,6 +59,20 @@ nothing is sent; 3 the control connection or a device failed, or memory was refu
 Example:
   printf 'login anonymous a@b\\nput IFSpn f abc\\nget IFSpn f\\n' | ftp_tool run --host 127.0.0.1 --port 2121";
 
+/// Behind the help of `loop`.
+pub const LOOP: &str = "\
+A client and a server over an empty tree, in one process, over loopback sockets; guest with the password secret and anonymous may log in.
+Input: a script, each line with LF at its end. The first line is login USER PASS; each other an operation, with a space between fields:
+where, up, cd P, mkdir P, rmdir P, delete P, modified P, facts P, rename P Q, put H P T, append H P T, putfrom H P N T, upload H P T,
+get H P, getfrom H P N, peek H P N, size H P, list H P, names H P. H is a letter each of AI, FR, SB, pa (passive, active) and ne (plain,
+extended), and m for restart markers. In fields \\s is a space, \\n LF, \\r CR, \\xHH an octet, and \\e alone nothing.
+Output: for each operation its report, as done, octets T or refused CODE.
+Status: 0 done; 1 done, and an operation was refused or failed; 2 bad command line or script; 3 a read, a write or a socket failed, or
+memory was refused. 2 and 3 are told on standard error.
+
+Example:
+  printf 'login guest secret\\nput IFSpn f abc\\nget IFSpn f\\n' | ftp_tool loop";
+
 /// Behind the help of `get`.
 pub const GET: &str = "\
 HOST is an address or a name, an IPv6 address in brackets; PATH is sent to the server as it stands behind the slash. The file is

@@ -1,9 +1,10 @@
-//! The programs: FTP over standard input and output, and a server and a client over real connections.
+//! The programs: FTP over standard input and output, a server and a client over real connections, and both in one.
 #![tactic(auto)]
 
 mod command_line;
 mod fetching;
 mod help;
+mod looping;
 mod running;
 mod serving;
 mod task;
@@ -81,6 +82,7 @@ where
 {
     match words.subcommand() {
         Some(("serve", words)) => serve(rt, words),
+        Some(("loop", _)) => Ok(ftp_loop::play(rt)?),
         Some(("run", words)) => run_script(rt, words),
         Some((name, words)) if fetching::is_one(name) => {
             fetch(rt, name, words, faults.is_terminal())
