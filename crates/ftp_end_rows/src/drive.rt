@@ -1,5 +1,6 @@
 //! Rows of a server, and of a client, between its connections.
 mod asking;
+mod breaks;
 mod peer;
 mod runs;
 

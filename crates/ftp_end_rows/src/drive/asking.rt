@@ -1,4 +1,6 @@
-// An upload by a client, against a server of texts: in pieces, and with each read and each write of the control connection failed in turn.
+// Uploads by a client, against a server of texts: in pieces, with each read and each write of the control connection failed in turn, and over
+// breaks of data connections.
+use crate::drive::breaks::{TRIES, goes_on};
 use crate::drive::peer::{Client as Peer, PEER};
 use ftp_carrying::Carrying;
 use ftp_client::Client;
@@ -42,6 +44,15 @@ struct Way {
     write: u32,
 }
 
+/// What a client does.
+#[derive(Clone, Copy)]
+enum Row {
+    /// An upload, and whether it is done or else lost.
+    Put { way: Way, done: bool },
+    /// An upload over breaks, and how many data connections break.
+    OverBreaks(u64),
+}
+
 /// The upload of three octets to `f`.
 fn upload(alloc: Global) -> Result<Op<Text<Global>>, AllocError> {
     let path = Text::copy_of(alloc, b"f")?;
@@ -55,23 +66,30 @@ fn login(alloc: Global) -> Option<Login<Global>> {
     Login::new(user, pass)
 }
 
-/// Whether the upload is done, or else lost behind a beginning of what is sent.
-fn ends(alloc: Global, way: Way, done: bool) -> bool {
+/// Whether a row ends as it has to.
+fn ends(alloc: Global, row: Row) -> bool {
     match login(alloc) {
-        Some(login) => begins(alloc, login, way, done),
+        Some(login) => begins(alloc, login, row),
         None => false,
     }
 }
 
-fn begins(alloc: Global, login: Login<Global>, way: Way, done: bool) -> bool {
+fn begins(alloc: Global, login: Login<Global>, row: Row) -> bool {
     let made: Result<Client<Global, Carrying<Global>>, _> = Client::new(alloc, login, HERE, PEER);
     match made {
-        Ok(client) => asks(alloc, client, way, done),
+        Ok(client) => plays(alloc, client, row),
         Err(_) => false,
     }
 }
 
-/// The same of a client of whatever kind.
+fn plays<N: Near<Global>>(alloc: Global, client: N, row: Row) -> bool {
+    match row {
+        Row::Put { way, done } => asks(alloc, client, way, done),
+        Row::OverBreaks(breaks) => goes_on(alloc, client, breaks, HOW),
+    }
+}
+
+/// Whether the upload is done, or else lost behind a beginning of what is sent.
 fn asks<N: Near<Global>>(alloc: Global, mut client: N, way: Way, done: bool) -> bool {
     begin(alloc, &mut client);
     let mut writer = FailingWriter::new(alloc, way.piece, way.write);
@@ -109,7 +127,7 @@ fn is_done_in_pieces(alloc: Global) -> bool {
             read: NEVER,
             write: NEVER,
         };
-        if !ends(alloc, way, true) {
+        if !ends(alloc, Row::Put { way, done: true }) {
             return false;
         }
     }
@@ -124,7 +142,8 @@ fn is_lost_at_each_read(alloc: Global) -> bool {
             read,
             write: NEVER,
         };
-        if !ends(alloc, way, read > 22) {
+        let done = read > 22;
+        if !ends(alloc, Row::Put { way, done }) {
             return false;
         }
     }
@@ -139,7 +158,18 @@ fn is_lost_at_each_write(alloc: Global) -> bool {
             read: NEVER,
             write,
         };
-        if !ends(alloc, way, write > 16) {
+        let done = write > 16;
+        if !ends(alloc, Row::Put { way, done }) {
+            return false;
+        }
+    }
+    true
+}
+
+/// Each number of data connections breaks: done up to the last try, and broken behind it.
+fn goes_on_over_breaks(alloc: Global) -> bool {
+    for breaks in 0..TRIES + 1 {
+        if !ends(alloc, Row::OverBreaks(breaks)) {
             return false;
         }
     }
@@ -156,5 +186,9 @@ pub fn tried(alloc: Global, paper: &mut Paper) {
     paper.holds(
         "an upload, each write failed in turn",
         is_lost_at_each_write(alloc),
+    );
+    paper.holds(
+        "an upload over none to sixteen breaks, each behind four octets",
+        goes_on_over_breaks(alloc),
     );
 }
