@@ -38,10 +38,7 @@ pub(crate) fn at<T: Drop>(stage: Stage, done: io::Result<T>) -> Result<T, Stop> 
 impl Stop {
     /// Whether no control connection was made.
     pub(crate) fn is_of_connection(&self) -> bool {
-        match self.stage {
-            Stage::Connection => true,
-            Stage::Login | Stage::Asking | Stage::Reading | Stage::Writing => false,
-        }
+        matches!(self.stage, Stage::Connection)
     }
 
     /// Tells why on standard error, and gives the exit status: 2 for a bad login, and else 3.
