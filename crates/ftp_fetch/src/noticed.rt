@@ -15,6 +15,9 @@ const HIDDEN: char = '?';
 /// The code of a server that ends the control connection (RFC 959, section 4.2.2).
 const NOT_AVAILABLE: u16 = 421;
 
+/// The code of a refused login, and of what is asked behind it (RFC 959, section 4.2.2).
+const NOT_LOGGED_IN: u16 = 530;
+
 /// What was noticed so far.
 #[derive(Drop)]
 pub(crate) struct Noticed {
@@ -92,6 +95,12 @@ impl Noticed {
         }
     }
 
+    /// Whether the line that came last refuses a login. It stays, since what is asked behind it is refused by the same code with less to say.
+    fn is_login_refused(&self) -> bool {
+        let line = self.last(NOT_LOGGED_IN);
+        !line.is_empty() && !matches!(line.get(3), Some(b'-'))
+    }
+
     /// A control connection begins, on which no line came.
     fn begin(&mut self) {
         self.len = 0;
@@ -106,6 +115,9 @@ impl Noticed {
     }
 
     fn keep_one(&mut self, octet: u8) {
+        if self.is_login_refused() {
+            return;
+        }
         if self.is_whole {
             self.is_whole = false;
             self.len = 0;
