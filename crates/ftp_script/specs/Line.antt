@@ -151,6 +151,14 @@ abbrev pub giving_op : Giving → How → List ℕ → List ℕ → Op (List ℕ
 giving_op Put how path octets = Ops.Put path octets how
 giving_op Append how path octets = Ops.Append path octets how
 
+-- the upload from an offset on of the fields behind its verb
+abbrev pub put_from_in : List (List ℕ) → Option (Order (List ℕ))
+put_from_in fields = option_map (λ t. Once (Ops.PutFrom t.1 t.2 t.3 t.0)) (giving_from_in fields)
+
+-- the upload over breaks of the fields behind its verb
+abbrev pub upload_in : List (List ℕ) → Option (Order (List ℕ))
+upload_in fields = option_map (λ t. Tries t.1 t.2 t.0) (giving_in fields)
+
 -- what is asked by a verb and the fields behind it
 abbrev pub order_with : Verb → List (List ℕ) → Option (Order (List ℕ))
 order_with (verbs.Alone verb) fields = option_map (λ _. Once (alone_op verb)) (none_in fields)
@@ -159,8 +167,8 @@ order_with verbs.Rename fields = option_map (λ t. Once (Ops.Rename t.0 t.1)) (p
 order_with (verbs.Taking verb) fields = option_map (λ t. Once (taking_op verb t.0 t.1)) (taking_in fields)
 order_with (verbs.Part verb) fields = option_map (λ t. Once (part_op verb t.0 t.1 t.2)) (taking_from_in fields)
 order_with (verbs.Giving verb) fields = option_map (λ t. Once (giving_op verb t.0 t.1 t.2)) (giving_in fields)
-order_with verbs.GivingFrom fields = option_map (λ t. Once (Ops.PutFrom t.1 t.2 t.3 t.0)) (giving_from_in fields)
-order_with verbs.Upload fields = option_map (λ t. Tries t.1 t.2 t.0) (giving_in fields)
+order_with verbs.GivingFrom fields = put_from_in fields
+order_with verbs.Upload fields = upload_in fields
 
 -- what fields ask: the first is a verb's word
 abbrev pub order_in : List (List ℕ) → Option (Order (List ℕ))

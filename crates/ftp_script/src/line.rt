@@ -1,7 +1,7 @@
 // A line: a login or an order.
 ghost use Rattle.std.specs.Prelude.{◌≡◌, map, IfOk};
 ghost use Rattle.std.specs.List.{slice_split};
-ghost use Rattle.ftp_script.specs.Line.{Reads, alone_op, giving_op, is_space, login_in, login_value, login_with, order_in, order_value, order_with, part_op, path_op, taking_op};
+ghost use Rattle.ftp_script.specs.Line.{Reads, alone_op, giving_op, is_space, login_in, login_value, login_with, order_in, order_value, order_with, part_op, path_op, put_from_in, taking_op, upload_in};
 
 use crate::fault::LineFault;
 use crate::order::Order;
@@ -67,16 +67,28 @@ fn order_with<A: Allocator + Copy>(
             Ok((how, path, octets)) => Ok(Order::Once(giving_op(verb, how, path, octets))),
             Err(fault) => Err(fault),
         },
-        Verb::GivingFrom => match giving_from(alloc, fields) {
-            Ok((how, path, number, octets)) => {
-                Ok(Order::Once(Op::PutFrom(path, number, octets, how)))
-            }
-            Err(fault) => Err(fault),
-        },
-        Verb::Upload => match giving(alloc, fields) {
-            Ok((how, path, octets)) => Ok(Order::Tries { path, octets, how }),
-            Err(fault) => Err(fault),
-        },
+        Verb::GivingFrom => put_from_in(alloc, fields),
+        Verb::Upload => upload_in(alloc, fields),
+    }
+}
+
+/// The upload from an offset on of the fields behind its verb.
+fn put_from_in<A: Allocator + Copy>(alloc: A, fields: &[&[u8]]) -> Result<Order<Text<A>>, LineFault>
+    ensures { Reads (λ order. order) result (put_from_in (map (λ field. field.now) fields.now)) }
+{
+    match giving_from(alloc, fields) {
+        Ok((how, path, number, octets)) => Ok(Order::Once(Op::PutFrom(path, number, octets, how))),
+        Err(fault) => Err(fault),
+    }
+}
+
+/// The upload over breaks of the fields behind its verb.
+fn upload_in<A: Allocator + Copy>(alloc: A, fields: &[&[u8]]) -> Result<Order<Text<A>>, LineFault>
+    ensures { Reads (λ order. order) result (upload_in (map (λ field. field.now) fields.now)) }
+{
+    match giving(alloc, fields) {
+        Ok((how, path, octets)) => Ok(Order::Tries { path, octets, how }),
+        Err(fault) => Err(fault),
     }
 }
 
