@@ -5,7 +5,7 @@ ghost use Rattle.ftp_client_machine.specs.Calls.{is_sound};
 ghost use Rattle.ftp_client_machine.specs.Dialogue.{begins, finishes, finishes_by, finishes_read, next_with};
 ghost use Rattle.ftp_client_machine.specs.Tries.{run_at};
 ghost use Rattle.ftp_client_machine.specs.View.{done_with, dropped, failure_said, fails, stands, strange};
-ghost use Rattle.ftp_plan.specs.Tries.{next_op, run_in};
+ghost use Rattle.ftp_plan.specs.Tries.{next_op};
 
 use crate::dialogue::Dialogue;
 use crate::letting_go::{let_go, let_go_op};
