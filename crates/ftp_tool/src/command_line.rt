@@ -10,10 +10,11 @@ use clap::{ArgMatches, Command};
 use ftp_programs::{Direction, Representation, number_of, representation_of};
 use std::alloc::{AllocError, Global};
 
-/// The subcommands, each with its words.
-const SUBCOMMANDS: &[Subcommand<'static>] = &[
-    DIALOGUE, FACTS, FRAME, LOOP, SERVE, RUN, GET, PUT, LS,
-];
+/// The subcommands between the standard streams, and the one that has both ends.
+const ALONE: &[Subcommand<'static>] = &[DIALOGUE, FACTS, FRAME, LOOP];
+
+/// The subcommands of a server or a client over a network.
+const OVER_NETWORKS: &[Subcommand<'static>] = &[SERVE, RUN, GET, PUT, LS];
 
 const DIALOGUE: Subcommand<'static> = Subcommand {
     name: "dialogue",
@@ -71,11 +72,30 @@ const FRAME: Subcommand<'static> = Subcommand {
 
 /// The words that the program knows.
 pub fn command<'a>(alloc: Global) -> Result<Command<'a>, AllocError> {
-    let mut program = Command::new(alloc, "ftp_tool")
+    let program = Command::new(alloc, "ftp_tool")
         .version(help::VERSION)
         .about("an FTP server and client, and their parts over standard input and output")
         .subcommand_required(true);
-    for subcommand in SUBCOMMANDS {
+    let program = with_those_alone(alloc, program)?;
+    with_those_over_networks(alloc, program)
+}
+
+/// A command with the subcommands that need no network.
+fn with_those_alone<'a>(alloc: Global, program: Command<'a>) -> Result<Command<'a>, AllocError> {
+    let mut program = program;
+    for subcommand in ALONE {
+        program = program.subcommand(subcommand_of(alloc, *subcommand)?)?;
+    }
+    Ok(program)
+}
+
+/// A command with the subcommands over a network too.
+fn with_those_over_networks<'a>(
+    alloc: Global,
+    program: Command<'a>,
+) -> Result<Command<'a>, AllocError> {
+    let mut program = program;
+    for subcommand in OVER_NETWORKS {
         program = program.subcommand(subcommand_of(alloc, *subcommand)?)?;
     }
     Ok(program)
