@@ -27,6 +27,13 @@ impl<A: Allocator> Text<A> {
         Ok(Text { octets })
     }
 
+    /// These octets themselves, of which none is copied. Takes no memory.
+    pub fn from_vec(octets: Vec<u8, A>) -> Text<A>
+        ensures { result ≡ octets.items }
+    {
+        Text { octets }
+    }
+
     /// The octets.
     pub fn as_slice(&self) -> &[u8]
         ensures { result.now ≡ self.now }
