@@ -3,11 +3,12 @@ ghost use Rattle.std.specs.Prelude.{◌≤◌, IfOk, length};
 ghost use Rattle.ftp_client_drive.specs.Driving.{Quietly};
 
 use ftp_client_machine::Near;
+use ftp_drive::{For, Ports, Ready};
 use std::alloc::Allocator;
 use std::io::{Error, ErrorKind, Read, Write};
 
 /// The most octets that go over a data connection in one call.
-const DATA_PIECE: usize = 65_536;
+const DATA_PIECE: usize = 262_144;
 
 /// Why a read or a write of a data connection moved no octet.
 #[derive(Clone, Copy, Debug, PartialEq, Eq)]
@@ -29,7 +30,7 @@ pub(crate) struct Data<S: Read + Write + Drop> {
     at: usize,
     end: usize,
     ghost order: { at ≤ end },
-    ghost within: { end ≤ 65536 },
+    ghost within: { end ≤ 262144 },
 }
 
 impl<S: Read + Write + Drop> Data<S> {
@@ -84,6 +85,14 @@ impl<S: Read + Write + Drop> Data<S> {
         let count = read_some(stream, &mut self.room)?;
         let (octets, _) = self.room.split_at(count);
         Ok(octets)
+    }
+}
+
+/// Whether the control connection has octets, which go before those of a download: behind a Peek that has all its octets ABOR is to go at once.
+pub(crate) fn is_spoken_first<P: Ports>(ports: &mut P, data: &mut Data<P::Stream>) -> bool {
+    match &mut data.stream {
+        Some(stream) => ports.wait(stream, For::Octets, true) == Ready::Control,
+        None => false,
     }
 }
 

@@ -8,7 +8,7 @@ ghost use Rattle.ftp_client_drive.specs.Driving.{Answers, Drives, Goes, GoesSett
 ghost use Rattle.ftp_client_drive.specs.Deeds.{Called, Closed};
 
 use crate::control::{flush, hear, read};
-use crate::data::{Data, Halt};
+use crate::data::{Data, Halt, is_spoken_first};
 use ftp_client_machine::Near;
 use ftp_control::Control;
 use ftp_drive::{Accepted, Ports};
@@ -242,8 +242,8 @@ where
     }
 }
 
-/// Reads octets of a download; where that would wait, replies are read first. Where the data connection ended or broke, it is closed at once
-/// and the client told.
+/// Reads replies where there are any, and else octets of a download. Where the data connection ended or broke, it is closed at once and the
+/// client told.
 fn receive<A, N, R, W, P>(
     client: &mut N,
     control: &mut Control<R, W>,
@@ -259,6 +259,9 @@ where
     requires { unheard_of control.old ≡ [] }
     ensures { GoesSettled (beside R.remaining W.contents (N.client client.old) control.old) (beside R.remaining W.contents (N.client client.new) control.new) result }
 {
+    if is_spoken_first(ports, data) {
+        return read(client, control);
+    }
     match data.read() {
         Ok([]) => {
             ports.close(data.stream.take());
