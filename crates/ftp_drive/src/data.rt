@@ -13,7 +13,7 @@ use std::alloc::Allocator;
 use std::io::{ErrorKind, Read, Write};
 
 /// The most octets that go over a data connection in one call.
-const DATA_PIECE: usize = 65_536;
+const DATA_PIECE: usize = 262_144;
 
 /// Whether a data connection is open still.
 #[derive(Clone, Copy, Debug, PartialEq, Eq)]
@@ -30,7 +30,7 @@ pub(crate) struct DataConnection<S: Read + Write + Drop> {
     at: usize,
     end: usize,
     ghost order: { at ≤ end },
-    ghost within: { end ≤ 65536 },
+    ghost within: { end ≤ 262144 },
 }
 
 impl<S: Read + Write + Drop> DataConnection<S> {
