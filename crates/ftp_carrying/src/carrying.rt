@@ -2,7 +2,7 @@
 ghost use Rattle.std.specs.Prelude.{◌≡◌, ◌<◌, ◌≤◌, ◌⊎◌, None};
 ghost use Rattle.ftp_client_machine.specs.Plan.{count_of};
 
-use crate::content::{content_in, copy_of};
+use crate::content::content_in;
 use crate::download::Download;
 use crate::upload::Upload;
 use ftp_facts::Text;
@@ -81,12 +81,8 @@ impl<A: Allocator + Clone> Carries<A> for Carrying<A> {
 
     fn content(self, op: &Op<Text<A>>, alloc: &A) -> Result<Option<Answer<A>>, AllocError> {
         match self {
-            Carrying::Upload(_) => content_in(op, &[], alloc),
-            Carrying::Download(download) => content_in(
-                op,
-                download.decoder.sink().as_slice(),
-                alloc,
-            ),
+            Carrying::Upload(_) => content_in(op, Vec::new(alloc.clone()?), alloc),
+            Carrying::Download(download) => content_in(op, download.decoder.into_sink(), alloc),
         }
     }
 
@@ -98,7 +94,7 @@ impl<A: Allocator + Clone> Carries<A> for Carrying<A> {
                     return Carrying::Download(download).cut(op, alloc);
                 }
                 download.decoder.end()?;
-                content_in(op, download.decoder.sink().as_slice(), alloc)
+                content_in(op, download.decoder.into_sink(), alloc)
             }
         }
     }
@@ -109,11 +105,11 @@ impl<A: Allocator + Clone> Carries<A> for Carrying<A> {
         }
         match self {
             Carrying::Upload(upload) => Ok(Some(Answer::Broken {
-                got: copy_of(&[], alloc)?,
+                got: Text::from_vec(Vec::new(alloc.clone()?)),
                 mark: upload.mark,
             })),
             Carrying::Download(download) => Ok(Some(Answer::Broken {
-                got: copy_of(download.decoder.sink().as_slice(), alloc)?,
+                got: Text::from_vec(download.decoder.into_sink()),
                 mark: download.mark,
             })),
         }

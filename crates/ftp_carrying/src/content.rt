@@ -9,19 +9,20 @@ use ftp_facts::Text;
 use ftp_operation::{Answer, Op};
 use std::alloc::{AllocError, Allocator};
 
-/// What the octets of a whole download answer; `None` where a line of a listing says nothing.
+/// What the octets of a whole download answer; `None` where a line of a listing says nothing. Those of a file go into the answer
+/// themselves, and none is copied.
 pub(crate) fn content_in<A: Allocator + Clone>(
     op: &Op<Text<A>>,
-    octets: &[u8],
+    octets: Vec<u8, A>,
     alloc: &A,
 ) -> Result<Option<Answer<A>>, AllocError>
-    ensures { IfOk result (λ answer. option_map said_of answer ≡ content_answer op.now octets.now) }
+    ensures { IfOk result (λ answer. option_map said_of answer ≡ content_answer op.now octets.items) }
 {
     match op {
-        Op::List(_, _) => entries_answer(octets, alloc),
-        Op::Names(_, _) => names_answer(octets, alloc),
-        Op::Peek(_, count, _) => Ok(Some(Answer::Octets(copy_of(first(octets, *count), alloc)?))),
-        _ => Ok(Some(Answer::Octets(copy_of(octets, alloc)?))),
+        Op::List(_, _) => entries_answer(octets.as_slice(), alloc),
+        Op::Names(_, _) => names_answer(octets.as_slice(), alloc),
+        Op::Peek(_, count, _) => Ok(Some(Answer::Octets(first(octets, *count)))),
+        _ => Ok(Some(Answer::Octets(Text::from_vec(octets)))),
     }
 }
 
@@ -59,12 +60,12 @@ pub(crate) fn copy_of<A: Allocator + Clone>(octets: &[u8], alloc: &A) -> Result<
 }
 
 /// The first octets, so many if there are so many.
-fn first(octets: &[u8], count: u64) -> &[u8]
-    ensures { result.now ≡ take count octets.now }
+fn first<A: Allocator>(octets: Vec<u8, A>, count: u64) -> Text<A>
+    ensures { result ≡ take count octets.items }
 {
-    if count >= octets.len() as u64 {
-        return octets;
+    let mut front = octets;
+    if count < front.len() as u64 {
+        front.truncate(count as usize);
     }
-    let (front, _) = octets.split_at(count as usize);
-    front
+    Text::from_vec(front)
 }
