@@ -48,10 +48,11 @@ impl<A: Allocator> Download<A> {
         ensures gave { take result room.new ≡ take result (rest_of (under (T.table tree.now) root.now) self.old) }
         ensures rest { rest_of (under (T.table tree.now) root.now) self.new ≡ drop result (rest_of (under (T.table tree.now) root.now) self.old) }
     {
+        let len = len_at(tree, root, &self.path);
         let mut made = 0;
         while made < room.len() && !self.encoder.is_done() {
             let (_, free) = room.split_at_mut(made);
-            made += self.step(tree, root, free);
+            made += self.step(tree, root, len, free);
         }
         made
     }
@@ -68,14 +69,16 @@ impl<A: Allocator> Download<A> {
             .is_out(len_at(tree, root, &self.path) <= self.at)
     }
 
-    /// Gives octets of the next piece of the file.
+    /// Gives octets of the next piece of the file, which has `len` octets.
     fn step<B: Allocator, C: Allocator, T: Tree<B>>(
         &mut self,
         tree: &T,
         root: &Path<C>,
+        len: u64,
         room: &mut [u8],
     ) -> usize
-        requires { 0 < length room.old }
+        requires some { 0 < length room.old }
+        requires len { len ≡ length (octets_or_none (under (T.table tree.now) root.now) self.old.path) }
         ensures within { result ≤ length room.old }
         ensures text { rest_of (under (T.table tree.now) root.now) self.old ≡ take result room.new ++ rest_of (under (T.table tree.now) root.now) self.new }
         ensures path { self.new.path ≡ self.old.path }
@@ -84,7 +87,7 @@ impl<A: Allocator> Download<A> {
         ensures goes { (result ≡ length room.old) ⊎ (is_done self.new.encoder ≡ true) ⊎ ((self.old.at < self.new.at) × (self.new.at ≤ length (octets_or_none (under (T.table tree.now) root.now) self.old.path))) }
         ensures on { self.old.at ≤ self.new.at }
     {
-        let left = len_at(tree, root, &self.path).saturating_sub(self.at);
+        let left = len.saturating_sub(self.at);
         let piece = tree.piece(root, &self.path, self.at, usize::MAX);
         let last = left <= piece.len() as u64;
         let encoded = self.encoder.put(piece, last, room);
