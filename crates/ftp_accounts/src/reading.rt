@@ -1,6 +1,7 @@
 // The accounts that a text says, line by line.
-ghost use Rattle.std.specs.Prelude.{◌≡◌, None, IfOk};
+ghost use Rattle.std.specs.Prelude.{◌≡◌, ◌++◌, ◌∷◌, [], None, IfOk};
 ghost use Rattle.ftp_operation.specs.Account.{accounts_refusal};
+ghost use Rattle.ftp_accounts.specs.Lines.{Adds, SaysAll, without_cr};
 
 use crate::fault::{AccountsFileFault, LineFault};
 use crate::line::{account_of, cut_at, is_silent};
@@ -21,34 +22,28 @@ pub fn read_accounts<A: Allocator + Copy>(
     alloc: A,
     text: &[u8],
 ) -> Result<Accounts<A>, AccountsFileFault>
+    ensures said { IfOk result (λ accounts. SaysAll text.now accounts) }
     ensures allowed { IfOk result (λ accounts. accounts_refusal accounts ≡ None) }
 {
     let mut said = Said {
         list: Vec::new(alloc),
         lines: Vec::new(alloc),
     };
+    let mut number: u32 = 1;
     let mut rest = text;
-    for at in 0..=text.len() {
-        let (line, more) = match cut_at(rest, b'\n') {
-            Some((line, more)) => (line, Some(more)),
-            None => (rest, None),
-        };
-        said.read_line(alloc, number_of(at), without_cr(line))?;
-        match more {
-            Some(more) => rest = more,
-            None => break,
-        }
+    while let Some((line, more)) = cut_at(rest, b'\n') {
+        said.read_line(alloc, number, without_cr(line))?;
+        number = number.saturating_add(1);
+        rest = more;
     }
+    said.read_line(alloc, number, without_cr(rest))?;
     said.accounts()
 }
 
-/// The number of the line at a place.
-fn number_of(at: usize) -> u32 {
-    u32::try_from(at).unwrap_or(u32::MAX).saturating_add(1)
-}
-
 /// A line without the CR at its end.
-fn without_cr(line: &[u8]) -> &[u8] {
+fn without_cr(line: &[u8]) -> &[u8]
+    ensures { result.now ≡ without_cr line.now }
+{
     match line.split_last() {
         Some((last, front)) if *last == b'\r' => front,
         _ => line,
@@ -64,7 +59,9 @@ struct Said<A: Allocator + Copy> {
 
 impl<A: Allocator + Copy> Said<A> {
     /// Reads one line, of that number.
-    fn read_line(&mut self, alloc: A, line: u32, text: &[u8]) -> Result<(), AccountsFileFault> {
+    fn read_line(&mut self, alloc: A, line: u32, text: &[u8]) -> Result<(), AccountsFileFault>
+        ensures { IfOk result (λ _. Adds (text.now ∷ []) self.old.list.items self.new.list.items) }
+    {
         if is_silent(text) {
             return Ok(());
         }
@@ -81,7 +78,9 @@ impl<A: Allocator + Copy> Said<A> {
         &mut self,
         account: Account<Text<A>, Path<A>>,
         line: u32,
-    ) -> Result<(), AccountsFileFault> {
+    ) -> Result<(), AccountsFileFault>
+        ensures { IfOk result (λ _. self.new.list.items ≡ self.old.list.items ++ account ∷ []) }
+    {
         if self.lines.push(line).is_err() || self.list.push(account).is_err() {
             return Err(AccountsFileFault::Memory);
         }
@@ -90,7 +89,8 @@ impl<A: Allocator + Copy> Said<A> {
 
     /// The accounts, where they can be a server's.
     fn accounts(self) -> Result<Accounts<A>, AccountsFileFault>
-        ensures { IfOk result (λ accounts. accounts_refusal accounts ≡ None) }
+        ensures same { IfOk result (λ accounts. accounts ≡ self.list.items) }
+        ensures allowed { IfOk result (λ accounts. accounts_refusal accounts ≡ None) }
     {
         let Said { list, lines } = self;
         match Accounts::new(list) {
