@@ -4,6 +4,10 @@ use Rattle.std.specs.List.{list_all, starts_with}
 use Rattle.ftp_facts.specs.Fact.{Lacks}
 use Rattle.ftp_path.specs.Path.{IsPathText, is_rooted, resolved}
 use Rattle.ftp_operation.specs.Account.{Account, is_password, is_user}
+use Rattle.ftp_operation.specs.declared.account.AccountsFault.{AccountsFault}
+use Rattle.ftp_operation.specs.declared.account.AccountsFault.TheVariants as AccountsFaults
+use Rattle.ftp_accounts.specs.declared.fault.LineFault.{LineFault}
+use Rattle.ftp_accounts.specs.declared.fault.LineFault.TheVariants.{SameUser, NestedRoots}
 
 -- the octet between two fields, `:`
 abbrev pub colon : ℕ
@@ -35,3 +39,8 @@ pub record Says (line : List ℕ) (account : Account) : Type 0 where
   pub user : IsTrue (is_user account.user)
   pub password : IsTrue (is_password pass) × (account.pass ≡ needed pass)
   pub path : IsPathText root × IsTrue (is_rooted root) × (account.root ≡ resolved [] root)
+
+-- what is wrong with a line, of why its account can't stand with those above it
+abbrev pub of_accounts : AccountsFault → LineFault
+of_accounts AccountsFaults.SameUser = SameUser
+of_accounts AccountsFaults.NestedRoots = NestedRoots

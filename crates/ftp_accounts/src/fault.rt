@@ -1,4 +1,7 @@
 // Why a file says no accounts.
+ghost use Rattle.std.specs.Prelude.{◌≡◌};
+ghost use Rattle.ftp_accounts.specs.Line.{of_accounts};
+
 use ftp_operation::AccountsFault;
 use std::io;
 use thiserror::Error;
@@ -26,6 +29,8 @@ pub enum LineFault {
 }
 
 impl From<AccountsFault> for LineFault {
+    ghost from_gives = { λ fault told. told ≡ of_accounts fault };
+
     fn from(fault: AccountsFault) -> LineFault {
         match fault {
             AccountsFault::SameUser => LineFault::SameUser,
