@@ -14,12 +14,14 @@ use Rattle.ftp_client_dialogue.specs.Client.{shorted}
 use Rattle.ftp_client_dialogue.proofs.RunLemmas.{begins_alike, short_job, short_tried}
 
 -- a run that begins at once
-pub run_begun : (new v : View) (o op : Op (List ℕ)) (s : Standing) (job : Job) (run : Option Run) → o ≡ op → s ≡ Stands.Entered
-    → (let w : View = record v { job = job; run = run } in new ≡ begins o w)
-    → (let w : View = record v { run = run } in new ≡ started_by s op w)
+pub run_begun : (new v : View) (o op : Op (List ℕ)) (s : Standing) (job : Job) (run : Op (List ℕ) → Option Run) → o ≡ op → s ≡ Stands.Entered
+    → (let w : View = record v { job = job; run = run o } in new ≡ begins o w)
+    → (let w : View = record v { run = run op } in new ≡ started_by s op w)
 run_begun new v o op s job run is entered begun =
-    let w : View = record v { run = run } in
-    begun ∙ begins_alike o job w ∙ ap (λ p. begins p w) is ∙ ap (λ t. started_by t op w) (sym entered)
+    begun
+    ∙ begins_alike o job (record v { run = run o })
+    ∙ ap (λ p. let w : View = record v { run = run p } in begins p w) is
+    ∙ ap (λ t. let w : View = record v { run = run op } in started_by t op w) (sym entered)
 
 -- the next operation of a run, of which every one but SIZE is counted
 pub tried : (new counted link v : View) (o p op : Op (List ℕ)) → o ≡ p → p ≡ op → link ≡ dropped v

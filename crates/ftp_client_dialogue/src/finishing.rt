@@ -1,22 +1,20 @@
 // How an operation ends, and how a client fails (RFC 959, section 5.4).
 ghost use Rattle.std.specs.Prelude.{◌≡◌, IfOk, IsTrue, OnErr, OnOk, option_map};
+ghost use Rattle.std.specs.Bool.{then_some};
 ghost use Rattle.ftp_operation.specs.Answer.{said_of};
 ghost use Rattle.ftp_client_machine.specs.Calls.{is_sound};
 ghost use Rattle.ftp_client_machine.specs.Dialogue.{begins, finishes, finishes_by, finishes_read, next_with};
 ghost use Rattle.ftp_client_machine.specs.Tries.{run_at};
 ghost use Rattle.ftp_client_machine.specs.View.{done_with, dropped, failure_said, fails, stands, strange};
-ghost use Rattle.ftp_plan.specs.Tries.{next_op};
 
 use crate::dialogue::Dialogue;
-use crate::letting_go::{let_go, let_go_op};
+use crate::letting_go::let_go;
 use crate::place::Place;
 use ftp_client_machine::client::{DataConnection, Failure, Standing, Step};
-use ftp_facts::Text;
 use ftp_judging::Carries;
-use ftp_operation::{Answer, Op};
-use ftp_plan::{Next, is_size, next_in};
+use ftp_operation::Answer;
+use ftp_plan::{is_size, next_in};
 use std::alloc::{AllocError, Allocator};
-use std::mem;
 
 impl<A: Allocator + Clone, F: Carries<A>> Dialogue<A, F> {
     ghost use Rattle.ftp_client_dialogue.specs.Calm.{is_under_way};
@@ -65,18 +63,13 @@ impl<A: Allocator + Clone, F: Carries<A>> Dialogue<A, F> {
         ensures sound { OnErr result (IsTrue (is_sound self.new.standing)) }
     {
         match self.next(&answer) {
-            Ok(Next::Nothing) => {
+            Ok(false) => {
                 self.drop_link();
                 self.tell(answer);
                 Ok(())
             }
-            Ok(Next::Again) => {
+            Ok(true) => {
                 let_go(answer);
-                self.try_again()
-            }
-            Ok(Next::Other(op)) => {
-                let_go(answer);
-                self.put_op(op);
                 self.try_again()
             }
             Err(error) => {
@@ -86,23 +79,17 @@ impl<A: Allocator + Clone, F: Carries<A>> Dialogue<A, F> {
         }
     }
 
-    /// What follows the operation under way, where it is a part of a run.
-    fn next(&self, answer: &Answer<A>) -> Result<Next<A>, AllocError>
-        ensures { IfOk result (λ next. next_op self.now.op next ≡ next_with (view_of F.flow self.now).run self.now.op (said_of answer.now)) }
-    {
-        match &self.run {
-            None => Ok(Next::Nothing),
-            Some(run) => next_in(run, &self.op, answer, &self.alloc),
-        }
-    }
-
-    /// Another operation is in the place of the one under way.
-    fn put_op(&mut self, op: Op<Text<A>>)
-        ensures op { self.new.op ≡ op }
+    /// What follows the operation under way, where it is a part of a run, takes its place; `false` says that nothing does.
+    fn next(&mut self, answer: &Answer<A>) -> Result<bool, AllocError>
+        ensures next { IfOk result (λ follows.
+            then_some follows self.new.op ≡ next_with (view_of F.flow self.old).run self.old.op (said_of answer.now)) }
         ensures place { self.new.place ≡ self.old.place }
-        ensures view { view_of F.flow self.new ≡ record (view_of F.flow self.old) { job = job_of F.flow op self.old.place } }
+        ensures view { view_of F.flow self.new ≡ record (view_of F.flow self.old) { job = job_of F.flow self.new.op self.old.place } }
     {
-        let_go_op(mem::replace(&mut self.op, op));
+        match &mut self.run {
+            None => Ok(false),
+            Some(run) => next_in(run, &mut self.op, answer, &self.alloc),
+        }
     }
 
     /// The next operation of a run begins.

@@ -7,7 +7,7 @@ ghost use Rattle.ftp_operation.specs.Answer.{Memory, said_of};
 ghost use Rattle.ftp_operation.specs.Operation.{can_be_sent};
 ghost use Rattle.ftp_client_machine.specs.Calls.{is_busy, is_sound, report_of, reports, started_by, starts, uploads};
 ghost use Rattle.ftp_client_machine.specs.Tries.{first_try, over_breaks, run_of};
-ghost use Rattle.ftp_plan.specs.Tries.{run_in, upload_in};
+ghost use Rattle.ftp_plan.specs.Tries.{run_in};
 ghost use Rattle.ftp_client_machine.specs.View.{Told, Waiting, client};
 ghost use Rattle.ftp_client_machine.specs.Failing.{short};
 
@@ -21,7 +21,7 @@ use ftp_facts::Text;
 use ftp_hearing::Hearing;
 use ftp_judging::Carries;
 use ftp_operation::{Answer, How, Login, Op, can_be_sent};
-use ftp_plan::{MOST_TRIES, Output, Run, can_be_tried};
+use ftp_plan::{Output, Run, can_be_tried};
 use ftp_representation::Representation;
 use std::alloc::{AllocError, Allocator};
 use std::mem;
@@ -102,25 +102,21 @@ impl<A: Allocator + Clone, F: Carries<A>> Dialogue<A, F> {
             self.tell(Answer::BadOperation);
             return Ok(());
         }
-        self.start_run(Run {
-            path,
-            octets,
-            how,
-            left: MOST_TRIES - 1,
-        })
+        self.start_run(path, octets, how)
     }
 
     /// An upload over breaks that can be sent begins. Refused memory, it is answered so.
-    fn start_run(&mut self, run: Run<A>) -> Result<(), AllocError>
+    fn start_run(&mut self, path: Text<A>, octets: Text<A>, how: How) -> Result<(), AllocError>
         requires sound { IsTrue (is_sound self.old.standing) }
-        requires sendable { can_be_sent (first_try (upload_in run)) ≡ true }
+        requires sendable { can_be_sent (first_try (over_breaks path octets how)) ≡ true }
         ensures ok { OnOk result (view_of F.flow self.new
-            ≡ started_by self.old.standing (first_try (upload_in run)) (record (view_of F.flow self.old) { run = Some (run_in run) })) }
+            ≡ started_by self.old.standing (first_try (over_breaks path octets how))
+            (record (view_of F.flow self.old) { run = Some (run_of (over_breaks path octets how)) })) }
         ensures err { OnErr result (shorted (view_of F.flow self.new) ≡ shorted (record (view_of F.flow self.old) { job = Told Memory })) }
         ensures standing { OnErr result (self.new.standing ≡ self.old.standing) }
     {
-        match ftp_plan::first_try(&run, &self.alloc) {
-            Ok(op) => self.start_op(op, Some(run)),
+        match ftp_plan::first_try(path, octets, how, &self.alloc) {
+            Ok((op, run)) => self.start_op(op, Some(run)),
             Err(error) => {
                 self.place = Place::Told(Answer::Memory);
                 Err(error)
@@ -133,7 +129,7 @@ impl<A: Allocator + Clone, F: Carries<A>> Dialogue<A, F> {
     fn start_op(&mut self, op: Op<Text<A>>, run: Option<Run<A>>) -> Result<(), AllocError>
         requires { IsTrue (is_sound self.old.standing) }
         ensures ok { OnOk result (view_of F.flow self.new
-            ≡ started_by self.old.standing op (record (view_of F.flow self.old) { run = option_map run_in run })) }
+            ≡ started_by self.old.standing op (record (view_of F.flow self.old) { run = option_map (run_in op) run })) }
         ensures err { OnErr result (shorted (view_of F.flow self.new) ≡ shorted (record (view_of F.flow self.old) { job = Told Memory })) }
         ensures standing { OnErr result (self.new.standing ≡ self.old.standing) }
     {

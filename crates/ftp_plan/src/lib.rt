@@ -14,4 +14,4 @@ pub use command::{
 pub use output::{OUTPUT_ROOM, Output};
 pub use request::{asked_settings, count_of, how_of, listing_settings, offset_of};
 pub use step::{first_step, next_step, settings_behind};
-pub use tries::{MOST_TRIES, Next, Run, can_be_tried, first_try, is_size, next_in};
+pub use tries::{MOST_TRIES, Run, can_be_tried, first_try, is_size, next_in};

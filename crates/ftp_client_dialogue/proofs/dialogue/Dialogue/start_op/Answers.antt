@@ -10,5 +10,5 @@ returns-in-Entered-clause-ok g c =
     let d = c.args.self.now in
     on_ok_weaker c.start_now.result (λ begun.
     run_begun (view_of g.F.Carries.flow c.start_now.new.self) (view_of g.F.Carries.flow d) c.replace.new.dest
-    c.args.op d.standing (job_of g.F.Carries.flow c.replace.new.dest d.place) (option_map run_in c.args.run) c.replace.ensures.after c.in-Entered.is begun)
+    c.args.op d.standing (job_of g.F.Carries.flow c.replace.new.dest d.place) (λ op. option_map (run_in op) c.args.run) c.replace.ensures.after c.in-Entered.is begun)
     c.start_now.ensures.ok
