@@ -147,14 +147,19 @@ fn breaks_at_each_write(alloc: Global) -> bool {
     true
 }
 
-/// Whether a run goes so in which a file of 200,000 octets is sent, and behind two pieces of its download, of 65,536 octets each, the client
-/// says the next octet of this.
+/// How many octets the files of these runs have: three pieces of a data connection, of 262,144 octets each, and a part of a fourth.
+const SENT: usize = 800_000;
+
+/// How many octets two pieces have.
+const TWO_PIECES: u64 = 524_288;
+
+/// Whether a run goes so in which a file is sent, and behind two pieces of its download the client says the next octet of this.
 fn speaks(alloc: Global, said: &'static [u8], owed: &'static [u8], taken: u64) -> bool {
     let mut run = short();
     run.said = said;
     run.owed = owed;
     run.piece = 1;
-    run.sends = 200_000;
+    run.sends = SENT;
     run.silent = 7;
     run.taken = taken;
     ends(alloc, run, false)
@@ -165,18 +170,18 @@ fn aborts(alloc: Global) -> bool {
         alloc,
         b"USER anonymous\r\nPASV\r\nSTOR f\r\nPASV\r\nRETR f\r\nABOR\r\nQUIT\r\n",
         b"220 Ready\r\n230 Logged in\r\n227 Entering Passive Mode (127,0,0,1,7,138)\r\n150 Opening data connection\r\n226 Transfer complete\r\n227 Entering Passive Mode (127,0,0,1,7,138)\r\n150 Opening data connection\r\n426 Transfer broken\r\n226 Abort done\r\n221 Goodbye\r\n",
-        131_072,
+        TWO_PIECES,
     )
 }
 
-/// Whether an upload of 200,000 octets is broken off behind two pieces of 65,536.
+/// Whether an upload is broken off behind two pieces.
 fn aborts_an_upload(alloc: Global) -> bool {
     let mut run = short();
     run.said = b"USER anonymous\r\nPASV\r\nSTOR f\r\nABOR\r\nSIZE f\r\nQUIT\r\n";
     run.owed =
-        b"220 Ready\r\n230 Logged in\r\n227 Entering Passive Mode (127,0,0,1,7,138)\r\n150 Opening data connection\r\n426 Transfer broken\r\n226 Abort done\r\n213 131072\r\n221 Goodbye\r\n";
+        b"220 Ready\r\n230 Logged in\r\n227 Entering Passive Mode (127,0,0,1,7,138)\r\n150 Opening data connection\r\n426 Transfer broken\r\n226 Abort done\r\n213 524288\r\n221 Goodbye\r\n";
     run.piece = 1;
-    run.sends = 200_000;
+    run.sends = SENT;
     run.silent = 2;
     ends(alloc, run, false)
 }
@@ -186,7 +191,7 @@ fn quits(alloc: Global) -> bool {
         alloc,
         b"USER anonymous\r\nPASV\r\nSTOR f\r\nPASV\r\nRETR f\r\nQUIT\r\nNOOP\r\n",
         b"220 Ready\r\n230 Logged in\r\n227 Entering Passive Mode (127,0,0,1,7,138)\r\n150 Opening data connection\r\n226 Transfer complete\r\n227 Entering Passive Mode (127,0,0,1,7,138)\r\n150 Opening data connection\r\n226 Transfer complete\r\n221 Goodbye\r\n",
-        200_000,
+        SENT as u64,
     )
 }
 
@@ -195,7 +200,7 @@ fn ends_in_between(alloc: Global) -> bool {
         alloc,
         b"USER anonymous\r\nPASV\r\nSTOR f\r\nPASV\r\nRETR f\r\n",
         b"220 Ready\r\n230 Logged in\r\n227 Entering Passive Mode (127,0,0,1,7,138)\r\n150 Opening data connection\r\n226 Transfer complete\r\n227 Entering Passive Mode (127,0,0,1,7,138)\r\n150 Opening data connection\r\n",
-        131_072,
+        TWO_PIECES,
     )
 }
 
@@ -215,7 +220,7 @@ fn repeated(alloc: Global, before: &[u8], each: &[u8], behind: &[u8]) -> Paper {
     paper
 }
 
-/// Whether in each of the pieces a download of 200,000 octets arrives whole that finds no room at first, and the lines that come meanwhile are
+/// Whether in each of the pieces a download arrives whole that finds no room at first, and the lines that come meanwhile are
 /// answered in their order behind it.
 fn waits(alloc: Global) -> bool {
     let said = repeated(
@@ -237,10 +242,10 @@ fn waits(alloc: Global) -> bool {
             piece: *piece,
             read: NEVER,
             write: NEVER,
-            sends: 200_000,
+            sends: SENT,
             silent: 7,
             full: FULL,
-            taken: 200_000,
+            taken: SENT as u64,
         };
         if !ends(alloc, run, false) {
             return false;
