@@ -1,11 +1,9 @@
 // A download: what is asked for, and what is left of it at this end.
-use crate::again::ask;
 use crate::file::{BESIDE, write_over, write_part};
-use crate::noticed::Noticed;
 use crate::place::Asked;
-use crate::request::Wish;
-use crate::stop::{Stage, Stop, at};
+use crate::single::{Wish, ask_for};
 use crate::telling::{DONE, FAILED, REFUSED, tell};
+use ftp_asking::{Noticed, Stage, Stop, at};
 use ftp_facts::Moment;
 use ftp_operation::Answer;
 use std::alloc::Global;
@@ -27,44 +25,75 @@ pub struct Download<'a> {
     pub moment: bool,
 }
 
-/// Asks for the file; for its moment first, where that is wanted, so that a file which changes in between looks too old and never too new.
+/// What is known before a file is asked for.
+#[derive(Clone, Copy)]
+enum Known {
+    /// The server's moment of it, if the server tells one.
+    Moment(Option<Moment>),
+    /// That there is no use in asking for it: the status, which is told.
+    Useless(u8),
+}
+
+/// Asks for the file, and leaves it at this end; for its moment first, where that is wanted, so that a file which changes in between looks too old
+/// and never too new.
 pub(crate) fn get<R>(
     rt: &R,
     asked: &Asked<'_>,
     download: Download<'_>,
     noticed: &mut Noticed,
-) -> Result<Answer<Global>, Stop>
+) -> Result<u8, Stop>
 where
     R: Net<Listener = TcpListener, Stream = TcpStream> + Files + Env + Eprint + Clock + AllocGlobal,
 {
-    if download.moment {
-        let answer = ask(rt, asked, Wish::Moment, noticed)?;
-        if !notice_moment(rt, &answer, noticed) {
-            return Ok(answer);
-        }
+    if !download.moment {
+        return get_at(rt, asked, download, None, noticed);
     }
-    ask(rt, asked, Wish::Get, noticed)
+    match known_of(rt, asked, noticed)? {
+        Known::Moment(moment) => get_at(rt, asked, download, moment, noticed),
+        Known::Useless(status) => Ok(status),
+    }
 }
 
-/// Notices the moment of a file, or tells that the server does not know it. Whether there is use in asking for the file then.
-fn notice_moment<R: Eprint>(rt: &R, answer: &Answer<Global>, noticed: &mut Noticed) -> bool {
+/// Asks for the file, and leaves it at this end, last changed at a moment, where there is one.
+fn get_at<R>(
+    rt: &R,
+    asked: &Asked<'_>,
+    download: Download<'_>,
+    moment: Option<Moment>,
+    noticed: &mut Noticed,
+) -> Result<u8, Stop>
+where
+    R: Net<Listener = TcpListener, Stream = TcpStream> + Files + Env + Eprint + Clock + AllocGlobal,
+{
+    let answer = ask_for(rt, asked, Wish::Get, noticed)?;
+    at(Stage::Report, save(rt, download, moment, &answer, noticed))
+}
+
+/// Asks for the moment of the file.
+fn known_of<R>(rt: &R, asked: &Asked<'_>, noticed: &mut Noticed) -> Result<Known, Stop>
+where
+    R: Net<Listener = TcpListener, Stream = TcpStream> + Files + Env + Eprint + Clock + AllocGlobal,
+{
+    let answer = ask_for(rt, asked, Wish::Moment, noticed)?;
+    at(Stage::Report, known_by(rt, &answer, noticed))
+}
+
+/// What an answer tells of the moment of a file; where the server does not know it, that is told.
+fn known_by<R: Eprint>(rt: &R, answer: &Answer<Global>, noticed: &Noticed) -> io::Result<Known> {
     match answer {
-        Answer::Stamp(moment) => {
-            noticed.set_moment(*moment);
-            true
-        }
+        Answer::Stamp(moment) => Ok(Known::Moment(Some(*moment))),
         Answer::Refused(code) => {
             tell_no_moment(rt, noticed, *code);
-            true
+            Ok(Known::Moment(None))
         }
         Answer::Strange => {
             let _told = eprintln!(rt;
                 "note: the server tells no moment of the file{}",
                 noticed.said()
             );
-            true
+            Ok(Known::Moment(None))
         }
-        _ => false,
+        _ => Ok(Known::Useless(tell(rt, answer, noticed)?)),
     }
 }
 
@@ -76,14 +105,15 @@ fn tell_no_moment<R: Eprint>(rt: &R, noticed: &Noticed, code: u16) {
 }
 
 /// Leaves at this end what the server answers to a download, or tells why there is no file.
-pub(crate) fn save<R: Files + Eprint + AllocGlobal>(
+fn save<R: Files + Eprint + AllocGlobal>(
     rt: &R,
     download: Download<'_>,
+    moment: Option<Moment>,
     answer: &Answer<Global>,
     noticed: &Noticed,
 ) -> io::Result<u8> {
     match answer {
-        Answer::Octets(octets) => write(rt, download.file, octets.as_slice(), noticed.moment()),
+        Answer::Octets(octets) => write(rt, download.file, octets.as_slice(), moment),
         Answer::Broken { got, mark: _ } => save_part(rt, download, got.as_slice()),
         _ => tell(rt, answer, noticed),
     }

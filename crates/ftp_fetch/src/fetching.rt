@@ -1,12 +1,10 @@
 // What the subcommands `get`, `put` and `ls` do.
-use crate::again::ask;
-use crate::download::{Download, get, save};
+use crate::download::{Download, get};
 use crate::listing::{entry_lines, name_lines};
-use crate::noticed::Noticed;
 use crate::place::Asked;
-use crate::request::Wish;
-use crate::stop::{Stage, Stop, at};
+use crate::single::{Wish, ask_for};
 use crate::telling::{DONE, tell};
+use ftp_asking::{Noticed, Stage, Stop, at};
 use ftp_operation::Answer;
 use std::alloc::{AllocError, Global};
 use std::env::Env;
@@ -46,66 +44,31 @@ where
         + AllocGlobal,
 {
     let mut noticed = Noticed::new();
-    match answer_to(rt, asked, task, &mut noticed) {
-        Ok(answer) => finish(rt, task, &answer, &noticed),
+    let done = match task {
+        Task::Get(download) => get(rt, asked, download, &mut noticed),
+        Task::Put(file) => put(rt, asked, file, &mut noticed),
+        Task::List => list(rt, asked, &mut noticed),
+    };
+    match done {
+        Ok(status) => Ok(status),
         Err(stop) => stop.tell(rt),
     }
 }
 
-/// What the server answers.
-fn answer_to<R>(
-    rt: &R,
-    asked: &Asked<'_>,
-    task: Task<'_>,
-    noticed: &mut Noticed,
-) -> Result<Answer<Global>, Stop>
-where
-    R: Net<Listener = TcpListener, Stream = TcpStream> + Files + Env + Eprint + Clock + AllocGlobal,
-{
-    match task {
-        Task::Get(download) => get(rt, asked, download, noticed),
-        Task::Put(file) => put(rt, asked, file, noticed),
-        Task::List => list(rt, asked, noticed),
-    }
-}
-
 /// Uploads a file.
-fn put<R>(
-    rt: &R,
-    asked: &Asked<'_>,
-    file: &str,
-    noticed: &mut Noticed,
-) -> Result<Answer<Global>, Stop>
+fn put<R>(rt: &R, asked: &Asked<'_>, file: &str, noticed: &mut Noticed) -> Result<u8, Stop>
 where
     R: Net<Listener = TcpListener, Stream = TcpStream> + Files + Env + Eprint + Clock + AllocGlobal,
 {
     let octets = at(Stage::Reading, fs::read(rt, file))?;
-    ask(rt, asked, Wish::Put(octets.as_slice()), noticed)
+    let answer = ask_for(rt, asked, Wish::Put(octets.as_slice()), noticed)?;
+    at(Stage::Report, tell_upload(rt, &answer, noticed))
 }
 
-/// The entries of a directory, or its names where MLSD is not known there (RFC 959, section 4.2.2).
-fn list<R>(rt: &R, asked: &Asked<'_>, noticed: &mut Noticed) -> Result<Answer<Global>, Stop>
-where
-    R: Net<Listener = TcpListener, Stream = TcpStream> + Files + Env + Eprint + Clock + AllocGlobal,
-{
-    match ask(rt, asked, Wish::Entries, noticed) {
-        Ok(Answer::Refused(UNKNOWN | NOT_IMPLEMENTED)) => ask(rt, asked, Wish::Names, noticed),
-        listed => listed,
-    }
-}
-
-/// Keeps what the server answers, or tells why it is none of what is wished for.
-fn finish<R>(rt: &R, task: Task<'_>, answer: &Answer<Global>, noticed: &Noticed) -> io::Result<u8>
-where
-    R: Files + Print + Eprint + AllocGlobal,
-{
-    match (task, answer) {
-        (Task::Get(download), answer) => save(rt, download, answer, noticed),
-        (Task::Put(_), Answer::Done) => tell_tries(rt, noticed.opened()),
-        (Task::List, Answer::Entries(entries)) => {
-            write(rt, entry_lines(rt.alloc(), entries.as_slice()))
-        }
-        (Task::List, Answer::Names(names)) => write(rt, name_lines(rt.alloc(), names.as_slice())),
+/// Tells how many tries an upload took, or why it was not done.
+fn tell_upload<R: Eprint>(rt: &R, answer: &Answer<Global>, noticed: &Noticed) -> io::Result<u8> {
+    match answer {
+        Answer::Done => tell_tries(rt, noticed.opened()),
         _ => tell(rt, answer, noticed),
     }
 }
@@ -116,6 +79,46 @@ fn tell_tries<R: Eprint>(rt: &R, tries: u32) -> io::Result<u8> {
         eprintln!(rt; "note: the upload took {tries} tries")?;
     }
     Ok(DONE)
+}
+
+/// Lists a directory on standard output.
+fn list<R>(rt: &R, asked: &Asked<'_>, noticed: &mut Noticed) -> Result<u8, Stop>
+where
+    R: Net<Listener = TcpListener, Stream = TcpStream>
+        + Files
+        + Env
+        + Print
+        + Eprint
+        + Clock
+        + AllocGlobal,
+{
+    let answer = listed(rt, asked, noticed)?;
+    at(Stage::Report, show(rt, &answer, noticed))
+}
+
+/// The entries of a directory, or its names where MLSD is not known there (RFC 959, section 4.2.2).
+fn listed<R>(rt: &R, asked: &Asked<'_>, noticed: &mut Noticed) -> Result<Answer<Global>, Stop>
+where
+    R: Net<Listener = TcpListener, Stream = TcpStream> + Files + Env + Eprint + Clock + AllocGlobal,
+{
+    match ask_for(rt, asked, Wish::Entries, noticed) {
+        Ok(Answer::Refused(UNKNOWN | NOT_IMPLEMENTED)) => {
+            ask_for(rt, asked, Wish::Names, noticed)
+        }
+        listed => listed,
+    }
+}
+
+/// Writes a listing to standard output, or tells why there is none.
+fn show<R>(rt: &R, answer: &Answer<Global>, noticed: &Noticed) -> io::Result<u8>
+where
+    R: Print + Eprint + AllocGlobal,
+{
+    match answer {
+        Answer::Entries(entries) => write(rt, entry_lines(rt.alloc(), entries.as_slice())),
+        Answer::Names(names) => write(rt, name_lines(rt.alloc(), names.as_slice())),
+        _ => tell(rt, answer, noticed),
+    }
 }
 
 /// Writes lines to standard output.

@@ -2,19 +2,13 @@
 //! RFC 3659).
 #![tactic(auto)]
 
-mod again;
-mod asking;
 mod download;
 mod fetching;
 mod file;
 mod listing;
-mod login;
-mod noticed;
 mod place;
-mod progress;
-mod request;
 mod running;
-mod stop;
+mod single;
 mod telling;
 
 pub use download::Download;

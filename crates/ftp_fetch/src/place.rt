@@ -1,4 +1,5 @@
 // Which file of which server is meant, and who asks.
+use ftp_asking::{Server, User};
 use ftp_endpoint::port;
 use ftp_operation::How;
 
@@ -25,6 +26,25 @@ pub struct Asked<'a> {
     pub how: How,
     /// Whether a transfer that takes more than a second is told of, each second at most.
     pub progress: bool,
+}
+
+impl<'a> Asked<'a> {
+    /// Which server is asked.
+    pub(crate) fn server(&self) -> Server<'a> {
+        Server {
+            host: self.place.host,
+            port: self.place.port,
+            progress: self.progress,
+        }
+    }
+
+    /// Who asks.
+    pub(crate) fn by(&self) -> User<'a> {
+        User {
+            name: self.user,
+            password_file: self.password_file,
+        }
+    }
 }
 
 impl<'a> Place<'a> {

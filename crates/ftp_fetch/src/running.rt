@@ -1,19 +1,14 @@
 // A script of operations over one control connection: each is done and reported before the next begins.
-use crate::asking::{GOODBYE_MILLIS, client_of, connected, leave};
-use crate::request::{Request, begin};
-use crate::stop::{Stage, Stop, at};
 use crate::telling::{DONE, FAILED, REFUSED};
-use ftp_client_drive::{Control, drive_client};
-use ftp_client_machine::Near;
-use ftp_drive::Ports;
+use ftp_asking::{Asks, Noticed, Plays, Request, Server, Stage, Stop, at, converse};
 use ftp_facts::Text;
-use ftp_operation::{Answer, Login};
+use ftp_operation::Answer;
 use ftp_script::{Order, Script, ScriptFault, report_of, script_of};
-use ftp_sockets::{SocketPorts, host_of};
 use std::alloc::Global;
 use std::io;
 use std::io::{Eprint, Read, Write};
 use std::net::{Net, TcpListener, TcpStream};
+use std::time::Clock;
 
 /// A line of the script fits no form.
 const BAD_SCRIPT: u8 = 2;
@@ -26,7 +21,12 @@ type Orders = Vec<Order<Text<Global>>, Global>;
 /// control connection or a device failed, or memory was refused for the script or a report. What keeps it from a report is told on standard error.
 pub fn run<R>(rt: &R, host: &str, port: u16) -> io::Result<u8>
 where
-    R: Net<Listener = TcpListener, Stream = TcpStream> + Input + Print + Eprint + AllocGlobal,
+    R: Net<Listener = TcpListener, Stream = TcpStream>
+        + Input
+        + Print
+        + Eprint
+        + Clock
+        + AllocGlobal,
 {
     match read_and_do(rt, host, port) {
         Ok(status) => Ok(status),
@@ -37,11 +37,16 @@ where
 /// Reads the script, and does it.
 fn read_and_do<R>(rt: &R, host: &str, port: u16) -> Result<u8, Stop>
 where
-    R: Net<Listener = TcpListener, Stream = TcpStream> + Input + Print + Eprint + AllocGlobal,
+    R: Net<Listener = TcpListener, Stream = TcpStream>
+        + Input
+        + Print
+        + Eprint
+        + Clock
+        + AllocGlobal,
 {
     let text = at(Stage::Script, text_of(rt))?;
     match script_of(rt.alloc(), text.as_slice()) {
-        Ok(script) => connect_and_do(rt, host, port, script),
+        Ok(script) => do_script(rt, host, port, script),
         Err(fault) => at(Stage::Report, tell_fault(rt, fault)),
     }
 }
@@ -67,93 +72,67 @@ fn tell_fault<R: Eprint>(rt: &R, fault: ScriptFault) -> io::Result<u8> {
     }
 }
 
-/// Opens a control connection, and does a script over it.
-fn connect_and_do<R>(rt: &R, host: &str, port: u16, script: Script<Global>) -> Result<u8, Stop>
+/// Does a script over a control connection.
+fn do_script<R>(rt: &R, host: &str, port: u16, script: Script<Global>) -> Result<u8, Stop>
 where
-    R: Net<Listener = TcpListener, Stream = TcpStream> + Print + AllocGlobal,
+    R: Net<Listener = TcpListener, Stream = TcpStream> + Print + Eprint + Clock + AllocGlobal,
 {
-    let stream = at(Stage::Connection, connected(rt, host, port))?;
     let Script { login, orders } = script;
-    at(Stage::Report, do_and_leave(rt, login, orders, &stream))
-}
-
-/// Does orders over a control connection, and says goodbye where it stands.
-fn do_and_leave<R>(
-    rt: &R,
-    login: Login<Global>,
-    orders: Orders,
-    stream: &TcpStream,
-) -> io::Result<u8>
-where
-    R: Net<Listener = TcpListener, Stream = TcpStream> + Print + AllocGlobal,
-{
-    let status = do_between(rt, login, orders, stream)?;
-    if status != FAILED {
-        let _gone = leave(stream);
-    }
-    Ok(status)
-}
-
-/// Makes a client between the two hosts of a control connection, which does the orders.
-fn do_between<R>(rt: &R, login: Login<Global>, orders: Orders, stream: &TcpStream) -> io::Result<u8>
-where
-    R: Net<Listener = TcpListener, Stream = TcpStream> + Print + AllocGlobal,
-{
-    let here = host_of(stream.local_addr()?);
-    let peer = host_of(stream.peer_addr()?);
-    let mut ports = SocketPorts::hearing(rt, stream)?;
-    let mut control = Control::new(stream, stream);
-    let status = match client_of(rt.alloc(), login, here, peer) {
-        Some(client) => do_all(rt, client, orders, &mut control, &mut ports),
-        None => Err(io::Error::from(io::ErrorKind::OutOfMemory)),
+    let server = Server {
+        host,
+        port,
+        progress: false,
     };
-    ports.finish(i32::from(GOODBYE_MILLIS));
-    status
+    let mut all = All {
+        rt,
+        orders: Some(orders),
+    };
+    converse(rt, server, login, &mut Noticed::new(), &mut all)
+}
+
+/// The orders of a script, until they are done.
+struct All<'a, R> {
+    rt: &'a R,
+    orders: Option<Orders>,
+}
+
+/// By hand: a derived drop is proved again, part by part, wherever orders are let go.
+impl<'a, R> Drop for All<'a, R> {
+    fn drop(self) {
+        let Self { rt: _, orders: _ } = self;
+    }
+}
+
+impl<'a, R: Print + AllocGlobal> Plays<Result<u8, Stop>> for All<'a, R> {
+    fn play<S: Asks>(&mut self, seat: &mut S) -> Result<u8, Stop> {
+        match self.orders.take() {
+            Some(orders) => at(Stage::Report, do_all(self.rt, orders, seat)),
+            None => Ok(DONE),
+        }
+    }
 }
 
 /// Does orders, one after another, and gives the worst of their statuses.
-fn do_all<R, N, C, W, P>(
-    rt: &R,
-    client: N,
-    orders: Orders,
-    control: &mut Control<C, W>,
-    ports: &mut P,
-) -> io::Result<u8>
+fn do_all<R, S>(rt: &R, orders: Orders, seat: &mut S) -> io::Result<u8>
 where
     R: Print + AllocGlobal,
-    N: Near<Global>,
-    C: Read + Drop,
-    W: Write + Drop,
-    P: Ports,
+    S: Asks,
 {
-    let mut client = client;
     let mut worst = DONE;
     for order in orders {
-        let answer = answer_to(&mut client, order, control, ports);
-        worst = worst.max(report(rt, &answer)?);
+        worst = worst.max(do_one(rt, order, seat)?);
     }
     Ok(worst)
 }
 
-/// Does an order, and gives its answer.
-fn answer_to<N, C, W, P>(
-    client: &mut N,
-    order: Order<Text<Global>>,
-    control: &mut Control<C, W>,
-    ports: &mut P,
-) -> Answer<Global>
+/// Does an order, writes its report, and gives its status.
+fn do_one<R, S>(rt: &R, order: Order<Text<Global>>, seat: &mut S) -> io::Result<u8>
 where
-    N: Near<Global>,
-    C: Read + Drop,
-    W: Write + Drop,
-    P: Ports,
+    R: Print + AllocGlobal,
+    S: Asks,
 {
-    let mut request = request_of(order);
-    begin(client, &mut request);
-    match drive_client(client, control, ports) {
-        Some(answer) => answer,
-        None => Answer::Lost,
-    }
+    let answer = seat.answer(request_of(order));
+    report(rt, &answer)
 }
 
 /// The request of an order.

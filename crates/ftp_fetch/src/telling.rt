@@ -1,5 +1,5 @@
 // What an answer that is none of those wished for tells, in a sentence and an exit status.
-use crate::noticed::Noticed;
+use ftp_asking::Noticed;
 use ftp_operation::Answer;
 use std::alloc::Global;
 use std::io;

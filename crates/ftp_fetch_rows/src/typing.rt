@@ -4,6 +4,7 @@ use std::fmt::Display;
 use std::io;
 use std::io::{BufRead, Eprint, Lines, Print};
 use std::net::{Net, SocketAddr, TcpListener, TcpStream};
+use std::time::{Clock, Duration};
 
 /// Gives what another handle gives, and this text as standard input.
 #[derive(Drop)]
@@ -39,6 +40,16 @@ impl<'a, R: Net<Listener = TcpListener, Stream = TcpStream>> Net for Typing<'a, 
 
     fn connect(&self, addr: SocketAddr) -> io::Result<TcpStream> {
         self.rt.connect(addr)
+    }
+}
+
+impl<'a, R: Clock> Clock for Typing<'a, R> {
+    fn monotonic(&self) -> io::Result<Duration> {
+        self.rt.monotonic()
+    }
+
+    fn since_1970(&self) -> io::Result<Duration> {
+        self.rt.since_1970()
     }
 }
 

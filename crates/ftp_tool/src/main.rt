@@ -128,7 +128,12 @@ where
 /// Does what `run` asks for.
 fn run_script<R>(rt: &R, words: &ArgMatches<'_>) -> Result<u8>
 where
-    R: Input + Print + Eprint + AllocGlobal + Net<Listener = TcpListener, Stream = TcpStream>,
+    R: Input
+        + Print
+        + Eprint
+        + AllocGlobal
+        + Clock
+        + Net<Listener = TcpListener, Stream = TcpStream>,
 {
     match running::server_of(words) {
         Some((host, port)) => Ok(ftp_fetch::run(rt, host, port)?),

@@ -1,9 +1,10 @@
-// An operation that is asked anew where its control connection ends.
-use crate::asking::ask_once;
+// What is asked anew where its control connection ends.
+use crate::login::User;
 use crate::noticed::Noticed;
-use crate::place::Asked;
-use crate::request::Wish;
-use crate::stop::Stop;
+use crate::seat::Plays;
+use crate::server::Server;
+use crate::stop::{Stage, Stop};
+use crate::talking::converse_as;
 use ftp_operation::Answer;
 use ftp_sockets::pause;
 use std::alloc::Global;
@@ -18,7 +19,7 @@ const WAITS: [u16; 4] = [1, 2, 4, 8];
 
 const SECOND_MILLIS: u16 = 1000;
 
-/// Why an operation has no answer of the server.
+/// Why there is no answer of the server.
 #[derive(Clone, Copy)]
 enum Loss {
     /// The control connection ended.
@@ -27,39 +28,43 @@ enum Loss {
     Unconnected,
 }
 
-/// Asks over a control connection of its own. Where one was made and ended before the answer, the operation is asked anew, from its beginning,
+/// Plays over a control connection of its own, for a user. Where one was made and ended before the answer, it is played anew, from the beginning,
 /// over at most four more.
-pub(crate) fn ask<R>(
+pub fn ask<R, P>(
     rt: &R,
-    asked: &Asked<'_>,
-    wish: Wish<'_>,
+    server: Server<'_>,
+    user: User<'_>,
     noticed: &mut Noticed,
+    play: &mut P,
 ) -> Result<Answer<Global>, Stop>
 where
     R: Net<Listener = TcpListener, Stream = TcpStream> + Files + Env + Eprint + Clock + AllocGlobal,
+    P: Plays<Result<Answer<Global>, Stop>>,
 {
-    let answered = ask_once(rt, asked, wish, noticed);
+    let answered = converse_as(rt, server, user, noticed, play);
     match loss_of(&answered) {
-        Some(Loss::Ended) => ask_again(rt, asked, wish, noticed),
+        Some(Loss::Ended) => ask_again(rt, server, user, noticed, play),
         _ => answered,
     }
 }
 
-/// Asks anew, each time after a longer wait.
-fn ask_again<R>(
+/// Plays anew, each time after a longer wait.
+fn ask_again<R, P>(
     rt: &R,
-    asked: &Asked<'_>,
-    wish: Wish<'_>,
+    server: Server<'_>,
+    user: User<'_>,
     noticed: &mut Noticed,
+    play: &mut P,
 ) -> Result<Answer<Global>, Stop>
 where
     R: Net<Listener = TcpListener, Stream = TcpStream> + Files + Env + Eprint + Clock + AllocGlobal,
+    P: Plays<Result<Answer<Global>, Stop>>,
 {
     let mut loss = Loss::Ended;
     for seconds in WAITS {
         tell_wait(rt, loss, seconds, noticed);
         pause(seconds.saturating_mul(SECOND_MILLIS));
-        let answered = ask_once(rt, asked, wish, noticed);
+        let answered = converse_as(rt, server, user, noticed, play);
         match loss_of(&answered) {
             Some(found) => loss = found,
             None => return answered,
@@ -72,12 +77,16 @@ where
 fn loss_of(answered: &Result<Answer<Global>, Stop>) -> Option<Loss> {
     match answered {
         Ok(Answer::Lost) => Some(Loss::Ended),
-        Err(stop) if stop.is_of_connection() => Some(Loss::Unconnected),
-        _ => None,
+        Ok(_) => None,
+        Err(stop) => match stop.stage() {
+            Stage::Talking => Some(Loss::Ended),
+            Stage::Connection => Some(Loss::Unconnected),
+            _ => None,
+        },
     }
 }
 
-/// Tells that an operation is asked anew after so many seconds; where that can't be told, it is asked all the same.
+/// Tells that it is asked anew after so many seconds; where that can't be told, it is asked all the same.
 fn tell_wait<R: Eprint>(rt: &R, loss: Loss, seconds: u16, noticed: &Noticed) {
     let _told = match loss {
         Loss::Ended => eprintln!(rt;

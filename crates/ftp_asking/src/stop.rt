@@ -1,13 +1,15 @@
 // Why a program stops before it has an answer of the server.
 use std::io;
-use std::io::{Eprint, Error};
+use std::io::{Eprint, Error, ErrorKind};
 
 /// What was under way.
 #[derive(Clone, Copy)]
-pub(crate) enum Stage {
+pub enum Stage {
     Login,
     Asking,
     Connection,
+    /// Over a control connection that was made.
+    Talking,
     Reading,
     Writing,
     Script,
@@ -15,7 +17,7 @@ pub(crate) enum Stage {
 }
 
 /// What was under way, and what failed.
-pub(crate) struct Stop {
+pub struct Stop {
     stage: Stage,
     error: Error,
 }
@@ -28,7 +30,7 @@ impl Drop for Stop {
 }
 
 /// What was done at a stage, or that it stops the program.
-pub(crate) fn at<T: Drop>(stage: Stage, done: io::Result<T>) -> Result<T, Stop> {
+pub fn at<T: Drop>(stage: Stage, done: io::Result<T>) -> Result<T, Stop> {
     match done {
         Ok(value) => Ok(value),
         Err(error) => Err(Stop { stage, error }),
@@ -36,17 +38,26 @@ pub(crate) fn at<T: Drop>(stage: Stage, done: io::Result<T>) -> Result<T, Stop> 
 }
 
 impl Stop {
-    /// Whether no control connection was made.
-    pub(crate) fn is_of_connection(&self) -> bool {
-        matches!(self.stage, Stage::Connection)
+    /// Memory was refused before anything was asked.
+    pub(crate) fn of_memory() -> Stop {
+        Stop {
+            stage: Stage::Asking,
+            error: Error::from(ErrorKind::OutOfMemory),
+        }
+    }
+
+    /// What was under way.
+    pub(crate) fn stage(&self) -> Stage {
+        self.stage
     }
 
     /// Tells why on standard error, and gives the exit status: 2 for a bad login, and else 3.
-    pub(crate) fn tell<R: Eprint>(&self, rt: &R) -> io::Result<u8> {
+    pub fn tell<R: Eprint>(&self, rt: &R) -> io::Result<u8> {
         let (what, status) = match self.stage {
             Stage::Login => ("no login", 2),
             Stage::Asking => ("nothing is asked", 3),
             Stage::Connection => ("no connection", 3),
+            Stage::Talking => ("the control connection ended", 3),
             Stage::Reading => ("the file is not read", 3),
             Stage::Writing => ("the file is not written", 3),
             Stage::Script => ("the script is not read", 3),

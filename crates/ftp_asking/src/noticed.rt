@@ -1,6 +1,4 @@
-// What is noticed of a server beside its answer: the line of its replies that came last, how many data connections were opened, and the moment
-// of a file.
-use ftp_facts::Moment;
+// What is noticed of a server beside its answer: the line of its replies that came last, and how many data connections were opened.
 use std::fmt::{Display, Formatter};
 use std::io::Read;
 use std::net::TcpStream;
@@ -20,7 +18,7 @@ const NOT_LOGGED_IN: u16 = 530;
 
 /// What was noticed so far.
 #[derive(Drop)]
-pub(crate) struct Noticed {
+pub struct Noticed {
     /// The first octets of the line that came last, without the CR LF at its end.
     line: [u8; LINE_LIMIT],
     len: usize,
@@ -28,18 +26,16 @@ pub(crate) struct Noticed {
     is_whole: bool,
     /// How many data connections were opened, over all control connections.
     opened: u32,
-    moment: Option<Moment>,
 }
 
 impl Noticed {
     /// Nothing yet.
-    pub(crate) fn new() -> Noticed {
+    pub fn new() -> Noticed {
         Noticed {
             line: [0; LINE_LIMIT],
             len: 0,
             is_whole: false,
             opened: 0,
-            moment: None,
         }
     }
 
@@ -49,22 +45,12 @@ impl Noticed {
     }
 
     /// How many data connections were opened.
-    pub(crate) fn opened(&self) -> u32 {
+    pub fn opened(&self) -> u32 {
         self.opened
     }
 
-    /// The server's moment of the file.
-    pub(crate) fn set_moment(&mut self, moment: Moment) {
-        self.moment = Some(moment);
-    }
-
-    /// The server's moment of the file, where that was asked for and is known.
-    pub(crate) fn moment(&self) -> Option<Moment> {
-        self.moment
-    }
-
     /// A refusal by a code, as it is told: the line of the reply, and where that is not known the code alone.
-    pub(crate) fn refusal(&self, code: u16) -> Refusal<'_> {
+    pub fn refusal(&self, code: u16) -> Refusal<'_> {
         Refusal {
             code,
             line: self.last(code),
@@ -72,14 +58,14 @@ impl Noticed {
     }
 
     /// Why the server ends the control connection, as it is told behind a sentence; nothing where it does not say.
-    pub(crate) fn farewell(&self) -> Said<'_> {
+    pub fn farewell(&self) -> Said<'_> {
         Said {
             line: self.last(NOT_AVAILABLE),
         }
     }
 
     /// What the server said last, whole or not, as it is told behind a sentence.
-    pub(crate) fn said(&self) -> Said<'_> {
+    pub fn said(&self) -> Said<'_> {
         Said {
             line: self.line.get(..self.len).unwrap_or(&[]),
         }
@@ -153,11 +139,6 @@ impl<'a> Noticing<'a> {
         noticed.begin();
         Noticing { stream, noticed }
     }
-
-    /// The control connection.
-    pub(crate) fn stream(&self) -> &'a TcpStream {
-        self.stream
-    }
 }
 
 impl<'a> Read for Noticing<'a> {
@@ -171,7 +152,7 @@ impl<'a> Read for Noticing<'a> {
 
 /// The text of a server, or its code where the text is not known.
 #[derive(Clone, Copy)]
-pub(crate) struct Refusal<'a> {
+pub struct Refusal<'a> {
     code: u16,
     /// Empty where the text is not known.
     line: &'a [u8],
@@ -188,7 +169,7 @@ impl<'a> Display for Refusal<'a> {
 
 /// A colon and what a server said, or nothing where that is not known.
 #[derive(Clone, Copy)]
-pub(crate) struct Said<'a> {
+pub struct Said<'a> {
     line: &'a [u8],
 }
 

@@ -1,4 +1,5 @@
 // How far a transfer is, on standard error.
+use crate::seat::Opens;
 use ftp_drive::{Accepted, For, Ports, Ready};
 use ftp_endpoint::Endpoint;
 use ftp_sockets::{Link, SocketPorts};
@@ -49,11 +50,6 @@ where
         self.ports.finish(millis);
     }
 
-    /// How many data connections were opened so far.
-    pub(crate) fn opened(&self) -> u32 {
-        self.ports.opened()
-    }
-
     fn metered(&self, link: Link<'a>) -> MeteredLink<'a, R> {
         let since = if self.is_told {
             Instant::now(self.rt).ok()
@@ -102,6 +98,15 @@ where
             Some(metered) => Some(metered.ended()),
             None => None,
         });
+    }
+}
+
+impl<'a, R> Opens for MeteredPorts<'a, R>
+where
+    R: Net<Listener = TcpListener, Stream = TcpStream> + Clock + Eprint,
+{
+    fn opened(&self) -> u32 {
+        self.ports.opened()
     }
 }
 

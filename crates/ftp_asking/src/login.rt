@@ -1,5 +1,4 @@
 // Who asks: a user name, and the password, which is never a word of a command line.
-use crate::place::Asked;
 use ftp_facts::Text;
 use ftp_operation::Login;
 use std::alloc::Global;
@@ -8,6 +7,14 @@ use std::fs::{File, Files, OpenFile};
 use std::io::{Error, ErrorKind, Read};
 use std::os::unix::fs::PermissionsExt;
 use std::{env, io};
+
+/// Who asks.
+#[derive(Clone, Copy)]
+pub struct User<'a> {
+    pub name: &'a str,
+    /// The file that has the password; its owner alone may use it.
+    pub password_file: Option<&'a str>,
+}
 
 /// The user who needs no password.
 const ANONYMOUS: &str = "anonymous";
@@ -20,13 +27,13 @@ const FILE_LIMIT: u64 = 1024;
 
 /// The login of a user: the password is in a file that its owner alone may use, where one is named; `anonymous` needs none, and all others have it
 /// in the environment, in FTP_PASSWORD.
-pub(crate) fn login_of<R>(rt: &R, asked: &Asked<'_>) -> io::Result<Login<Global>>
+pub(crate) fn login_of<R>(rt: &R, user: User<'_>) -> io::Result<Login<Global>>
 where
     R: Files + Env + AllocGlobal,
 {
-    let pass = password_of(rt, asked)?;
-    let user = Text::copy_of(rt.alloc(), asked.user.as_bytes())?;
-    match Login::new(user, pass) {
+    let pass = password_of(rt, user)?;
+    let name = Text::copy_of(rt.alloc(), user.name.as_bytes())?;
+    match Login::new(name, pass) {
         Some(login) => Ok(login),
         None => Err(Error::new(
             ErrorKind::InvalidInput,
@@ -35,14 +42,14 @@ where
     }
 }
 
-fn password_of<R>(rt: &R, asked: &Asked<'_>) -> io::Result<Text<Global>>
+fn password_of<R>(rt: &R, user: User<'_>) -> io::Result<Text<Global>>
 where
     R: Files + Env + AllocGlobal,
 {
-    if let Some(file) = asked.password_file {
+    if let Some(file) = user.password_file {
         return password_in(rt, file);
     }
-    if asked.user == ANONYMOUS {
+    if user.name == ANONYMOUS {
         return Ok(Text::copy_of(rt.alloc(), GUEST)?);
     }
     password_around(rt)

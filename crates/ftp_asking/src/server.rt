@@ -1,0 +1,44 @@
+// A control connection to a server: how it is opened, and how it ends.
+use ftp_sockets::{keep_alive, say_goodbye};
+use std::io;
+use std::io::Write;
+use std::net::{Net, TcpListener, TcpStream};
+use std::time::Duration;
+
+/// After so many seconds without an octet the first probe of a silent server goes, then each so many, and so often.
+const IDLE_SECONDS: i32 = 120;
+
+const PROBE_SECONDS: i32 = 30;
+
+const PROBES: i32 = 4;
+
+/// How long a server is waited for behind all that was asked, in milliseconds.
+pub(crate) const GOODBYE_MILLIS: u16 = 500;
+
+/// Which server is asked.
+#[derive(Clone, Copy)]
+pub struct Server<'a> {
+    /// An address or a name.
+    pub host: &'a str,
+    pub port: u16,
+    /// Whether a transfer that takes more than a second is told of, each second at most.
+    pub progress: bool,
+}
+
+/// A control connection.
+pub(crate) fn connected<R>(rt: &R, server: Server<'_>) -> io::Result<TcpStream>
+where
+    R: Net<Listener = TcpListener, Stream = TcpStream>,
+{
+    let stream = TcpStream::connect(rt, (server.host, server.port))?;
+    stream.set_nodelay(true)?;
+    keep_alive(&stream, IDLE_SECONDS, PROBE_SECONDS, PROBES)?;
+    Ok(stream)
+}
+
+/// Says that no more commands come, and waits a moment for the server's last reply.
+pub(crate) fn leave(stream: &TcpStream) -> io::Result<()> {
+    let mut writer = stream;
+    writer.write_all(b"QUIT\r\n")?;
+    say_goodbye(stream, Duration::from_millis(u64::from(GOODBYE_MILLIS)))
+}

@@ -1,0 +1,92 @@
+// One operation over a control connection of its own.
+use crate::place::Asked;
+use ftp_asking::{Asks, Noticed, Plays, Request, Stage, Stop, ask, at};
+use ftp_facts::Text;
+use ftp_operation::{Answer, How, Op};
+use ftp_representation::{Kind, Structure};
+use std::alloc::{AllocError, Global};
+use std::env::Env;
+use std::fs::Files;
+use std::io;
+use std::io::Eprint;
+use std::net::{Net, TcpListener, TcpStream};
+use std::time::Clock;
+
+/// What is wished for at a place.
+#[derive(Clone, Copy)]
+pub(crate) enum Wish<'a> {
+    Get,
+    /// The moment of the last change of a file (RFC 3659, section 3).
+    Moment,
+    /// These octets are to be the file.
+    Put(&'a [u8]),
+    /// The entries, with their facts.
+    Entries,
+    Names,
+}
+
+/// Asks for one thing. Where its control connection ends, it is asked anew over another one.
+pub(crate) fn ask_for<R>(
+    rt: &R,
+    asked: &Asked<'_>,
+    wish: Wish<'_>,
+    noticed: &mut Noticed,
+) -> Result<Answer<Global>, Stop>
+where
+    R: Net<Listener = TcpListener, Stream = TcpStream> + Files + Env + Eprint + Clock + AllocGlobal,
+{
+    let mut single = Single {
+        alloc: rt.alloc(),
+        path: asked.place.path,
+        how: asked.how,
+        wish,
+    };
+    ask(rt, asked.server(), asked.by(), noticed, &mut single)
+}
+
+/// A wish at a path, whose request is made anew for each control connection.
+#[derive(Drop)]
+struct Single<'a> {
+    alloc: Global,
+    path: &'a str,
+    how: How,
+    wish: Wish<'a>,
+}
+
+impl<'a> Plays<Result<Answer<Global>, Stop>> for Single<'a> {
+    fn play<S: Asks>(&mut self, seat: &mut S) -> Result<Answer<Global>, Stop> {
+        let request = at(Stage::Asking, self.request())?;
+        Ok(seat.answer(request))
+    }
+}
+
+impl<'a> Single<'a> {
+    fn request(&self) -> io::Result<Request> {
+        Ok(request_of(self.alloc, self.path, self.how, self.wish)?)
+    }
+}
+
+/// The request of a wish.
+fn request_of(alloc: Global, path: &str, how: How, wish: Wish<'_>) -> Result<Request, AllocError> {
+    let path = Text::copy_of(alloc, path.as_bytes())?;
+    match wish {
+        Wish::Get => Ok(Request::One(Some(Op::Get(path, how)))),
+        Wish::Moment => Ok(Request::One(Some(Op::Modified(path)))),
+        Wish::Entries => Ok(Request::One(Some(Op::List(path, how)))),
+        Wish::Names => Ok(Request::One(Some(Op::Names(path, how)))),
+        Wish::Put(octets) => {
+            let octets = Text::copy_of(alloc, octets)?;
+            Ok(upload_of(path, octets, how))
+        }
+    }
+}
+
+/// An upload, over breaks where its type and structure allow that.
+fn upload_of(path: Text<Global>, octets: Text<Global>, how: How) -> Request {
+    let form = how.representation;
+    if form.kind == Kind::Image && form.structure == Structure::File {
+        Request::Upload(Some((path, octets)), how)
+    } else {
+        Request::One(Some(Op::Put(path, octets, how)))
+    }
+}
