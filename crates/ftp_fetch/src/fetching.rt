@@ -4,15 +4,16 @@ use crate::listing::{entry_lines, name_lines};
 use crate::place::Asked;
 use crate::single::{Wish, ask_for};
 use crate::telling::{DONE, tell};
+use crate::uploading::put;
 use ftp_asking::{Noticed, Stage, Stop, at};
 use ftp_operation::Answer;
 use std::alloc::{AllocError, Global};
 use std::env::Env;
 use std::fs::Files;
+use std::io;
 use std::io::{Eprint, Print, Write};
 use std::net::{Net, TcpListener, TcpStream};
 use std::time::Clock;
-use std::{fs, io};
 
 /// The code of the reply to a command that is not known (RFC 959, section 4.2.2).
 const UNKNOWN: u16 = 500;
@@ -53,32 +54,6 @@ where
         Ok(status) => Ok(status),
         Err(stop) => stop.tell(rt),
     }
-}
-
-/// Uploads a file.
-fn put<R>(rt: &R, asked: &Asked<'_>, file: &str, noticed: &mut Noticed) -> Result<u8, Stop>
-where
-    R: Net<Listener = TcpListener, Stream = TcpStream> + Files + Env + Eprint + Clock + AllocGlobal,
-{
-    let octets = at(Stage::Reading, fs::read(rt, file))?;
-    let answer = ask_for(rt, asked, Wish::Put(octets.as_slice()), noticed)?;
-    at(Stage::Report, tell_upload(rt, &answer, noticed))
-}
-
-/// Tells how many tries an upload took, or why it was not done.
-fn tell_upload<R: Eprint>(rt: &R, answer: &Answer<Global>, noticed: &Noticed) -> io::Result<u8> {
-    match answer {
-        Answer::Done => tell_tries(rt, noticed.opened()),
-        _ => tell(rt, answer, noticed),
-    }
-}
-
-/// Tells how many tries an upload took, where it was more than one: each has a data connection of its own.
-fn tell_tries<R: Eprint>(rt: &R, tries: u32) -> io::Result<u8> {
-    if tries > 1 {
-        eprintln!(rt; "note: the upload took {tries} tries")?;
-    }
-    Ok(DONE)
 }
 
 /// Lists a directory on standard output.

@@ -1,8 +1,8 @@
 // Files of this end.
 use ftp_facts::Moment;
 use std::alloc::{AllocError, Global};
-use std::fs::{FileTimes, Files, OpenFile, OpenOptions, Permissions};
-use std::io::{Error, ErrorKind, Write};
+use std::fs::{File, FileTimes, Files, OpenFile, OpenOptions, Permissions};
+use std::io::{Error, ErrorKind, Read, Seek, SeekFrom, Write};
 use std::os::unix::fs::{OpenOptionsExt, PermissionsExt};
 use std::time::{Duration, SystemTime, UNIX_EPOCH};
 use std::{fs, io};
@@ -12,6 +12,32 @@ pub(crate) const BESIDE: &str = ".ftp-part";
 
 /// The permissions of a file that has no predecessor, less the umask.
 const NEW_MODE: u32 = 0o666;
+
+/// Octets of a file, and when it was changed last, where that is known.
+#[derive(Drop)]
+pub(crate) struct Content {
+    pub(crate) octets: Vec<u8, Global>,
+    pub(crate) changed: Option<SystemTime>,
+}
+
+/// The octets of a file from one of them on.
+pub(crate) fn read_from<R: Files + AllocGlobal>(
+    files: &R,
+    file: &str,
+    from: u64,
+) -> io::Result<Content> {
+    let mut opened = File::open(files, file)?;
+    let found = opened.metadata()?;
+    if from > 0 {
+        let _place = opened.seek(SeekFrom::Start(from))?;
+    }
+    let mut octets = Vec::with_capacity(files.alloc(), found.len().saturating_sub(from) as usize)?;
+    let _count = opened.read_to_end(&mut octets)?;
+    Ok(Content {
+        octets,
+        changed: found.modified().ok(),
+    })
+}
 
 /// Writes a file beside its name, flushes it, and moves it over the name. It keeps the permissions of the file that it replaces; its last change
 /// was at the moment, where there is one. Where that fails, what was written beside is removed again.

@@ -9,9 +9,13 @@ mod listing;
 mod place;
 mod running;
 mod single;
+mod step;
 mod telling;
+mod uploading;
 
 pub use download::Download;
 pub use fetching::{Task, fetch};
 pub use place::{Asked, Place, place_of};
 pub use running::run;
+pub use step::{Ended, Step, There, Upload, follows};
+pub use uploading::Uploading;

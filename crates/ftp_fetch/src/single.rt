@@ -3,7 +3,6 @@ use crate::place::Asked;
 use ftp_asking::{Asks, Noticed, Plays, Request, Stage, Stop, ask, at};
 use ftp_facts::Text;
 use ftp_operation::{Answer, How, Op};
-use ftp_representation::{Kind, Structure};
 use std::alloc::{AllocError, Global};
 use std::env::Env;
 use std::fs::Files;
@@ -14,12 +13,10 @@ use std::time::Clock;
 
 /// What is wished for at a place.
 #[derive(Clone, Copy)]
-pub(crate) enum Wish<'a> {
+pub(crate) enum Wish {
     Get,
     /// The moment of the last change of a file (RFC 3659, section 3).
     Moment,
-    /// These octets are to be the file.
-    Put(&'a [u8]),
     /// The entries, with their facts.
     Entries,
     Names,
@@ -29,7 +26,7 @@ pub(crate) enum Wish<'a> {
 pub(crate) fn ask_for<R>(
     rt: &R,
     asked: &Asked<'_>,
-    wish: Wish<'_>,
+    wish: Wish,
     noticed: &mut Noticed,
 ) -> Result<Answer<Global>, Stop>
 where
@@ -50,7 +47,7 @@ struct Single<'a> {
     alloc: Global,
     path: &'a str,
     how: How,
-    wish: Wish<'a>,
+    wish: Wish,
 }
 
 impl<'a> Plays<Result<Answer<Global>, Stop>> for Single<'a> {
@@ -67,26 +64,12 @@ impl<'a> Single<'a> {
 }
 
 /// The request of a wish.
-fn request_of(alloc: Global, path: &str, how: How, wish: Wish<'_>) -> Result<Request, AllocError> {
+fn request_of(alloc: Global, path: &str, how: How, wish: Wish) -> Result<Request, AllocError> {
     let path = Text::copy_of(alloc, path.as_bytes())?;
     match wish {
         Wish::Get => Ok(Request::One(Some(Op::Get(path, how)))),
         Wish::Moment => Ok(Request::One(Some(Op::Modified(path)))),
         Wish::Entries => Ok(Request::One(Some(Op::List(path, how)))),
         Wish::Names => Ok(Request::One(Some(Op::Names(path, how)))),
-        Wish::Put(octets) => {
-            let octets = Text::copy_of(alloc, octets)?;
-            Ok(upload_of(path, octets, how))
-        }
-    }
-}
-
-/// An upload, over breaks where its type and structure allow that.
-fn upload_of(path: Text<Global>, octets: Text<Global>, how: How) -> Request {
-    let form = how.representation;
-    if form.kind == Kind::Image && form.structure == Structure::File {
-        Request::Upload(Some((path, octets)), how)
-    } else {
-        Request::One(Some(Op::Put(path, octets, how)))
     }
 }

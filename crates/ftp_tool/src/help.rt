@@ -93,8 +93,9 @@ Example:
 /// Behind the help of `put`.
 pub const PUT: &str = "\
 HOST, PATH, passwords, status, progress and what is done where the control connection ends are as with get; an upload begins anew
-then. Where the data connection alone breaks, an upload in type I and file structure goes on where the server has it, by at most 16 tries; more than one
-are told on standard error.
+then. Behind an upload in type I and file structure the server is asked for the size of what it has, where it tells that; where that is a part, or the data
+connection alone broke, it goes on there, by at most 16 tries in all, and is done only once the size is that of FILE. More than one try are told on standard
+error; status 1 where the server has another size in the end.
 
 Example:
   FTP_PASSWORD=secret ftp_tool put a.txt 127.0.0.1:2121/a.txt --user guest";

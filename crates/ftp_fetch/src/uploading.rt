@@ -1,0 +1,288 @@
+// An upload, which goes on where the server has it: over breaks, and where a 226 came and not all is there.
+use crate::file::{Content, read_from};
+use crate::place::Asked;
+use crate::step::{Ended, Step, There, Upload, follows};
+use crate::telling::{DONE, REFUSED, tell};
+use ftp_asking::{Asks, Noticed, Plays, Request, Stage, Stop, ask, at};
+use ftp_facts::Text;
+use ftp_operation::{Answer, How, Op};
+use ftp_representation::{Kind, Structure};
+use std::alloc::{AllocError, Global};
+use std::env::Env;
+use std::fs::Files;
+use std::io;
+use std::io::{Eprint, Error, ErrorKind};
+use std::net::{Net, TcpListener, TcpStream};
+use std::time::{Clock, SystemTime};
+
+/// The most tries of an upload, over all its control connections (own choice).
+const MOST_TRIES: u32 = 16;
+
+/// The code of a reply that there is no such file (RFC 959, section 4.2.2).
+const NO_FILE: u16 = 550;
+
+/// The code of a server that gave up what it was doing (RFC 959, section 4.2.2).
+const GIVEN_UP: u16 = 451;
+
+/// An upload, until the server answers to it.
+pub struct Uploading<'a, R> {
+    rt: &'a R,
+    file: &'a str,
+    path: &'a str,
+    how: How,
+    /// All octets of the file, until they go for the first time; then they are read anew.
+    octets: Option<Vec<u8, Global>>,
+    /// When the file was changed last, where that is known.
+    changed: Option<SystemTime>,
+    upload: Upload,
+    /// Whether a control connection ended behind the question for the size of what stands there.
+    is_blind: bool,
+    /// How many octets the server has, where it says that all is done and they are not those of the file.
+    wrong: Option<u64>,
+}
+
+/// By hand: a derived drop is proved again, part by part, wherever an upload is let go.
+impl<'a, R> Drop for Uploading<'a, R> {
+    fn drop(self) {
+        let Self {
+            rt: _,
+            file: _,
+            path: _,
+            how: _,
+            octets: _,
+            changed: _,
+            upload: _,
+            is_blind: _,
+            wrong: _,
+        } = self;
+    }
+}
+
+/// Uploads a file, and gives the exit status.
+pub(crate) fn put<R>(
+    rt: &R,
+    asked: &Asked<'_>,
+    file: &str,
+    noticed: &mut Noticed,
+) -> Result<u8, Stop>
+where
+    R: Net<Listener = TcpListener, Stream = TcpStream> + Files + Env + Eprint + Clock + AllocGlobal,
+{
+    let mut uploading = at(
+        Stage::Reading,
+        Uploading::new(rt, file, asked.place.path, asked.how),
+    )?;
+    let answer = ask(rt, asked.server(), asked.by(), noticed, &mut uploading)?;
+    at(Stage::Report, uploading.finish(&answer, noticed))
+}
+
+impl<'a, R: Files + Eprint + AllocGlobal> Uploading<'a, R> {
+    /// Reads a file of this end, which is to be at a path of a server.
+    pub fn new(rt: &'a R, file: &'a str, path: &'a str, how: How) -> io::Result<Uploading<'a, R>> {
+        let content = read_from(rt, file, 0)?;
+        let total = content.octets.len() as u64;
+        Ok(Uploading {
+            rt,
+            file,
+            path,
+            how,
+            octets: Some(content.octets),
+            changed: content.changed,
+            upload: Upload {
+                total,
+                left: MOST_TRIES,
+                older: There::Untold,
+            },
+            is_blind: false,
+            wrong: None,
+        })
+    }
+
+    /// Whether its octets are those of the transfer, so that SIZE counts them: type I and file structure.
+    fn goes_on(&self) -> bool {
+        let form = self.how.representation;
+        form.kind == Kind::Image && form.structure == Structure::File
+    }
+
+    /// Asks for the size of what stands there before the first try; says whether tries may follow over this control connection.
+    fn look<S: Asks>(&mut self, seat: &mut S) -> bool {
+        if !self.goes_on() || self.is_blind {
+            return true;
+        }
+        self.upload.older = self.size(seat);
+        self.is_blind = matches!(self.upload.older, There::Lost);
+        !self.is_blind
+    }
+
+    /// The size of what stands there.
+    fn size<S: Asks>(&self, seat: &mut S) -> There {
+        match self.path() {
+            Ok(path) => there_of(&seat.answer(Request::One(Some(Op::Size(path, self.how))))),
+            Err(AllocError) => There::Untold,
+        }
+    }
+
+    fn path(&self) -> Result<Text<Global>, AllocError> {
+        Text::copy_of(self.rt.alloc(), self.path.as_bytes())
+    }
+
+    /// One try, from an octet of the file on: where the next one begins, or the answer where there is none.
+    fn turn<S: Asks>(&mut self, seat: &mut S, from: u64) -> Result<Turn, Stop> {
+        let request = at(Stage::Reading, self.request(from))?;
+        let opened = seat.opened();
+        self.upload.left = self.upload.left.saturating_sub(1);
+        let answer = seat.answer(request);
+        let step = self.step_behind(seat, &answer, seat.opened() > opened);
+        Ok(self.follow(answer, step, from))
+    }
+
+    /// What is asked for a try.
+    fn request(&mut self, from: u64) -> io::Result<Request> {
+        let path = self.path()?;
+        let octets = Text::from_vec(self.octets_from(from)?);
+        Ok(Request::One(Some(if from == 0 {
+            Op::Put(path, octets, self.how)
+        } else {
+            Op::PutFrom(path, from, octets, self.how)
+        })))
+    }
+
+    /// The octets of the file from one of them on. Those of the first try are there already.
+    fn octets_from(&mut self, from: u64) -> io::Result<Vec<u8, Global>> {
+        match self.octets.take() {
+            Some(octets) => Ok(octets),
+            None => self.read_again(from),
+        }
+    }
+
+    /// Reads octets of the file anew; fails where it has changed.
+    fn read_again(&self, from: u64) -> io::Result<Vec<u8, Global>> {
+        let Content { octets, changed } = read_from(self.rt, self.file, from)?;
+        let total = from.saturating_add(octets.len() as u64);
+        if total != self.upload.total || changed != self.changed {
+            return Err(Error::new(
+                ErrorKind::InvalidData,
+                "it has changed since the upload began",
+            ));
+        }
+        Ok(octets)
+    }
+
+    /// What follows a try that was answered so, with a data connection or without.
+    fn step_behind<S: Asks>(&self, seat: &mut S, answer: &Answer<Global>, is_opened: bool) -> Step {
+        match ended_of(answer, is_opened) {
+            Some(ended) if self.goes_on() => {
+                follows(self.upload, ended, self.there_behind(seat, ended))
+            }
+            _ => Step::Tell,
+        }
+    }
+
+    /// The size of what stands there behind a try, where anything follows it.
+    fn there_behind<S: Asks>(&self, seat: &mut S, ended: Ended) -> There {
+        match ended {
+            Ended::Done => self.size(seat),
+            Ended::Broken | Ended::Failed if self.upload.left > 0 => self.size(seat),
+            _ => There::Untold,
+        }
+    }
+
+    /// Takes a step.
+    fn follow(&mut self, answer: Answer<Global>, step: Step, from: u64) -> Turn {
+        match step {
+            Step::Put(next) => {
+                self.go_on(next);
+                Turn::From(next)
+            }
+            Step::Again => Turn::From(from),
+            Step::Lost => Turn::Over(Answer::Lost),
+            Step::Wrong(count) => {
+                self.wrong = Some(count);
+                Turn::Over(answer)
+            }
+            Step::Done | Step::Tell => Turn::Over(answer),
+        }
+    }
+
+    /// Tells from where the upload goes on. What the server has then is known to be of this upload, unless it begins anew.
+    fn go_on(&mut self, from: u64) {
+        if from == 0 {
+            let _told = eprintln!(self.rt; "note: the upload begins anew");
+            return;
+        }
+        self.upload.older = There::Nothing;
+        let total = self.upload.total;
+        let _told = eprintln!(self.rt; "note: the server has {from} of {total} octets; going on");
+    }
+
+    /// Tells how many tries the upload took, or why it is not done, and gives the exit status.
+    pub fn finish(&self, answer: &Answer<Global>, noticed: &Noticed) -> io::Result<u8> {
+        match (answer, self.wrong) {
+            (Answer::Done, None) => self.tell_tries(noticed.opened()),
+            (Answer::Done, Some(count)) => self.tell_wrong(count),
+            _ => tell(self.rt, answer, noticed),
+        }
+    }
+
+    /// Tells how many tries the upload took, where it was more than one: each has a data connection of its own.
+    fn tell_tries(&self, tries: u32) -> io::Result<u8> {
+        if tries > 1 {
+            eprintln!(self.rt; "note: the upload took {tries} tries")?;
+        }
+        Ok(DONE)
+    }
+
+    /// Tells that the server has not what it says that it has.
+    fn tell_wrong(&self, count: u64) -> io::Result<u8> {
+        let total = self.upload.total;
+        eprintln!(self.rt;
+            "error: the server says that it is done, and has {count} octets of a file that has {total}"
+        )?;
+        Ok(REFUSED)
+    }
+}
+
+impl<'a, R: Files + Eprint + AllocGlobal> Plays<Result<Answer<Global>, Stop>> for Uploading<'a, R> {
+    fn play<S: Asks>(&mut self, seat: &mut S) -> Result<Answer<Global>, Stop> {
+        if !self.look(seat) {
+            return Ok(Answer::Lost);
+        }
+        let mut from = 0;
+        for _ in 0..self.upload.left {
+            match self.turn(seat, from)? {
+                Turn::From(next) => from = next,
+                Turn::Over(answer) => return Ok(answer),
+            }
+        }
+        Ok(Answer::Lost)
+    }
+}
+
+/// What a try leads to.
+#[derive(Drop)]
+enum Turn {
+    /// Another try, from this octet of the file on.
+    From(u64),
+    Over(Answer<Global>),
+}
+
+/// How a try ended that was answered so, with a data connection or without; none where its answer is told, whatever the server has.
+fn ended_of(answer: &Answer<Global>, is_opened: bool) -> Option<Ended> {
+    match answer {
+        Answer::Done => Some(Ended::Done),
+        Answer::Broken { got: _, mark: _ } => Some(Ended::Broken),
+        Answer::Refused(GIVEN_UP) if is_opened => Some(Ended::Failed),
+        Answer::Unopened => Some(Ended::Unopened),
+        _ => None,
+    }
+}
+
+/// What the answer to SIZE tells.
+fn there_of(answer: &Answer<Global>) -> There {
+    match answer {
+        Answer::Number(count) => There::Octets(*count),
+        Answer::Refused(NO_FILE) => There::Nothing,
+        Answer::Lost | Answer::Strange => There::Lost,
+        _ => There::Untold,
+    }
+}
