@@ -1,9 +1,12 @@
-//! For tests alone: which places texts say, and what `run`, `get`, `put` and `ls` answer where nobody listens, or where nothing can be asked (RFC 959).
+//! For tests alone: which places texts say, and what `run`, `get`, `put` and `ls` answer where nobody listens, or where nothing can be asked; and what an
+//! upload asks of a server that answers so (RFC 959).
 #![tactic(auto)]
 
 mod places;
+mod seat;
 mod statuses;
 mod typing;
+mod uploads;
 
 use ftp_paper::Paper;
 use std::io;
@@ -13,5 +16,6 @@ fn main(rt: HostRuntime) -> io::Result<()> {
     let mut paper = Paper::new(rt.alloc());
     places::rows(&mut paper);
     statuses::rows(&rt, &mut paper)?;
+    uploads::rows(&rt, &mut paper)?;
     io::writer(&rt).write_all(paper.text())
 }

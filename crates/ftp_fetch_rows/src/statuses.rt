@@ -27,7 +27,7 @@ const SCRIPTS: &[(&str, &[u8])] = &[
     ("run, no login", b"where\n"),
 ];
 
-const HOW: How = How {
+pub(crate) const HOW: How = How {
     representation: Representation {
         kind: Kind::Image,
         structure: Structure::File,
