@@ -16,6 +16,9 @@ const NOT_AVAILABLE: u16 = 421;
 /// The code of a refused login, and of what is asked behind it (RFC 959, section 4.2.2).
 const NOT_LOGGED_IN: u16 = 530;
 
+/// The code of a server that gave up what it was doing (RFC 959, section 4.2.2).
+const GIVEN_UP: u16 = 451;
+
 /// What was noticed so far.
 #[derive(Drop)]
 pub struct Noticed {
@@ -81,9 +84,15 @@ impl Noticed {
         }
     }
 
-    /// Whether the line that came last refuses a login. It stays, since what is asked behind it is refused by the same code with less to say.
-    fn is_login_refused(&self) -> bool {
-        let line = self.last(NOT_LOGGED_IN);
+    /// Whether the line that came last stays: it refuses a login, and what is asked behind it is refused by the same code with less to say; or it
+    /// gives up what was asked, and the size of what came is asked behind it.
+    fn stays(&self) -> bool {
+        self.ends_with(NOT_LOGGED_IN) || self.ends_with(GIVEN_UP)
+    }
+
+    /// Whether the line that came last ends a reply with this code.
+    fn ends_with(&self, code: u16) -> bool {
+        let line = self.last(code);
         !line.is_empty() && !matches!(line.get(3), Some(b'-'))
     }
 
@@ -101,7 +110,7 @@ impl Noticed {
     }
 
     fn keep_one(&mut self, octet: u8) {
-        if self.is_login_refused() {
+        if self.stays() {
             return;
         }
         if self.is_whole {
