@@ -300,13 +300,10 @@ impl<A: Allocator + Copy> MemTree<A> {
         requires { IsPlace key.now }
         ensures { option_map standing_node result ≡ node_at self.now (names_of key.now) }
     {
-        let Some(node) = self.root.find(key) else {
-            return None;
-        };
-        Some(node.standing())
+        self.root.at(key)
     }
 
-    /// What stands at a path below a root.
+    /// What stands at a path below a root. It is asked for each page of a download, so no path is joined for it.
     fn standing<B: Allocator, C: Allocator>(
         &self,
         root: &Path<B>,
@@ -314,7 +311,10 @@ impl<A: Allocator + Copy> MemTree<A> {
     ) -> Option<Standing<'_, A>>
         ensures { option_map standing_node result ≡ node_at (under self.now root.now) path.now }
     {
-        self.at(Joined::of(root, path).key())
+        let Some(part) = self.root.find(root.key()) else {
+            return None;
+        };
+        part.at(path.key())
     }
 
     /// What stands above a path below a root.

@@ -143,7 +143,18 @@ impl<A: Allocator> Node<A> {
         }
     }
 
-    /// What stands at a path below.
+    /// What stands at a path below, as it is lent.
+    pub(crate) fn at(&self, key: &[u8]) -> Option<Standing<'_, A>>
+        requires { IsPlace key.now }
+        ensures { option_map standing_node result ≡ node_at self.now (names_of key.now) }
+    {
+        let Some(node) = self.find(key) else {
+            return None;
+        };
+        Some(node.standing())
+    }
+
+    /// The part at a path below.
     pub(crate) fn find(&self, key: &[u8]) -> Option<&Node<A>>
         requires { IsPlace key.now }
         ensures { found (option_map (λ node. node.now) result) ≡ under self.now (names_of key.now) }

@@ -1,13 +1,7 @@
-use Rattle.std.proofs.Common.{[], sym, ap, ◌∙◌}
+use Rattle.std.proofs.Common.{ap, ◌∙◌}
 use Rattle.ftp_path.specs.Kept.{names_of}
 use Rattle.ftp_tree.specs.Tree.{node_at}
-use Rattle.ftp_tree.proofs.LeafLemmas.{none-under, under-top}
 use Rattle.ftp_tree.proofs.memory.MemTree.at.Goals as goal
 
-pub returns-in_default : goal.returns-in_default
-returns-in_default g c =
-    sym (none-under c.self.inside.root (names_of c.args.key.now) (sym c.in_default.ensures)) ∙ ap (λ table. node_at table (names_of c.args.key.now)) c.self.view_is
-
 pub returns : goal.returns
-returns g c =
-    c.standing.ensures ∙ ap (λ table. node_at table []) c.in-Some.ensures ∙ under-top c.self.inside.root (names_of c.args.key.now) ∙ ap (λ table. node_at table (names_of c.args.key.now)) c.self.view_is
+returns g c = c.at.ensures ∙ ap (λ table. node_at table (names_of c.args.key.now)) c.self.view_is
