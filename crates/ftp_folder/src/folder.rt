@@ -1,6 +1,7 @@
 // The folder of files that a mirrored tree changes first.
-ghost use Rattle.std.specs.Prelude.{◌≡◌, None, IfOk, OnOk, OnErr};
+ghost use Rattle.std.specs.Prelude.{◌≡◌, None, IfOk, OnOk, OnErr, string_bytes};
 ghost use Rattle.ftp_tree.specs.Change.{next_count};
+ghost use Rattle.ftp_folder.specs.Place.{folder_text};
 
 use crate::place::{check_free, check_way, place_of};
 use crate::writing::write_over;
@@ -24,6 +25,7 @@ pub struct DiskFolder<R: Files + AllocGlobal + Clone + Drop> {
 impl<R: Files + AllocGlobal + Clone + Drop> DiskFolder<R> {
     /// The folder below a directory, which is the current one for an empty text. Nothing is looked at.
     pub fn new(files: R, dir: &str) -> Result<DiskFolder<R>, AllocError>
+        ensures dir { IfOk result (λ folder. string_bytes folder.dir ≡ folder_text dir.now) }
         ensures failures { IfOk result (λ folder. folder.failures ≡ 0) }
     {
         let dir = String::from_str(files.alloc(), if dir.is_empty() { "." } else { dir })?;

@@ -1,5 +1,6 @@
 // Loading a folder into a tree.
-ghost use Rattle.std.specs.Prelude.{◌≡◌, IfOk};
+ghost use Rattle.std.specs.Prelude.{◌≡◌, IfOk, string_bytes};
+ghost use Rattle.ftp_folder.specs.Place.{folder_text};
 
 use crate::fault::{LoadFault, Reason};
 use crate::folder::DiskFolder;
@@ -29,6 +30,7 @@ pub fn open<R: Files + AllocGlobal + Clone + Drop>(
     files: R,
     dir: &str,
 ) -> Result<Mirror<Global, DiskFolder<R>>, LoadFault>
+    ensures dir { IfOk result (λ mirror. string_bytes mirror.folder.dir ≡ folder_text dir.now) }
     ensures failures { IfOk result (λ mirror. mirror.folder.failures ≡ 0) }
 {
     let tree = load(&files, dir)?;
