@@ -31,7 +31,7 @@ none_is is = absurd (cc)
 some_is : {A : Type 0} {a b : A} → Some a ≡ Some b → a ≡ b
 some_is is = cc
 
-positive : (n : ℕ) → (n == 0) ≡ false → 0 < n
+pub positive : (n : ℕ) → (n == 0) ≡ false → 0 < n
 positive zero is = absurd (cc)
 positive (suc n) is = omega arith
 
@@ -199,7 +199,7 @@ goes_on_low op step old v goes is stands runs =
     let same_run : run_left v.run op ≡ run_left old.run op = ap (λ run. run_left run op) runs in
     falls 0 old (goes_on op step v) (omega (arith, placed_begins op (next_step v.settings op step) v, less, here, login, same_run))
 
-abort_le : (count : Option ℕ) → abort_left Aborts.Unsent count ≤ 1
+pub abort_le : (count : Option ℕ) → abort_left Aborts.Unsent count ≤ 1
 abort_le None = omega arith
 abort_le (Some count) = omega arith
 
@@ -298,7 +298,7 @@ with_nearer : (run : Option Run) (old : Op (List ℕ)) (answer : Said) (op : Op 
 with_nearer None old answer op next = absurd (none_is next)
 with_nearer (Some run) old answer op next = omega (arith, in_nearer run old answer op next)
 
-next_nearer : (run : Option Run) (job : Job) (answer : Said) (op : Op (List ℕ)) → next_job run job answer ≡ Some op
+pub next_nearer : (run : Option Run) (job : Job) (answer : Said) (op : Op (List ℕ)) → next_job run job answer ≡ Some op
     → operation_left + run_left (option_map (run_at op) run) op ≤ job_left run job
 next_nearer run (Doing old step) answer op next = omega (arith, with_nearer run old answer op next)
 next_nearer run (Transferring old transfer) answer op next = omega (arith, with_nearer run old answer op next)

@@ -15,7 +15,7 @@ use Rattle.ftp_endpoint.specs.declared.host.Host.{Host}
 use Rattle.ftp_reply.specs.Lines.{Text, joined}
 use Rattle.ftp_ends.specs.Ear.{Ear, Unfinished, ended_text, within_out, line_out, unit_says, ear_out, ear_step}
 use Rattle.ftp_ends.specs.Link.{same_host}
-use Rattle.ftp_client_machine.specs.Bounds.{login_left, opening_left, abort_left, transfer_left, run_left, job_left, to_begin, octets_left, upload_left, closes_left, still_to_give, AddsAtMost, HearingAddsAnAnswer, ReceivingAddsNone, EventsAdd, EventsAddAClose}
+use Rattle.ftp_client_machine.specs.Bounds.{login_left, opening_left, abort_left, transfer_left, run_left, job_left, to_begin, octets_left, upload_left, closes_left, still_to_give, AddsAtMost, HearingAddsAnAnswer, ReceivingAddsNone, EventsAdd, EventsAddNone}
 use Rattle.ftp_client_machine.specs.Calls.{heard_flow, with_flow, reply_limit, line_taken, event_taken, events_taken, unless_closing, listening_by, listening, no_port_by, listen_refused, connected, accepted, opened_by, data_opened, unopened_by, data_refused, ending_of, over_by, data_end, data_fault, heard_by, went, goes_by, gives_data, control_end}
 use Rattle.ftp_client_machine.specs.Dialogue.{is_unsent, is_to_abort, sends_abort, aborts_once_enough, abort_answered, begins, finishes, greeted, enters_with, login_ends, user_answered, pass_answered, set_accepted, dials, endpoint_named, port_named, passive_named, step_done, intermediate, awaits_reply, step_answered, answer_in, judged, answers_by, answers_job, closes_once_given_by, closes_once_given, carries_on, with_reply, awaited, transfer_opened, marked_flow, noted, unless_open, before_opening, behind_opening, transfer_answered, job_answered, stand_answered, judged_reply, answered, closes, has_begun, is_given}
 use Rattle.ftp_client_machine.specs.Octets.{has_settled, flow_octet}
@@ -191,7 +191,7 @@ to_abort_left false Aborts.Unsent count flow is = absurd (cc)
 to_abort_left begun Aborts.Sent count flow is = absurd (cc)
 to_abort_left begun Aborts.Answered count flow is = absurd (cc)
 
-is_to_abort_left : (connection : DataConnection) (op : Op (List ℕ)) (transfer : Transfer) → is_to_abort connection op transfer ≡ true
+pub is_to_abort_left : (connection : DataConnection) (op : Op (List ℕ)) (transfer : Transfer) → is_to_abort connection op transfer ≡ true
     → abort_left transfer.abort (count_of op) ≡ 1
 is_to_abort_left Data.Open op transfer is = to_abort_left (has_begun transfer.replied) transfer.abort (count_of op) transfer.flow is
 is_to_abort_left Data.Free op transfer is = absurd (cc)
@@ -243,7 +243,7 @@ reply_low replied op transfer old w none is standing runs owes closing =
 closes_less : (v : View) → closes_left (closes v) ≤ closes_left v
 closes_less v = omega (arith, one_close v.closing (stands v.connection))
 
-stands_awaited : (connection : DataConnection) → stands (awaited connection) ≡ stands connection
+pub stands_awaited : (connection : DataConnection) → stands (awaited connection) ≡ stands connection
 stands_awaited Data.Free = refl
 stands_awaited Data.ListenWanted = refl
 stands_awaited (Data.Listening port) = refl
@@ -364,7 +364,7 @@ answered_low code texts v = judged_low (verdict_of code) code texts v
 -- ---- one control octet
 
 -- what the ear has of a line is no matter here
-line_low : (heard : Heard) (v : View) → Low v (line_taken heard v)
+pub line_low : (heard : Heard) (v : View) → Low v (line_taken heard v)
 line_low (GoesOn gathered) v = record { begins = omega arith; gives = inr (omega arith) }
 line_low (Says code texts) v =
     let w : View = record v { gathered = Between } in
@@ -554,7 +554,7 @@ accepted_low false port v is =
     let stand : one_if (stands v.connection) ≡ 1 = ap (λ connection. one_if (stands connection)) is in
     then_carries_on v (record v { connection = Data.Over Endings.Foreign; closing = true }) (record { begins = omega arith; gives = inr (omega (arith, stand)) })
 
-opened_by_low : (connection : DataConnection) (host : Host) (v : View) → v.connection ≡ connection → Low v (opened_by connection host v)
+pub opened_by_low : (connection : DataConnection) (host : Host) (v : View) → v.connection ≡ connection → Low v (opened_by connection host v)
 opened_by_low (Data.Connecting endpoint) host v is = connected_low v.job v refl
 opened_by_low (Data.Accepting port) host v is = accepted_low (same_host host v.peer) port v is
 opened_by_low Data.Free host v is = same v
@@ -594,11 +594,9 @@ one_more v w low = record { begins = low.begins; gives = by_case low.gives }
 events_lower : (v : View) → EventsAdd v
 unfolding listening listen_refused data_opened data_refused data_end data_fault control_end gives_data
 events_lower v = record {
-  listening_lowers = λ port. one_more v (unless_closing (λ u. listening_by u.connection u.job port u) v)
-      (if_low v.closing v v (listening_by v.connection v.job port v) (same v) (listening_low v.connection v.job port v refl));
+  listening_lowers = λ port. if_low v.closing v v (listening_by v.connection v.job port v) (same v) (listening_low v.connection v.job port v refl);
   refused_lowers = if_low v.closing v v (no_port_by v.connection v) (same v) (no_port_low v.connection v);
-  opened_lowers = λ host. one_more v (unless_closing (λ u. opened_by u.connection host u) v)
-      (if_low v.closing v v (opened_by v.connection host v) (same v) (opened_by_low v.connection host v refl));
+  opened_lowers = λ host. if_low v.closing v v (opened_by v.connection host v) (same v) (opened_by_low v.connection host v refl);
   unopened_lowers = if_low v.closing v v (unopened_by v.connection v) (same v) (unopened_low v.connection v refl);
   end_lowers = if_low v.closing v v (over_by v.connection (ending_of v.job) v) (same v) (over_low v.connection (ending_of v.job) v);
   fault_lowers = if_low v.closing v v (over_by v.connection Endings.Broken v) (same v) (over_low v.connection Endings.Broken v);
@@ -606,5 +604,5 @@ events_lower v = record {
   gives_lowers = λ count. goes_low count v.job v refl;
 }
 
-pub calls_lower : EventsAddAClose
+pub calls_lower : EventsAddNone
 calls_lower v = events_lower v

@@ -117,12 +117,11 @@ HearingAddsAnAnswer = (v : View) (octet : ℕ) → AddsAtMost 3 v (hears_octet v
 abbrev pub ReceivingAddsNone : Type 0
 ReceivingAddsNone = (v : View) (octet : ℕ) → AddsAtMost 0 v (receives_octet v octet)
 
--- so does each event of the data connection, and the end of the control connection; a port that is told, and a link that is
--- opened, are a close more
+-- nor does an event of the data connection add anything, or the end of the control connection
 pub record EventsAdd (v : View) : Type 0 where
-  pub listening_lowers : (port : ℕ) → AddsAtMost 1 v (listening port v)
+  pub listening_lowers : (port : ℕ) → AddsAtMost 0 v (listening port v)
   pub refused_lowers : AddsAtMost 0 v (listen_refused v)
-  pub opened_lowers : (host : Host) → AddsAtMost 1 v (data_opened host v)
+  pub opened_lowers : (host : Host) → AddsAtMost 0 v (data_opened host v)
   pub unopened_lowers : AddsAtMost 0 v (data_refused v)
   pub end_lowers : AddsAtMost 0 v (data_end v)
   pub fault_lowers : AddsAtMost 0 v (data_fault v)
@@ -130,8 +129,8 @@ pub record EventsAdd (v : View) : Type 0 where
   pub gives_lowers : (count : ℕ) → AddsAtMost 0 v (gives_data count v)
 
 -- however the client stands
-abbrev pub EventsAddAClose : Type 0
-EventsAddAClose = (v : View) → EventsAdd v
+abbrev pub EventsAddNone : Type 0
+EventsAddNone = (v : View) → EventsAdd v
 
 -- octets that go out, and a close that is done, are so much less to be given
 pub record Pays (count : ℕ) (old new : View) : Type 0 where

@@ -1,5 +1,5 @@
 //! What holds of the client's machine: functions that do nothing, whose contracts are laws.
-ghost use Rattle.ftp_client_machine.specs.Bounds.{EventsAddAClose, GivingPays, HearingAddsAnAnswer, ReceivingAddsNone, ShortAddsAClose};
+ghost use Rattle.ftp_client_machine.specs.Bounds.{EventsAddNone, GivingPays, HearingAddsAnAnswer, ReceivingAddsNone, ShortAddsAClose};
 ghost use Rattle.ftp_client_machine.specs.Sent.{LoginsHaveLines, StepsHaveLines};
 ghost use Rattle.ftp_client_machine.specs.InFlight.{ClientDropsAnswer, AnsweredAtRest, ClientHearsInPieces, FrontsAreAlike, ReplyIsHeard, ClientHearsRow};
 
@@ -18,7 +18,7 @@ pub fn replies_in_flight()
 pub fn comes_to_rest()
     ensures hearing { HearingAddsAnAnswer }
     ensures receiving { ReceivingAddsNone }
-    ensures events { EventsAddAClose }
+    ensures events { EventsAddNone }
     ensures giving { GivingPays }
     ensures want { ShortAddsAClose }
 {}

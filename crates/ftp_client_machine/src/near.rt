@@ -5,6 +5,7 @@ ghost use Rattle.ftp_operation.specs.Answer.{said_of};
 ghost use Rattle.ftp_client_machine.specs.Calls.{starts, uploads, is_busy, handed_back, report_of, reports, gives_control, may_hear, control_end, listening, listen_refused, data_opened, data_refused, data_end, data_fault, data_closed, gives_data, to_give, may_receive, wants};
 ghost use Rattle.ftp_client_machine.specs.Failing.{Client, Holds, HoldsIfRoom, HearsIfRoom, ReceivesIfRoom, starts_short, uploads_short, short, listening_short, listen_refused_short, data_opened_short, data_refused_short, data_end_short, data_fault_short};
 ghost use Rattle.ftp_client_machine.specs.Tries.{over_breaks};
+ghost use Rattle.ftp_ends.specs.Octets.{has_octets};
 ghost use Rattle.std.specs.Option.{option_map};
 
 use ftp_endpoint::Host;
@@ -104,4 +105,28 @@ pub trait Near<A: Allocator>: Drop {
     /// What it wants of the connections. Takes no memory.
     fn wants(&self) -> Wants
         ensures { result ≡ wants (client self.now).view };
+
+    /// The host that it stands on.
+    fn here(&self) -> Host
+        ensures { result ≡ (client self.now).view.here };
+
+    /// How many growths were refused to it; the count moves on by wrapping.
+    fn refusals(&self) -> u64
+        ensures { result ≡ (client self.now).refusals };
+
+    /// Whether it owes octets of the control connection.
+    fn owes(&self) -> bool
+        ensures { result ≡ has_octets (client self.now).view.owed };
+
+    /// Whether it has octets of the link to give.
+    fn has_data(&self) -> bool
+        ensures { result ≡ has_octets (to_give (client self.now).view) };
+
+    /// Whether it may take an octet of the control connection.
+    fn may_hear(&self) -> bool
+        ensures { result ≡ may_hear (client self.now).view };
+
+    /// Whether it may take an octet of the link.
+    fn may_receive(&self) -> bool
+        ensures { result ≡ may_receive (client self.now).view };
 }

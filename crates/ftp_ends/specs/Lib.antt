@@ -4,3 +4,4 @@ pub mod Link
 pub mod Reply
 pub mod RowWords
 pub mod Limits
+pub mod Octets
