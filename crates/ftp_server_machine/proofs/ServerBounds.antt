@@ -24,7 +24,7 @@ use Rattle.ftp_ends.proofs.Counts.{one_if, one_close}
 
 -- ---- steps one after another
 
-same : (v : View) → Lowers 0 v v
+pub same : (v : View) → Lowers 0 v v
 same v = record { begins = omega arith; gives = inr (omega arith) }
 
 -- less is to begin
@@ -70,7 +70,7 @@ acted_on old new heard was is =
     let behind : lines_left new.waiting ≡ 0 = ap lines_left is in
     omega (arith, before, behind, few_stages new.session.connection)
 
-waited_cases : (waiting : Option (Heard (List ℕ))) (v : View) → v.waiting ≡ waiting → (to_begin (waited waiting v) < to_begin v) ⊎ (waited waiting v ≡ v)
+pub waited_cases : (waiting : Option (Heard (List ℕ))) (v : View) → v.waiting ≡ waiting → (to_begin (waited waiting v) < to_begin v) ⊎ (waited waiting v ≡ v)
 waited_cases None v is = inr refl
 waited_cases (Some heard) v is = by_idle (is_idle v)
   where
@@ -127,7 +127,7 @@ given_out_lowers count old v (Data.Active endpoint) is one = one
 given_out_lowers count old v Data.Passive is one = one
 given_out_lowers count old v Data.Ready is one = one
 
-completed_lowers : (count : ℕ) (old v : View) → Lowers count old v → Lowers count old (completed v)
+pub completed_lowers : (count : ℕ) (old v : View) → Lowers count old v → Lowers count old (completed v)
 completed_lowers count old v one = given_out_lowers count old v v.session.connection refl one
 
 -- while a close is wanted, a call finds no link; else it finds the one that stands
@@ -135,7 +135,7 @@ pub data Finds (v : View) : Type 0 where
   nothing : connection_of v.session ≡ Data.Free → Finds v
   that : connection_of v.session ≡ v.session.connection → Finds v
 
-finds : (v : View) → Finds v
+pub finds : (v : View) → Finds v
 finds v = by_closing v.session.closing refl
   where
     by_closing : (closing : Bool) → v.session.closing ≡ closing → Finds v
@@ -204,13 +204,13 @@ installs_gone moment path keep d text s = by_over (is_over path keep d s)
     by_over true = refl
     by_over false = refl
 
-break_gone : (moment : ℕ) (transfer : Transfer) (s : Session) → (at_break moment transfer s).0.connection ≡ s.connection
+pub break_gone : (moment : ℕ) (transfer : Transfer) (s : Session) → (at_break moment transfer s).0.connection ≡ s.connection
 break_gone moment (Transfers.Upload path keep d) s = installs_gone moment path keep (broken d) Texts.Broken s
 break_gone moment Transfers.OverLimit s = refl
 break_gone moment (Transfers.Download rest) s = refl
 break_gone moment (Transfers.Listing rest) s = refl
 
-end_gone : (moment : ℕ) (transfer : Transfer) (s : Session) → (at_end moment transfer s).0.connection ≡ s.connection
+pub end_gone : (moment : ℕ) (transfer : Transfer) (s : Session) → (at_end moment transfer s).0.connection ≡ s.connection
 end_gone moment (Transfers.Upload path keep d) s = by_whole (is_whole d)
   where
     by_whole : (whole : Bool)
@@ -311,7 +311,7 @@ takes_given_lowers count Data.Passive v is few = none_given count v few
 takes_given_lowers count (Data.Opening transfer way) v is few = none_given count v few
 takes_given_lowers count Data.Ready v is few = none_given count v few
 
-given_step_lowers : (count : ℕ) (v : View) → count ≤ length (given_by (connection_of v.session)) → Lowers count v (takes_given (connection_of v.session) count v)
+pub given_step_lowers : (count : ℕ) (v : View) → count ≤ length (given_by (connection_of v.session)) → Lowers count v (takes_given (connection_of v.session) count v)
 given_step_lowers count v few = by_case (finds v)
   where
     by_case : Finds v → Lowers count v (takes_given (connection_of v.session) count v)

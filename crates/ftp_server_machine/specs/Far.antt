@@ -5,6 +5,11 @@ use Rattle.ftp_server_machine.specs.Calls.{receives, MayReceive}
 use Rattle.ftp_server_machine.specs.Failing.{Counts, Late, AreHeard, AreReceived}
 use Rattle.ftp_server_machine.specs.Machine.{Reading, IsReading, later, hears, MayHear}
 use Rattle.ftp_server_machine.specs.View.{View}
+use Rattle.ftp_server_machine.specs.declared.counts.Counts.{Counts as Told}
+
+-- the two counts, as a server tells them
+abbrev pub counts_told : Told → Counts
+counts_told counts = record { refusals = counts.refusals; failures = counts.failures }
 
 -- a server as clauses speak of it: what it holds, and the two counts beside it
 pub record Server : Type 0 where

@@ -3,8 +3,10 @@ ghost use Rattle.std.specs.Prelude.{◌≡◌, ◌<◌, ◌≤◌, ℕ, IsTrue, 
 ghost use Rattle.ftp_server_machine.specs.Calls.{break_step, clock_step, close_step, control_end, control_step, end_step, given_step, listening_step, may_receive, no_port_step, opened_step, refused_step, to_give, wants};
 ghost use Rattle.ftp_server_machine.specs.Failing.{EndFails, GiveFails};
 ghost use Rattle.ftp_server_machine.specs.Machine.{may_hear};
-ghost use Rattle.ftp_server_machine.specs.Far.{Acts, Hears, Receives, Server, Steps};
+ghost use Rattle.ftp_server_machine.specs.Far.{Acts, Hears, Receives, Server, Steps, counts_told};
+ghost use Rattle.ftp_ends.specs.Octets.{has_octets};
 
+use crate::counts::Counts;
 use ftp_endpoint::Host;
 use ftp_ends::Wants;
 use ftp_facts::Moment;
@@ -81,6 +83,30 @@ pub trait Far<A: Allocator, T: Tree<A>>: Drop {
     /// What it wants of the connections. Takes no memory.
     fn wants(&self) -> Wants
         ensures { result ≡ wants (server self.now).view };
+
+    /// The host that it stands on.
+    fn here(&self) -> Host
+        ensures { result ≡ (server self.now).view.footing.here };
+
+    /// What has failed so far.
+    fn counts(&self) -> Counts
+        ensures { counts_told result ≡ (server self.now).counts };
+
+    /// Whether it owes octets of the control connection.
+    fn owes(&self) -> bool
+        ensures { result ≡ has_octets (server self.now).view.owed };
+
+    /// Whether it has octets of the data connection to give.
+    fn has_data(&self) -> bool
+        ensures { result ≡ has_octets (to_give (server self.now).view) };
+
+    /// Whether it may take an octet of the control connection.
+    fn may_hear(&self) -> bool
+        ensures { result ≡ may_hear (server self.now).view };
+
+    /// Whether it may take an octet of the data connection.
+    fn may_receive(&self) -> bool
+        ensures { result ≡ may_receive (server self.now).view };
 
     /// Its tree, whose map is that of the session.
     fn tree(&self) -> &T

@@ -2,6 +2,7 @@
 //! anything; laws and worked rows are functions that do nothing (RFC 959; RFC 2389, RFC 2428, RFC 3659).
 #![tactic(auto)]
 
+mod counts;
 mod far;
 mod heard;
 pub mod laws;
@@ -10,6 +11,7 @@ mod room;
 pub mod rows;
 mod session;
 
+pub use counts::Counts;
 pub use far::Far;
 pub use heard::Heard;
 pub use reply::{ReplyKind, Text};
