@@ -2,6 +2,7 @@
 use Rattle.std.specs.Prelude.{◌≡◌, ℕ, ◌+◌, ◌-◌, ◌<◌, ◌≤◌, ◌==◌, ◌&&◌, ◌||◌, Bool, true, false}
 use Rattle.std.specs.Prelude.{not, nat_lt, min, List, [], ◌∷◌, ◌++◌, length, take, drop, Some, IsTrue}
 use Rattle.ftp_operation.specs.declared.op.Op.{Op}
+use Rattle.ftp_ends.specs.Octets.{has_octets}
 use Rattle.ftp_ends.specs.Link.{is_wanted, is_connecting}
 use Rattle.ftp_client_machine.specs.Calls as near
 use Rattle.ftp_client_machine.specs.Tries.{OverBreaks}
@@ -11,7 +12,7 @@ use Rattle.ftp_server_machine.specs.Machine as machine
 use Rattle.ftp_server_machine.specs.Machine.{Reading}
 use Rattle.ftp_world.specs.Serving.{after_event}
 use Rattle.ftp_world.specs.World.{World, Control, LeftByNear, LeftByFar, Parted, Link, Gone, Opened}
-use Rattle.ftp_world.specs.World.{ClosedByNear, ClosedByFar, Refused, Broken, with_mark, gone, parted}
+use Rattle.ftp_world.specs.World.{ClosedByNear, ClosedByFar, Refused, Broken, with_mark, gone, parted, counted}
 
 -- the four queues: to the server and to the client, over the control connection and over the data link
 pub data Queue : Type 0 where
@@ -57,8 +58,8 @@ pulled DataToClient w count = record w { data_to_client = w.data_to_client ++ ta
 abbrev pub pushed : Reading → Queue → ℕ → World → World
 pushed read ControlToServer count w = record w { far = machine.hears read w.far (take count w.control_to_server); control_to_server = drop count w.control_to_server }
 pushed read ControlToClient count w = record w { near = near.hears w.near (take count w.control_to_client); control_to_client = drop count w.control_to_client }
-pushed read DataToServer count w = record w { far = far.receives w.far (take count w.data_to_server); data_to_server = drop count w.data_to_server; came = w.came + count }
-pushed read DataToClient count w = record w { near = near.receives w.near (take count w.data_to_client); data_to_client = drop count w.data_to_client; came = w.came + count }
+pushed read DataToServer count w = record w { far = far.receives w.far (take count w.data_to_server); data_to_server = drop count w.data_to_server; came = counted (w.came + count) }
+pushed read DataToClient count w = record w { near = near.receives w.near (take count w.data_to_client); data_to_client = drop count w.data_to_client; came = counted (w.came + count) }
 
 -- the receiver may take an octet
 abbrev pub may_take : Queue → World → Bool
@@ -83,11 +84,6 @@ MayTakeFrom read queue w count = (k : ℕ) → k < count → IsTrue (may_take qu
 abbrev pub filled : Queue → World → List ℕ → World
 filled queue w [] = w
 filled queue w (count ∷ counts) = filled queue (pulled queue w count) counts
-
--- some octets are there
-abbrev pub has_octets : List ℕ → Bool
-has_octets [] = false
-has_octets (octet ∷ octets) = true
 
 -- a call with so much room gives no more than is due, and something where there is room and something is due
 pub record Gives (room : ℕ) (due : List ℕ) (count : ℕ) : Type 0 where

@@ -1,12 +1,12 @@
 -- What a world does for its ends after each event: wanted closes are done, a wanted listen gets its port, and the client's report
 -- is taken.
-use Rattle.std.specs.Prelude.{◌+◌, [], ◌∷◌, ◌++◌, Option, Some, None}
+use Rattle.std.specs.Prelude.{[], ◌∷◌, ◌++◌, Option, Some, None}
 use Rattle.ftp_operation.specs.Answer.{Said}
 use Rattle.ftp_client_machine.specs.Calls as near
 use Rattle.ftp_server_machine.specs.Calls as far
 use Rattle.ftp_ends.specs.declared.link.Wants.{Wants}
 use Rattle.ftp_ends.specs.declared.link.Wants.TheVariants as Want
-use Rattle.ftp_world.specs.World.{World, Control, Stands, LeftByNear, LeftByFar, Parted, Link, Gone, Opened, ClosedByNear, ClosedByFar, gone, parted, port_at}
+use Rattle.ftp_world.specs.World.{World, Control, Stands, LeftByNear, LeftByFar, Parted, Link, Gone, Opened, ClosedByNear, ClosedByFar, gone, parted, port_at, next_listen}
 
 -- ---- an end closes its side of the link: where both have, it is gone; where there is none, it was a port
 
@@ -52,11 +52,11 @@ left_by_far Parted w = w
 
 -- the client is told its port, the next of all
 abbrev pub near_listens : World → World
-near_listens w = record w { near = near.listening (port_at w.listens) w.near; listens = w.listens + 1 }
+near_listens w = record w { near = near.listening (port_at w.listens) w.near; listens = next_listen w.listens }
 
 -- the server is told its port, the next of all
 abbrev pub far_listens : World → World
-far_listens w = record w { far = far.listening (port_at w.listens) w.far; listens = w.listens + 1 }
+far_listens w = record w { far = far.listening (port_at w.listens) w.far; listens = next_listen w.listens }
 
 -- ---- all that is wanted
 

@@ -1,7 +1,7 @@
 -- Two ends and what lies between them: an octet queue each way on the control connection and on the data connection, and how the
 -- two connections stand (RFC 959, section 2.3). `near` is the client, `far` the server. Here is all that a world keeps; the map
 -- that it began with and the operations that were begun are kept nowhere.
-use Rattle.std.specs.Prelude.{ℕ, ◌+◌, ◌%◌, List, [], ◌∷◌, ◌++◌, Option, None}
+use Rattle.std.specs.Prelude.{ℕ, ◌+◌, ◌%◌, min, List, [], ◌∷◌, ◌++◌, Option, None}
 use Rattle.ftp_operation.specs.Answer.{Said}
 use Rattle.ftp_client_machine.specs.View.{View as Near}
 use Rattle.ftp_server_machine.specs.View.{View as Far}
@@ -80,6 +80,14 @@ gone w = record w { link = Gone; data_to_server = []; data_to_client = [] }
 abbrev pub parted : World → World
 parted w = record w { control = Parted; control_to_server = []; control_to_client = [] }
 
--- own choice: the k-th listen, from 0, over both ends together, gets this port
+-- own choice: the k-th listen, from 0, over both ends together, gets this port; behind the last port the first comes again
 abbrev pub port_at : ℕ → ℕ
-port_at k = 49152 + k % 16384
+port_at k = 49152 + k
+
+-- the number of the listen behind one
+abbrev pub next_listen : ℕ → ℕ
+next_listen k = (k + 1) % 16384
+
+-- octets of a link are counted so far (own choice)
+abbrev pub counted : ℕ → ℕ
+counted n = min n 18446744073709551615
