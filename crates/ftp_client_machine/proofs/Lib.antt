@@ -1,3 +1,4 @@
+pub mod BusyLemmas
 pub mod ClientBounds
 pub mod ClientCalls
 pub mod ClientGiving

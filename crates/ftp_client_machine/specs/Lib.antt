@@ -10,5 +10,6 @@ pub mod Sent
 pub mod InFlight
 pub mod Failing
 pub mod Bounds
+pub mod Busy
 pub mod Held
 pub mod Rows

@@ -1,5 +1,6 @@
 //! What holds of the client's machine: functions that do nothing, whose contracts are laws.
 ghost use Rattle.ftp_client_machine.specs.Bounds.{EventsAddNone, GivingPays, HearingAddsAnAnswer, ReceivingAddsNone, ShortAddsAClose};
+ghost use Rattle.ftp_client_machine.specs.Busy.{OnlyBeginsBusy};
 ghost use Rattle.ftp_client_machine.specs.Sent.{LoginsHaveLines, StepsHaveLines};
 ghost use Rattle.ftp_client_machine.specs.InFlight.{ClientDropsAnswer, AnsweredAtRest, ClientHearsInPieces, FrontsAreAlike, ReplyIsHeard, ClientHearsRow};
 
@@ -27,4 +28,9 @@ pub fn comes_to_rest()
 pub fn commands_have_lines()
     ensures steps { StepsHaveLines }
     ensures login { LoginsHaveLines }
+{}
+
+/// No call but `start` and `upload` makes a client busy, also where it is short of memory.
+pub fn only_begins_busy()
+    ensures { OnlyBeginsBusy }
 {}
