@@ -2,3 +2,4 @@ pub mod AgreementLemmas
 pub mod HonestLemmas
 pub mod WorldRows
 pub mod TriesLemmas
+pub mod DoneLemmas

@@ -1,5 +1,5 @@
 //! Laws of what is claimed of a session: functions that do nothing, whose contracts are laws of `specs/`.
-ghost use Rattle.ftp_world.specs.Claims.{HeadlineFollows, PeekIsDirect, TriesAreFew, UnmarkedIsDirect};
+ghost use Rattle.ftp_world.specs.Claims.{DoneIsWhole, HeadlineFollows, PeekIsDirect, TriesAreFew, UnmarkedIsDirect};
 
 /// Without breaks, refusals and an end of the control connection, agreement is the direct run.
 pub fn unmarked_agreement_is_the_direct_run()
@@ -19,4 +19,9 @@ pub fn peek_is_direct()
 /// Whatever an upload over breaks meets, it makes at most sixteen tries.
 pub fn tries_are_few()
     ensures { TriesAreFew }
+{}
+
+/// An upload over breaks that reports Done has put exactly its octets, and changed nothing else, whatever broke.
+pub fn done_is_whole()
+    ensures { DoneIsWhole }
 {}
