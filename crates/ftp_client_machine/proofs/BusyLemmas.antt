@@ -7,7 +7,7 @@ use Rattle.ftp_reply.specs.Lines.{Text}
 use Rattle.ftp_reply.specs.Reader.{Heard, GoesOn, Says, Faulty, Between, line_heard}
 use Rattle.ftp_ends.specs.Ear.{ear}
 use Rattle.ftp_ends.specs.Link.{same_host}
-use Rattle.ftp_client_machine.specs.Busy.{BusyBefore, BeginsNone, BeginsNoneShort, BeginsNoneRefused, LeavesNone, OnlyBeginsBusy, is_over}
+use Rattle.ftp_client_machine.specs.Busy.{BusyBefore, OfCalls, OfRefusals, OfShortCalls, LeavesNone, OnlyBeginsBusy, is_over}
 use Rattle.ftp_client_machine.specs.Calls.{reply_limit, is_busy, is_busy_job, reported_by, reports, line_taken, event_taken, events_taken, hears_octet, hears, gives_control, control_end, listening_by, listening, no_port_by, listen_refused, connected, accepted, opened_by, data_opened, unopened_by, data_refused, ending_of, over_by, data_end, data_fault, data_closed, heard_by, receives_octet, receives, goes_by, gives_data}
 use Rattle.ftp_client_machine.specs.Dialogue.{closes_once_given, aborts_once_enough, answers_job, carries_on, greeted, enters_with, login_ends, user_answered, pass_answered, job_answered, stand_answered, judged_reply, answered}
 use Rattle.ftp_client_machine.specs.Failing.{short, port_short, listening_short, no_port_short, listen_refused_short, opened_short, data_opened_short, unopened_short, data_refused_short, over_short, data_end_short, data_fault_short}
@@ -238,7 +238,7 @@ before old new keeps = by old.job refl
     by (Told answer) is busy = ap is_busy_job is
 
 -- every call
-begins_none : (v : View) → BeginsNone v
+begins_none : (v : View) → OfCalls BusyBefore v
 unfolding listening data_opened data_end data_fault control_end gives_data
 begins_none v = record {
   reporting = before v (reports v) (idle_by reported_by (λ w. refl) v);
@@ -257,7 +257,7 @@ begins_none v = record {
 }
 
 -- every call in which a growth was refused
-begins_none_short : (v : View) → BeginsNoneShort v
+begins_none_short : (v : View) → OfShortCalls BusyBefore v
 begins_none_short v = record {
   wanting = before v (short v) (short_idle v);
   hearing = λ piece count new heard. before v new (λ is. ap (λ w. w.job) heard.is ∙ short_idle (hears v (take heard.taken piece)) (hears_idle v (take heard.taken piece) is));
@@ -272,7 +272,7 @@ begins_none_short v = record {
 }
 
 -- no port or link is refused where none was asked for
-begins_none_refused : (v : View) → LeavesNone v → BeginsNoneRefused v
+begins_none_refused : (v : View) → LeavesNone v → OfRefusals BusyBefore v
 unfolding listen_refused data_refused
 begins_none_refused v none = record {
   no_port = before v (listen_refused v)
@@ -285,4 +285,4 @@ begins_none_refused v none = record {
     free is = none (ap is_over is)
 
 pub only_begins_busy : OnlyBeginsBusy
-only_begins_busy v = record { calls = begins_none v; short_calls = begins_none_short v; refused_calls = begins_none_refused v }
+only_begins_busy v = record { calls = begins_none v; short_calls = begins_none_short v; refusals = begins_none_refused v }

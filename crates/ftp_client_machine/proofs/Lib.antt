@@ -3,6 +3,8 @@ pub mod ClientBounds
 pub mod ClientCalls
 pub mod ClientGiving
 pub mod ClientRows
+pub mod LeavesLemmas
+pub mod LeavesCalls
 pub mod RepliesInFlight
 pub mod RestLemmas
 pub mod SentLemmas

@@ -1,6 +1,6 @@
 //! What holds of the client's machine: functions that do nothing, whose contracts are laws.
 ghost use Rattle.ftp_client_machine.specs.Bounds.{EventsAddNone, GivingPays, HearingAddsAnAnswer, ReceivingAddsNone, ShortAddsAClose};
-ghost use Rattle.ftp_client_machine.specs.Busy.{OnlyBeginsBusy};
+ghost use Rattle.ftp_client_machine.specs.Busy.{BeginsLeft, EachStaysLeft, OnlyBeginsBusy};
 ghost use Rattle.ftp_client_machine.specs.Sent.{LoginsHaveLines, StepsHaveLines};
 ghost use Rattle.ftp_client_machine.specs.InFlight.{ClientDropsAnswer, AnsweredAtRest, ClientHearsInPieces, FrontsAreAlike, ReplyIsHeard, ClientHearsRow};
 
@@ -33,4 +33,10 @@ pub fn commands_have_lines()
 /// No call but `start` and `upload` makes a client busy, also where it is short of memory.
 pub fn only_begins_busy()
     ensures { OnlyBeginsBusy }
+{}
+
+/// Nothing is left of an operation that is over: no port and no link of it is asked for, and none stands.
+pub fn nothing_is_left()
+    ensures begins { BeginsLeft }
+    ensures stays { EachStaysLeft }
 {}
