@@ -1,0 +1,77 @@
+-- Each run of turns from a steady world ends: five numbers of which the first that changes is less cannot fall for ever.
+use Rattle.std.proofs.Common.{◌≡◌, inl, inr, ℕ, zero, suc, ◌<◌, true, refl, sym, subst, arith}
+use Rattle.ftp_server_machine.specs.Machine.{Reading}
+use Rattle.ftp_world.specs.Claims.{IsSettling}
+use Rattle.ftp_world.specs.Events.{Event, Deliver, Open, End}
+use Rattle.ftp_world.specs.Settling.{Falls, Left, left_in}
+use Rattle.ftp_world.specs.World.{World}
+use Rattle.ftp_settling.specs.Laws.{SteadyEnds}
+use Rattle.ftp_settling.specs.Steady.{IsSteady}
+use Rattle.ftp_settling.specs.Turns.{Ends, ends, IsTurn}
+use Rattle.ftp_settling.proofs.EventsFall.{events_fall}
+use Rattle.ftp_settling.proofs.Steady.{happens_steady}
+
+-- ---- five numbers cannot fall for ever
+
+below : (P : ℕ → Type 0) → ((n : ℕ) → ((m : ℕ) → m < n → P m) → P n) → (n m : ℕ) → m < n → P m
+below P f zero m less = absurd (omega (arith, less))
+below P f (suc n) m less = f m (λ k under. below P f n k (omega (arith, less, under)))
+
+strong : (P : ℕ → Type 0) → ((n : ℕ) → ((m : ℕ) → m < n → P m) → P n) → (n : ℕ) → P n
+strong P f n = below P f (suc n) n (omega arith)
+
+abbrev left : ℕ → ℕ → ℕ → ℕ → ℕ → Left
+left a b c d e = record { at_client = a; to_server = b; at_server = c; to_client = d; unqueued = e }
+
+-- each run of numbers that fall comes to an end
+pub data Descends : Left → Type 0 where
+  descends : {l : Left} → ((m : Left) → Falls m l → Descends m) → Descends l
+
+each_descends : (a b c d e : ℕ) → Descends (left a b c d e)
+each_descends = strong (λ a. (b c d e : ℕ) → Descends (left a b c d e)) (λ a fa.
+    strong (λ b. (c d e : ℕ) → Descends (left a b c d e)) (λ b fb.
+    strong (λ c. (d e : ℕ) → Descends (left a b c d e)) (λ c fc.
+    strong (λ d. (e : ℕ) → Descends (left a b c d e)) (λ d fd.
+    strong (λ e. Descends (left a b c d e)) (λ e fe. descends (λ m falls. by_first a b c d e fa fb fc fd fe m falls))))))
+  where
+    by_first : (a b c d e : ℕ)
+        → ((x : ℕ) → x < a → (b c d e : ℕ) → Descends (left x b c d e))
+        → ((x : ℕ) → x < b → (c d e : ℕ) → Descends (left a x c d e))
+        → ((x : ℕ) → x < c → (d e : ℕ) → Descends (left a b x d e))
+        → ((x : ℕ) → x < d → (e : ℕ) → Descends (left a b c x e))
+        → ((x : ℕ) → x < e → Descends (left a b c d x))
+        → (m : Left) → Falls m (left a b c d e) → Descends m
+    by_first a b c d e fa fb fc fd fe m (inl x) = fa m.at_client x m.to_server m.at_server m.to_client m.unqueued
+    by_first a b c d e fa fb fc fd fe m (inr (p, inl x)) = subst (λ z. Descends (left z m.to_server m.at_server m.to_client m.unqueued)) (sym p) (fb m.to_server x m.at_server m.to_client m.unqueued)
+    by_first a b c d e fa fb fc fd fe m (inr (p, inr (q, inl x))) =
+        subst (λ z. Descends (left z m.to_server m.at_server m.to_client m.unqueued)) (sym p)
+        (subst (λ z. Descends (left a z m.at_server m.to_client m.unqueued)) (sym q) (fc m.at_server x m.to_client m.unqueued))
+    by_first a b c d e fa fb fc fd fe m (inr (p, inr (q, inr (r, inl x)))) =
+        subst (λ z. Descends (left z m.to_server m.at_server m.to_client m.unqueued)) (sym p)
+        (subst (λ z. Descends (left a z m.at_server m.to_client m.unqueued)) (sym q)
+        (subst (λ z. Descends (left a b z m.to_client m.unqueued)) (sym r) (fd m.to_client x m.unqueued)))
+    by_first a b c d e fa fb fc fd fe m (inr (p, inr (q, inr (r, inr (s, x))))) =
+        subst (λ z. Descends (left z m.to_server m.at_server m.to_client m.unqueued)) (sym p)
+        (subst (λ z. Descends (left a z m.at_server m.to_client m.unqueued)) (sym q)
+        (subst (λ z. Descends (left a b z m.to_client m.unqueued)) (sym r)
+        (subst (λ z. Descends (left a b c z m.unqueued)) (sym s) (fe m.unqueued x))))
+
+-- ---- so each run of turns ends
+
+-- a turn is a delivery, an opening or an end
+pub turn_settles : (event : Event) (w : World) → IsTurn event w → IsSettling event
+turn_settles (Deliver queue count) w turn = tt
+turn_settles Open w turn = tt
+turn_settles (End queue) w turn = tt
+turn_settles other w turn = absurd turn
+
+-- from a world with so much left
+ends_from : (read : Reading) (l : Left) (w : World) → Descends l → left_in w ≡ l → IsSteady w → Ends read w
+ends_from read l w (descends f) is s = ends (λ event next turn happens.
+    let falls = events_fall read event w next s.apart s.asks (turn_settles event w turn) happens in
+    ends_from read (left_in next) next (f (left_in next) (subst (Falls (left_in next)) is falls)) refl (happens_steady read event true w next s happens))
+
+-- each run of turns from a steady world ends
+pub steady_ends : SteadyEnds
+steady_ends read w s =
+    ends_from read (left_in w) w (each_descends (left_in w).at_client (left_in w).to_server (left_in w).at_server (left_in w).to_client (left_in w).unqueued) refl s

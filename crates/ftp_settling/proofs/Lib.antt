@@ -1,0 +1,22 @@
+-- Settling. The files are in the order in which they are to be read.
+pub mod Order
+pub mod FarApart
+pub mod FarKept
+pub mod NearApart
+pub mod NearLow
+pub mod FarLow
+pub mod Asking
+pub mod Served
+pub mod FarGrows
+pub mod NearGives
+pub mod Falling
+pub mod Possible
+pub mod Happening
+pub mod Leaving
+pub mod EventsFall
+pub mod FarCalm
+pub mod Steady
+pub mod Ending
+pub mod Settles
+pub mod Turning
+pub mod Heights

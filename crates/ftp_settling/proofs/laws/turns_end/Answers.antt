@@ -1,0 +1,9 @@
+use Rattle.ftp_settling.proofs.Ending.{steady_ends}
+use Rattle.ftp_settling.proofs.Heights.{has_height}
+use Rattle.ftp_settling.proofs.laws.turns_end.Goals as goal
+
+pub returns-clause-steady : goal.returns-clause-steady
+returns-clause-steady c = steady_ends
+
+pub returns-clause-height : goal.returns-clause-height
+returns-clause-height c = has_height
