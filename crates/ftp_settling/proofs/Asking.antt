@@ -95,10 +95,8 @@ within_plain u c =
     cond_both (u.count == reply_limit) _ _ ArePlain (λ is. (tt, tt)) (λ is. cond_both (c == LF) _ _ ArePlain (λ lf. (tt, tt)) (λ lf. tt))
 
 line_plain : (stage : Stage) (u : Unfinished) (c : ℕ) → ArePlain (line_out reply_limit stage u c)
-line_plain Lined.Start u c = within_plain u c
-line_plain Lined.Inside u c = within_plain u c
-line_plain Lined.AfterReturn u c = within_plain u c
 line_plain Lined.Past u c = tt
+line_plain stage u c = within_plain u c
 
 option_plain : (verb c : ℕ) (u : Unfinished) → owed_of (option verb c) ≡ [] → ArePlain (unit_says reply_limit u (option verb c))
 option_plain verb c u is = subst (λ (answers : List (List ℕ)). ArePlain (map owed answers)) (sym is) tt
@@ -106,8 +104,7 @@ option_plain verb c u is = subst (λ (answers : List (List ℕ)). ArePlain (map 
 unit_plain : (u : Unfinished) (unit : TelnetUnit) → owed_of unit ≡ [] → ArePlain (unit_says reply_limit u unit)
 unit_plain u (data_octet c) is = plain_append (line_out reply_limit u.stage u c ++ []) [] (plain_append (line_out reply_limit u.stage u c) [] (line_plain u.stage u c) tt) tt
 unit_plain u (option verb c) is = option_plain verb c u is
-unit_plain u subnegotiation is = tt
-unit_plain u (command c) is = tt
+unit_plain u unit is = tt
 
 out_plain : (e : Ear) (c : ℕ) → flat_map owed_of (unit_ended e.place c) ≡ [] → ArePlain (ear_out reply_limit e c)
 out_plain e c none =
@@ -148,10 +145,9 @@ sound_hears v may = (and_parts (is_sound v.standing) (nat_le (length v.owed) 102
 -- octets that ask nothing, each of which may be taken
 pub hears_low : (n : ℕ) (queue : List ℕ) (v : View) → ((k : ℕ) → k < n → IsTrue (may_hear (hears v (take k queue))))
     → (is_sound v.standing ≡ true → NoneAsked v.ear.place queue) → Low v (hears v (take n queue))
-hears_low zero queue v may none = same v
-hears_low (suc n) [] v may none = same v
 hears_low (suc n) (octet ∷ queue) v may none =
     let now = none (sound_hears v (may 0 (omega arith))) in
     let u : View = hears_octet v octet in
     both 0 v u (hears u (take n queue)) (octet_low v octet now.0)
     (hears_low n queue u (λ k less. may (suc k) (omega (arith, less))) (λ sound. subst (λ place. NoneAsked place queue) (sym (octet_place v octet sound).1) now.1))
+hears_low n queue v may none = same v

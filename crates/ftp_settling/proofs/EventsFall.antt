@@ -16,15 +16,11 @@ use Rattle.ftp_settling.proofs.Possible.{lent_can}
 
 pub left_near : (control : Control) → is_left_by_near control ≡ true → control ≡ LeftByNear
 left_near LeftByNear is = refl
-left_near Stands is = absurd (cc)
-left_near LeftByFar is = absurd (cc)
-left_near Parted is = absurd (cc)
+left_near control is = absurd (cc)
 
 pub left_far : (control : Control) → is_left_by_far control ≡ true → control ≡ LeftByFar
 left_far LeftByFar is = refl
-left_far Stands is = absurd (cc)
-left_far LeftByNear is = absurd (cc)
-left_far Parted is = absurd (cc)
+left_far control is = absurd (cc)
 
 closed_first : (closed a b : Bool) → (closed && a && b) ≡ true → closed ≡ true
 closed_first true a b is = refl
@@ -43,11 +39,7 @@ sound read (End DataToServer) w new a asks settles can does =
     served_behind w (told DataToServer w) new (end_to_server w.link w refl (ended DataToServer w can)) (record { near = a.near; far = data_end_apart w.far a.far }) does
 sound read (End DataToClient) w new a asks settles can does =
     served_behind w (told DataToClient w) new (end_to_client w.link w refl (ended DataToClient w can)) (record { near = (keeps.data_end_keep w.near).apart a.near; far = a.far }) does
-sound read Refuse w new a asks settles can does = absurd settles
-sound read Break w new a asks settles can does = absurd settles
-sound read EndControl w new a asks settles can does = absurd settles
-sound read (Next op moment) w new a asks settles can does = absurd settles
-sound read (Upload upload moment) w new a asks settles can does = absurd settles
+sound read event w new a asks settles can does = absurd settles
 
 pub events_fall : EventsFall
 events_fall read event w new a asks settles happens =

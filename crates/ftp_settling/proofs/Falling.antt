@@ -91,16 +91,7 @@ given_out_cases : (connection : DataConnection FarTransfer) (v : Far) → v.sess
     → (far_left.to_begin (given_out connection v) < far_left.to_begin v) ⊎ (given_out connection v ≡ v)
 given_out_cases (Data.Transferring (Transfers.Download [])) v is = let one : far_left.stages_left v.session.connection ≡ 1 = ap far_left.stages_left is in inl (omega (arith, one))
 given_out_cases (Data.Transferring (Transfers.Listing [])) v is = let one : far_left.stages_left v.session.connection ≡ 1 = ap far_left.stages_left is in inl (omega (arith, one))
-given_out_cases (Data.Transferring (Transfers.Download (octet ∷ rest))) v is = inr refl
-given_out_cases (Data.Transferring (Transfers.Listing (octet ∷ rest))) v is = inr refl
-given_out_cases (Data.Transferring (Transfers.Upload path keep d)) v is = inr refl
-given_out_cases (Data.Transferring Transfers.OverLimit) v is = inr refl
-given_out_cases (Data.Asked asked) v is = inr refl
-given_out_cases (Data.Opening transfer way) v is = inr refl
-given_out_cases Data.Free v is = inr refl
-given_out_cases (Data.Active endpoint) v is = inr refl
-given_out_cases Data.Passive v is = inr refl
-given_out_cases Data.Ready v is = inr refl
+given_out_cases connection v is = inr refl
 
 completed_cases : (v : Far) → (far_left.to_begin (completed v) < far_left.to_begin v) ⊎ (completed v ≡ v)
 completed_cases v = given_out_cases v.session.connection v refl
@@ -135,14 +126,7 @@ open_given count (Data.Transferring (Transfers.Download rest)) v open_is is few 
     drops count rest v (takes_given (Data.Transferring (Transfers.Download rest)) count v) v.session.connection open_is open_is (ap (λ c. length (given_by c)) is) refl few
 open_given count (Data.Transferring (Transfers.Listing rest)) v open_is is few =
     drops count rest v (takes_given (Data.Transferring (Transfers.Listing rest)) count v) v.session.connection open_is open_is (ap (λ c. length (given_by c)) is) refl few
-open_given count (Data.Transferring (Transfers.Upload path keep d)) v open_is is few = none_left count v few
-open_given count (Data.Transferring Transfers.OverLimit) v open_is is few = none_left count v few
-open_given count (Data.Asked asked) v open_is is few = none_left count v few
-open_given count (Data.Opening transfer way) v open_is is few = none_left count v few
-open_given count Data.Free v open_is is few = none_left count v few
-open_given count (Data.Active endpoint) v open_is is few = none_left count v few
-open_given count Data.Passive v open_is is few = none_left count v few
-open_given count Data.Ready v open_is is few = none_left count v few
+open_given count connection v open_is is few = none_left count v few
 
 all_given : (count : ℕ) (v : Far) → count ≤ length (far.to_give v) → length (far.to_give (takes_given (connection_of v.session) count v)) + count ≤ length (far.to_give v)
 all_given count v few =
@@ -151,15 +135,7 @@ all_given count v few =
 
 given_owed : (count : ℕ) (connection : DataConnection FarTransfer) (v : Far) → (takes_given connection count v).owed ≡ v.owed
 given_owed count (Data.Transferring (Transfers.Download rest)) v = refl
-given_owed count (Data.Transferring (Transfers.Listing rest)) v = refl
-given_owed count (Data.Transferring (Transfers.Upload path keep d)) v = refl
-given_owed count (Data.Transferring Transfers.OverLimit) v = refl
-given_owed count (Data.Asked asked) v = refl
-given_owed count (Data.Opening transfer way) v = refl
-given_owed count Data.Free v = refl
-given_owed count (Data.Active endpoint) v = refl
-given_owed count Data.Passive v = refl
-given_owed count Data.Ready v = refl
+given_owed count connection v = refl
 
 takes_gives : (count : ℕ) (v : Far) → count ≤ length (far.to_give v) → FarGives count v (takes_given (connection_of v.session) count v)
 takes_gives count v few =

@@ -70,8 +70,7 @@ checked_apart None s a = a
 
 pass_apart : (access : Access (List ℕ)) (accounts : Accounts) (word : List ℕ) (s : Session) → Apart s → Kept (pass access accounts word s)
 pass_apart (AwaitsPass name) accounts word s a = checked_apart (login_root accounts name word) s a
-pass_apart Nobody accounts word s a = a
-pass_apart Known accounts word s a = a
+pass_apart access accounts word s a = a
 
 takes_apart : (is : Bool) (endpoint : Endpoint) (s : Session) → Apart s → Kept (takes is endpoint s)
 takes_apart true endpoint s a = λ is. refl
@@ -95,13 +94,10 @@ choose_apart (Some facts) s a = a
 choose_apart None s a = a
 
 begin_apart : (connection : DataConnection Transfer) (transfer : Transfer) (s : Session) → s.connection ≡ connection → Apart s → Kept (begin connection transfer s)
-begin_apart Data.Free transfer s is a = a
 begin_apart (Data.Active endpoint) transfer s is a = λ closing. refl
 begin_apart Data.Passive transfer s is a = λ closing. let none = a closing in let one : is_standing s.connection ≡ true = ap is_standing is in absurd (cc)
 begin_apart Data.Ready transfer s is a = λ closing. let none = a closing in let one : is_standing s.connection ≡ true = ap is_standing is in absurd (cc)
-begin_apart (Data.Asked asked) transfer s is a = a
-begin_apart (Data.Opening other way) transfer s is a = a
-begin_apart (Data.Transferring other) transfer s is a = a
+begin_apart connection transfer s is a = a
 
 starts_apart : (why : Option Refusal) (transfer : Transfer) (s : Session) → Apart s → Kept (transfer_starts why transfer s)
 starts_apart None transfer s a = begin_apart s.connection transfer s refl a
@@ -113,13 +109,11 @@ rests_apart (Some why) offset s a = a
 
 rnto_apart : (pending : Pending Names) (text : List ℕ) (s : Session) → Apart s → Kept (rnto pending text s)
 rnto_apart (Pendings.Rename from) text s a = unless_apart _ s _ a a
-rnto_apart Pendings.Nothing text s a = a
-rnto_apart (Pendings.Restart place) text s a = a
+rnto_apart pending text s a = a
 
 act_apart : (footing : Footing) (c : Command (List ℕ)) (pending : Pending Names) (s : Session) → Apart s → Kept (act footing c pending s)
 act_apart footing (command.User name) pending s a = user_apart (open_root footing.accounts name) name s a
 act_apart footing (command.Pass word) pending s a = pass_apart s.access footing.accounts word s a
-act_apart footing (command.Acct text) pending s a = a
 act_apart footing (command.Cwd text) pending s a = unless_apart _ s _ a a
 act_apart footing command.Cdup pending s a = performs_apart Ops.Up (Replies.Fixed Texts.Done) s a
 act_apart footing command.Rein pending s a = forgotten_apart s
@@ -128,56 +122,36 @@ act_apart footing (command.Port endpoint) pending s a = port_apart footing endpo
 act_apart footing command.Pasv pending s a = pasv_apart footing s a
 act_apart footing (command.Eprt endpoint) pending s a = port_apart footing endpoint s a
 act_apart footing (command.Epsv family) pending s a = epsv_apart footing family s a
-act_apart footing (command.Repr kind) pending s a = a
-act_apart footing (command.Stru structure) pending s a = a
-act_apart footing (command.Mode mode) pending s a = a
 act_apart footing (command.Retr text) pending s a = starts_apart _ _ s a
 act_apart footing (command.Stor text) pending s a = starts_apart _ _ s a
 act_apart footing (command.Appe text) pending s a = starts_apart _ _ s a
-act_apart footing (command.Allo octets longest) pending s a = a
 act_apart footing (command.Rest place) pending s a = rests_apart _ place s a
 act_apart footing (command.Rnfr text) pending s a = unless_apart _ s _ a a
 act_apart footing (command.Rnto text) pending s a = rnto_apart pending text s a
-act_apart footing command.Abor pending s a = a
 act_apart footing (command.Dele text) pending s a = unless_apart _ s _ a a
 act_apart footing (command.Rmd text) pending s a = unless_apart _ s _ a a
 act_apart footing (command.Mkd text) pending s a = unless_apart _ s _ a a
-act_apart footing command.Pwd pending s a = a
 act_apart footing (command.List text) pending s a = starts_apart _ _ s a
 act_apart footing (command.Nlst text) pending s a = starts_apart _ _ s a
 act_apart footing (command.Mlst text) pending s a = unless_apart _ s _ a a
 act_apart footing (command.Mlsd text) pending s a = starts_apart _ _ s a
 act_apart footing (command.Size text) pending s a = cond_both (has_size s.settings) _ _ Kept (λ is. unless_apart _ s _ a a) (λ is. a)
 act_apart footing (command.Mdtm text) pending s a = unless_apart _ s _ a a
-act_apart footing command.Syst pending s a = a
-act_apart footing command.Stat pending s a = a
-act_apart footing (command.Help text) pending s a = a
-act_apart footing command.Noop pending s a = a
-act_apart footing command.Feat pending s a = a
 act_apart footing (command.Opts text) pending s a = cond_both (is_utf8_on text) _ _ Kept (λ is. a) (λ is. choose_apart (option_facts text) s a)
+act_apart footing c pending s a = a
 
 forgets_apart : (c : Command (List ℕ)) (s : Session) → Apart s → Apart (forgets c s)
 forgets_apart c s a = cond_both (is_transfer c) _ _ Apart (λ is. forgotten_apart s) (λ is. a)
 
 decided_apart : (footing : Footing) (heard : Heard (List ℕ)) (pending : Pending Names) (s : Session) → Apart s → Kept (decided footing heard pending s)
-decided_apart footing TooLong pending s a = a
-decided_apart footing (Bad fault) pending s a = a
 decided_apart footing (Asks c) pending s a =
     cond_both (is_allowed c s) _ _ Kept (λ is. act_apart footing c pending s a) (λ is. forgets_apart c s a)
+decided_apart footing heard pending s a = a
 
 given_out_apart : (connection : DataConnection Transfer) (v : View) → FarIsApart v → FarIsApart (given_out connection v)
 given_out_apart (Data.Transferring (Transfers.Download [])) v a = forgotten_apart v.session
-given_out_apart (Data.Transferring (Transfers.Download (octet ∷ rest))) v a = a
 given_out_apart (Data.Transferring (Transfers.Listing [])) v a = forgotten_apart v.session
-given_out_apart (Data.Transferring (Transfers.Listing (octet ∷ rest))) v a = a
-given_out_apart (Data.Transferring (Transfers.Upload path keep d)) v a = a
-given_out_apart (Data.Transferring Transfers.OverLimit) v a = a
-given_out_apart (Data.Asked asked) v a = a
-given_out_apart (Data.Opening transfer way) v a = a
-given_out_apart Data.Free v a = a
-given_out_apart (Data.Active endpoint) v a = a
-given_out_apart Data.Passive v a = a
-given_out_apart Data.Ready v a = a
+given_out_apart connection v a = a
 
 pub completed_apart : (v : View) → FarIsApart v → FarIsApart (completed v)
 completed_apart v a = given_out_apart v.session.connection v a

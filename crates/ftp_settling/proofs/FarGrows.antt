@@ -47,17 +47,8 @@ said_grows reply old new is = record { more = reply_octets reply; calm = calm_re
 
 given_out_grows : (connection : DataConnection Transfer) (v : View) → Grows v (given_out connection v)
 given_out_grows (Data.Transferring (Transfers.Download [])) v = said_grows (fixed_reply Texts.Complete) v _ refl
-given_out_grows (Data.Transferring (Transfers.Download (octet ∷ rest))) v = grows_none v v refl
 given_out_grows (Data.Transferring (Transfers.Listing [])) v = said_grows (fixed_reply Texts.Complete) v _ refl
-given_out_grows (Data.Transferring (Transfers.Listing (octet ∷ rest))) v = grows_none v v refl
-given_out_grows (Data.Transferring (Transfers.Upload path keep d)) v = grows_none v v refl
-given_out_grows (Data.Transferring Transfers.OverLimit) v = grows_none v v refl
-given_out_grows (Data.Asked asked) v = grows_none v v refl
-given_out_grows (Data.Opening transfer way) v = grows_none v v refl
-given_out_grows Data.Free v = grows_none v v refl
-given_out_grows (Data.Active endpoint) v = grows_none v v refl
-given_out_grows Data.Passive v = grows_none v v refl
-given_out_grows Data.Ready v = grows_none v v refl
+given_out_grows connection v = grows_none v v refl
 
 pub completed_grows : (v : View) → Grows v (completed v)
 completed_grows v = given_out_grows v.session.connection v

@@ -41,11 +41,7 @@ free_apart v is closing = ap is_standing is
 aborts_apart : (connection : DataConnection Transfer) (v : View) → FarIsApart v → FarIsApart (aborts connection v)
 aborts_apart (Data.Transferring transfer) v a = free_apart (aborts (Data.Transferring transfer) v) (break_gone v.footing.moment transfer (forgotten v.session))
 aborts_apart (Data.Opening transfer way) v a = forgotten_apart v.session
-aborts_apart Data.Free v a = a
-aborts_apart (Data.Asked asked) v a = a
-aborts_apart (Data.Active endpoint) v a = a
-aborts_apart Data.Passive v a = a
-aborts_apart Data.Ready v a = a
+aborts_apart connection v a = a
 
 aborted_apart : (v : View) → FarIsApart v → FarIsApart (aborted v)
 aborted_apart v a = later_apart (abort_said (aborts v.session.connection v)) (aborts_apart v.session.connection v a)
@@ -82,16 +78,7 @@ clocked_apart moment v a = later_apart (clock_step moment v) a
 
 said_open : (connection : DataConnection Transfer) (said : Said) (v : View) → (takes_said connection said v).session.closing ≡ v.session.closing
 said_open (Data.Transferring (Transfers.Upload path keep d)) (says sign) v = refl
-said_open (Data.Transferring (Transfers.Upload path keep d)) (marker text) v = refl
-said_open (Data.Transferring Transfers.OverLimit) said v = refl
-said_open (Data.Transferring (Transfers.Download rest)) said v = refl
-said_open (Data.Transferring (Transfers.Listing rest)) said v = refl
-said_open Data.Free said v = refl
-said_open (Data.Asked asked) said v = refl
-said_open (Data.Active endpoint) said v = refl
-said_open Data.Passive said v = refl
-said_open (Data.Opening transfer way) said v = refl
-said_open Data.Ready said v = refl
+said_open connection said v = refl
 
 all_open : (said : List Said) (v : View) → Open v → Open (takes_all said v)
 all_open [] v is = is
@@ -104,15 +91,7 @@ takes_octet_apart (Some fault) path keep d said v is = forgotten_apart v.session
 
 takes_data_apart : (connection : DataConnection Transfer) (octet : ℕ) (v : View) → Open v → FarIsApart (takes_data connection octet v)
 takes_data_apart (Data.Transferring (Transfers.Upload path keep d)) octet v is = takes_octet_apart (fault_of (read_on d octet)) path keep (read_on d octet) (octet_says d octet) v is
-takes_data_apart (Data.Transferring Transfers.OverLimit) octet v is = open_apart v is
-takes_data_apart (Data.Transferring (Transfers.Download rest)) octet v is = open_apart v is
-takes_data_apart (Data.Transferring (Transfers.Listing rest)) octet v is = open_apart v is
-takes_data_apart Data.Free octet v is = open_apart v is
-takes_data_apart (Data.Asked asked) octet v is = open_apart v is
-takes_data_apart (Data.Active endpoint) octet v is = open_apart v is
-takes_data_apart Data.Passive octet v is = open_apart v is
-takes_data_apart (Data.Opening transfer way) octet v is = open_apart v is
-takes_data_apart Data.Ready octet v is = open_apart v is
+takes_data_apart connection octet v is = open_apart v is
 
 received_apart : (v : View) (octet : ℕ) → FarIsApart v → FarIsApart (receives_octet v octet)
 unfolding receives_octet
@@ -128,15 +107,7 @@ receives_apart (octet ∷ octets) v a = receives_apart octets (receives_octet v 
 
 takes_given_open : (connection : DataConnection Transfer) (count : ℕ) (v : View) → (takes_given connection count v).session.closing ≡ v.session.closing
 takes_given_open (Data.Transferring (Transfers.Download rest)) count v = refl
-takes_given_open (Data.Transferring (Transfers.Listing rest)) count v = refl
-takes_given_open (Data.Transferring (Transfers.Upload path keep d)) count v = refl
-takes_given_open (Data.Transferring Transfers.OverLimit) count v = refl
-takes_given_open Data.Free count v = refl
-takes_given_open (Data.Asked asked) count v = refl
-takes_given_open (Data.Active endpoint) count v = refl
-takes_given_open Data.Passive count v = refl
-takes_given_open (Data.Opening transfer way) count v = refl
-takes_given_open Data.Ready count v = refl
+takes_given_open connection count v = refl
 
 pub gives_data_apart : (count : ℕ) (v : View) → FarIsApart v → FarIsApart (gives_data count v)
 unfolding gives_data
@@ -154,11 +125,7 @@ opens_apart Data.Passive false v is = forgotten_apart v.session
 opens_apart (Data.Opening transfer Ways.Accept) true v is = open_apart (opens (Data.Opening transfer Ways.Accept) true v) is
 opens_apart (Data.Opening transfer Ways.Accept) false v is = forgotten_apart v.session
 opens_apart (Data.Opening transfer (Ways.Connect endpoint)) is_peer v is = open_apart (opens (Data.Opening transfer (Ways.Connect endpoint)) is_peer v) is
-opens_apart Data.Free is_peer v is = open_apart v is
-opens_apart (Data.Active endpoint) is_peer v is = open_apart v is
-opens_apart (Data.Asked asked) is_peer v is = open_apart v is
-opens_apart Data.Ready is_peer v is = open_apart v is
-opens_apart (Data.Transferring transfer) is_peer v is = open_apart v is
+opens_apart connection is_peer v is = open_apart v is
 
 pub data_opened_apart : (host : Host) (v : View) → FarIsApart v → FarIsApart (data_opened host v)
 unfolding data_opened
@@ -170,11 +137,7 @@ data_opened_apart host v a =
 refuses_apart : (connection : DataConnection Transfer) (v : View) → Open v → FarIsApart (refuses connection v)
 refuses_apart Data.Passive v is = forgotten_apart v.session
 refuses_apart (Data.Opening transfer way) v is = forgotten_apart v.session
-refuses_apart Data.Free v is = open_apart v is
-refuses_apart (Data.Active endpoint) v is = open_apart v is
-refuses_apart (Data.Asked asked) v is = open_apart v is
-refuses_apart Data.Ready v is = open_apart v is
-refuses_apart (Data.Transferring transfer) v is = open_apart v is
+refuses_apart connection v is = open_apart v is
 
 pub data_refused_apart : (v : View) → FarIsApart v → FarIsApart (data_refused v)
 unfolding data_refused
@@ -183,11 +146,7 @@ data_refused_apart v a = later_apart (refused_step v) (by_closing v refuses a re
 ends_apart : (connection : DataConnection Transfer) (v : View) → Open v → FarIsApart (ends connection v)
 ends_apart Data.Ready v is = λ closing. refl
 ends_apart (Data.Transferring transfer) v is = free_apart (ends (Data.Transferring transfer) v) (end_gone v.footing.moment transfer (disconnected v.session))
-ends_apart Data.Free v is = open_apart v is
-ends_apart (Data.Active endpoint) v is = open_apart v is
-ends_apart (Data.Asked asked) v is = open_apart v is
-ends_apart Data.Passive v is = open_apart v is
-ends_apart (Data.Opening transfer way) v is = open_apart v is
+ends_apart connection v is = open_apart v is
 
 pub data_end_apart : (v : View) → FarIsApart v → FarIsApart (data_end v)
 unfolding data_end
@@ -196,11 +155,7 @@ data_end_apart v a = later_apart (end_step v) (by_closing v ends a refl (ends_ap
 breaks_apart : (connection : DataConnection Transfer) (v : View) → Open v → FarIsApart (breaks connection v)
 breaks_apart Data.Ready v is = λ closing. refl
 breaks_apart (Data.Transferring transfer) v is = free_apart (breaks (Data.Transferring transfer) v) (break_gone v.footing.moment transfer (disconnected v.session))
-breaks_apart Data.Free v is = open_apart v is
-breaks_apart (Data.Active endpoint) v is = open_apart v is
-breaks_apart (Data.Asked asked) v is = open_apart v is
-breaks_apart Data.Passive v is = open_apart v is
-breaks_apart (Data.Opening transfer way) v is = open_apart v is
+breaks_apart connection v is = open_apart v is
 
 pub data_fault_apart : (v : View) → FarIsApart v → FarIsApart (data_fault v)
 unfolding data_fault

@@ -20,14 +20,7 @@ use Rattle.ftp_server_machine.proofs.ServerBounds.{Finds, nothing, that, finds, 
 given_none : (connection : DataConnection Transfer) → is_standing connection ≡ false → given_by connection ≡ []
 given_none (Data.Transferring (Transfers.Download rest)) is = absurd (cc)
 given_none (Data.Transferring (Transfers.Listing rest)) is = absurd (cc)
-given_none (Data.Transferring (Transfers.Upload path keep d)) is = refl
-given_none (Data.Transferring Transfers.OverLimit) is = refl
-given_none Data.Free is = refl
-given_none (Data.Active endpoint) is = refl
-given_none (Data.Asked asked) is = refl
-given_none Data.Passive is = refl
-given_none (Data.Opening transfer way) is = refl
-given_none Data.Ready is = refl
+given_none connection is = refl
 
 if_none : (closing : Bool) (connection : DataConnection Transfer) → is_standing connection ≡ false → given_by (if closing then Data.Free else connection) ≡ []
 if_none true connection is = refl
@@ -59,12 +52,7 @@ unsaid v = let none : length (v.owed ++ []) ≡ length v.owed = ap length (appen
 told : (port : ℕ) (connection : DataConnection Transfer) (v : View) → v.session.connection ≡ connection → FarLow v (turned (listening_turn connection v.footing port v.session) v)
 told port (Data.Asked Asking.Pasv) v is = let here : stages_left v.session.connection ≡ 3 = ap stages_left is in falls v _ (omega (arith, here))
 told port (Data.Asked Asking.Epsv) v is = let here : stages_left v.session.connection ≡ 3 = ap stages_left is in falls v _ (omega (arith, here))
-told port Data.Free v is = unsaid v
-told port (Data.Active endpoint) v is = unsaid v
-told port Data.Passive v is = unsaid v
-told port (Data.Opening transfer way) v is = unsaid v
-told port Data.Ready v is = unsaid v
-told port (Data.Transferring transfer) v is = unsaid v
+told port connection v is = unsaid v
 
 by_found : (port : ℕ) (v : View) → Finds v → FarLow v (listening_step port v)
 by_found port v (nothing e) =

@@ -57,15 +57,11 @@ push_cases read DataToClient count w asks may few = file_in read count w few
 -- what is lent is of no matter
 lent_cases : (read : Reading) (queue : Queue) (count : ℕ) (octets : List ℕ) (w : World) → Pushes count w (pushed read queue count w) → Pushes count w (pushed read queue count (record w { taken = octets }))
 lent_cases read ControlToServer count octets w pushes = pushes
-lent_cases read ControlToClient count octets w pushes = pushes
-lent_cases read DataToServer count octets w pushes = pushes
-lent_cases read DataToClient count octets w pushes = pushes
+lent_cases read queue count octets w pushes = pushes
 
 fill_asks_at : (queue : Queue) (w : World) (counts : List ℕ) → AsksNothing w → queue ≡ ControlToClient → AsksNothing (filled queue w counts)
 fill_asks_at ControlToClient w counts asks is = fill_asks w counts asks
-fill_asks_at ControlToServer w counts asks is = absurd (cc)
-fill_asks_at DataToServer w counts asks is = absurd (cc)
-fill_asks_at DataToClient w counts asks is = absurd (cc)
+fill_asks_at queue w counts asks is = absurd (cc)
 
 pub in_few : (count taken long : ℕ) → taken ≤ min count long → taken ≤ long
 in_few count taken long within = omega (arith, within)
@@ -153,14 +149,8 @@ opens_falls Data.Passive false v is links = let two : far_left.stages_left v.ses
 opens_falls (Data.Opening transfer Ways.Accept) true v is links = let two : far_left.stages_left v.session.connection ≡ 2 = ap far_left.stages_left is in omega (arith, two)
 opens_falls (Data.Opening transfer Ways.Accept) false v is links = let two : far_left.stages_left v.session.connection ≡ 2 = ap far_left.stages_left is in omega (arith, two)
 opens_falls (Data.Opening transfer (Ways.Connect endpoint)) peer v is links = let two : far_left.stages_left v.session.connection ≡ 2 = ap far_left.stages_left is in omega (arith, two)
-opens_falls Data.Free peer v is links = no_link links
-opens_falls (Data.Asked asked) peer v is links = no_link links
-opens_falls (Data.Active endpoint) peer v is links = no_link links
-opens_falls Data.Ready peer v is links = no_link links
-opens_falls (Data.Transferring (Transfers.Upload path keep d)) peer v is links = no_link links
 opens_falls (Data.Transferring Transfers.OverLimit) peer v is links = no_link links
-opens_falls (Data.Transferring (Transfers.Download rest)) peer v is links = no_link links
-opens_falls (Data.Transferring (Transfers.Listing rest)) peer v is links = no_link links
+opens_falls connection peer v is links = no_link links
 
 step_falls : (host : Host) (v : Far) → v.session.closing ≡ false → Links (wants_of v.session.connection) → far_left.to_begin (opened_step host v) < far_left.to_begin v
 step_falls host v is links =
@@ -198,9 +188,7 @@ opens_apart w a = record { near = (keeps.data_opened_keep w.far.footing.here w.n
 
 pub end_to_server : (link : Link) (w : World) → w.link ≡ link → is_closed_by_near link ≡ true → Less (told DataToServer w) w
 end_to_server ClosedByNear w is can = let one : ends_to_server w.link ≡ 1 = ap ends_to_server is in inr (refl, inl (omega (arith, one)))
-end_to_server Gone w is can = absurd (cc)
-end_to_server Opened w is can = absurd (cc)
-end_to_server ClosedByFar w is can = absurd (cc)
+end_to_server link w is can = absurd (cc)
 
 pub end_to_client : (link : Link) (w : World) → w.link ≡ link → is_closed_by_far link ≡ true → Less (told DataToClient w) w
 end_to_client ClosedByFar w is can =
@@ -210,6 +198,4 @@ end_to_client ClosedByFar w is can =
       | inl less ↦ not_less _ _ e less
       | inr gives ↦ le_then _ _ (omega (arith, gives)) (λ f. inr (refl, inl (omega (arith, one))))
     ])
-end_to_client Gone w is can = absurd (cc)
-end_to_client Opened w is can = absurd (cc)
-end_to_client ClosedByNear w is can = absurd (cc)
+end_to_client link w is can = absurd (cc)

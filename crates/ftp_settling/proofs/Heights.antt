@@ -34,9 +34,7 @@ over_queues f = f ControlToServer + f ControlToClient + f DataToServer + f DataT
 
 under_queues : (f : Queue → ℕ) (queue : Queue) → f queue ≤ over_queues f
 under_queues f ControlToServer = omega arith
-under_queues f ControlToClient = omega arith
-under_queues f DataToServer = omega arith
-under_queues f DataToClient = omega arith
+under_queues f queue = omega arith
 
 -- the sum over the kinds of turns
 abbrev over_turns : (Turn → ℕ) → ℕ

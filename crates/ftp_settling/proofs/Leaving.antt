@@ -38,15 +38,11 @@ pub record FarCut (w : World) : Type 0 where
 
 pub near_closed_control : (link : Link) (w : World) → (link_closed_by_near link w).control ≡ w.control
 near_closed_control Gone w = refl
-near_closed_control Opened w = refl
-near_closed_control ClosedByNear w = refl
-near_closed_control ClosedByFar w = refl
+near_closed_control link w = refl
 
 pub far_closed_control : (link : Link) (w : World) → (link_closed_by_far link w).control ≡ w.control
 far_closed_control Gone w = refl
-far_closed_control Opened w = refl
-far_closed_control ClosedByNear w = refl
-far_closed_control ClosedByFar w = refl
+far_closed_control link w = refl
 
 cut_as : (w new : World) → new.control ≡ w.control → new.far ≡ w.far → FarCut w → FarCut new
 cut_as w new control far cut = record { control = control ∙ cut.control; life = ap (λ (v : Far). v.session.life) far ∙ cut.life; waiting = ap (λ (v : Far). v.waiting) far ∙ cut.waiting }
@@ -191,11 +187,8 @@ near_cut_less w cut a =
     falls_most (left_in w) (left_in (served w)) (left_in (after_event w)) (falls_most (left_in w) (left_in u) (left_in (served w)) less fars.most) last.most
 
 failed : (standing : Standing) (v : Near) → v.standing ≡ standing → is_sound (fails_by standing Failures.Lost v).standing ≡ false
-failed Standings.Greeting v is = refl
-failed Standings.User v is = refl
-failed Standings.Pass v is = refl
-failed Standings.Entered v is = refl
 failed (Standings.Failed failure) v is = ap is_sound is
+failed standing v is = refl
 
 pub near_failed : (v : Near) → is_sound (near.control_end v).standing ≡ false
 unfolding near.control_end

@@ -48,11 +48,8 @@ pub same : (v : View) → Keeps v v
 same v = record { apart = λ a. a; sound = λ s. (s, refl) }
 
 fails_keep : (standing : Standing) (failure : Failure) (old v : View) → Keeps old v → Keeps old (fails_by standing failure v)
-fails_keep Stands.Greeting failure old v k = record { apart = λ a is. refl; sound = λ s. absurd (cc) }
-fails_keep Stands.User failure old v k = record { apart = λ a is. refl; sound = λ s. absurd (cc) }
-fails_keep Stands.Pass failure old v k = record { apart = λ a is. refl; sound = λ s. absurd (cc) }
-fails_keep Stands.Entered failure old v k = record { apart = λ a is. refl; sound = λ s. absurd (cc) }
 fails_keep (Stands.Failed before) failure old v k = k
+fails_keep standing failure old v k = record { apart = λ a is. refl; sound = λ s. absurd (cc) }
 
 strange_keep : (old v : View) → Keeps old v → Keeps old (strange v)
 strange_keep old v k = fails_keep v.standing Failures.Strange old v k
@@ -104,17 +101,11 @@ finishes_read_keep (Some answer) old v k = finishes_keep answer old v k
 greeted_keep : (verdict : Verdict) (code : ℕ) (old v : View) → v.standing ≡ Stands.Greeting → Keeps old v → Keeps old (greeted verdict code v)
 greeted_keep Completion code old v is k = record { apart = k.apart; sound = λ s. k.sound (ap is_sound is) }
 greeted_keep Preliminary code old v is k = if_keeps (code == 120) old v (strange v) k (strange_keep old v k)
-greeted_keep Intermediate code old v is k = strange_keep old v k
-greeted_keep Negative code old v is k = strange_keep old v k
-greeted_keep Closing code old v is k = strange_keep old v k
-greeted_keep Displaced code old v is k = strange_keep old v k
+greeted_keep verdict code old v is k = strange_keep old v k
 
 enters_with_keep : (job : Job) (old v : View) → Keeps old v → Keeps old (enters_with job v)
 enters_with_keep (Waiting op) old v k = begins_keep op old v k
-enters_with_keep Idle old v k = k
-enters_with_keep (Doing op step) old v k = k
-enters_with_keep (Transferring op transfer) old v k = k
-enters_with_keep (Told answer) old v k = k
+enters_with_keep job old v k = k
 
 enters_keep : (old v : View) → is_sound v.standing ≡ true → Keeps old v → Keeps old (login_ends v)
 enters_keep old v is k = enters_with_keep v.job old (record v { standing = Stands.Entered }) (record { apart = k.apart; sound = λ s. k.sound is })
@@ -123,17 +114,12 @@ user_keep : (verdict : Verdict) (old v : View) → v.standing ≡ Stands.User �
 user_keep Intermediate old v is k = record { apart = k.apart; sound = λ s. k.sound (ap is_sound is) }
 user_keep Completion old v is k = enters_keep old v (ap is_sound is) k
 user_keep Negative old v is k = enters_keep old v (ap is_sound is) k
-user_keep Preliminary old v is k = strange_keep old v k
-user_keep Closing old v is k = strange_keep old v k
-user_keep Displaced old v is k = strange_keep old v k
+user_keep verdict old v is k = strange_keep old v k
 
 pass_keep : (verdict : Verdict) (old v : View) → v.standing ≡ Stands.Pass → Keeps old v → Keeps old (pass_answered verdict v)
 pass_keep Completion old v is k = enters_keep old v (ap is_sound is) k
 pass_keep Negative old v is k = enters_keep old v (ap is_sound is) k
-pass_keep Intermediate old v is k = strange_keep old v k
-pass_keep Preliminary old v is k = strange_keep old v k
-pass_keep Closing old v is k = strange_keep old v k
-pass_keep Displaced old v is k = strange_keep old v k
+pass_keep verdict old v is k = strange_keep old v k
 
 -- ---- a step
 
@@ -160,90 +146,49 @@ done_keep : (op : Op (List ℕ)) (step : Step) (texts : List Text) (old v : View
 done_keep op Steps.Port texts old v k = goes_on_keep op Steps.Port old v k
 done_keep op Steps.Passive texts old v k = passive_keep (is_extended v op) op (joined texts) old v k
 done_keep op Steps.Last texts old v k = finishes_read_keep (answer_in op texts) old v k
-done_keep op Steps.Listen texts old v k = strange_keep old v k
-done_keep op Steps.Connect texts old v k = strange_keep old v k
-done_keep op Steps.Restart texts old v k = strange_keep old v k
-done_keep op Steps.Source texts old v k = strange_keep old v k
 done_keep op Steps.Kind texts old v k = set_keep op Steps.Kind old v k
 done_keep op Steps.Structure texts old v k = set_keep op Steps.Structure old v k
 done_keep op Steps.Mode texts old v k = set_keep op Steps.Mode old v k
+done_keep op step texts old v k = strange_keep old v k
 
 intermediate_keep : (op : Op (List ℕ)) (step : Step) (old v : View) → Keeps old v → Keeps old (intermediate op step v)
 intermediate_keep op Steps.Restart old v k = goes_on_keep op Steps.Restart old v k
 intermediate_keep op Steps.Source old v k = goes_on_keep op Steps.Source old v k
-intermediate_keep op Steps.Kind old v k = strange_keep old v k
-intermediate_keep op Steps.Structure old v k = strange_keep old v k
-intermediate_keep op Steps.Mode old v k = strange_keep old v k
-intermediate_keep op Steps.Listen old v k = strange_keep old v k
-intermediate_keep op Steps.Port old v k = strange_keep old v k
-intermediate_keep op Steps.Passive old v k = strange_keep old v k
-intermediate_keep op Steps.Connect old v k = strange_keep old v k
-intermediate_keep op Steps.Last old v k = strange_keep old v k
+intermediate_keep op step old v k = strange_keep old v k
 
 step_answered_keep : (op : Op (List ℕ)) (step : Step) (verdict : Verdict) (code : ℕ) (texts : List Text) (old v : View) → Keeps old v → Keeps old (step_answered op step verdict code texts v)
 step_answered_keep op step Completion code texts old v k = done_keep op step texts old v k
 step_answered_keep op step Intermediate code texts old v k = intermediate_keep op step old v k
 step_answered_keep op step Negative code texts old v k =
     if_keeps (awaits_reply step) old (finishes (Refused code) v) (strange v) (finishes_keep (Refused code) old v k) (strange_keep old v k)
-step_answered_keep op step Preliminary code texts old v k = strange_keep old v k
-step_answered_keep op step Closing code texts old v k = strange_keep old v k
-step_answered_keep op step Displaced code texts old v k = strange_keep old v k
+step_answered_keep op step verdict code texts old v k = strange_keep old v k
 
 -- ---- a transfer
 
 answers_by_keep : (replied : Replied) (abort : Abort) (connection : DataConnection) (op : Op (List ℕ)) (flow : Flow) (old v : View) → Keeps old v → Keeps old (answers_by replied abort connection op flow v)
 answers_by_keep (Replies.Final code) Aborts.Unsent (Data.Over ending) op flow old v k = finishes_read_keep (judged ending Aborts.Unsent code op flow) old v k
-answers_by_keep (Replies.Final code) Aborts.Unsent Data.Free op flow old v k = k
-answers_by_keep (Replies.Final code) Aborts.Unsent Data.ListenWanted op flow old v k = k
-answers_by_keep (Replies.Final code) Aborts.Unsent (Data.Listening port) op flow old v k = k
-answers_by_keep (Replies.Final code) Aborts.Unsent (Data.Connecting endpoint) op flow old v k = k
-answers_by_keep (Replies.Final code) Aborts.Unsent (Data.Accepting port) op flow old v k = k
-answers_by_keep (Replies.Final code) Aborts.Unsent Data.Open op flow old v k = k
 answers_by_keep (Replies.Final code) Aborts.Answered (Data.Over ending) op flow old v k = finishes_read_keep (judged ending Aborts.Answered code op flow) old v k
-answers_by_keep (Replies.Final code) Aborts.Answered Data.Free op flow old v k = k
-answers_by_keep (Replies.Final code) Aborts.Answered Data.ListenWanted op flow old v k = k
-answers_by_keep (Replies.Final code) Aborts.Answered (Data.Listening port) op flow old v k = k
-answers_by_keep (Replies.Final code) Aborts.Answered (Data.Connecting endpoint) op flow old v k = k
-answers_by_keep (Replies.Final code) Aborts.Answered (Data.Accepting port) op flow old v k = k
-answers_by_keep (Replies.Final code) Aborts.Answered Data.Open op flow old v k = k
-answers_by_keep (Replies.Final code) Aborts.Sent connection op flow old v k = k
-answers_by_keep Replies.Nothing abort connection op flow old v k = k
-answers_by_keep Replies.Begun abort connection op flow old v k = k
+answers_by_keep replied abort connection op flow old v k = k
 
 answers_job_keep : (job : Job) (old v : View) → Keeps old v → Keeps old (answers_job job v)
 answers_job_keep (Transferring op transfer) old v k = answers_by_keep transfer.replied transfer.abort v.connection op transfer.flow old v k
-answers_job_keep Idle old v k = k
-answers_job_keep (Waiting op) old v k = k
-answers_job_keep (Doing op step) old v k = k
-answers_job_keep (Told answer) old v k = k
+answers_job_keep job old v k = k
 
 closes_keep : (old v : View) → Keeps old v → Keeps old (closes v)
 closes_keep old v k = record { apart = λ a is. refl; sound = k.sound }
 
 closes_by_keep : (given : Bool) (connection : DataConnection) (old v : View) → Keeps old v → Keeps old (closes_once_given_by given connection v)
 closes_by_keep true Data.Open old v k = closes_keep old v k
-closes_by_keep true Data.Free old v k = k
-closes_by_keep true Data.ListenWanted old v k = k
-closes_by_keep true (Data.Listening port) old v k = k
-closes_by_keep true (Data.Connecting endpoint) old v k = k
-closes_by_keep true (Data.Accepting port) old v k = k
-closes_by_keep true (Data.Over ending) old v k = k
-closes_by_keep false connection old v k = k
+closes_by_keep given connection old v k = k
 
 closes_once_keep : (job : Job) (old v : View) → Keeps old v → Keeps old (closes_once_given job v)
 closes_once_keep (Transferring op transfer) old v k = closes_by_keep (has_begun transfer.replied && is_given transfer.flow) v.connection old v k
-closes_once_keep Idle old v k = k
-closes_once_keep (Waiting op) old v k = k
-closes_once_keep (Doing op step) old v k = k
-closes_once_keep (Told answer) old v k = k
+closes_once_keep job old v k = k
 
 aborts_once_keep : (job : Job) (old v : View) → Keeps old v → Keeps old (aborts_once_enough job v)
 aborts_once_keep (Transferring op transfer) old v k =
     if_keeps (is_to_abort v.connection op transfer) old (sends_abort op transfer v) v (record { apart = k.apart; sound = k.sound }) k
-aborts_once_keep Idle old v k = k
-aborts_once_keep (Waiting op) old v k = k
-aborts_once_keep (Doing op step) old v k = k
-aborts_once_keep (Told answer) old v k = k
+aborts_once_keep job old v k = k
 
 pub carries_on_keep : (old v : View) → Keeps old v → Keeps old (carries_on v)
 carries_on_keep old v k =
@@ -269,38 +214,23 @@ noted_keep code text op transfer old v k =
 unless_open_keep : (connection : DataConnection) (old v : View) → Keeps old v → Keeps old (unless_open connection v)
 unless_open_keep Data.Open old v k = k
 unless_open_keep (Data.Over ending) old v k = k
-unless_open_keep Data.Free old v k = closes_keep old v k
-unless_open_keep Data.ListenWanted old v k = closes_keep old v k
-unless_open_keep (Data.Listening port) old v k = closes_keep old v k
-unless_open_keep (Data.Connecting endpoint) old v k = closes_keep old v k
-unless_open_keep (Data.Accepting port) old v k = closes_keep old v k
+unless_open_keep connection old v k = closes_keep old v k
 
 before_keep : (verdict : Verdict) (code : ℕ) (op : Op (List ℕ)) (transfer : Transfer) (old v : View) → Keeps old v → Keeps old (before_opening verdict code op transfer v)
 before_keep Preliminary code op transfer old v k = opened_keep code op transfer old v k
 before_keep Negative code op transfer old v k = reply_keep (Replies.Final code) op transfer old (closes v) (closes_keep old v k)
-before_keep Completion code op transfer old v k = strange_keep old v k
-before_keep Intermediate code op transfer old v k = strange_keep old v k
-before_keep Closing code op transfer old v k = strange_keep old v k
-before_keep Displaced code op transfer old v k = strange_keep old v k
+before_keep verdict code op transfer old v k = strange_keep old v k
 
 behind_keep : (verdict : Verdict) (code : ℕ) (text : Text) (op : Op (List ℕ)) (transfer : Transfer) (old v : View) → Keeps old v → Keeps old (behind_opening verdict code text op transfer v)
 behind_keep Preliminary code text op transfer old v k = noted_keep code text op transfer old v k
 behind_keep Completion code text op transfer old v k = reply_keep (Replies.Final code) op transfer old v k
 behind_keep Negative code text op transfer old v k = reply_keep (Replies.Final code) op transfer old (unless_open v.connection v) (unless_open_keep v.connection old v k)
-behind_keep Intermediate code text op transfer old v k = strange_keep old v k
-behind_keep Closing code text op transfer old v k = strange_keep old v k
-behind_keep Displaced code text op transfer old v k = strange_keep old v k
+behind_keep verdict code text op transfer old v k = strange_keep old v k
 
 abort_keep : (abort : Abort) (verdict : Verdict) (op : Op (List ℕ)) (transfer : Transfer) (old v : View) → Keeps old v → Keeps old (abort_answered abort verdict op transfer v)
 abort_keep Aborts.Sent Completion op transfer old v k =
     carries_on_keep old (record v { job = Transferring op (record transfer { abort = Aborts.Answered }) }) (record { apart = k.apart; sound = k.sound })
-abort_keep Aborts.Sent Preliminary op transfer old v k = strange_keep old v k
-abort_keep Aborts.Sent Intermediate op transfer old v k = strange_keep old v k
-abort_keep Aborts.Sent Negative op transfer old v k = strange_keep old v k
-abort_keep Aborts.Sent Closing op transfer old v k = strange_keep old v k
-abort_keep Aborts.Sent Displaced op transfer old v k = strange_keep old v k
-abort_keep Aborts.Unsent verdict op transfer old v k = strange_keep old v k
-abort_keep Aborts.Answered verdict op transfer old v k = strange_keep old v k
+abort_keep abort verdict op transfer old v k = strange_keep old v k
 
 transfer_keep : (replied : Replied) (verdict : Verdict) (code : ℕ) (text : Text) (op : Op (List ℕ)) (transfer : Transfer) (old v : View) → Keeps old v
     → Keeps old (transfer_answered replied verdict code text op transfer v)
@@ -313,9 +243,7 @@ transfer_keep (Replies.Final before) verdict code text op transfer old v k = abo
 job_keep : (job : Job) (verdict : Verdict) (code : ℕ) (texts : List Text) (old v : View) → Keeps old v → Keeps old (job_answered job verdict code texts v)
 job_keep (Doing op step) verdict code texts old v k = step_answered_keep op step verdict code texts old v k
 job_keep (Transferring op transfer) verdict code texts old v k = transfer_keep transfer.replied verdict code (joined texts) op transfer old v k
-job_keep Idle verdict code texts old v k = strange_keep old v k
-job_keep (Waiting op) verdict code texts old v k = strange_keep old v k
-job_keep (Told answer) verdict code texts old v k = strange_keep old v k
+job_keep job verdict code texts old v k = strange_keep old v k
 
 stand_keep : (standing : Standing) (verdict : Verdict) (code : ℕ) (texts : List Text) (old v : View) → v.standing ≡ standing → Keeps old v → Keeps old (stand_answered standing verdict code texts v)
 stand_keep Stands.Greeting verdict code texts old v is k = greeted_keep verdict code old v is k
@@ -366,47 +294,19 @@ open_keep connection v is = record { apart = λ a closing. absurd (cc); sound = 
 
 listens_step_keep : (step : Step) (op : Op (List ℕ)) (port : ℕ) (v : View) → v.closing ≡ false → Keeps v (listening_by Data.ListenWanted (Doing op step) port v)
 listens_step_keep Steps.Listen op port v is = goes_on_keep op Steps.Listen v (record v { connection = Data.Listening port }) (open_keep (Data.Listening port) v is)
-listens_step_keep Steps.Connect op port v is = same v
-listens_step_keep Steps.Kind op port v is = same v
-listens_step_keep Steps.Structure op port v is = same v
-listens_step_keep Steps.Mode op port v is = same v
-listens_step_keep Steps.Port op port v is = same v
-listens_step_keep Steps.Passive op port v is = same v
-listens_step_keep Steps.Restart op port v is = same v
-listens_step_keep Steps.Source op port v is = same v
-listens_step_keep Steps.Last op port v is = same v
+listens_step_keep step op port v is = same v
 
 listens_keep : (connection : DataConnection) (job : Job) (port : ℕ) (v : View) → v.closing ≡ false → Keeps v (listening_by connection job port v)
 listens_keep Data.ListenWanted (Doing op step) port v is = listens_step_keep step op port v is
-listens_keep Data.ListenWanted Idle port v is = same v
-listens_keep Data.ListenWanted (Waiting op) port v is = same v
-listens_keep Data.ListenWanted (Transferring op transfer) port v is = same v
-listens_keep Data.ListenWanted (Told answer) port v is = same v
-listens_keep Data.Free job port v is = same v
-listens_keep (Data.Listening before) job port v is = same v
-listens_keep (Data.Connecting endpoint) job port v is = same v
-listens_keep (Data.Accepting before) job port v is = same v
-listens_keep Data.Open job port v is = same v
-listens_keep (Data.Over ending) job port v is = same v
+listens_keep connection job port v is = same v
 
 connected_step_keep : (step : Step) (op : Op (List ℕ)) (v : View) → v.closing ≡ false → Keeps v (connected (Doing op step) v)
 connected_step_keep Steps.Connect op v is = goes_on_keep op Steps.Connect v (record v { connection = Data.Open }) (open_keep Data.Open v is)
-connected_step_keep Steps.Listen op v is = same v
-connected_step_keep Steps.Kind op v is = same v
-connected_step_keep Steps.Structure op v is = same v
-connected_step_keep Steps.Mode op v is = same v
-connected_step_keep Steps.Port op v is = same v
-connected_step_keep Steps.Passive op v is = same v
-connected_step_keep Steps.Restart op v is = same v
-connected_step_keep Steps.Source op v is = same v
-connected_step_keep Steps.Last op v is = same v
+connected_step_keep step op v is = same v
 
 connected_keep : (job : Job) (v : View) → v.closing ≡ false → Keeps v (connected job v)
 connected_keep (Doing op step) v is = connected_step_keep step op v is
-connected_keep Idle v is = same v
-connected_keep (Waiting op) v is = same v
-connected_keep (Transferring op transfer) v is = same v
-connected_keep (Told answer) v is = same v
+connected_keep job v is = same v
 
 accepted_keep : (ours : Bool) (v : View) → v.closing ≡ false → Keeps v (accepted ours v)
 accepted_keep true v is = carries_on_keep v (record v { connection = Data.Open }) (open_keep Data.Open v is)
@@ -415,45 +315,26 @@ accepted_keep false v is = carries_on_keep v (record v { connection = Data.Over 
 opened_by_keep : (connection : DataConnection) (host : Host) (v : View) → v.closing ≡ false → Keeps v (opened_by connection host v)
 opened_by_keep (Data.Connecting endpoint) host v is = connected_keep v.job v is
 opened_by_keep (Data.Accepting port) host v is = accepted_keep (same_host host v.peer) v is
-opened_by_keep Data.Free host v is = same v
-opened_by_keep Data.ListenWanted host v is = same v
-opened_by_keep (Data.Listening port) host v is = same v
-opened_by_keep Data.Open host v is = same v
-opened_by_keep (Data.Over ending) host v is = same v
+opened_by_keep connection host v is = same v
 
 unopened_keep : (connection : DataConnection) (v : View) → Keeps v (unopened_by connection v)
 unopened_keep (Data.Connecting endpoint) v = finishes_keep Unopened v v (same v)
 unopened_keep (Data.Accepting port) v = carries_on_keep v (record v { connection = Data.Over Endings.Broken; closing = true }) (record { apart = λ a closing. refl; sound = λ s. (s, refl) })
-unopened_keep Data.Free v = same v
-unopened_keep Data.ListenWanted v = same v
-unopened_keep (Data.Listening port) v = same v
-unopened_keep Data.Open v = same v
-unopened_keep (Data.Over ending) v = same v
+unopened_keep connection v = same v
 
 over_keep : (connection : DataConnection) (ending : Ending) (v : View) → Keeps v (over_by connection ending v)
 over_keep Data.Open ending v = carries_on_keep v (record v { connection = Data.Over ending }) (record { apart = λ a is. refl; sound = λ s. (s, refl) })
-over_keep Data.Free ending v = same v
-over_keep Data.ListenWanted ending v = same v
-over_keep (Data.Listening port) ending v = same v
-over_keep (Data.Connecting endpoint) ending v = same v
-over_keep (Data.Accepting port) ending v = same v
-over_keep (Data.Over before) ending v = same v
+over_keep connection ending v = same v
 
 goes_keep : (count : ℕ) (job : Job) (v : View) → Keeps v (goes_by count job v)
 goes_keep count (Transferring op transfer) v = carries_on_keep v (record v { job = Transferring op (record transfer { flow = went count transfer.flow }) }) (record { apart = λ a. a; sound = λ s. (s, refl) })
-goes_keep count Idle v = same v
-goes_keep count (Waiting op) v = same v
-goes_keep count (Doing op step) v = same v
-goes_keep count (Told answer) v = same v
+goes_keep count job v = same v
 
 octet_keep : (job : Job) (octet : ℕ) (old v : View) → Keeps old v → Keeps old (heard_by job octet v)
 octet_keep (Transferring op transfer) octet old v k =
     let heard : Transfer = record transfer { flow = heard_flow transfer.abort transfer.flow octet } in
     aborts_once_keep (Transferring op heard) old (record v { job = Transferring op heard }) (record { apart = k.apart; sound = k.sound })
-octet_keep Idle octet old v k = k
-octet_keep (Waiting op) octet old v k = k
-octet_keep (Doing op step) octet old v k = k
-octet_keep (Told answer) octet old v k = k
+octet_keep job octet old v k = k
 
 -- ---- the calls
 
@@ -493,17 +374,11 @@ control_end_keep v = fails_keep v.standing Failures.Lost v v (same v)
 
 started_keep : (standing : Standing) (op : Op (List ℕ)) (old v : View) → Keeps old v → Keeps old (started_by standing op v)
 started_keep Stands.Entered op old v k = begins_keep op old v k
-started_keep (Stands.Failed failure) op old v k = record { apart = k.apart; sound = k.sound }
-started_keep Stands.Greeting op old v k = record { apart = k.apart; sound = k.sound }
-started_keep Stands.User op old v k = record { apart = k.apart; sound = k.sound }
-started_keep Stands.Pass op old v k = record { apart = k.apart; sound = k.sound }
+started_keep standing op old v k = record { apart = k.apart; sound = k.sound }
 
 unsendable_keep : (standing : Standing) (v : View) → Keeps v (unsendable_by standing v)
 unsendable_keep (Stands.Failed failure) v = record { apart = λ a. a; sound = λ s. (s, refl) }
-unsendable_keep Stands.Entered v = record { apart = λ a. a; sound = λ s. (s, refl) }
-unsendable_keep Stands.Greeting v = record { apart = λ a. a; sound = λ s. (s, refl) }
-unsendable_keep Stands.User v = record { apart = λ a. a; sound = λ s. (s, refl) }
-unsendable_keep Stands.Pass v = record { apart = λ a. a; sound = λ s. (s, refl) }
+unsendable_keep standing v = record { apart = λ a. a; sound = λ s. (s, refl) }
 
 begun_keep : (run : Option Run) (op : Op (List ℕ)) (v : View) → Keeps v (begun run op v)
 begun_keep run op v =
@@ -520,10 +395,7 @@ uploads_keep u v = begun_keep (Some (run_of u)) (first_try u) v
 
 reported_keep : (job : Job) (v : View) → Keeps v (reported_by job v)
 reported_keep (Told answer) v = record { apart = λ a. a; sound = λ s. (s, refl) }
-reported_keep Idle v = same v
-reported_keep (Waiting op) v = same v
-reported_keep (Doing op step) v = same v
-reported_keep (Transferring op transfer) v = same v
+reported_keep job v = same v
 
 pub reports_keep : (v : View) → Keeps v (reports v)
 reports_keep v = reported_keep v.job v

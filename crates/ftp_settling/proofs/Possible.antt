@@ -20,25 +20,20 @@ has_some (octet ∷ octets) some = refl
 -- what is due moves
 pub moves_can : (has lt z hasq may : Bool) → has ≡ true → z ≡ true → ((has && (z || lt)) || (not z && hasq && may)) ≡ true
 moves_can true lt true hasq may is none = refl
-moves_can true lt false hasq may is none = absurd (cc)
-moves_can false lt z hasq may is none = absurd (cc)
+moves_can has lt z hasq may is none = absurd (cc)
 
 -- what is on its way is taken
 pub takes_can : (has lt hasq may : Bool) → hasq ≡ true → may ≡ true → ((has && (false || lt)) || (not false && hasq && may)) ≡ true
 takes_can true true hasq may is also = refl
 takes_can true false true true is also = refl
 takes_can false lt true true is also = refl
-takes_can true false false may is also = absurd (cc)
-takes_can true false true false is also = absurd (cc)
-takes_can false lt false may is also = absurd (cc)
-takes_can false lt true false is also = absurd (cc)
+takes_can has lt hasq may is also = absurd (cc)
 
 -- where nothing moves, what is on its way is taken
 pub taken_can : (has lt z hasq may : Bool) → z ≡ false → (has && lt) ≡ false → ((has && (z || lt)) || (not z && hasq && may)) ≡ true → (hasq ≡ true) × (may ≡ true)
-taken_can has lt true hasq may is nothing can = absurd (cc)
-taken_can true true false hasq may is nothing can = absurd (cc)
 taken_can true false false hasq may is nothing can = and_parts hasq may can
 taken_can false lt false hasq may is nothing can = and_parts hasq may can
+taken_can has lt z hasq may is nothing can = absurd (cc)
 
 -- where nothing is due and nothing may be taken, none is possible
 pub still : (has lt z hasq may : Bool) → has ≡ false → (hasq && may) ≡ false → ((has && (z || lt)) || (not z && hasq && may)) ≡ false
@@ -56,37 +51,20 @@ and_none true c is = absurd (cc)
 -- what is due is as it was
 pub lent_due : (queue : Queue) (w : World) → due queue (lends_none w) ≡ due queue w
 lent_due ControlToServer w = refl
-lent_due ControlToClient w = refl
-lent_due DataToServer w = refl
-lent_due DataToClient w = refl
+lent_due queue w = refl
 
 -- what is on its way is as it was
 pub lent_queue : (queue : Queue) (w : World) → in_queue queue (lends_none w) ≡ in_queue queue w
 lent_queue ControlToServer w = refl
-lent_queue ControlToClient w = refl
-lent_queue DataToServer w = refl
-lent_queue DataToClient w = refl
+lent_queue queue w = refl
 
 -- what may be taken is as it was
 pub lent_may : (queue : Queue) (w : World) → may_take queue (lends_none w) ≡ may_take queue w
 lent_may ControlToServer w = refl
-lent_may ControlToClient w = refl
-lent_may DataToServer w = refl
-lent_may DataToClient w = refl
+lent_may queue w = refl
 
 -- what is possible is as it was
 pub lent_can : (event : Event) (w : World) → can_happen event w ≡ true → can_happen event (lends_none w) ≡ true
 lent_can (Deliver ControlToServer count) w can = can
-lent_can (Deliver ControlToClient count) w can = can
-lent_can (Deliver DataToServer count) w can = can
-lent_can (Deliver DataToClient count) w can = can
-lent_can Open w can = can
-lent_can Refuse w can = can
 lent_can (End ControlToServer) w can = can
-lent_can (End ControlToClient) w can = can
-lent_can (End DataToServer) w can = can
-lent_can (End DataToClient) w can = can
-lent_can Break w can = can
-lent_can EndControl w can = can
-lent_can (Next op moment) w can = can
-lent_can (Upload upload moment) w can = can
+lent_can other w can = can

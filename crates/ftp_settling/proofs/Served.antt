@@ -43,17 +43,16 @@ near_paid w is a =
 
 near_closed : (w : World) (link : Link) → w.link ≡ link → w.near.closing ≡ true → NearIsApart w.near
     → Most (link_closed_by_near link (record w { near = near.data_closed w.near })) w
-near_closed w Gone link is a = near_most w (near.data_closed w.near) (near_paid w is a)
 near_closed w Opened link is a =
     let one : one_if w.near.closing ≡ 1 = ap one_if is in
     let none : length (near.to_give (near.data_closed w.near)) ≡ 0 = ap length (nears.nothing_to_give (near.data_closed w.near) (a is)) in
     let to_server : ends_to_server w.link ≡ 0 = ap ends_to_server link in
     let to_client : ends_to_client w.link ≡ 0 = ap ends_to_client link in
     inr (refl, inr (omega (arith, one, to_server), inr (refl, inr (omega (arith, to_client), omega (arith, none)))))
-near_closed w ClosedByNear link is a = near_most w (near.data_closed w.near) (near_paid w is a)
 near_closed w ClosedByFar link is a =
     let one : one_if w.near.closing ≡ 1 = ap one_if is in
     inr (refl, inl (omega (arith, one)))
+near_closed w other link is a = near_most w (near.data_closed w.near) (near_paid w is a)
 
 near_closes_most : (w : World) → w.near.closing ≡ true → NearIsApart w.near → Most (near_closes w) w
 near_closes_most w is a = near_closed w w.link refl is a
@@ -65,7 +64,6 @@ far_low w f (inl less) = record { begins = omega (arith, less); gives = inl less
 far_low w f (inr pays) = record { begins = omega (arith, pays.0); gives = inr (omega (arith, pays.1), pays.2) }
 
 far_closed : (w : World) (f : Far) (link : Link) → w.link ≡ link → FarPays w.far f → Most (link_closed_by_far link (record w { far = f })) w
-far_closed w f Gone link pays = far_most w f (far_low w f pays)
 far_closed w f Opened link (inl less) =
     let to_server : ends_to_server w.link ≡ 0 = ap ends_to_server link in
     inr (refl, inr (omega (arith, to_server), inl less))
@@ -76,7 +74,7 @@ far_closed w f Opened link (inr pays) =
 far_closed w f ClosedByNear link pays =
     let to_server : ends_to_server w.link ≡ 1 = ap ends_to_server link in
     inr (refl, inl (omega (arith, to_server)))
-far_closed w f ClosedByFar link pays = far_most w f (far_low w f pays)
+far_closed w f other link pays = far_most w f (far_low w f pays)
 
 far_closes_most : (w : World) → w.far.session.closing ≡ true → FarIsApart w.far → Most (far_closes w) w
 far_closes_most w is a = far_closed w (far.data_closed w.far) w.link refl (far_pays w.far is a)
@@ -87,17 +85,15 @@ near_leaves : (w : World) (control : Control) → w.control ≡ control → Most
 near_leaves w Stands is =
     let one : control_ends w.control ≡ 1 = ap control_ends is in
     inr (refl, inr (omega (arith, one), inr (refl, inr (omega (arith, one), omega arith))))
-near_leaves w LeftByNear is = most_same (left_in w)
 near_leaves w LeftByFar is = let one : control_ends w.control ≡ 1 = ap control_ends is in inr (refl, inl (omega (arith, one)))
-near_leaves w Parted is = most_same (left_in w)
+near_leaves w control is = most_same (left_in w)
 
 far_leaves : (w : World) (control : Control) → w.control ≡ control → Most (left_by_far control w) w
 far_leaves w Stands is =
     let one : control_ends w.control ≡ 1 = ap control_ends is in
     inr (refl, inr (omega (arith, one), inr (refl, inr (omega (arith, one), omega arith))))
-far_leaves w LeftByFar is = most_same (left_in w)
 far_leaves w LeftByNear is = let one : control_ends w.control ≡ 1 = ap control_ends is in inr (refl, inl (omega (arith, one)))
-far_leaves w Parted is = most_same (left_in w)
+far_leaves w control is = most_same (left_in w)
 
 -- ---- one thing that an end wants
 
@@ -112,27 +108,19 @@ same_served w a = record { most = most_same (left_in w); apart = a }
 -- a close, and what the ends then are
 pub near_closed_ends : (link : Link) (w : World) → ((link_closed_by_near link w).near ≡ w.near) × ((link_closed_by_near link w).far ≡ w.far)
 near_closed_ends Gone w = (refl, refl)
-near_closed_ends Opened w = (refl, refl)
-near_closed_ends ClosedByNear w = (refl, refl)
-near_closed_ends ClosedByFar w = (refl, refl)
+near_closed_ends link w = (refl, refl)
 
 pub far_closed_ends : (link : Link) (w : World) → ((link_closed_by_far link w).near ≡ w.near) × ((link_closed_by_far link w).far ≡ w.far)
 far_closed_ends Gone w = (refl, refl)
-far_closed_ends Opened w = (refl, refl)
-far_closed_ends ClosedByNear w = (refl, refl)
-far_closed_ends ClosedByFar w = (refl, refl)
+far_closed_ends link w = (refl, refl)
 
 pub near_left_ends : (control : Control) (w : World) → ((left_by_near control w).near ≡ w.near) × ((left_by_near control w).far ≡ w.far)
 near_left_ends Stands w = (refl, refl)
-near_left_ends LeftByNear w = (refl, refl)
-near_left_ends LeftByFar w = (refl, refl)
-near_left_ends Parted w = (refl, refl)
+near_left_ends control w = (refl, refl)
 
 pub far_left_ends : (control : Control) (w : World) → ((left_by_far control w).near ≡ w.near) × ((left_by_far control w).far ≡ w.far)
 far_left_ends Stands w = (refl, refl)
-far_left_ends LeftByNear w = (refl, refl)
-far_left_ends LeftByFar w = (refl, refl)
-far_left_ends Parted w = (refl, refl)
+far_left_ends control w = (refl, refl)
 
 pub apart_as : (w new : World) → (new.near ≡ w.near) × (new.far ≡ w.far) → AreApart w → AreApart new
 apart_as w new is a = record { near = subst NearIsApart (sym is.0) a.near; far = subst FarIsApart (sym is.1) a.far }
@@ -179,12 +167,8 @@ data_rests (Some transfer) w =
 
 link_served : (connection : NearData) (w : World) → w.near.closing ≡ false → is_sound w.near.standing ≡ true → IsNearServed w (near_served_by (link_wants connection w.near) w)
 link_served NearDatas.ListenWanted w apart sound = listens apart refl
-link_served (NearDatas.Connecting endpoint) w apart sound = rests sound refl
-link_served (NearDatas.Accepting port) w apart sound = rests sound refl
 link_served NearDatas.Open w apart sound = rests sound (data_rests (transfer_under_way w.near) w)
-link_served NearDatas.Free w apart sound = rests sound refl
-link_served (NearDatas.Listening port) w apart sound = rests sound refl
-link_served (NearDatas.Over ending) w apart sound = rests sound refl
+link_served connection w apart sound = rests sound refl
 
 near_served_if : (closing sound : Bool) (w : World) → w.near.closing ≡ closing → is_sound w.near.standing ≡ sound
     → IsNearServed w (near_served_by (if closing then Want.CloseData else (if sound then link_wants w.near.connection w.near else Want.CloseAll)) w)
@@ -233,17 +217,10 @@ pub data IsFarServed (w new : World) : Type 0 where
   far_rests : is_done w.far.session.life w.far.owed ≡ false → new ≡ w → IsFarServed w new
 
 wants_served : (connection : FarData FarTransfer) (w : World) → w.far.session.closing ≡ false → is_done w.far.session.life w.far.owed ≡ false → IsFarServed w (far_served_by (wants_of connection) w)
-wants_served FarDatas.Free w is undone = far_rests undone refl
 wants_served (FarDatas.Asked asked) w is undone = far_hears is refl
-wants_served (FarDatas.Active endpoint) w is undone = far_rests undone refl
-wants_served FarDatas.Passive w is undone = far_rests undone refl
-wants_served FarDatas.Ready w is undone = far_rests undone refl
-wants_served (FarDatas.Opening transfer (Ways.Connect endpoint)) w is undone = far_rests undone refl
 wants_served (FarDatas.Opening transfer Ways.Accept) w is undone = far_rests undone refl
-wants_served (FarDatas.Transferring (Transfers.Upload path keep d)) w is undone = far_rests undone refl
 wants_served (FarDatas.Transferring Transfers.OverLimit) w is undone = far_rests undone refl
-wants_served (FarDatas.Transferring (Transfers.Download rest)) w is undone = far_rests undone refl
-wants_served (FarDatas.Transferring (Transfers.Listing rest)) w is undone = far_rests undone refl
+wants_served connection w is undone = far_rests undone refl
 
 far_served_if : (closing done : Bool) (w : World) → w.far.session.closing ≡ closing → is_done w.far.session.life w.far.owed ≡ done
     → IsFarServed w (far_served_by (if closing then Want.CloseData else (if done then Want.CloseAll else wants_of w.far.session.connection)) w)
@@ -256,13 +233,7 @@ far_served_is w = far_served_if w.far.session.closing (is_done w.far.session.lif
 
 turn_closing : (connection : FarData FarTransfer) (footing : Footing) (port : ℕ) (s : Session) → (listening_turn connection footing port s).0.closing ≡ s.closing
 turn_closing (FarDatas.Asked Asking.Pasv) footing port s = refl
-turn_closing (FarDatas.Asked Asking.Epsv) footing port s = refl
-turn_closing FarDatas.Free footing port s = refl
-turn_closing (FarDatas.Active endpoint) footing port s = refl
-turn_closing FarDatas.Passive footing port s = refl
-turn_closing (FarDatas.Opening transfer way) footing port s = refl
-turn_closing FarDatas.Ready footing port s = refl
-turn_closing (FarDatas.Transferring transfer) footing port s = refl
+turn_closing connection footing port s = refl
 
 far_listens_apart : (port : ℕ) (v : Far) → v.session.closing ≡ false → FarIsApart (far.listening port v)
 unfolding far.listening
@@ -302,10 +273,7 @@ far_thrice_served w a =
 
 reports_apart : (job : Job) (v : Near) → NearIsApart v → NearIsApart (reported_by job v)
 reports_apart (Told answer) v a = a
-reports_apart Idle v a = a
-reports_apart (Waiting op) v a = a
-reports_apart (Doing op step) v a = a
-reports_apart (Transferring op transfer) v a = a
+reports_apart job v a = a
 
 collected_served : (answer : Option Said) (w : World) → AreApart w → IsServed w (collected_by answer w)
 collected_served None w a = same_served w a

@@ -67,15 +67,11 @@ by_far w f g = record { near = λ s. (s, refl); far = g; queue = refl; control =
 
 near_closed_queue : (link : Link) (w : World) → (link_closed_by_near link w).control_to_client ≡ w.control_to_client
 near_closed_queue Gone w = refl
-near_closed_queue Opened w = refl
-near_closed_queue ClosedByNear w = refl
-near_closed_queue ClosedByFar w = refl
+near_closed_queue link w = refl
 
 far_closed_queue : (link : Link) (w : World) → (link_closed_by_far link w).control_to_client ≡ w.control_to_client
 far_closed_queue Gone w = refl
-far_closed_queue Opened w = refl
-far_closed_queue ClosedByNear w = refl
-far_closed_queue ClosedByFar w = refl
+far_closed_queue link w = refl
 
 -- another world of the same ends
 carries_as : (w u new : World) → Carries w u → new.near ≡ u.near → new.far ≡ u.far → new.control_to_client ≡ u.control_to_client → new.control ≡ u.control → Carries w new
@@ -119,8 +115,6 @@ off_now b holds fails = absurd (cc)
 
 goes_steady : (control : Control) (w : World) → w.control ≡ control → IsSteady w → IsSteady (left_by_far control w)
 goes_steady Stands w is s = record { apart = record { near = s.apart.near; far = s.apart.far }; asks = s.asks; on = λ sound. refl }
-goes_steady LeftByFar w is s = s
-goes_steady Parted w is s = s
 goes_steady LeftByNear w is s =
     let off : is_left w.control ≡ true = ap is_left is in
     record {
@@ -128,6 +122,7 @@ goes_steady LeftByNear w is s =
       asks = λ sound. off_now (is_left w.control) off (s.on sound);
       on = λ sound. off_now (is_left w.control) off (s.on sound);
     }
+goes_steady control w is s = s
 
 far_cases : (w new : World) → IsSteady w → AreApart new → IsFarServed w new → IsSteady new
 far_cases w new s a (far_shuts is e) = steady_by w new (subst (Carries w) (sym e) (far_closes_carries w)) a s

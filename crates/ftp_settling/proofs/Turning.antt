@@ -117,8 +117,7 @@ is_turn read (Push queue) count w may =
     let few = at_most count (length (in_queue queue u)) (and_parts (nat_lt 0 count) (nat_le count (length (in_queue queue u))) both.0).1 in
     let same : length (in_queue queue u) ≡ length (in_queue queue w) = ap length (lent_queue queue w) in
     omega (arith, few, same)
-is_turn read Opening count w may = tt
-is_turn read (Ending queue) count w may = tt
+is_turn read turn count w may = tt
 
 -- one call with room moves octets that are due
 pull_happens : (read : Reading) (queue : Queue) (count : ℕ) (w : World) → may_turn read (Pull queue) count w ≡ true
@@ -166,8 +165,7 @@ pub turn_happens : (read : Reading) (turn : Turn) (count : ℕ) (w : World) → 
     → Happens read (event_of turn count) w true (turned read turn count w)
 turn_happens read (Pull queue) count w may = pull_happens read queue count w may
 turn_happens read (Push queue) count w may = push_happens read queue count w may
-turn_happens read Opening count w may = (may, refl)
-turn_happens read (Ending queue) count w may = (may, refl)
+turn_happens read turn count w may = (may, refl)
 
 -- ---- a turn that happens is of a kind
 
