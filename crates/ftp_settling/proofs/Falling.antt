@@ -23,6 +23,7 @@ use Rattle.ftp_settling.proofs.FarLow.{later_cases}
 use Rattle.ftp_client_machine.proofs.ClientBounds.{both, if_low, positive}
 use Rattle.ftp_client_machine.proofs.ClientBounds as bounds
 use Rattle.ftp_client_machine.proofs.ClientCalls.{receiving_lowers}
+use Rattle.ftp_client_machine.proofs.ClientGiving.{giving_pays}
 use Rattle.ftp_server_machine.specs.Calls.{connection_of, given_by, given_step, takes_given}
 use Rattle.ftp_server_machine.specs.Machine.{completed, given_out}
 use Rattle.ftp_server_machine.specs.View.{Transfer as FarTransfer}
@@ -31,7 +32,7 @@ use Rattle.ftp_server_machine.specs.declared.session.DataConnection.TheVariants 
 use Rattle.ftp_server_machine.specs.declared.session.Transfer.TheVariants as Transfers
 use Rattle.ftp_world.specs.Events.{Fills, Gives, MayTakeFrom}
 use Rattle.ftp_settling.proofs.NearApart as keeps
-use Rattle.ftp_settling.proofs.NearGives.{data_owes, data_pays}
+use Rattle.ftp_settling.proofs.NearGives.{data_owes}
 use Rattle.ftp_settling.proofs.Order.{falls_most, le_then, most_most, most_same, not_less}
 use Rattle.ftp_settling.proofs.Served.{Most, after_served}
 
@@ -71,7 +72,7 @@ replies_out count w some few = far_out count w (far.gives_control count w.far) s
 pub data_out : (count : ℕ) (w : World) → 0 < count → count ≤ length (near.to_give w.near) → Less (pulled DataToServer w count) w
 data_out count w some few =
     let queue = few_taken w.data_to_server (near.to_give w.near) count few in
-    let pays = data_pays count w.near few in
+    let pays = (giving_pays w.near).data_pays count few in
     le_then _ _ pays.begins (λ same. elim pays.gives [
       | inl less ↦ not_less _ _ same less
       | inr gives ↦ le_then _ _ (omega (arith, queue, gives)) (λ e. inr (

@@ -24,7 +24,7 @@ use Rattle.ftp_world.specs.Settling.{left_in, control_ends, ends_to_server, ends
 use Rattle.ftp_world.specs.World.{World, Control, Stands, LeftByNear, LeftByFar, Parted, Link, Gone, Opened, ClosedByNear, ClosedByFar, port_at}
 use Rattle.ftp_settling.specs.Laws.{AtMost, ServingIsLow}
 use Rattle.ftp_settling.specs.Steady.{AreApart, NearIsApart, FarIsApart}
-use Rattle.ftp_settling.proofs.Order.{FarLow, NearLow, far_most, le_then, most_most, most_same, near_most}
+use Rattle.ftp_settling.proofs.Order.{FarLow, NearLow, far_most, le_then, most_most, most_same, near_most, near_same}
 use Rattle.ftp_settling.proofs.FarApart.{later_apart}
 use Rattle.ftp_settling.proofs.FarLow.{FarPays, far_listening, far_pays}
 use Rattle.ftp_settling.proofs.NearLow as nears
@@ -182,10 +182,7 @@ near_served_is w = near_served_if w.near.closing (is_sound w.near.standing) w re
 
 listens_low : (v new : Near) → FallsOpen v new ⊎ (new ≡ v) → NearLow v new
 listens_low v new (inl falls) = record { begins = omega (arith, falls.less); gives = inl falls.less }
-listens_low v new (inr same) = subst (NearLow v) (sym same) (nears_same v)
-  where
-    nears_same : (v : Near) → NearLow v v
-    nears_same v = record { begins = omega arith; gives = inr (omega arith, omega arith) }
+listens_low v new (inr same) = subst (NearLow v) (sym same) (near_same v)
 
 listens_apart : (v new : Near) → v.closing ≡ false → NearIsApart v → FallsOpen v new ⊎ (new ≡ v) → NearIsApart new
 listens_apart v new is a (inl falls) = λ closing. let open_still : new.closing ≡ false = falls.closing ∙ is in absurd (cc)
