@@ -13,13 +13,16 @@ use Rattle.ftp_settling.proofs.Steady.{happens_steady}
 
 -- ---- five numbers cannot fall for ever
 
+-- what holds if it holds of all that is less holds below a number
 below : (P : ℕ → Type 0) → ((n : ℕ) → ((m : ℕ) → m < n → P m) → P n) → (n m : ℕ) → m < n → P m
 below P f zero m less = absurd (omega (arith, less))
 below P f (suc n) m less = f m (λ k under. below P f n k (omega (arith, less, under)))
 
+-- and so of every number
 strong : (P : ℕ → Type 0) → ((n : ℕ) → ((m : ℕ) → m < n → P m) → P n) → (n : ℕ) → P n
 strong P f n = below P f (suc n) n (omega arith)
 
+-- five numbers
 abbrev left : ℕ → ℕ → ℕ → ℕ → ℕ → Left
 left a b c d e = record { at_client = a; to_server = b; at_server = c; to_client = d; unqueued = e }
 
@@ -27,6 +30,7 @@ left a b c d e = record { at_client = a; to_server = b; at_server = c; to_client
 pub data Descends : Left → Type 0 where
   descends : {l : Left} → ((m : Left) → Falls m l → Descends m) → Descends l
 
+-- by the first number, for each by the second, and so on
 each_descends : (a b c d e : ℕ) → Descends (left a b c d e)
 each_descends = strong (λ a. (b c d e : ℕ) → Descends (left a b c d e)) (λ a fa.
     strong (λ b. (c d e : ℕ) → Descends (left a b c d e)) (λ b fb.

@@ -1,4 +1,4 @@
--- All together.
+-- Each delivery, opening and end lowers the first number that it changes: all of them together.
 use Rattle.std.proofs.Common.{◌≡◌, Bool, true, false, ◌==◌, ◌&&◌, refl, sym, subst}
 use Rattle.std.specs.Prelude.{not}
 use Rattle.ftp_server_machine.specs.Machine.{Reading}
@@ -14,18 +14,22 @@ use Rattle.ftp_settling.proofs.Leaving.{client_told, server_told}
 use Rattle.ftp_settling.proofs.NearApart as keeps
 use Rattle.ftp_settling.proofs.Possible.{lent_can}
 
+-- the client has left
 pub left_near : (control : Control) → is_left_by_near control ≡ true → control ≡ LeftByNear
 left_near LeftByNear is = refl
 left_near control is = absurd (cc)
 
+-- the server has
 pub left_far : (control : Control) → is_left_by_far control ≡ true → control ≡ LeftByFar
 left_far LeftByFar is = refl
 left_far control is = absurd (cc)
 
+-- the first of three tests
 closed_first : (closed a b : Bool) → (closed && a && b) ≡ true → closed ≡ true
 closed_first true a b is = refl
 closed_first false a b is = is
 
+-- an end is told where the sender has closed
 pub ended : (queue : Queue) (w : World) → can_happen (End queue) w ≡ true → is_closed queue w ≡ true
 ended queue w can = closed_first (is_closed queue w) (not (has_octets (in_queue queue w))) (not (has_octets (due queue w))) can
 
@@ -41,6 +45,7 @@ sound read (End DataToClient) w new a asks settles can does =
     served_behind w (told DataToClient w) new (end_to_client w.link w refl (ended DataToClient w can)) (record { near = (keeps.data_end_keep w.near).apart a.near; far = a.far }) does
 sound read event w new a asks settles can does = absurd settles
 
+-- so each of them falls
 pub events_fall : EventsFall
 events_fall read event w new a asks settles happens =
     sound read event (lends_none w) new (record { near = a.near; far = a.far }) asks settles (lent_can event w happens.0) happens.1

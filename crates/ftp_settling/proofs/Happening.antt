@@ -1,4 +1,4 @@
--- Each delivery, opening and end lowers the first number that it changes, where both ends are apart and nothing is asked of the client.
+-- Whole events: a delivery, an opening and an end of the link, each with what is served behind it, lower the first number that they change.
 use Rattle.std.proofs.Common.{◌≡◌, ℕ, ◌<◌, ◌≤◌, ◌⊎◌, inl, inr, List, [], ◌∷◌, length, take, Bool, true, false, ◌&&◌, ◌||◌, ◌==◌, refl, sym, ap, subst, arith}
 use Rattle.std.specs.Prelude.{if◌then◌else◌, min, nat_lt, not}
 use Rattle.std.proofs.lemmas.Bool.{and_parts, eqb-true}
@@ -37,16 +37,19 @@ use Rattle.ftp_settling.proofs.Order.{falls_most, falls_then, le_then, not_less}
 
 -- ---- a delivery
 
+-- a client that hears stays apart
 pub heard_keep : (octets : List ℕ) (v : Near) → NearIsApart v → NearIsApart (near.hears v octets)
 heard_keep [] v a = a
 heard_keep (octet ∷ octets) v a = heard_keep octets (near.hears_octet v octet) (keeps.hears_octet_keep v octet a)
 
+-- so do both ends where octets are taken
 pub push_apart : (read : Reading) (queue : Queue) (count : ℕ) (w : World) → AreApart w → AreApart (pushed read queue count w)
 push_apart read ControlToServer count w a = record { near = a.near; far = hears_apart read (take count w.control_to_server) w.far a.far }
 push_apart read ControlToClient count w a = record { near = heard_keep (take count w.control_to_client) w.near a.near; far = a.far }
 push_apart read DataToServer count w a = record { near = a.near; far = receives_apart (take count w.data_to_server) w.far a.far }
 push_apart read DataToClient count w a = record { near = (keeps.receives_keep (take count w.data_to_client) w.near w.near (keeps.same w.near)).apart a.near; far = a.far }
 
+-- taking octets lowers a number, or none was taken
 push_cases : (read : Reading) (queue : Queue) (count : ℕ) (w : World) → (queue ≡ ControlToClient → AsksNothing w) → MayTakeFrom read queue w count → count ≤ length (in_queue queue w)
     → Pushes count w (pushed read queue count w)
 push_cases read ControlToServer count w asks may few = control_in read count w few
@@ -59,13 +62,16 @@ lent_cases : (read : Reading) (queue : Queue) (count : ℕ) (octets : List ℕ) 
 lent_cases read ControlToServer count octets w pushes = pushes
 lent_cases read queue count octets w pushes = pushes
 
+-- a queue that is filled asks nothing of the client
 fill_asks_at : (queue : Queue) (w : World) (counts : List ℕ) → AsksNothing w → queue ≡ ControlToClient → AsksNothing (filled queue w counts)
 fill_asks_at ControlToClient w counts asks is = fill_asks w counts asks
 fill_asks_at queue w counts asks is = absurd (cc)
 
+-- what was taken was there
 pub in_few : (count taken long : ℕ) → taken ≤ min count long → taken ≤ long
 in_few count taken long within = omega (arith, within)
 
+-- a delivery lowers a number: by a call that gave, or by an octet that was taken
 delivered : (read : Reading) (queue : Queue) (count : ℕ) (w : World) (counts : List ℕ) (taken : ℕ) → (count == 0) ≡ false
     → Fills queue count w counts → Takes read queue count (filled queue w counts) taken → can_happen (Deliver queue count) w ≡ true → AsksNothing w
     → Less (pushed read queue taken (taking queue taken (filled queue w counts))) w
@@ -98,12 +104,15 @@ moved_some queue w gave gives can = gives.some (omega arith) (has_due (has_octet
     has_due true lt hasq may is = refl
     has_due false lt hasq may is = is
 
+-- what is lent leaves both ends apart
 pub lent_apart : (queue : Queue) (taken : ℕ) (w : World) → AreApart w → AreApart (taking queue taken w)
 lent_apart queue taken w a = record { near = a.near; far = a.far }
 
+-- a test of zero
 pub zero_is : (count : ℕ) → (count == 0) ≡ true → count ≡ 0
 zero_is count is = eqb-true count 0 is
 
+-- each delivery falls
 pub delivery_falls : (read : Reading) (queue : Queue) (count : ℕ) (none : Bool) (w new : World) → (count == 0) ≡ none → AreApart w → AsksNothing w → can_happen (Deliver queue count) w ≡ true
     → DeliversBy none read queue count w new → Less new w
 delivery_falls read queue count true w new is a asks can m =
@@ -116,6 +125,7 @@ delivery_falls read queue count false w new is a asks can d =
 
 -- ---- an opening
 
+-- a link that opens makes no more to do for the client
 near_opened_low : (host : Host) (v : Near) → AddsAtMost 0 v (near.data_opened host v)
 unfolding near.data_opened
 near_opened_low host v = if_low v.closing v v (near.opened_by v.connection host v) (bounds.same v) (opened_by_low v.connection host v refl)
@@ -124,6 +134,7 @@ near_opened_low host v = if_low v.closing v v (near.opened_by v.connection host 
 abbrev Links : Wants → Type 0
 Links wants = (is_accepting wants ≡ true) ⊎ (is_connecting wants ≡ true)
 
+-- a link is wanted of the server too
 wanted_links : (a b c d : Bool) → ((a && d) || (b && c)) ≡ true → (d ≡ true) ⊎ (c ≡ true)
 wanted_links a b c true is = inl refl
 wanted_links a b true false is = inr refl
@@ -132,6 +143,7 @@ wanted_links true false false false is = absurd (cc)
 wanted_links false true false false is = absurd (cc)
 wanted_links false false false false is = absurd (cc)
 
+-- so it wants no close
 link_or : (closing done : Bool) (wants : Wants) → Links (if closing then Want.CloseData else (if done then Want.CloseAll else wants)) → (closing ≡ false) × Links wants
 link_or true done wants (inl is) = absurd (cc)
 link_or true done wants (inr is) = absurd (cc)
@@ -139,10 +151,12 @@ link_or false true wants (inl is) = absurd (cc)
 link_or false true wants (inr is) = absurd (cc)
 link_or false false wants links = (refl, links)
 
+-- nothing of the kind is wanted
 no_link : {P : Type 0} → (false ≡ true) ⊎ (false ≡ true) → P
 no_link (inl is) = absurd (cc)
 no_link (inr is) = absurd (cc)
 
+-- the server goes on, and less is to begin
 opens_falls : (connection : DataConnection FarTransfer) (peer : Bool) (v : Far) → v.session.connection ≡ connection → Links (wants_of connection) → far_left.to_begin (opens connection peer v) < far_left.to_begin v
 opens_falls Data.Passive true v is links = let two : far_left.stages_left v.session.connection ≡ 2 = ap far_left.stages_left is in omega (arith, two)
 opens_falls Data.Passive false v is links = let two : far_left.stages_left v.session.connection ≡ 2 = ap far_left.stages_left is in omega (arith, two)
@@ -152,6 +166,7 @@ opens_falls (Data.Opening transfer (Ways.Connect endpoint)) peer v is links = le
 opens_falls (Data.Transferring Transfers.OverLimit) peer v is links = no_link links
 opens_falls connection peer v is links = no_link links
 
+-- the same, of what a call finds
 step_falls : (host : Host) (v : Far) → v.session.closing ≡ false → Links (wants_of v.session.connection) → far_left.to_begin (opened_step host v) < far_left.to_begin v
 step_falls host v is links =
     let peer : Bool = same_host host v.footing.peer in
@@ -161,6 +176,7 @@ step_falls host v is links =
     let low = completed_lowers 0 (opens (connection_of v.session) peer v) (opens (connection_of v.session) peer v) (fars.same (opens (connection_of v.session) peer v)) in
     omega (arith, less, low.begins)
 
+-- the same, as a call
 far_opened_falls : (host : Host) (v : Far) → v.session.closing ≡ false → Links (wants_of v.session.connection) → far_left.to_begin (far.data_opened host v) < far_left.to_begin v
 unfolding far.data_opened
 far_opened_falls host v is links =
@@ -170,6 +186,7 @@ far_opened_falls host v is links =
       | inr same ↦ subst (λ u. far_left.to_begin u < far_left.to_begin v) (sym same) less
     ]
 
+-- an opening falls
 pub opens_less : (w : World) → is_asked_for w ≡ true → Less (link_opens w) w
 opens_less w is =
     let wanted = (and_parts (is_gone w.link) (is_wanted (near.wants w.near) (far.wants w.far)) is).1 in
@@ -181,15 +198,18 @@ opens_less w is =
       | inr gives ↦ le_then _ _ (omega (arith, gives)) (λ f. inl (far_opened_falls w.near.here w.far found.0 found.1))
     ])
 
+-- and leaves both ends apart
 pub opens_apart : (w : World) → AreApart w → AreApart (link_opens w)
 opens_apart w a = record { near = (keeps.data_opened_keep w.far.footing.here w.near).apart a.near; far = data_opened_apart w.near.here w.far a.far }
 
 -- ---- the end of the data connection
 
+-- the server is told that the link is closed
 pub end_to_server : (link : Link) (w : World) → w.link ≡ link → is_closed_by_near link ≡ true → Less (told DataToServer w) w
 end_to_server ClosedByNear w is can = let one : ends_to_server w.link ≡ 1 = ap ends_to_server is in inr (refl, inl (omega (arith, one)))
 end_to_server link w is can = absurd (cc)
 
+-- the client is told
 pub end_to_client : (link : Link) (w : World) → w.link ≡ link → is_closed_by_far link ≡ true → Less (told DataToClient w) w
 end_to_client ClosedByFar w is can =
     let one : ends_to_client w.link ≡ 1 = ap ends_to_client is in

@@ -15,9 +15,11 @@ unfoldable pub greatest : ℕ → (ℕ → ℕ) → ℕ
 greatest zero f = f 0
 greatest (suc n) f = max (f (suc n)) (greatest n f)
 
+-- a number below the next is below, or is the last
 last_or_less : (k n : ℕ) → k ≤ suc n → (k ≤ n) ⊎ (k ≡ suc n)
 last_or_less k n few = grind (arith, few)
 
+-- one value more
 greater : (f : ℕ → ℕ) (n k : ℕ) → (k ≤ n → f k ≤ greatest n f) → (k ≤ n) ⊎ (k ≡ suc n) → f k ≤ max (f (suc n)) (greatest n f)
 greater f n k on (inl less) = omega (arith, on less)
 greater f n k on (inr is) = let same : f k ≡ f (suc n) = ap f is in omega (arith, same)
@@ -32,6 +34,7 @@ under_greatest (suc n) f k few = greater f n k (λ less. under_greatest n f k le
 abbrev over_queues : (Queue → ℕ) → ℕ
 over_queues f = f ControlToServer + f ControlToClient + f DataToServer + f DataToClient
 
+-- each queue's is no more
 under_queues : (f : Queue → ℕ) (queue : Queue) → f queue ≤ over_queues f
 under_queues f ControlToServer = omega arith
 under_queues f queue = omega arith
@@ -40,6 +43,7 @@ under_queues f queue = omega arith
 abbrev over_turns : (Turn → ℕ) → ℕ
 over_turns f = over_queues (λ queue. f (Pull queue)) + over_queues (λ queue. f (Push queue)) + f Opening + over_queues (λ queue. f (Ending queue))
 
+-- each kind's is no more
 under_turns : (f : Turn → ℕ) (turn : Turn) → f turn ≤ over_turns f
 under_turns f (Pull queue) = let one = under_queues (λ queue. f (Pull queue)) queue in omega (arith, one)
 under_turns f (Push queue) = let one = under_queues (λ queue. f (Push queue)) queue in omega (arith, one)
@@ -51,6 +55,7 @@ abbrev pub if_true : (test : Bool) → (test ≡ true → ℕ) → ℕ
 if_true true h = h refl
 if_true false h = 0
 
+-- where a test holds its number is that number, whatever way it is said to hold
 is_if : (test : Bool) (h : test ≡ true → ℕ) (is : test ≡ true) → ((p q : test ≡ true) → h p ≡ h q) → h is ≡ if_true test h
 is_if true h is same = same is refl
 is_if false h is same = absurd (cc (is))
@@ -64,9 +69,11 @@ height read w (ends f) =
     greatest (most turn w) (λ count.
     if_true (may_turn read turn count w) (λ may. height read (turned read turn count w) (f (event_of turn count) (turned read turn count w) (is_turn read turn count w may) (turn_happens read turn count w may))))))
 
+-- worlds that are one have one height
 same_height : (read : Reading) (v w : World) → v ≡ w → (a : Ends read v) (b : Ends read w) → height read v a ≡ height read w b
 same_height read v w e a b = subst (λ (u : World). (c : Ends read u) → height read v a ≡ height read u c) e (λ c. ap (height read v) (Ends-prop read v a c)) b
 
+-- three steps up, and one more
 below : (a b c d : ℕ) → a ≡ b → b ≤ c → c ≤ d → a < suc d
 below a b c d is few less = omega (arith, is, few, less)
 

@@ -23,6 +23,7 @@ pub record Stirs (read : Reading) (w : World) : Type 0 where
   pub nothing : begun_by event true ≡ []
   pub happens : Happens read event w true next
 
+-- a call may give all that is due, up to its room
 owes_all : (owed : List ℕ) → Gives 4096 owed (min 4096 (length owed))
 owes_all owed = record { within = omega arith; some = λ room is. (let some = some_octets owed is in omega (arith, some)) }
 
@@ -41,6 +42,7 @@ moves read queue w is =
       );
     }
 
+-- the first octet may be taken
 first_may : (read : Reading) (queue : Queue) (w : World) → may_take queue w ≡ true → MayTakeFrom read queue w 1
 first_may read ControlToServer w is zero less = is
 first_may read ControlToClient w is zero less = is
@@ -87,12 +89,14 @@ queue_rests read queue w = elim (decided (has_octets (due queue w))) [
     and_last true c is = is
     and_last false c is = refl
 
+-- an end can be told, or not
 end_rests : (read : Reading) (queue : Queue) (w : World) → Stirs read w ⊎ (can_happen (End queue) w ≡ false)
 end_rests read queue w = elim (decided (can_happen (End queue) w)) [
   | inl can ↦ inl (record { event = End queue; next = after_event (told queue (lends_none w)); turn = tt; nothing = refl; happens = (can, refl) })
   | inr none ↦ inr none
 ]
 
+-- a link can be opened, or not
 open_rests : (read : Reading) (w : World) → Stirs read w ⊎ (can_happen Open w ≡ false)
 open_rests read w = elim (decided (can_happen Open w)) [
   | inl can ↦ inl (record { event = Open; next = after_event (link_opens (lends_none w)); turn = tt; nothing = refl; happens = (can, refl) })
@@ -116,6 +120,7 @@ each_queue P Q f = by_four (f ControlToServer) (f ControlToClient) (f DataToServ
     by_four (inr a) (inr b) (inr c) (inl q) = inl q
     by_four (inr a) (inr b) (inr c) (inr d) = inr (by_all a b c d)
 
+-- a world is quiet, or has a turn
 rests_or_stirs : (read : Reading) (w : World) → Stirs read w ⊎ IsQuiet w
 rests_or_stirs read w =
     by_three (each_queue (λ queue. (count : ℕ) → can_happen (Deliver queue count) w ≡ false) (Stirs read w) (λ queue. queue_rests read queue w)) (open_rests read w)

@@ -52,28 +52,36 @@ may_turn read (Ending queue) count w = can_happen (End queue) w
 
 -- ---- tests of numbers
 
+-- a test of two numbers says how they stand
 at_most : (n m : ℕ) → nat_le n m ≡ true → n ≤ m
 at_most n m is = grind (arith, nat_tests)
 
+-- and they pass it
 is_at_most : (n m : ℕ) → n ≤ m → nat_le n m ≡ true
 is_at_most n m le = grind (arith, nat_tests)
 
+-- the same where one is less
 less : (n m : ℕ) → nat_lt n m ≡ true → n < m
 less n m is = grind (arith, nat_tests)
 
+-- and they pass it
 is_less : (n m : ℕ) → n < m → nat_lt n m ≡ true
 is_less n m lt = grind (arith, nat_tests)
 
+-- where it is not less
 no_less : (n m : ℕ) → m ≤ n → nat_lt n m ≡ false
 no_less n m le = grind (arith, nat_tests)
 
+-- a count that is some
 not_none : (n : ℕ) → 0 < n → (n == 0) ≡ false
 not_none n some = grind (arith, nat_tests)
 
+-- both tests
 both_are : (a b : Bool) → a ≡ true → b ≡ true → (a && b) ≡ true
 both_are true b is also = also
 both_are false b is also = absurd (cc)
 
+-- a test whose last part fails
 and_off : (b c : Bool) → c ≡ false → (b && c) ≡ false
 and_off true c is = is
 and_off false c is = refl

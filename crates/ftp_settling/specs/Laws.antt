@@ -15,13 +15,14 @@ use Rattle.ftp_settling.specs.Turns.{IsTurn, Ends}
 abbrev pub Then : (new old : ℕ) → Type 0 → Type 0
 Then new old Rest = (new < old) ⊎ ((new ≡ old) × Rest)
 
+-- the first of four numbers that differs is less, or none differs and something holds of the fifth
+abbrev pub InOrder : (new old : Left) → Type 0 → Type 0
+InOrder new old Last =
+    Then new.at_client old.at_client (Then new.to_server old.to_server (Then new.at_server old.at_server (Then new.to_client old.to_client Last)))
+
 -- the first number that differs is less, or none differs but the last, which is not more
 abbrev pub AtMost : (new old : Left) → Type 0
-AtMost new old =
-    Then new.at_client old.at_client
-    (Then new.to_server old.to_server
-    (Then new.at_server old.at_server
-    (Then new.to_client old.to_client (new.unqueued ≤ old.unqueued))))
+AtMost new old = InOrder new old (new.unqueued ≤ old.unqueued)
 
 -- ---- the laws
 
