@@ -40,7 +40,7 @@ use Rattle.ftp_client_machine.specs.declared.client.Abort.TheVariants as Aborts
 use Rattle.ftp_client_machine.specs.declared.client.Ending.TheVariants as Endings
 use Rattle.ftp_server_machine.specs.Transfer.{misplaced}
 use Rattle.ftp_world.specs.Outcome.{Whole, Cut, Unopened, CanBeCut, HasLink, IsTaken, did, mark_in}
-use Rattle.ftp_world.specs.World.{Mark, Broken, Refused as RefusedLink}
+use Rattle.ftp_world.specs.World.{Mark, Broken, Refused as RefusedLink, counted}
 use Rattle.ftp_dialogues.specs.Dialogue.{IsSound}
 use Rattle.ftp_dialogues.specs.Fetches.{fetch, place_in_file, why_not, fetched_wire}
 use Rattle.ftp_dialogues.proofs.Rows.{answer_known}
@@ -241,11 +241,11 @@ module _ (state : State) (offset : Option ℕ) (text : List ℕ) (how : How) whe
   among_one own mark is = subst (λ l. Contains l mark) (sym is) (0, omega arith, refl)
 
   pub cut_fares : (own : List Mark) (came : List ℕ) → can_be_sent op ≡ true → state.known ≡ true → refusal state op ≡ None → why_not state offset text how ≡ None
-      → IsFront came (fetched_wire state offset text how) → own ≡ Broken (length came) ∷ [] → Fared state offset text how own (cut_said came)
+      → IsFront came (fetched_wire state offset text how) → own ≡ Broken (counted (length came)) ∷ [] → Fared state offset text how own (cut_said came)
   cut_fares own came can known none taken front marked = record {
     outcome = Cut came;
     can_be = can_be_cut came can known none taken front;
-    allowed = λ index. (tt, among_one own (Broken (length came)) marked);
+    allowed = λ index. (tt, among_one own (Broken (counted (length came))) marked);
     did_so = λ moment. by_offset offset moment;
   }
     where

@@ -25,7 +25,7 @@ use Rattle.ftp_server_machine.specs.declared.session.Transfer.TheVariants as Tra
 use Rattle.ftp_server_machine.proofs.RepliesWritten.{replies_are_written}
 use Rattle.ftp_world.specs.Events.{DataToClient, pulled, pushed}
 use Rattle.ftp_world.specs.Outcome.{mark_in}
-use Rattle.ftp_world.specs.World.{World, Mark}
+use Rattle.ftp_world.specs.World.{World, Mark, counted}
 use Rattle.ftp_dialogues.specs.Fetches.{fetch, fetching, busy, linked}
 use Rattle.ftp_dialogues.specs.Stage.{still, Way, Asking, Answering}
 use Rattle.ftp_agreement.specs.Cut.{Cut, Fits, world_at, PlacedAt}
@@ -229,8 +229,8 @@ module _ (read : Reading) (state : State) (offset : Option ℕ) (text : List ℕ
   abbrev Pushes : ℕ → List Reply → World → Cut → Type 0
   Pushes n rows b c = PlacedAt AtFlow (pushed read DataToClient n (world_at b (Answering rows) c))
 
-  counted : (n count : ℕ) (came queue : List ℕ) → n ≤ length queue → count ≡ length came → count + n ≡ length (came ++ take n queue)
-  counted n count came queue few is =
+  counts_on : (n count : ℕ) (came queue : List ℕ) → n ≤ length queue → count ≡ counted (length came) → counted (count + n) ≡ counted (length (came ++ take n queue))
+  counts_on n count came queue few is =
       let long : length (came ++ take n queue) ≡ length came + length (take n queue) = length-append came (take n queue) in
       let taken : length (take n queue) ≡ min n (length queue) = length-take n queue in
       omega (arith, few, is, long, taken)
@@ -239,10 +239,10 @@ module _ (read : Reading) (state : State) (offset : Option ℕ) (text : List ℕ
   comes : (n : ℕ) (course : Course) (heard : Heard) (came queue : List ℕ) (b : World) (c : Cut) → flows course ≡ true → Fits (Answering (replies_in course)) c
       → b.near ≡ receiving offset text how how.representation b.near heard came → b.data_to_client ≡ queue
       → Stands (carry course (came ++ take n queue) (drop n queue)) (Answering (replies_in course))
-      (record b { near = receiving offset text how how.representation b.near heard (came ++ take n queue); data_to_client = drop n queue; came = b.came + n })
+      (record b { near = receiving offset text how how.representation b.near heard (came ++ take n queue); data_to_client = drop n queue; came = counted (b.came + n) })
       → Pushes n (replies_in course) b c
   comes n course heard came queue b c flowing fits near_is queue_is holds =
-      let to : World = record b { near = receiving offset text how how.representation b.near heard (came ++ take n queue); data_to_client = drop n queue; came = b.came + n } in
+      let to : World = record b { near = receiving offset text how how.representation b.near heard (came ++ take n queue); data_to_client = drop n queue; came = counted (b.came + n) } in
       let near : near.receives (world_at b (Answering (replies_in course)) c).near (take n b.data_to_client) ≡ (world_at to (Answering (replies_in course)) c).near =
       ap (λ l. near.receives (world_at b (Answering (replies_in course)) c).near (take n l)) queue_is
       ∙ near_acts (λ v. near.receives v (take n queue)) b to (Answering (replies_in course)) c fits
@@ -267,7 +267,7 @@ module _ (read : Reading) (state : State) (offset : Option ℕ) (text : List ℕ
         link = h.link;
         to_server = h.to_server;
         to_client = refl;
-        came = counted n b.came came queue few h.came;
+        came = counts_on n b.came came queue few h.came;
         marked = h.marked;
         way_is = refl;
         fine = (h.fine.0, comes_on n came queue (octet ∷ more) _ h.fine.1);
@@ -283,7 +283,7 @@ module _ (read : Reading) (state : State) (offset : Option ℕ) (text : List ℕ
         link = h.link;
         to_server = h.to_server;
         to_client = refl;
-        came = counted n b.came came queue few h.came;
+        came = counts_on n b.came came queue few h.came;
         marked = h.marked;
         way_is = refl;
         fine = (h.fine.0, comes_all n came queue _ h.fine.1);
@@ -296,7 +296,7 @@ module _ (read : Reading) (state : State) (offset : Option ℕ) (text : List ℕ
         link = h.link;
         to_server = h.to_server;
         to_client = refl;
-        came = counted n b.came came queue few h.came;
+        came = counts_on n b.came came queue few h.came;
         marked = h.marked;
         way_is = refl;
         fine = (h.fine.0, comes_all n came queue _ h.fine.1);

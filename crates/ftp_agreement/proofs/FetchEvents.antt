@@ -29,7 +29,7 @@ use Rattle.ftp_server_machine.specs.declared.session.Pending.TheVariants as Pend
 use Rattle.ftp_server_machine.proofs.RepliesWritten.{replies_are_written}
 use Rattle.ftp_world.specs.Events.{DataToClient, is_gone, is_closed_by_far, link_breaks, link_opens, link_refused, refused_by, broken_by, told}
 use Rattle.ftp_world.specs.Outcome.{mark_in}
-use Rattle.ftp_world.specs.World.{World, Link, Gone, Opened, ClosedByFar, Mark, Broken, Refused, marked_last, with_mark, gone}
+use Rattle.ftp_world.specs.World.{World, Link, Gone, Opened, ClosedByFar, Mark, Broken, Refused, marked_last, with_mark, gone, counted}
 use Rattle.ftp_dialogues.specs.Dialogue.{IsSound}
 use Rattle.ftp_dialogues.specs.Fetches.{fetch, fetching, leaving, linked, opened_job, opened_command, offset_pending, busy}
 use Rattle.ftp_dialogues.specs.Stage.{calm, still, Way, Asking, Answering, rest}
@@ -122,8 +122,8 @@ module _ (read : Reading) (state : State) (offset : Option ℕ) (text : List ℕ
   marked_so : (mark : Mark) → own ≡ [] → own ++ mark ∷ [] ≡ mark ∷ []
   marked_so mark is = ap (λ l. l ++ mark ∷ []) is
 
-  broken_so : (b : World) (came : List ℕ) → own ≡ [] → b.came ≡ length came → own ++ Broken b.came ∷ [] ≡ Broken (length came) ∷ []
-  broken_so b came is counted = marked_so (Broken b.came) is ∙ ap (λ n. Broken n ∷ []) counted
+  broken_so : (b : World) (came : List ℕ) → own ≡ [] → b.came ≡ counted (length came) → own ++ Broken b.came ∷ [] ≡ Broken (counted (length came)) ∷ []
+  broken_so b came is count = marked_so (Broken b.came) is ∙ ap (λ n. Broken n ∷ []) count
 
   abbrev Breaks : Way → World → Cut → Type 0
   Breaks way b c = PlacedAt (At (own ++ Broken b.came ∷ [])) (link_breaks (world_at b way c))
@@ -229,7 +229,7 @@ module _ (read : Reading) (state : State) (offset : Option ℕ) (text : List ℕ
   given_all_broken : (came queue : List ℕ) (way : Way) (b : World) (c : Cut) → Fits way c → Stands own (carry (Given BothReplies true) came queue) way b → Breaks way b c
   given_all_broken came queue way b c fits h =
       let n : Near = near_at (Answers (cut_said state offset text how came) NoLink) b.near in
-      let marked : own ++ Broken b.came ∷ [] ≡ Broken (length came) ∷ [] = broken_so b came h.marked h.came in
+      let marked : own ++ Broken b.came ∷ [] ≡ Broken (counted (length came)) ∷ [] = broken_so b came h.marked h.came in
       placed (own ++ Broken b.came ∷ []) _ (behind_break n b.far b) way c (Answers (cut_said state offset text how came) NoLink)
       (left_breaks b way c n fits h.link (subst (λ v. Leads near.data_fault v n) (sym h.near)
       (near_breaks_all offset text how how.representation came b.near (cut_said state offset text how came) (judged_cut state offset text how 226 came (inl refl))))) fits

@@ -27,7 +27,7 @@ use Rattle.ftp_server_machine.specs.declared.session.Pending.TheVariants as Pend
 use Rattle.ftp_server_machine.proofs.RepliesWritten.{replies_are_written}
 use Rattle.ftp_world.specs.Events.{is_asked_for, is_closed_by_near, is_gone}
 use Rattle.ftp_world.specs.Serving.{near_served, far_served, collected, collected_by, after_event}
-use Rattle.ftp_world.specs.World.{World, Link, Gone, Opened, ClosedByFar, Mark, port_at}
+use Rattle.ftp_world.specs.World.{World, Link, Gone, Opened, ClosedByFar, Mark, next_listen, port_at}
 use Rattle.ftp_dialogues.specs.Dialogue.{Passes}
 use Rattle.ftp_dialogues.specs.Fetches.{fetch, busy, linked, port_reply, PortIsAsked, asked_of}
 use Rattle.ftp_dialogues.specs.Login.{IsOnWay}
@@ -191,7 +191,7 @@ module _ (read : Reading) (state : State) (offset : Option ℕ) (text : List ℕ
     near = calm (Stages.near_at state offset text how (PortTold (port_at b.listens)) b.near);
     far = record (still (far_linked (linked FarData.Passive false Pendings.Nothing b.far.session) b.far)) { owed = reply_octets (port_reply extended b.far.footing.here (port_at b.listens)) };
     link = Gone;
-    listens = b.listens + 1;
+    listens = next_listen b.listens;
   }
 
   port_served : (extended closing : Bool) (b : World) → after_event (asked_world extended closing b) ≡ told_world extended b
@@ -227,7 +227,7 @@ module _ (read : Reading) (state : State) (offset : Option ℕ) (text : List ℕ
       let asked : w ≡ asked_world extended closing b =
       is ∙ (λ i. record (world_at b rest no_octets) { near = calm (h.near i); far = still (far_linked (h.session i) b.far); link = h.link i }) in
       let f : Far = far_linked (linked FarData.Passive false Pendings.Nothing b.far.session) b.far in
-      let to : World = record b { near = Stages.near_at state offset text how (PortTold port) b.near; far = f; link = Gone; listens = b.listens + 1 } in
+      let to : World = record b { near = Stages.near_at state offset text how (PortTold port) b.near; far = f; link = Gone; listens = next_listen b.listens } in
       let v4 : extended ≡ false → IsV4 b.near.peer = λ plain. is_v4 b.near.peer (neither (asks_extended (how_of op)) (is_v6 b.near.peer) plain) in
       let written = port_reply_written b.far.session extended b.near.peer port v4 (subst IsTypedHost (sym h.steady.peer) h.steady.typed) small in
       let owes : Host → World = λ host. record (told_world extended b) { far = record (still f) { owed = reply_octets (port_reply extended host port) } } in

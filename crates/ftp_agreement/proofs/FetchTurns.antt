@@ -35,7 +35,7 @@ use Rattle.ftp_server_machine.specs.declared.session.Pending.{Pending}
 use Rattle.ftp_server_machine.specs.declared.session.Pending.TheVariants as Pendings
 use Rattle.ftp_server_machine.proofs.RepliesWritten.{replies_are_written}
 use Rattle.ftp_world.specs.Outcome.{mark_in}
-use Rattle.ftp_world.specs.World.{World, Gone, Mark, Broken}
+use Rattle.ftp_world.specs.World.{World, Gone, Mark, Broken, counted}
 use Rattle.ftp_dialogues.specs.Dialogue.{IsSound, Passes}
 use Rattle.ftp_dialogues.specs.Fetches.{IsPassive, fetch, busy, fetching, leaving, linked, port_reply, rest_reply, offset_pending, kept, IsSteady, PortIsAsked, why_not, fetched_wire}
 use Rattle.ftp_dialogues.specs.Login.{IsOnWay}
@@ -509,7 +509,7 @@ module _ (read : Reading) (reads : IsReading read) (state : State) (offset : Opt
         to_server = h.to_server;
         to_client = h.to_client;
         came = h.came;
-        marked = h.marked ∙ ap (λ t. tie_marks t (length came)) (sym tie);
+        marked = h.marked ∙ ap (λ t. tie_marks t (counted (length came))) (sym tie);
         way_is = ap Answering rows;
         fine = flows;
       },
@@ -589,7 +589,7 @@ module _ (read : Reading) (reads : IsReading read) (state : State) (offset : Opt
       (tells_so (Ended true false) came queue way b (fixed_reply Texts.Complete) (cut_said state offset text how came) NoLink h
       (ends_over offset text how how.representation came b.near Endings.Broken 226 (cut_said state offset text how came) (fixed_reply Texts.Complete).lines
       (judged_cut state offset text how 226 came (inl refl)))
-      refl refl refl h.fine.1.1 (one_more own (Broken (length came)) h.marked)
+      refl refl refl h.fine.1.1 (one_more own (Broken (counted (length came))) h.marked)
       (cut_fares state offset text how own came can known h.fine.0.1 h.fine.0.0 h.fine.1.0 h.marked))
   carry_heard (Severed false) came queue way b reply more h e =
       at_first (Hears b) reply (fixed_reply Texts.Opens) more (fixed_reply Texts.Broken ∷ []) e
@@ -600,7 +600,7 @@ module _ (read : Reading) (reads : IsReading read) (state : State) (offset : Opt
       (tells_so (Severed true) came queue way b (fixed_reply Texts.Broken) (cut_said state offset text how came) NoLink h
       (breaks_over offset text how how.representation came b.near (cut_said state offset text how came) (fixed_reply Texts.Broken).lines
       (judged_cut state offset text how 426 came (inr refl)))
-      refl refl refl h.fine.1.1 (one_more own (Broken (length came)) h.marked)
+      refl refl refl h.fine.1.1 (one_more own (Broken (counted (length came))) h.marked)
       (cut_fares state offset text how own came can known h.fine.0.1 h.fine.0.0 h.fine.1.0 h.marked))
   carry_heard (Refusing why Unclosed) came queue way b reply more h e =
       at_first (Hears b) reply (fixed_reply (refusal_text why)) more [] e
@@ -621,13 +621,13 @@ module _ (read : Reading) (reads : IsReading read) (state : State) (offset : Opt
       at_first (Hears b) reply (fixed_reply (refusal_text why)) more [] e
       (tells_so (Refusing why (Lost false)) came queue way b (fixed_reply (refusal_text why)) (Refused (code_of why)) NoLink h
       (denied offset text how how.representation came b.near why (NearData.Over Endings.Broken) (fixed_reply (refusal_text why)).lines)
-      refl refl refl h.fine.1.1 (one_more own (Broken (length came)) h.marked) (refused_fares state offset text how own why can known h.fine.0))
+      refl refl refl h.fine.1.1 (one_more own (Broken (counted (length came))) h.marked) (refused_fares state offset text how own why can known h.fine.0))
   carry_heard Unopened came queue way b reply more h e =
       at_first (Hears b) reply (fixed_reply Texts.NoConnection) more [] e
       (tells_so Unopened came queue way b (fixed_reply Texts.NoConnection) NotOpened NoLink h
       (unopened offset text how how.representation came b.near (NearData.Over Endings.Broken) (fixed_reply Texts.NoConnection).lines)
-      refl refl refl h.fine.1 (one_more own (Broken (length came)) h.marked)
-      (broken_link_fares state offset text how own (h.marked ∙ ap (λ l. Broken (length l) ∷ []) h.fine.0)))
+      refl refl refl h.fine.1 (one_more own (Broken (counted (length came))) h.marked)
+      (broken_link_fares state offset text how own (h.marked ∙ ap (λ l. Broken (counted (length l)) ∷ []) h.fine.0)))
 
   -- ---- every reply
 

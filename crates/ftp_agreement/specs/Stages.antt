@@ -34,7 +34,7 @@ use Rattle.ftp_server_machine.specs.declared.session.Pending.TheVariants as Pend
 use Rattle.ftp_server_machine.specs.declared.session.Transfer.TheVariants as Transfers
 use Rattle.ftp_world.specs.Agreement.{Allows}
 use Rattle.ftp_world.specs.Outcome.{Outcome, CanBe, did}
-use Rattle.ftp_world.specs.World.{World, Link, Gone, Opened, ClosedByFar, Mark, Broken}
+use Rattle.ftp_world.specs.World.{World, Link, Gone, Opened, ClosedByFar, Mark, Broken, counted}
 use Rattle.ftp_dialogues.specs.Dialogue.{Passes}
 use Rattle.ftp_dialogues.specs.Fetches.{fetch, busy, fetching, leaving, linked, asked_of, port_reply, rest_reply, offset_pending, kept, IsSteady, PortIsAsked, fetched_wire, why_not}
 use Rattle.ftp_dialogues.specs.Login.{IsOnWay}
@@ -298,14 +298,14 @@ module _ (state : State) (offset : Option ℕ) (text : List ℕ) (how : How) whe
   abbrev pub CameAt : Stage → ℕ → Type 0
   CameAt (Restarts at restart joined) count = count ≡ 0
   CameAt (Retrieves joined) count = count ≡ 0
-  CameAt (Carries c) count = count ≡ length c.came
+  CameAt (Carries c) count = count ≡ counted (length c.came)
   CameAt stage count = Unit {0}
 
   -- the marks of the operation
   abbrev pub MarkedAt : Stage → List Mark → Type 0
   MarkedAt (Restarts at restart joined) own = own ≡ tie_marks (early_tie joined) 0
   MarkedAt (Retrieves joined) own = own ≡ tie_marks (early_tie joined) 0
-  MarkedAt (Carries c) own = own ≡ tie_marks (tie_of c.course) (length c.came)
+  MarkedAt (Carries c) own = own ≡ tie_marks (tie_of c.course) (counted (length c.came))
   MarkedAt (Answers said LinkOpen) own = own ≡ []
   MarkedAt (Answers said leaves) own = length own ≤ 1
   MarkedAt stage own = own ≡ []

@@ -86,6 +86,6 @@ unmarked_is_direct from begun marks reports table single unmarked told agrees =
 pub peek_is_direct : PeekIsDirect
 peek_is_direct state text count how moment index cutoff Whole marks hold = inr (inr (inl refl))
 peek_is_direct state text count how moment index cutoff (Cut wire) marks hold =
-    inr (inr (inr (record { wire = wire; marked = hold.allowed.1; few = hold.can_be.1.1 })))
+    inr (inr (inr (record { wire = wire; own = hold.can_be.1.0; marked = hold.allowed.1; few = hold.can_be.1.1 })))
 peek_is_direct state text count how moment index cutoff Unopened marks hold = inl refl
 peek_is_direct state text count how moment index cutoff (Lost part) marks hold = inr (inl refl)

@@ -12,7 +12,7 @@ use Rattle.ftp_client_machine.specs.Plan.{how_of}
 use Rattle.ftp_client_machine.specs.Tries.{OverBreaks, Run, run_of, first_try, is_size, next_in, run_at}
 use Rattle.ftp_world.specs.Events.{Event, Refuse, Break, EndControl, Next, Upload, Happens}
 use Rattle.ftp_world.specs.Outcome.{Outcome, Whole, Cut, Unopened, Lost, Part, Nothing, All, Front, did, CanBe}
-use Rattle.ftp_world.specs.World.{World, Mark, Refused, Broken}
+use Rattle.ftp_world.specs.World.{World, Mark, Refused, Broken, counted}
 
 -- what was begun, and its moment: an operation, or an upload over breaks
 pub data Order : Type 0 where
@@ -113,9 +113,9 @@ abbrev pub IsBehind : Option ℕ → ℕ → Type 0
 IsBehind None index = ⊥
 IsBehind (Some cutoff) index = cutoff ≤ index
 
--- a link of it broke when so many octets had come
+-- a link of it broke when so many octets had come, as they are counted
 abbrev pub HasBroken : List ℕ → List Mark → Type 0
-HasBroken wire marks = IsAmong (Broken (length wire)) marks
+HasBroken wire marks = IsAmong (Broken (counted (length wire))) marks
 
 -- lost, and a part of it done, is only the operation that was begun last before the end; each later one has changed nothing
 abbrev pub AllowsPart : Part → List Mark → Option ℕ → ℕ → Type 0

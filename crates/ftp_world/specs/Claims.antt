@@ -8,9 +8,10 @@ use Rattle.ftp_endpoint.specs.declared.host.Host.TheVariants.{V4, V6}
 use Rattle.ftp_endpoint.specs.Written.{IsTypedHost}
 use Rattle.ftp_operation.specs.Account.{accounts_refusal, login_root, is_user, is_password}
 use Rattle.ftp_operation.specs.Answer.{Said, Done, Unopened, Lost}
-use Rattle.ftp_direct.specs.Direct.{State, start as direct_start, answer, answers, changed, named, part}
+use Rattle.ftp_direct.specs.Direct.{State, start as direct_start, answer, answers, changed, file_of, named, part}
 use Rattle.std.specs.List.{list_all}
 use Rattle.std.specs.FinMap as fin
+use Rattle.ftp_machine.specs.Machine.{IsFront}
 use Rattle.ftp_path.specs.Path.{is_name, Names}
 use Rattle.ftp_tree.specs.Tree.{Node, Dir, File, Table, IsTree, octets_in, total_limit, installed}
 use Rattle.ftp_operation.specs.declared.op.How.{How}
@@ -23,12 +24,12 @@ use Rattle.ftp_server_machine.specs.Calls.{start}
 use Rattle.ftp_server_machine.specs.Machine.{Reading, IsReading}
 use Rattle.ftp_server_machine.specs.Told.{is_path}
 use Rattle.ftp_server_machine.specs.View.{Accounts}
-use Rattle.ftp_world.specs.Agreement.{IsAmong, AttemptHolds, Order, Tries, tries_in, Item, IsItemOf, item_did, ItemHolds}
-use Rattle.ftp_world.specs.Agreement.{IsReported, AreSingle, operations, Agrees, WorldAgrees, IsDirect, Leads, AreHonest}
+use Rattle.ftp_world.specs.Agreement.{AttemptHolds, Order, Tries, tries_in, Item, IsItemOf, item_did, ItemHolds}
+use Rattle.ftp_world.specs.Agreement.{IsReported, AreSingle, operations, Agrees, WorldAgrees, IsDirect, Leads, AreHonest, HasBroken}
 use Rattle.ftp_world.specs.Events.{Event, Deliver, Open, End, Next, Upload, Happens, IsQuiet, can_begin}
-use Rattle.ftp_world.specs.Outcome.{Outcome, did, front}
+use Rattle.ftp_world.specs.Outcome.{Outcome, did, front, fetched, download_text}
 use Rattle.ftp_world.specs.Settling.{Falls, left_in}
-use Rattle.ftp_world.specs.World.{World, world, Mark, Broken}
+use Rattle.ftp_world.specs.World.{World, world, Mark}
 
 -- ---- how a session begins
 
@@ -166,10 +167,11 @@ TriesAreFew =
 
 -- ---- a Peek
 
--- its link broke before the octets that it asked for were settled
+-- its link broke when a prefix of the file's wire had come, before the octets that it asked for were settled
 pub record BrokeEarly (state : State) (text : List ℕ) (count : ℕ) (how : How) (marks : List Mark) : Type 0 where
   pub wire : List ℕ
-  pub marked : IsAmong (Broken (length wire)) marks
+  pub own : IsFront wire (download_text (fetched (settings_of how) 0 (file_of state text)))
+  pub marked : HasBroken wire marks
   pub few : length (front (settings_of how) wire) < count
 
 -- the direct answer, and the state that it leaves

@@ -24,7 +24,7 @@ pub data Mark : Type 0 where
   Broken : (came : ℕ) → Mark
 
 -- the four queues hold what is on its way over the control connection and over the data link, to the server and to the client;
--- `came` counts the octets that were taken from the present link, `listens` the ports that were listened at;
+-- `came` counts the octets that were taken from the present link (`counted`), `listens` the ports that were listened at (`next_listen`);
 -- `marks` are those of each operation begun; `cutoff` is how many were begun when the control connection ended; `taken` are the octets
 -- that the last event took, where it was a delivery
 pub record World : Type 0 where
@@ -80,14 +80,14 @@ gone w = record w { link = Gone; data_to_server = []; data_to_client = [] }
 abbrev pub parted : World → World
 parted w = record w { control = Parted; control_to_server = []; control_to_client = [] }
 
--- own choice: the k-th listen, from 0, over both ends together, gets this port; behind the last port the first comes again
+-- own choice: the k-th listen, from 0, over both ends together, gets this port; after the last port the first comes again
 abbrev pub port_at : ℕ → ℕ
-port_at k = 49152 + k
+port_at k = 49152 + k % 16384
 
--- the number of the listen behind one
+-- the number of the listen after one, as far as ports go
 abbrev pub next_listen : ℕ → ℕ
 next_listen k = (k + 1) % 16384
 
--- octets of a link are counted so far (own choice)
+-- own choice: octets of a link are counted up to 2^64 - 1
 abbrev pub counted : ℕ → ℕ
 counted n = min n 18446744073709551615
