@@ -3,7 +3,7 @@ use crate::server::Server;
 use ftp_endpoint::Host;
 use ftp_ends::Wants;
 use ftp_facts::Moment;
-use ftp_server_machine::Far;
+use ftp_server_machine::{Counts, Far};
 use ftp_session::Moves;
 use ftp_tree::Tree;
 use std::alloc::Allocator;
@@ -67,6 +67,30 @@ impl<A: Allocator + Copy, T: Tree<A>, J: Moves<A, T>> Far<A, T> for Server<A, T,
 
     fn wants(&self) -> Wants {
         self.wants()
+    }
+
+    fn here(&self) -> Host {
+        self.here()
+    }
+
+    fn counts(&self) -> Counts {
+        self.counts()
+    }
+
+    fn owes(&self) -> bool {
+        self.owes()
+    }
+
+    fn has_data(&self) -> bool {
+        self.has_data()
+    }
+
+    fn may_hear(&self) -> bool {
+        self.may_hear()
+    }
+
+    fn may_receive(&self) -> bool {
+        self.may_receive()
     }
 
     fn tree(&self) -> &T {

@@ -38,7 +38,7 @@ impl<A: Allocator + Copy, T: Tree<A>, J: Moves<A, T>> Server<A, T, J> {
     }
 
     /// Whether a control octet may be taken.
-    fn may_hear(&self) -> bool
+    pub fn may_hear(&self) -> bool
         ensures { result ≡ may_hear (view_of T.table J.view self.now) }
     {
         matches!(self.session.life, Life::Running)

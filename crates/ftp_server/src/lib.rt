@@ -21,5 +21,4 @@ mod server;
 mod wants;
 
 pub use begin::NotBegun;
-pub use calls::Counts;
 pub use server::Server;

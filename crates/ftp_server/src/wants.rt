@@ -1,10 +1,12 @@
 // What a server wants of the connections (RFC 959, section 3.2).
 ghost use Rattle.std.specs.Prelude.{◌≡◌, length};
-ghost use Rattle.ftp_server_machine.specs.Calls.{is_done, wants, wants_of};
+ghost use Rattle.ftp_ends.specs.Octets.{has_octets};
+ghost use Rattle.ftp_server_machine.specs.Calls.{is_done, may_receive, to_give, wants, wants_of};
 ghost use Rattle.ftp_server_machine.specs.Machine.{is_running};
 ghost use Rattle.ftp_server.specs.Busy.{is_opening};
 
 use crate::server::Server;
+use ftp_endpoint::Host;
 use ftp_ends::Wants;
 use ftp_server_machine::{DataConnection, Life, Way};
 use ftp_session::Moves;
@@ -39,6 +41,34 @@ impl<A: Allocator + Copy, T: Tree<A>, J: Moves<A, T>> Server<A, T, J> {
         ensures { result ≡ length (view_of T.table J.view self.now).owed }
     {
         self.output.len()
+    }
+
+    /// Whether control octets are owed.
+    pub fn owes(&self) -> bool
+        ensures { result ≡ has_octets (view_of T.table J.view self.now).owed }
+    {
+        self.output.len() > 0
+    }
+
+    /// Whether octets of the data connection are still to be given.
+    pub fn has_data(&self) -> bool
+        ensures { result ≡ has_octets (to_give (view_of T.table J.view self.now)) }
+    {
+        self.session.has_data()
+    }
+
+    /// Whether an octet of the data connection may be taken: an upload is under way, and its markers have room to be answered.
+    pub fn may_receive(&self) -> bool
+        ensures { result ≡ may_receive (view_of T.table J.view self.now) }
+    {
+        self.session.is_upload() && self.output.has_room()
+    }
+
+    /// The host that it stands on.
+    pub fn here(&self) -> Host
+        ensures { result ≡ (view_of T.table J.view self.now).footing.here }
+    {
+        self.footing.here
     }
 
     /// Whether neither QUIT nor the end of the control connection came.

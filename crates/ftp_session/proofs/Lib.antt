@@ -4,3 +4,4 @@ pub mod RefusedLemmas
 pub mod SessionLemmas
 pub mod ConcludeLemmas
 pub mod ActLemmas
+pub mod GivenLemmas

@@ -2,6 +2,7 @@
 ghost use Rattle.std.specs.Prelude.{◌≡◌, ◌≤◌, ◌<◌, false, length, take, true};
 ghost use Rattle.ftp_server_machine.specs.Calls.{connection_of as connection_in, given_by, is_upload};
 ghost use Rattle.ftp_server_machine.specs.Machine.{has_room};
+ghost use Rattle.ftp_ends.specs.Octets.{has_octets};
 ghost use Rattle.ftp_server_machine.specs.View.{View};
 ghost use Rattle.ftp_session.specs.Receiving.{ComesIn, Gives, GivesOut};
 
@@ -35,6 +36,35 @@ impl<A: Allocator + Copy, T: Tree<A>, J: Moves<A, T>> Session<A, T, J> {
             self.forget();
         }
         received
+    }
+
+    /// Whether an upload is under way.
+    pub fn is_upload(&self) -> bool
+        ensures { result ≡ is_upload (connection_in (session_of T.table J.view self.now)) }
+    {
+        if self.closing {
+            return false;
+        }
+        match &self.connection {
+            DataConnection::Transferring(transfer) => transfer.takes_octets(),
+            _ => false,
+        }
+    }
+
+    /// Whether octets of a download or a listing are still to be given.
+    #[tactic(auto, using(crate::proofs::GivenLemmas::some_left))]
+    pub fn has_data(&self) -> bool
+        ensures { result ≡ has_octets (given_by (connection_in (session_of T.table J.view self.now))) }
+    {
+        if self.closing {
+            return false;
+        }
+        match &self.connection {
+            DataConnection::Transferring(transfer) => {
+                !transfer.takes_octets() && !transfer.is_given_out(&self.tree, &self.root)
+            }
+            _ => false,
+        }
     }
 
     /// Gives octets to the data connection.
