@@ -3,6 +3,7 @@ ghost use Rattle.std.specs.Prelude.{◌≡◌, ◌≢◌, ◌<◌, ◌≤◌, �
 ghost use Rattle.ftp_operation.specs.Answer.{said_of};
 ghost use Rattle.ftp_operation.specs.declared.op.Op.{Op as AnyOp};
 ghost use Rattle.ftp_ends.specs.Limits.{held_limit};
+ghost use Rattle.ftp_ends.specs.Octets.{has_octets};
 ghost use Rattle.ftp_client_machine.specs.Calls.{control_end, data_closed, data_end, data_fault, data_opened, data_refused, gives_control, gives_data, handed_back, is_busy, listen_refused, listening, may_hear, may_receive, report_of, reports, starts, to_give, uploads, wants};
 ghost use Rattle.ftp_client_machine.specs.Failing.{HearsIfRoom, Holds, HoldsIfRoom, ReceivesIfRoom, data_end_short, data_fault_short, data_opened_short, data_refused_short, listen_refused_short, listening_short, short, starts_short, uploads_short};
 ghost use Rattle.ftp_client_machine.specs.Held.{held};
@@ -232,6 +233,41 @@ impl<A: Allocator + Clone, F: Carries<A>> Counted<A, F> {
         ensures { result ≡ wants (counted_of F.flow self.now).view }
     {
         self.dialogue.wants()
+    }
+
+    /// The host that it stands on.
+    pub(crate) fn here(&self) -> Host
+        ensures { result ≡ (counted_of F.flow self.now).view.here }
+    {
+        self.dialogue.here()
+    }
+
+    /// Whether it owes octets of the control connection.
+    pub(crate) fn owes(&self) -> bool
+        ensures { result ≡ has_octets (counted_of F.flow self.now).view.owed }
+    {
+        self.dialogue.owes()
+    }
+
+    /// Whether it has octets of the link to give.
+    pub(crate) fn has_data(&self) -> bool
+        ensures { result ≡ has_octets (to_give (counted_of F.flow self.now).view) }
+    {
+        self.dialogue.has_data()
+    }
+
+    /// Whether it may take an octet of the control connection.
+    pub(crate) fn may_hear(&self) -> bool
+        ensures { result ≡ may_hear (counted_of F.flow self.now).view }
+    {
+        self.dialogue.may_hear()
+    }
+
+    /// Whether it may take an octet of the link.
+    pub(crate) fn may_receive(&self) -> bool
+        ensures { result ≡ may_receive (counted_of F.flow self.now).view }
+    {
+        self.dialogue.may_receive()
     }
 
     /// A close that it wanted is done.

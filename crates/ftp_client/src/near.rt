@@ -76,4 +76,28 @@ impl<A: Allocator + Clone, F: Carries<A>> Near<A> for Client<A, F> {
     fn wants(&self) -> Wants {
         self.counted.wants()
     }
+
+    fn here(&self) -> Host {
+        self.counted.here()
+    }
+
+    fn refusals(&self) -> u64 {
+        self.counted.refusals
+    }
+
+    fn owes(&self) -> bool {
+        self.counted.owes()
+    }
+
+    fn has_data(&self) -> bool {
+        self.counted.has_data()
+    }
+
+    fn may_hear(&self) -> bool {
+        self.counted.may_hear()
+    }
+
+    fn may_receive(&self) -> bool {
+        self.counted.may_receive()
+    }
 }

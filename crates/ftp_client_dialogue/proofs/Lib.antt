@@ -5,3 +5,4 @@ pub mod OctetLemmas
 pub mod AgainLemmas
 pub mod JudgedLemmas
 pub mod AwaitedLemmas
+pub mod GivenLemmas

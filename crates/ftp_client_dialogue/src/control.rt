@@ -1,5 +1,6 @@
 // The octets of the control connection, and how far the client has come (RFC 959, sections 4.2 and 5.4).
 ghost use Rattle.std.specs.Prelude.{◌≡◌, ◌<◌, ◌≤◌, IfOk, IfSome, IsTrue, OnErr, length, take};
+ghost use Rattle.ftp_ends.specs.Octets.{has_octets};
 ghost use Rattle.ftp_client_machine.specs.Calls.{gives_control, hears_octet, is_sound, may_hear};
 
 use crate::dialogue::Dialogue;
@@ -54,6 +55,13 @@ impl<A: Allocator + Clone, F: Carries<A>> Dialogue<A, F> {
         is_sound(self.standing) && self.output.len() <= OWED_LIMIT
     }
 
+    /// Whether octets are owed.
+    pub fn owes(&self) -> bool
+        ensures { result ≡ has_octets (view_of F.flow self.now).owed }
+    {
+        self.output.len() > 0
+    }
+
     /// Gives octets of the control connection, and says how many.
     pub fn control_out(&mut self, room: &mut [u8]) -> usize
         ensures within { (result ≤ length room.old) × (result ≤ length (view_of F.flow self.old).owed) }
@@ -62,6 +70,13 @@ impl<A: Allocator + Clone, F: Carries<A>> Dialogue<A, F> {
         ensures some { 0 < length room.old → 0 < length (view_of F.flow self.old).owed → 0 < result }
     {
         self.output.give(room)
+    }
+
+    /// The host that it stands on.
+    pub fn here(&self) -> Host
+        ensures { result ≡ (view_of F.flow self.now).here }
+    {
+        self.here
     }
 
     /// How far it has come with the server.

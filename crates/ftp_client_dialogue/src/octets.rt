@@ -1,5 +1,6 @@
 // The octets of the data connection, and what is wanted of it (RFC 959, section 3.2).
 ghost use Rattle.std.specs.Prelude.{◌≡◌, ◌<◌, ◌≤◌, [], IfErr, IfOk, IsTrue, OnErr, OnOk, length, take, true, if◌then◌else◌};
+ghost use Rattle.ftp_ends.specs.Octets.{has_octets};
 ghost use Rattle.ftp_client_machine.specs.Calls.{data_wants, is_sound, may_receive, receives, to_give, transfer_over, wants};
 ghost use Rattle.ftp_client_machine.specs.declared.client.DataConnection.TheVariants as Data;
 
@@ -86,6 +87,13 @@ impl<A: Allocator + Clone, F: Carries<A>> Dialogue<A, F> {
             return 0;
         }
         self.place.give(&self.op, room)
+    }
+
+    /// Whether octets of an upload are still to be given over the open link.
+    pub fn has_data(&self) -> bool
+        ensures { result ≡ has_octets (to_give (view_of F.flow self.now)) }
+    {
+        self.may_give() && self.place.has_left(&self.op)
     }
 
     /// Whether octets of an upload may be given: its transfer has begun, and its link is open.

@@ -2,6 +2,7 @@
 ghost use Rattle.std.specs.Prelude.{◌≡◌, ◌<◌, ◌≤◌, ℕ, List, IfErr, IfOk, length, option_map, take};
 ghost use Rattle.ftp_operation.specs.Answer.{Memory, said_of};
 ghost use Rattle.ftp_operation.specs.declared.op.Op.{Op};
+ghost use Rattle.ftp_ends.specs.Octets.{has_octets};
 ghost use Rattle.ftp_client_machine.specs.Calls.{report_of_job};
 ghost use Rattle.ftp_client_machine.specs.View.{failed_job};
 
@@ -70,6 +71,17 @@ impl<A: Allocator, F: Carries<A>> Place<A, F> {
         match self {
             Place::Transferring(transfer) => transfer.flow.give(op, room),
             Place::Idle | Place::Waiting | Place::Doing(_) | Place::Told(_) => 0,
+        }
+    }
+
+    /// Whether octets of an upload are still to be given.
+    #[tactic(auto, using(crate::proofs::GivenLemmas::some_left))]
+    pub(crate) fn has_left(&self, op: &Op<Text<A>>) -> bool
+        ensures { result ≡ has_octets (job_left (job_of F.flow op.now self.now)) }
+    {
+        match self {
+            Place::Transferring(transfer) => !transfer.flow.is_down(op) && !transfer.flow.is_given(op),
+            Place::Idle | Place::Waiting | Place::Doing(_) | Place::Told(_) => false,
         }
     }
 
