@@ -86,6 +86,10 @@ impl<A: Allocator + Copy, D: Folder> Tree<A> for Mirror<A, D> {
         self.folder.failures()
     }
 
+    fn fits<B: Allocator>(&self, root: &Path<B>) -> bool {
+        self.tree.fits(root)
+    }
+
     fn make_dir<B: Allocator, C: Allocator>(
         &mut self,
         root: &Path<B>,

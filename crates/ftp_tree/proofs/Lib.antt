@@ -10,5 +10,6 @@ pub mod NameLemmas
 pub mod PartLemmas
 pub mod PlaceLemmas
 pub mod PlacingLemmas
+pub mod SoundLemmas
 pub mod TableLemmas
 pub mod UnderLemmas

@@ -30,7 +30,7 @@ all-take p (suc n) (name ∷ names) all =
     let both = and_parts (p name) (list_all p names) all in
     and_from (p name) _ both.0 (all-take p n names both.1)
 
-all-drop : (p : List ℕ → Bool) (n : ℕ) (names : List (List ℕ)) → list_all p names ≡ true → list_all p (drop n names) ≡ true
+pub all-drop : (p : List ℕ → Bool) (n : ℕ) (names : List (List ℕ)) → list_all p names ≡ true → list_all p (drop n names) ≡ true
 all-drop p zero names all = all
 all-drop p (suc n) [] all = refl
 all-drop p (suc n) (name ∷ names) all = all-drop p n names (and_parts (p name) (list_all p names) all).1

@@ -2,5 +2,6 @@ pub mod Branch
 pub mod BranchFalls
 pub mod Change
 pub mod Laws
+pub mod Sound
 pub mod Store
 pub mod Tree

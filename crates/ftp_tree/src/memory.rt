@@ -4,6 +4,7 @@ ghost use Rattle.std.specs.FinMap as fin;
 ghost use Rattle.std.specs.Option.{option_map};
 ghost use Rattle.ftp_path.specs.Kept.{names_of};
 ghost use Rattle.ftp_path.specs.Path.{fits, parent};
+ghost use Rattle.ftp_tree.specs.Sound.{IsSoundTree};
 ghost use Rattle.ftp_tree.specs.Store.{IsPlace, standing_node};
 ghost use Rattle.ftp_tree.specs.Tree.{delete_refusal, directory_refusal, install_refusal, installed, made, make_refusal, moved, moves_fit, node_at, nodes_refusal, octets_in, octets_or_none, or_else, place_refusal, remove_refusal, removed, rename_refusal, room_at, room_refusal, root_alone, source_refusal, target_refusal, under, with_part};
 
@@ -45,11 +46,11 @@ impl<A: Allocator + Copy> Model for MemTree<A> {
 
     ghost coded = { table_code };
 
-    ghost use Rattle.ftp_tree.specs.Tree.{IsTree};
+    ghost use Rattle.ftp_tree.specs.Sound.{IsSoundTree};
 
     ghost view = { λ tree. tree.root };
 
-    ghost invariant = { λ tree. IsTree tree.root };
+    ghost invariant = { λ tree. IsSoundTree tree.root };
 }
 
 impl<A: Allocator + Copy> Tree<A> for MemTree<A> {
@@ -122,6 +123,10 @@ impl<A: Allocator + Copy> Tree<A> for MemTree<A> {
 
     fn device_failures(&self) -> u64 {
         0
+    }
+
+    fn fits<B: Allocator>(&self, root: &Path<B>) -> bool {
+        self.count_below(root).octets <= TOTAL_LIMIT
     }
 
     fn make_dir<B: Allocator, C: Allocator>(
@@ -340,10 +345,11 @@ impl<A: Allocator + Copy> MemTree<A> {
         }
     }
 
-    /// How many nodes stand at or below a root, and how many octets their files have.
+    /// How many nodes stand at or below a root, and how many octets their files have. What stands in the whole tree is sound.
     fn count_below<B: Allocator>(&self, root: &Path<B>) -> Count
         ensures nodes { result.nodes ≡ fin.len (under self.now root.now) }
         ensures octets { result.octets ≡ octets_in (under self.now root.now) }
+        ensures sound { IsSoundTree self.now }
     {
         let Some(node) = self.root.find(root.key()) else {
             return Count::NONE;

@@ -1,8 +1,9 @@
 // What a tree answers, as what its clauses say of one map, however the tree is kept.
-ghost use Rattle.std.specs.Prelude.{◌≡◌, ◌≤◌, ◌<◌, ℕ, [], None, IfOk, IfErr, OnOk, OnErr, length, take, drop, option_map};
+ghost use Rattle.std.specs.Prelude.{◌≡◌, ◌≤◌, ◌<◌, ℕ, [], None, IfOk, IfErr, OnOk, OnErr, length, nat_le, take, drop, option_map};
 ghost use Rattle.std.specs.List.{slice_get};
-ghost use Rattle.ftp_tree.specs.Tree.{Table, children, delete_refusal, install_refusal, installed, kind_at, made, make_refusal, moved, octets_or_none, remove_refusal, removed, rename_refusal, room_at, room_refusal, size_at, stamp_at, under, with_part};
+ghost use Rattle.ftp_tree.specs.Tree.{Table, children, delete_refusal, install_refusal, installed, kind_at, made, make_refusal, moved, octets_in, octets_or_none, remove_refusal, removed, rename_refusal, room_at, room_refusal, size_at, stamp_at, total_limit, under, with_part};
 ghost use Rattle.ftp_tree.specs.Change.{IsDone, IsRefused};
+ghost use Rattle.ftp_tree.specs.Sound.{IsSoundTree};
 
 use crate::content::Content;
 use crate::fault::TreeFault;
@@ -73,6 +74,14 @@ pub trait Tree<A: Allocator>: Drop {
     /// How many failures of its device it has counted; the count moves on by wrapping.
     fn device_failures(&self) -> u64
         ensures { result ≡ failures self.now };
+
+    /// Whether the octets of all files below a root together are within the limit, 67,108,864. `install` keeps each root that
+    /// it is given within it; a root above two of them may be past it.
+    ///
+    /// Whatever it answers, the map is a tree, and what stands in it is sound: paths of names, and of every file a moment.
+    fn fits<B: Allocator>(&self, root: &Path<B>) -> bool
+        ensures octets { result ≡ nat_le (octets_in (under (table self.now) root.now)) total_limit }
+        ensures sound { IsSoundTree (table self.now) };
 
     /// Makes a directory.
     ///

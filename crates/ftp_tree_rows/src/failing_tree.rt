@@ -102,6 +102,10 @@ impl<A: Allocator + Copy> Tree<A> for FailingTree<A> {
         self.failures
     }
 
+    fn fits<B: Allocator>(&self, root: &Path<B>) -> bool {
+        self.tree.fits(root)
+    }
+
     fn make_dir<B: Allocator, C: Allocator>(
         &mut self,
         root: &Path<B>,

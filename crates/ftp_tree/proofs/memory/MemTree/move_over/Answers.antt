@@ -1,12 +1,16 @@
 use Rattle.std.proofs.Common.{◌≡◌, ◌++◌, Option, Some, None, is_some, true, [], Result, Ok, OnOk, subst, sym, ap, ◌∙◌, arith}
 use Rattle.std.specs.FinMap as fin
+use Rattle.std.specs.List.{list_all}
 use Rattle.std.proofs.lemmas.Bool.{true≢false}
 use Rattle.ftp_path.specs.Kept.{names_of}
+use Rattle.ftp_path.specs.Path.{is_name}
 use Rattle.ftp_tree.specs.Branch.{found}
+use Rattle.ftp_tree.specs.Sound.{IsSoundTable}
 use Rattle.ftp_tree.specs.Tree.{Table, moved, node_at, octets_in, remove_refusal, removed, rename_refusal, under, with_part}
 use Rattle.ftp_tree.proofs.BranchLemmas.{empty-at}
 use Rattle.ftp_tree.proofs.PlaceLemmas.{some-key}
 use Rattle.ftp_tree.proofs.PlacingLemmas.{moves-over}
+use Rattle.ftp_tree.proofs.SoundLemmas.{place-names, sound-empty, sound-part, sound-under}
 use Rattle.ftp_tree.proofs.memory.MemTree.move_over.Goals as goal
 
 some-found : (part : Option Table) → is_some (node_at (found part) []) ≡ true → is_some part ≡ true
@@ -18,14 +22,14 @@ at-ok {P = P} r x is holds = subst (λ r. OnOk r P) is holds
 
 pub take_out-requires-clause-some : goal.take_out-requires-clause-some
 take_out-requires-clause-some g c =
-    let moves = moves-over c.self.inside.root c.args.root.now c.args.from.now c.args.to.now c.self.invariant
+    let moves = moves-over c.self.inside.root c.args.root.now c.args.from.now c.args.to.now c.self.invariant.tree
     (ap (λ t. remove_refusal (under t c.args.root.now) c.args.to.now) c.self.view_is ∙ c.requires.loose)
     (ap (λ t. rename_refusal (removed (under t c.args.root.now) c.args.to.now) c.args.from.now c.args.to.now) c.self.view_is ∙ c.requires.free) in
     some-key c.key.result.now c.key.ensures.place (λ none. moves.some (sym (c.key.ensures.names ∙ c.of-old.ensures) ∙ none))
 
 pub unwrap-node-requires : goal.unwrap-node-requires
 unwrap-node-requires g c =
-    let moves = moves-over c.self.inside.root c.args.root.now c.args.from.now c.args.to.now c.self.invariant
+    let moves = moves-over c.self.inside.root c.args.root.now c.args.from.now c.args.to.now c.self.invariant.tree
     (ap (λ t. remove_refusal (under t c.args.root.now) c.args.to.now) c.self.view_is ∙ c.requires.loose)
     (ap (λ t. rename_refusal (removed (under t c.args.root.now) c.args.to.now) c.args.from.now c.args.to.now) c.self.view_is ∙ c.requires.free) in
     let taken : found c.take_out.result ≡ under c.self.inside.root (c.args.root.now ++ c.args.from.now) = c.take_out.ensures.taken ∙ ap (under c.self.inside.root) (c.key.ensures.names ∙ c.of-old.ensures) in
@@ -33,7 +37,7 @@ unwrap-node-requires g c =
 
 pub put-requires-clause-stands : goal.put-requires-clause-stands
 put-requires-clause-stands g c =
-    let moves = moves-over c.self.inside.root c.args.root.now c.args.from.now c.args.to.now c.self.invariant
+    let moves = moves-over c.self.inside.root c.args.root.now c.args.from.now c.args.to.now c.self.invariant.tree
     (ap (λ t. remove_refusal (under t c.args.root.now) c.args.to.now) c.self.view_is ∙ c.requires.loose)
     (ap (λ t. rename_refusal (removed (under t c.args.root.now) c.args.to.now) c.args.from.now c.args.to.now) c.self.view_is ∙ c.requires.free) in
     let taken : found c.take_out.result ≡ under c.self.inside.root (c.args.root.now ++ c.args.from.now) = c.take_out.ensures.taken ∙ ap (under c.self.inside.root) (c.key.ensures.names ∙ c.of-old.ensures) in
@@ -41,7 +45,7 @@ put-requires-clause-stands g c =
 
 pub unwrap-requires : goal.unwrap-requires
 unwrap-requires g c =
-    let moves = moves-over c.self.inside.root c.args.root.now c.args.from.now c.args.to.now c.self.invariant
+    let moves = moves-over c.self.inside.root c.args.root.now c.args.from.now c.args.to.now c.self.invariant.tree
     (ap (λ t. remove_refusal (under t c.args.root.now) c.args.to.now) c.self.view_is ∙ c.requires.loose)
     (ap (λ t. rename_refusal (removed (under t c.args.root.now) c.args.to.now) c.args.from.now c.args.to.now) c.self.view_is ∙ c.requires.free) in
     let node : c.unwrap-node.result ≡ found c.take_out.result = ap found (sym c.unwrap-node.ensures) in
@@ -58,20 +62,29 @@ pub invariant_of-self : goal.invariant_of-self
 invariant_of-self g c =
     let old = c.args.root.now ++ c.args.from.now in
     let all = c.args.root.now ++ c.args.to.now in
-    let moves = moves-over c.self.inside.root c.args.root.now c.args.from.now c.args.to.now c.self.invariant
+    let moves = moves-over c.self.inside.root c.args.root.now c.args.from.now c.args.to.now c.self.invariant.tree
     (ap (λ t. remove_refusal (under t c.args.root.now) c.args.to.now) c.self.view_is ∙ c.requires.loose)
     (ap (λ t. rename_refusal (removed (under t c.args.root.now) c.args.to.now) c.args.from.now c.args.to.now) c.self.view_is ∙ c.requires.free) in
     let taken : found c.take_out.result ≡ under c.self.inside.root old = c.take_out.ensures.taken ∙ ap (under c.self.inside.root) (c.key.ensures.names ∙ c.of-old.ensures) in
     let left : c.take_out.new.self ≡ with_part c.self.inside.root old fin.empty = c.take_out.ensures.left ∙ ap (λ p. with_part c.self.inside.root p fin.empty) (c.key.ensures.names ∙ c.of-old.ensures) in
-    (moves.done _ (at-ok c.put.result c.unwrap.result c.unwrap.ensures c.put.ensures.ok
+    let is =
+    at-ok c.put.result c.unwrap.result c.unwrap.ensures c.put.ensures.ok
     ∙ ap (λ p. with_part c.take_out.new.self p c.unwrap-node.result) (c.key-2.ensures.names ∙ c.of-new.ensures) ∙ ap (λ t. with_part t all c.unwrap-node.result) left
-    ∙ ap (with_part (with_part c.self.inside.root old fin.empty) all) (ap found (sym c.unwrap-node.ensures) ∙ taken))).tree
+    ∙ ap (with_part (with_part c.self.inside.root old fin.empty) all) (ap found (sym c.unwrap-node.ensures) ∙ taken) in
+    let from_names = ap (list_all is_name) (sym (c.key.ensures.names ∙ c.of-old.ensures)) ∙ place-names _ c.key.ensures.place in
+    let to_names = ap (list_all is_name) (sym (c.key-2.ensures.names ∙ c.of-new.ensures)) ∙ place-names _ c.key-2.ensures.place in
+    let without = sound-part c.self.inside.root old fin.empty from_names c.self.invariant.entries sound-empty in
+    record {
+      tree = (moves.done _ is).tree;
+      entries = subst IsSoundTable (sym is)
+          (sound-part (with_part c.self.inside.root old fin.empty) all (under c.self.inside.root old) to_names without (sound-under c.self.inside.root old c.self.invariant.entries));
+    }
 
 pub returns : goal.returns
 returns g c =
     let old = c.args.root.now ++ c.args.from.now in
     let all = c.args.root.now ++ c.args.to.now in
-    let moves = moves-over c.self.inside.root c.args.root.now c.args.from.now c.args.to.now c.self.invariant
+    let moves = moves-over c.self.inside.root c.args.root.now c.args.from.now c.args.to.now c.self.invariant.tree
     (ap (λ t. remove_refusal (under t c.args.root.now) c.args.to.now) c.self.view_is ∙ c.requires.loose)
     (ap (λ t. rename_refusal (removed (under t c.args.root.now) c.args.to.now) c.args.from.now c.args.to.now) c.self.view_is ∙ c.requires.free) in
     let taken : found c.take_out.result ≡ under c.self.inside.root old = c.take_out.ensures.taken ∙ ap (under c.self.inside.root) (c.key.ensures.names ∙ c.of-old.ensures) in

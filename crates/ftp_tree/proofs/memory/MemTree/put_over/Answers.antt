@@ -2,10 +2,12 @@ use Rattle.std.proofs.Common.{◌≡◌, ◌⊎◌, None, Ok, OnOk, Result, [], 
 use Rattle.std.specs.FinMap as fin
 use Rattle.ftp_path.specs.Kept.{names_of}
 use Rattle.ftp_tree.specs.Branch.{file_alone}
+use Rattle.ftp_tree.specs.Sound.{IsSoundTable}
 use Rattle.ftp_tree.specs.Tree.{delete_refusal, installed, node_at, octets_in, remove_refusal, under, with_part}
 use Rattle.ftp_tree.proofs.BranchLemmas.{file-at, file-len, file-octets}
 use Rattle.ftp_tree.proofs.LawLemmas.{under-stands}
 use Rattle.ftp_tree.proofs.PlacingLemmas.{loose-stands, over-at}
+use Rattle.ftp_tree.proofs.SoundLemmas.{place-names, sound-file, sound-part}
 use Rattle.ftp_tree.proofs.memory.MemTree.put_over.Goals as goal
 
 at-ok : {X Y P : Type 0} (r : Result X Y) (x : X) → r ≡ Ok x → OnOk r P → P
@@ -28,14 +30,21 @@ unwrap-requires g c =
 pub invariant_of-self : goal.invariant_of-self
 invariant_of-self g c =
     let free = subst (λ table. (delete_refusal (under table c.args.root.now) c.args.path.now ≡ None) ⊎ (remove_refusal (under table c.args.root.now) c.args.path.now ≡ None)) (sym c.self.view_is) c.requires.loose in
-    (over-at c.self.inside.root _ c.args.root.now c.args.path.now _ c.args.content.now c.args.moment.seconds c.self.invariant free (c.key.ensures.names ∙ c.of-place.ensures)
-    (at-ok c.put.result c.unwrap.result c.unwrap.ensures c.put.ensures.ok
-    ∙ ap (with_part c.self.inside.root (names_of c.key.result.now)) (c.file-node.ensures ∙ ap (λ octets. file_alone octets c.args.moment.seconds) c.take-octets.ensures.taken))).tree
+    let names = names_of c.key.result.now in
+    let octets = c.args.content.now in
+    let is =
+    at-ok c.put.result c.unwrap.result c.unwrap.ensures c.put.ensures.ok
+    ∙ ap (with_part c.self.inside.root names) (c.file-node.ensures ∙ ap (λ octets. file_alone octets c.args.moment.seconds) c.take-octets.ensures.taken) in
+    record {
+      tree = (over-at c.self.inside.root _ c.args.root.now c.args.path.now _ octets c.args.moment.seconds c.self.invariant.tree free (c.key.ensures.names ∙ c.of-place.ensures) is).tree;
+      entries = subst IsSoundTable (sym is) (sound-part c.self.inside.root names (file_alone octets c.args.moment.seconds) (place-names _ c.key.ensures.place) c.self.invariant.entries
+          (sound-file octets c.args.moment.seconds c.args.moment.in_range));
+    }
 
 pub returns-clause-file : goal.returns-clause-file
 returns-clause-file g c =
     let free = subst (λ table. (delete_refusal (under table c.args.root.now) c.args.path.now ≡ None) ⊎ (remove_refusal (under table c.args.root.now) c.args.path.now ≡ None)) (sym c.self.view_is) c.requires.loose in
-    (over-at c.self.inside.root _ c.args.root.now c.args.path.now _ c.args.content.now c.args.moment.seconds c.self.invariant free (c.key.ensures.names ∙ c.of-place.ensures)
+    (over-at c.self.inside.root _ c.args.root.now c.args.path.now _ c.args.content.now c.args.moment.seconds c.self.invariant.tree free (c.key.ensures.names ∙ c.of-place.ensures)
     (at-ok c.put.result c.unwrap.result c.unwrap.ensures c.put.ensures.ok
     ∙ ap (with_part c.self.inside.root (names_of c.key.result.now)) (c.file-node.ensures ∙ ap (λ octets. file_alone octets c.args.moment.seconds) c.take-octets.ensures.taken))).is
     ∙ ap (λ table. with_part table c.args.root.now (installed (under table c.args.root.now) c.args.path.now c.args.content.now c.args.moment.seconds)) c.self.view_is
