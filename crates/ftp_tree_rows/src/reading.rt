@@ -36,6 +36,7 @@ fn read<A: Allocator, T: Tree<A>>(
         Step::Size => show_number(tree.size(root, path), paper),
         Step::Stamp => show_second(tree, root, path, paper),
         Step::Room => paper.number(tree.room(root, path)?),
+        Step::Fits => show_fits(tree, path, paper),
         Step::Names => show_names(tree, root, path, paper),
         Step::Piece => paper.quote(tree.piece(
             root,
@@ -78,6 +79,15 @@ fn show_second<A: Allocator, T: Tree<A>>(
         Some(moment) => paper.number(moment.seconds),
         None => paper.put(b"none"),
     }
+}
+
+/// Whether the octets of all files below a root are within the limit.
+fn show_fits<A: Allocator, T: Tree<A>>(tree: &T, root: &Path<Global>, paper: &mut Paper) {
+    paper.put(if tree.fits(root) {
+        b"yes".as_slice()
+    } else {
+        b"no"
+    });
 }
 
 /// The names in a directory, each with a `,` behind it.

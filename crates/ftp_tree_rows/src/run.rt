@@ -99,6 +99,7 @@ pub fn play_line<A: Allocator + Copy, T: Tree<A>>(
         | Step::Size
         | Step::Stamp
         | Step::Room
+        | Step::Fits
         | Step::Names
         | Step::Piece
         | Step::Read => tell(show_reading(alloc, tree, line, paper), paper),
