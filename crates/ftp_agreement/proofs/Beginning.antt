@@ -15,6 +15,7 @@ use Rattle.ftp_login.specs.Login.{is_login_octet}
 use Rattle.ftp_operation.specs.Account.{Account, has_user, are_distinct, are_apart, accounts_refusal, passes, knows, login_root, is_user, is_password}
 use Rattle.ftp_operation.specs.declared.account.AccountsFault.TheVariants.{SameUser, NestedRoots}
 use Rattle.ftp_path.specs.Path.{Names, fits, path_cmp, text_of}
+use Rattle.ftp_tree.specs.Sound.{is_sound_entry, is_sound_node, last_second}
 use Rattle.ftp_tree.specs.Tree.{Node, Dir, File, Table, IsTree, node_at, octets_in, length_of, total_limit}
 use Rattle.ftp_tree.proofs.LawLemmas.{get-node, under-stands}
 use Rattle.ftp_tree.proofs.PartLemmas.{parts-trees}
@@ -27,7 +28,7 @@ use Rattle.ftp_server_machine.specs.declared.reply.ReplyKind.TheVariants as Repl
 use Rattle.ftp_server_machine.specs.declared.reply.Text.TheVariants as Texts
 use Rattle.ftp_server_machine.proofs.RepliesWritten.{replies_are_written}
 use Rattle.ftp_server_machine.specs.Told.{is_path}
-use Rattle.ftp_world.specs.Claims.{Beginning, IsFair, is_sound_entry, is_sound_node, last_second, state_of, world_of}
+use Rattle.ftp_world.specs.Claims.{Beginning, IsFair, state_of, world_of}
 use Rattle.ftp_dialogues.specs.Dialogue.{IsSound}
 use Rattle.ftp_dialogues.specs.Login.{Greets, Logging}
 use Rattle.ftp_dialogues.specs.Stage.{Answering, row_octets, AreWritten}

@@ -29,6 +29,7 @@ use Rattle.ftp_representation.specs.Representation.{same_kind, same_structure, s
 use Rattle.ftp_representation.specs.declared.representation.Structure.TheVariants as Structures
 use Rattle.ftp_representation.specs.declared.representation.Mode.TheVariants as Modes
 use Rattle.ftp_representation.specs.declared.representation.Representation.{Representation}
+use Rattle.ftp_tree.specs.Sound.{last_second}
 use Rattle.ftp_tree.specs.Tree.{Node, Dir, File, node_at, stamp_at, of_node, moment_of}
 use Rattle.ftp_client_machine.specs.Dialogue.{placed, awaits_reply}
 use Rattle.ftp_client_machine.specs.Plan.{own_command, first_step, from_structure, from_mode}
@@ -44,7 +45,6 @@ use Rattle.ftp_server_machine.specs.Walk.{unless}
 use Rattle.ftp_server_machine.specs.declared.heard.Heard.TheVariants.{Asks}
 use Rattle.ftp_server_machine.specs.declared.reply.ReplyKind.TheVariants as Replies
 use Rattle.ftp_server_machine.specs.declared.reply.Text.TheVariants as Texts
-use Rattle.ftp_world.specs.Claims.{last_second}
 use Rattle.ftp_command.proofs.CarriedLemmas.{carried}
 use Rattle.ftp_dialogues.specs.Stage.{calm}
 use Rattle.ftp_dialogues.specs.Dialogue.{Passes, Stands, Ends, IsSound, resting, doing}

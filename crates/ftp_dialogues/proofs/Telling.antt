@@ -16,6 +16,7 @@ use Rattle.ftp_operation.specs.Operation.{can_be_sent, is_number, is_path_text}
 use Rattle.ftp_operation.specs.declared.op.Op.TheVariants as Ops
 use Rattle.ftp_path.specs.Path.{Names, IsPathText, fits, text_of}
 use Rattle.ftp_direct.specs.Direct.{State, done, entry_at, listed, named, named_or_here, part, perm_of, refusal, size_fact}
+use Rattle.ftp_tree.specs.Sound.{last_second}
 use Rattle.ftp_tree.specs.Tree.{Node, Dir, File, node_at}
 use Rattle.ftp_client_machine.specs.Plan.{own_command, optional}
 use Rattle.ftp_client_machine.specs.View.{View as Near}
@@ -26,7 +27,6 @@ use Rattle.ftp_server_machine.specs.Replies.{Turn, entry_reply}
 use Rattle.ftp_server_machine.specs.View.{Session, View as Far, direct_of, all_facts}
 use Rattle.ftp_server_machine.specs.Walk.{unless}
 use Rattle.ftp_server_machine.specs.declared.reply.ReplyKind.TheVariants as Replies
-use Rattle.ftp_world.specs.Claims.{last_second}
 use Rattle.ftp_command.proofs.CarriedLemmas.{carried}
 use Rattle.ftp_dialogues.specs.Dialogue.{Stands, IsSound}
 use Rattle.ftp_dialogues.proofs.ServerTurns.{cleared}

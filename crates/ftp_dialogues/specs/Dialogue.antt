@@ -6,6 +6,7 @@ use Rattle.ftp_operation.specs.Answer.{Said}
 use Rattle.ftp_operation.specs.declared.op.Op.{Op}
 use Rattle.ftp_path.specs.Path.{Names}
 use Rattle.ftp_direct.specs.Direct.{State, part}
+use Rattle.ftp_tree.specs.Sound.{last_second}
 use Rattle.ftp_tree.specs.Tree.{Table, File, IsTree, node_at, total_limit}
 use Rattle.ftp_client_machine.specs.Calls.{is_sound, is_busy_job, report_of}
 use Rattle.ftp_client_machine.specs.Plan.{how_of}
@@ -19,7 +20,6 @@ use Rattle.ftp_server_machine.specs.declared.session.DataConnection.{DataConnect
 use Rattle.ftp_server_machine.specs.declared.session.DataConnection.TheVariants as FarData
 use Rattle.ftp_server_machine.specs.declared.session.Life.TheVariants as Lives
 use Rattle.ftp_server_machine.specs.Told.{is_path}
-use Rattle.ftp_world.specs.Claims.{last_second}
 
 -- ---- both ends where no data connection is under way
 

@@ -2,7 +2,7 @@
 -- operations that were begun; where nothing is in flight each of them has its report, and another can be begun; and without
 -- breaks, refusals and an end of the control connection that is the direct run. Want of memory and failures of a device are no
 -- events here: the ends' clauses hold where neither count changed.
-use Rattle.std.specs.Prelude.{◌≡◌, ◌⊎◌, ℕ, ◌<◌, ◌≤◌, ◌&&◌, Bool, true, nat_le, List, [], ◌∷◌, length, Option, None, IsTrue}
+use Rattle.std.specs.Prelude.{◌≡◌, ◌⊎◌, ℕ, ◌<◌, ◌≤◌, true, List, [], ◌∷◌, length, Option, None, IsTrue}
 use Rattle.ftp_endpoint.specs.declared.host.Host.{Host}
 use Rattle.ftp_endpoint.specs.declared.host.Host.TheVariants.{V4, V6}
 use Rattle.ftp_endpoint.specs.Written.{IsTypedHost}
@@ -10,10 +10,9 @@ use Rattle.ftp_operation.specs.Account.{accounts_refusal, login_root, is_user, i
 use Rattle.ftp_operation.specs.Answer.{Said, Done, Unopened, Lost}
 use Rattle.ftp_direct.specs.Direct.{State, start as direct_start, answer, answers, changed, file_of, named, part}
 use Rattle.std.specs.List.{list_all}
-use Rattle.std.specs.FinMap as fin
 use Rattle.ftp_machine.specs.Machine.{IsFront}
-use Rattle.ftp_path.specs.Path.{is_name, Names}
-use Rattle.ftp_tree.specs.Tree.{Node, Dir, File, Table, IsTree, octets_in, total_limit, installed}
+use Rattle.ftp_tree.specs.Sound.{IsSoundTable, last_second}
+use Rattle.ftp_tree.specs.Tree.{Table, IsTree, octets_in, total_limit, installed}
 use Rattle.ftp_operation.specs.declared.op.How.{How}
 use Rattle.ftp_operation.specs.declared.op.Op.{Op}
 use Rattle.ftp_operation.specs.declared.op.Op.TheVariants as Ops
@@ -48,19 +47,6 @@ AreRelated (V4 one) (V4 other) = Unit {0}
 AreRelated (V6 one) (V6 other) = Unit {0}
 AreRelated one other = ⊥
 
--- the last second of a moment (own choice: the end of the year 9999)
-abbrev pub last_second : ℕ
-last_second = 253402300799
-
--- a path of names, and of a file a moment
-abbrev pub is_sound_node : Node → Bool
-is_sound_node Dir = true
-is_sound_node (File octets moment) = nat_le moment last_second
-
--- what stands at a path is sound, and the path is one
-abbrev pub is_sound_entry : Names × Node → Bool
-is_sound_entry entry = list_all is_name entry.0 && is_sound_node entry.1
-
 -- where the direct run begins
 abbrev pub state_of : Beginning → State
 state_of b = direct_start b.table (login_root b.accounts b.user b.pass)
@@ -74,7 +60,7 @@ pub record IsFair (b : Beginning) : Type 0 where
   pub roots : IsTrue (list_all (λ account. is_path account.root) b.accounts)
   pub tree : IsTree b.table
   pub octets : octets_in (part (state_of b)) ≤ total_limit
-  pub entries : IsTrue (list_all is_sound_entry (fin.entries b.table))
+  pub entries : IsSoundTable b.table
   pub near_typed : IsTypedHost b.near_host
   pub far_typed : IsTypedHost b.far_host
   pub hosts : AreRelated b.near_host b.far_host
