@@ -3,3 +3,4 @@ pub mod HonestLemmas
 pub mod WorldRows
 pub mod TriesLemmas
 pub mod DoneLemmas
+pub mod StillLemmas

@@ -6,4 +6,5 @@ pub mod Outcome
 pub mod Settling
 pub mod Agreement
 pub mod Claims
+pub mod Still
 pub mod Rows

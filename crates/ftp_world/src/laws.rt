@@ -1,5 +1,6 @@
 //! Laws of what is claimed of a session: functions that do nothing, whose contracts are laws of `specs/`.
 ghost use Rattle.ftp_world.specs.Claims.{DoneIsWhole, HeadlineFollows, PeekIsDirect, TriesAreFew, UnmarkedIsDirect};
+ghost use Rattle.ftp_world.specs.Still.{BlockedIsNotQuiet, QuietIsStill, StillIsQuiet};
 
 /// Without breaks, refusals and an end of the control connection, agreement is the direct run.
 pub fn unmarked_agreement_is_the_direct_run()
@@ -24,4 +25,11 @@ pub fn tries_are_few()
 /// An upload over breaks that reports Done has put exactly its octets, and changed nothing else, whatever broke.
 pub fn done_is_whole()
     ensures { DoneIsWhole }
+{}
+
+/// Where nothing moves that takes no memory, a world is quiet, or a queue is full whose receiver may not take.
+pub fn still_is_quiet()
+    ensures quiet { StillIsQuiet }
+    ensures blocked { BlockedIsNotQuiet }
+    ensures back { QuietIsStill }
 {}
