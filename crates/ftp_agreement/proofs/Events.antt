@@ -13,7 +13,8 @@ use Rattle.ftp_server_machine.specs.View.{Transfer}
 use Rattle.ftp_server_machine.specs.declared.session.DataConnection.{DataConnection}
 use Rattle.ftp_server_machine.specs.declared.session.DataConnection.TheVariants as FarData
 use Rattle.ftp_world.specs.Agreement.{Order, begun_by}
-use Rattle.ftp_world.specs.Events.{ControlToServer, ControlToClient, DataToServer, DataToClient, Event, Deliver, Open, Refuse, End, Break, EndControl, Next, Upload, Happens, can_happen, ends_control, is_asked_for, is_gone, has_octets, is_left_by_near, is_left_by_far, is_parted}
+use Rattle.ftp_ends.specs.Octets.{has_octets}
+use Rattle.ftp_world.specs.Events.{ControlToServer, ControlToClient, DataToServer, DataToClient, Event, Deliver, Open, Refuse, End, Break, EndControl, Next, Upload, Happens, can_happen, ends_control, is_asked_for, is_gone, is_left_by_near, is_left_by_far, is_parted}
 use Rattle.ftp_world.specs.Serving.{after_event}
 use Rattle.ftp_world.specs.World.{World}
 use Rattle.ftp_dialogues.specs.Dialogue.{is_aside, Ends}

@@ -11,7 +11,8 @@ use Rattle.ftp_server_machine.specs.Calls as far
 use Rattle.ftp_server_machine.specs.Machine.{Reading, IsReading}
 use Rattle.ftp_world.specs.Agreement.{Order}
 use Rattle.ftp_world.specs.Claims.{IsAnswered}
-use Rattle.ftp_world.specs.Events.{DataToServer, DataToClient, IsQuiet, has_octets, is_closed_by_far, is_gone}
+use Rattle.ftp_ends.specs.Octets.{has_octets}
+use Rattle.ftp_world.specs.Events.{DataToServer, DataToClient, IsQuiet, is_closed_by_far, is_gone}
 use Rattle.ftp_world.specs.World.{World}
 use Rattle.ftp_dialogues.specs.Stage.{Way, Asking, Answering, rest}
 use Rattle.ftp_dialogues.proofs.LoginTurns.{no_asking, no_reply}

@@ -8,7 +8,8 @@ use Rattle.ftp_server_machine.specs.Machine as machine
 use Rattle.ftp_server_machine.specs.Machine.{Reading, is_running}
 use Rattle.ftp_world.specs.Agreement.{Order}
 use Rattle.ftp_world.specs.Claims.{IsAnswered}
-use Rattle.ftp_world.specs.Events.{ControlToServer, ControlToClient, IsQuiet, can_begin, has_octets, is_gone, is_asked_for}
+use Rattle.ftp_ends.specs.Octets.{has_octets}
+use Rattle.ftp_world.specs.Events.{ControlToServer, ControlToClient, IsQuiet, can_begin, is_gone, is_asked_for}
 use Rattle.ftp_world.specs.World.{World}
 use Rattle.ftp_server_machine.specs.declared.session.Life.TheVariants as Lives
 use Rattle.ftp_dialogues.specs.Dialogue.{Ends}

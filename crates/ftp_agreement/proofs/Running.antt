@@ -10,7 +10,8 @@ use Rattle.ftp_client_machine.specs.Calls.{is_busy_job}
 use Rattle.ftp_server_machine.specs.Calls as far
 use Rattle.ftp_server_machine.specs.Machine.{Reading, IsReading}
 use Rattle.ftp_world.specs.Agreement.{Order, Single, Leads, begun_by}
-use Rattle.ftp_world.specs.Events.{Queue, ControlToServer, ControlToClient, DataToServer, DataToClient, Event, Deliver, Open, Refuse, End, Break, EndControl, Next, Upload, Happens, can_happen, can_begin, operation_begins, is_asked_for, is_gone, has_octets, is_closed_by_far, is_left_by_near, is_left_by_far}
+use Rattle.ftp_ends.specs.Octets.{has_octets}
+use Rattle.ftp_world.specs.Events.{Queue, ControlToServer, ControlToClient, DataToServer, DataToClient, Event, Deliver, Open, Refuse, End, Break, EndControl, Next, Upload, Happens, can_happen, can_begin, operation_begins, is_asked_for, is_gone, is_closed_by_far, is_left_by_near, is_left_by_far}
 use Rattle.ftp_world.specs.Serving.{after_event}
 use Rattle.ftp_world.specs.World.{World}
 use Rattle.ftp_dialogues.specs.Dialogue.{HasNoTransfer}

@@ -3,13 +3,14 @@ use Rattle.std.proofs.Common.{◌≡◌, Bool, true, false, ◌==◌, ◌&&◌, 
 use Rattle.std.specs.Prelude.{not}
 use Rattle.ftp_server_machine.specs.Machine.{Reading}
 use Rattle.ftp_world.specs.Claims.{IsSettling}
-use Rattle.ftp_world.specs.Events.{Queue, ControlToServer, ControlToClient, DataToServer, DataToClient, Event, Deliver, Open, Refuse, End, Break, EndControl, Next, Upload, Does, can_happen, due, has_octets, in_queue, is_closed, is_left_by_far, is_left_by_near, lends_none, link_opens, told}
+use Rattle.ftp_ends.specs.Octets.{has_octets}
+use Rattle.ftp_world.specs.Events.{Queue, ControlToServer, ControlToClient, DataToServer, DataToClient, Event, Deliver, Open, Refuse, End, Break, EndControl, Next, Upload, Does, can_happen, due, in_queue, is_closed, is_left_by_far, is_left_by_near, lends_none, link_opens, told}
 use Rattle.ftp_world.specs.World.{World, Control, Stands, LeftByNear, LeftByFar, Parted}
 use Rattle.ftp_settling.specs.Laws.{EventsFall}
 use Rattle.ftp_settling.specs.Steady.{AreApart, AsksNothing}
-use Rattle.ftp_settling.proofs.Falling.{Less, served_behind}
-use Rattle.ftp_settling.proofs.FarKept.{data_end_apart}
-use Rattle.ftp_settling.proofs.Happening.{delivery_falls, end_to_client, end_to_server, opens_apart, opens_less}
+use Rattle.ftp_settling.proofs.Moving.{Less, served_behind}
+use Rattle.ftp_settling.proofs.FarCallsApart.{data_end_apart}
+use Rattle.ftp_settling.proofs.Delivering.{delivery_falls, end_to_client, end_to_server, opens_apart, opens_less}
 use Rattle.ftp_settling.proofs.Leaving.{client_told, server_told}
 use Rattle.ftp_settling.proofs.NearApart as keeps
 use Rattle.ftp_settling.proofs.Possible.{lent_can}

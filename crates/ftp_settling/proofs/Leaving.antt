@@ -21,8 +21,8 @@ use Rattle.ftp_world.specs.Serving.{after_event, far_closes, far_served, far_ser
 use Rattle.ftp_world.specs.Settling.{control_ends, left_in}
 use Rattle.ftp_world.specs.World.{World, LeftByNear, LeftByFar, Link, Gone, Opened, ClosedByNear, ClosedByFar}
 use Rattle.ftp_settling.specs.Steady.{AreApart}
-use Rattle.ftp_settling.proofs.Falling.{Less}
-use Rattle.ftp_settling.proofs.FarKept.{control_end_apart}
+use Rattle.ftp_settling.proofs.Moving.{Less}
+use Rattle.ftp_settling.proofs.FarCallsApart.{control_end_apart}
 use Rattle.ftp_settling.proofs.FarLow.{far_ends}
 use Rattle.ftp_settling.proofs.NearApart as keeps
 use Rattle.ftp_settling.proofs.NearLow as nears

@@ -1,20 +1,20 @@
 -- Settling. The files are in the order in which they are to be read.
 pub mod Order
-pub mod FarApart
-pub mod FarKept
+pub mod FarLinesApart
+pub mod FarCallsApart
 pub mod NearApart
 pub mod NearLow
 pub mod FarLow
 pub mod Asking
 pub mod Served
-pub mod FarGrows
+pub mod FarLinesOwe
 pub mod NearGives
-pub mod Falling
+pub mod Moving
 pub mod Possible
-pub mod Happening
+pub mod Delivering
 pub mod Leaving
 pub mod EventsFall
-pub mod FarCalm
+pub mod FarCallsOwe
 pub mod Steady
 pub mod Ending
 pub mod Settles

@@ -2,7 +2,8 @@
 use Rattle.std.proofs.Common.{◌≡◌, ℕ, ◌<◌, List, [], ◌∷◌, length, Bool, true, false, ◌&&◌, ◌||◌, refl, arith}
 use Rattle.std.specs.Prelude.{not}
 use Rattle.std.proofs.lemmas.Bool.{and_parts}
-use Rattle.ftp_world.specs.Events.{Queue, ControlToServer, ControlToClient, DataToServer, DataToClient, Event, Deliver, Open, Refuse, End, Break, EndControl, Next, Upload, can_happen, due, has_octets, in_queue, lends_none, may_take}
+use Rattle.ftp_ends.specs.Octets.{has_octets}
+use Rattle.ftp_world.specs.Events.{Queue, ControlToServer, ControlToClient, DataToServer, DataToClient, Event, Deliver, Open, Refuse, End, Break, EndControl, Next, Upload, can_happen, due, in_queue, lends_none, may_take}
 use Rattle.ftp_world.specs.World.{World}
 
 -- some octets are there
@@ -15,31 +16,31 @@ pub has_some : (octets : List ℕ) → 0 < length octets → has_octets octets �
 has_some [] some = absurd (omega (arith, some))
 has_some (octet ∷ octets) some = refl
 
--- ---- the test of a delivery: `has` and `lt` are of what is due, `hasq` and `may` of what is on its way, `z` where none are offered
+-- ---- the test of a delivery: octets are due, and fewer are on their way than are offered; none are offered; octets are on their way, and may be taken
 
 -- what is due moves
-pub moves_can : (has lt z hasq may : Bool) → has ≡ true → z ≡ true → ((has && (z || lt)) || (not z && hasq && may)) ≡ true
-moves_can true lt true hasq may is none = refl
-moves_can has lt z hasq may is none = absurd (cc)
+pub moves_can : (owing short empty there may : Bool) → owing ≡ true → empty ≡ true → ((owing && (empty || short)) || (not empty && there && may)) ≡ true
+moves_can true short true there may is none = refl
+moves_can owing short empty there may is none = absurd (cc)
 
 -- what is on its way is taken
-pub takes_can : (has lt hasq may : Bool) → hasq ≡ true → may ≡ true → ((has && (false || lt)) || (not false && hasq && may)) ≡ true
-takes_can true true hasq may is also = refl
+pub takes_can : (owing short there may : Bool) → there ≡ true → may ≡ true → ((owing && (false || short)) || (not false && there && may)) ≡ true
+takes_can true true there may is also = refl
 takes_can true false true true is also = refl
-takes_can false lt true true is also = refl
-takes_can has lt hasq may is also = absurd (cc)
+takes_can false short true true is also = refl
+takes_can owing short there may is also = absurd (cc)
 
 -- where nothing moves, what is on its way is taken
-pub taken_can : (has lt z hasq may : Bool) → z ≡ false → (has && lt) ≡ false → ((has && (z || lt)) || (not z && hasq && may)) ≡ true → (hasq ≡ true) × (may ≡ true)
-taken_can true false false hasq may is nothing can = and_parts hasq may can
-taken_can false lt false hasq may is nothing can = and_parts hasq may can
-taken_can has lt z hasq may is nothing can = absurd (cc)
+pub taken_can : (owing short empty there may : Bool) → empty ≡ false → (owing && short) ≡ false → ((owing && (empty || short)) || (not empty && there && may)) ≡ true → (there ≡ true) × (may ≡ true)
+taken_can true false false there may is nothing can = and_parts there may can
+taken_can false short false there may is nothing can = and_parts there may can
+taken_can owing short empty there may is nothing can = absurd (cc)
 
 -- where nothing is due and nothing may be taken, none is possible
-pub still : (has lt z hasq may : Bool) → has ≡ false → (hasq && may) ≡ false → ((has && (z || lt)) || (not z && hasq && may)) ≡ false
-still false lt true hasq may none nothing = refl
-still false lt false hasq may none nothing = nothing
-still true lt z hasq may none nothing = absurd (cc)
+pub still : (owing short empty there may : Bool) → owing ≡ false → (there && may) ≡ false → ((owing && (empty || short)) || (not empty && there && may)) ≡ false
+still false short true there may none nothing = refl
+still false short false there may none nothing = nothing
+still true short empty there may none nothing = absurd (cc)
 
 -- a test whose first part fails
 pub and_none : (b c : Bool) → b ≡ false → (b && c) ≡ false

@@ -25,7 +25,7 @@ use Rattle.ftp_world.specs.World.{World, Control, Stands, LeftByNear, LeftByFar,
 use Rattle.ftp_settling.specs.Laws.{AtMost, ServingIsLow}
 use Rattle.ftp_settling.specs.Steady.{AreApart, NearIsApart, FarIsApart}
 use Rattle.ftp_settling.proofs.Order.{FarLow, NearLow, far_most, le_then, most_most, most_same, near_most, near_same}
-use Rattle.ftp_settling.proofs.FarApart.{later_apart}
+use Rattle.ftp_settling.proofs.FarLinesApart.{later_apart}
 use Rattle.ftp_settling.proofs.FarLow.{FarPays, far_listening, far_pays}
 use Rattle.ftp_settling.proofs.NearLow as nears
 use Rattle.ftp_settling.proofs.NearLow.{FallsOpen, near_listening, near_reports}

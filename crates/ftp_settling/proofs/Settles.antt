@@ -5,7 +5,8 @@ use Rattle.ftp_nvt.proofs.CutLemmas.{decided}
 use Rattle.ftp_server_machine.specs.Machine.{Reading}
 use Rattle.ftp_world.specs.Agreement.{begun_by}
 use Rattle.ftp_world.specs.Claims.{SettlesAlways, Settles, world_of}
-use Rattle.ftp_world.specs.Events.{Queue, ControlToServer, ControlToClient, DataToServer, DataToClient, Event, Deliver, Open, End, Gives, Happens, IsQuiet, MayTakeFrom, can_happen, due, has_octets, in_queue, lends_none, link_opens, may_take, pulled, pushed, taking, told}
+use Rattle.ftp_ends.specs.Octets.{has_octets}
+use Rattle.ftp_world.specs.Events.{Queue, ControlToServer, ControlToClient, DataToServer, DataToClient, Event, Deliver, Open, End, Gives, Happens, IsQuiet, MayTakeFrom, can_happen, due, in_queue, lends_none, link_opens, may_take, pulled, pushed, taking, told}
 use Rattle.ftp_world.specs.Serving.{after_event}
 use Rattle.ftp_world.specs.World.{World}
 use Rattle.ftp_settling.specs.Turns.{Ends, ends, IsTurn}

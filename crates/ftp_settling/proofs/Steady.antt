@@ -21,11 +21,11 @@ use Rattle.ftp_settling.specs.Steady.{AreApart, AskNothing, AsksNothing, FarIsAp
 use Rattle.ftp_settling.proofs.Asking.{ask_more, calm_reply, octet_place}
 use Rattle.ftp_settling.proofs.EventsFall.{ended, events_fall, left_near}
 use Rattle.ftp_settling.proofs.Possible.{lent_can}
-use Rattle.ftp_settling.proofs.Falling.{pull_apart, pull_asks}
-use Rattle.ftp_settling.proofs.FarCalm as calm
-use Rattle.ftp_settling.proofs.FarGrows.{Grows}
-use Rattle.ftp_settling.proofs.FarKept.{clocked_apart, control_end_apart, data_end_apart, data_fault_apart, data_refused_apart}
-use Rattle.ftp_settling.proofs.Happening.{lent_apart, opens_apart, push_apart}
+use Rattle.ftp_settling.proofs.Moving.{pull_apart, pull_asks}
+use Rattle.ftp_settling.proofs.FarCallsOwe as calm
+use Rattle.ftp_settling.proofs.FarLinesOwe.{Grows}
+use Rattle.ftp_settling.proofs.FarCallsApart.{clocked_apart, control_end_apart, data_end_apart, data_fault_apart, data_refused_apart}
+use Rattle.ftp_settling.proofs.Delivering.{lent_apart, opens_apart, push_apart}
 use Rattle.ftp_settling.proofs.Leaving.{far_closed_control, near_closed_control, near_failed}
 use Rattle.ftp_settling.proofs.NearApart.{Keeps}
 use Rattle.ftp_settling.proofs.NearApart as keeps

@@ -4,11 +4,12 @@ use Rattle.std.specs.Prelude.{nat_le, nat_lt, not, min}
 use Rattle.std.proofs.lemmas.Bool.{and_parts}
 use Rattle.std.proofs.lemmas.Bool.Decides.{nat_tests}
 use Rattle.ftp_server_machine.specs.Machine.{Reading}
-use Rattle.ftp_world.specs.Events.{Queue, ControlToServer, ControlToClient, DataToServer, DataToClient, Event, Deliver, Open, End, Delivers, DeliversBy, Fills, Happens, MayTakeFrom, Takes, can_happen, due, filled, has_octets, in_queue, is_asked_for, lends_none, link_opens, may_take, pulled, pushed, taking, told}
+use Rattle.ftp_ends.specs.Octets.{has_octets}
+use Rattle.ftp_world.specs.Events.{Queue, ControlToServer, ControlToClient, DataToServer, DataToClient, Event, Deliver, Open, End, Delivers, DeliversBy, Fills, Happens, MayTakeFrom, Takes, can_happen, due, filled, in_queue, is_asked_for, lends_none, link_opens, may_take, pulled, pushed, taking, told}
 use Rattle.ftp_world.specs.Serving.{after_event}
 use Rattle.ftp_world.specs.World.{World}
 use Rattle.ftp_settling.specs.Turns.{IsTurn}
-use Rattle.ftp_settling.proofs.Happening.{in_few, moved_some, zero_is}
+use Rattle.ftp_settling.proofs.Delivering.{in_few, moved_some, zero_is}
 use Rattle.ftp_settling.proofs.Possible.{has_some, lent_can, lent_due, lent_may, lent_queue, moves_can, taken_can, takes_can}
 use Rattle.ftp_client_machine.proofs.ClientBounds.{positive}
 
@@ -164,9 +165,9 @@ push_happens read queue count w may =
       subst (λ none. DeliversBy none read queue count u (turned read (Push queue) count w)) (sym offered) delivers,
     )
   where
-    takes_at : (has lt z hasq may : Bool) → z ≡ false → hasq ≡ true → may ≡ true → ((has && (z || lt)) || (not z && hasq && may)) ≡ true
-    takes_at has lt false hasq may offered is also = takes_can has lt hasq may is also
-    takes_at has lt true hasq may offered is also = absurd (cc)
+    takes_at : (owing short empty there may : Bool) → empty ≡ false → there ≡ true → may ≡ true → ((owing && (empty || short)) || (not empty && there && may)) ≡ true
+    takes_at owing short false there may offered is also = takes_can owing short there may is also
+    takes_at owing short true there may offered is also = absurd (cc)
 
 -- each kind of turn
 pub turn_happens : (read : Reading) (turn : Turn) (count : ℕ) (w : World) → may_turn read turn count w ≡ true

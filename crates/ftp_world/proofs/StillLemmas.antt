@@ -2,7 +2,8 @@
 use Rattle.std.proofs.Common.{◌≡◌, ◌⊎◌, inl, inr, ℕ, suc, ◌≤◌, Bool, true, false, List, [], ◌∷◌, not, ◌&&◌, ◌||◌, length, refl, sym, ap, ◌∙◌, arith}
 use Rattle.std.specs.Prelude.{◌==◌, nat_lt}
 use Rattle.std.proofs.lemmas.Bool.Decides.{leb_tells}
-use Rattle.ftp_world.specs.Events.{Queue, ControlToServer, ControlToClient, DataToServer, DataToClient, Deliver, IsQuiet, can_happen, can_move, can_take, due, has_octets, in_queue, may_take}
+use Rattle.ftp_ends.specs.Octets.{has_octets}
+use Rattle.ftp_world.specs.Events.{Queue, ControlToServer, ControlToClient, DataToServer, DataToClient, Deliver, IsQuiet, can_happen, can_move, can_take, due, in_queue, may_take}
 use Rattle.ftp_world.specs.Still.{IsStill, IsBlocked, StillIsQuiet, BlockedIsNotQuiet, QuietIsStill}
 use Rattle.ftp_world.specs.World.{World}
 

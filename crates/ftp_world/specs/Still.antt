@@ -1,6 +1,7 @@
 -- What is quiet: a world in which nothing moves that takes no memory is quiet, unless a queue is full whose receiver may not take.
 use Rattle.std.specs.Prelude.{◌≡◌, ◌⊎◌, ℕ, ◌≤◌, false, length, IsTrue}
-use Rattle.ftp_world.specs.Events.{Queue, Deliver, Open, End, IsQuiet, can_happen, due, has_octets, in_queue, may_take}
+use Rattle.ftp_ends.specs.Octets.{has_octets}
+use Rattle.ftp_world.specs.Events.{Queue, Deliver, Open, End, IsQuiet, can_happen, due, in_queue, may_take}
 use Rattle.ftp_world.specs.World.{World}
 
 -- own choice: a queue has room for so many octets from the start, as many as one output call is given at most

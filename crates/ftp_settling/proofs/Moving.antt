@@ -16,8 +16,8 @@ use Rattle.ftp_world.specs.Settling.{Falls, left_in}
 use Rattle.ftp_world.specs.World.{World}
 use Rattle.ftp_settling.specs.Steady.{AreApart, AsksNothing}
 use Rattle.ftp_settling.proofs.Asking.{asked_front, hears_low}
-use Rattle.ftp_settling.proofs.FarGrows.{out_asks}
-use Rattle.ftp_settling.proofs.FarKept.{gives_control_apart, gives_data_apart}
+use Rattle.ftp_settling.proofs.FarLinesOwe.{out_asks}
+use Rattle.ftp_settling.proofs.FarCallsApart.{gives_control_apart, gives_data_apart}
 use Rattle.ftp_server_machine.proofs.ServerBounds.{given_step_lowers}
 use Rattle.ftp_settling.proofs.FarLow.{later_cases}
 use Rattle.ftp_client_machine.proofs.ClientBounds.{both, if_low, positive}

@@ -20,7 +20,7 @@ use Rattle.ftp_server_machine.specs.declared.session.DataConnection.TheVariants 
 use Rattle.ftp_server_machine.specs.declared.session.Transfer.TheVariants as Transfers
 use Rattle.ftp_server_machine.specs.declared.session.Way.TheVariants as Ways
 use Rattle.ftp_settling.specs.Steady.{FarIsApart}
-use Rattle.ftp_settling.proofs.FarApart.{completed_apart, forgotten_apart, later_apart}
+use Rattle.ftp_settling.proofs.FarLinesApart.{completed_apart, forgotten_apart, later_apart}
 use Rattle.ftp_server_machine.proofs.ServerBounds.{break_gone, end_gone}
 
 -- no close is wanted

@@ -19,14 +19,15 @@ use Rattle.ftp_server_machine.specs.declared.session.DataConnection.{DataConnect
 use Rattle.ftp_server_machine.specs.declared.session.DataConnection.TheVariants as Data
 use Rattle.ftp_server_machine.specs.declared.session.Transfer.TheVariants as Transfers
 use Rattle.ftp_server_machine.specs.declared.session.Way.TheVariants as Ways
-use Rattle.ftp_world.specs.Events.{Queue, ControlToServer, ControlToClient, DataToServer, DataToClient, Deliver, DeliversBy, Fills, Gives, MayTakeFrom, Takes, can_happen, due, filled, has_octets, in_queue, is_asked_for, is_closed_by_far, is_closed_by_near, is_gone, link_opens, may_take, pulled, pushed, taking, told}
+use Rattle.ftp_ends.specs.Octets.{has_octets}
+use Rattle.ftp_world.specs.Events.{Queue, ControlToServer, ControlToClient, DataToServer, DataToClient, Deliver, DeliversBy, Fills, Gives, MayTakeFrom, Takes, can_happen, due, filled, in_queue, is_asked_for, is_closed_by_far, is_closed_by_near, is_gone, link_opens, may_take, pulled, pushed, taking, told}
 use Rattle.ftp_world.specs.Settling.{left_in, ends_to_client, ends_to_server}
 use Rattle.ftp_world.specs.World.{World, Link, Gone, Opened, ClosedByNear, ClosedByFar}
 use Rattle.ftp_settling.specs.Steady.{AreApart, AsksNothing, NearIsApart}
-use Rattle.ftp_settling.proofs.Falling.{Less, Pushes, control_in, data_in, file_in, fill_apart, fill_asks, fill_less, gives_few, pull_apart, pull_less, replies_in, served_behind}
+use Rattle.ftp_settling.proofs.Moving.{Less, Pushes, control_in, data_in, file_in, fill_apart, fill_asks, fill_less, gives_few, pull_apart, pull_less, replies_in, served_behind}
 use Rattle.ftp_server_machine.proofs.ServerBounds.{completed_lowers}
 use Rattle.ftp_server_machine.proofs.ServerBounds as fars
-use Rattle.ftp_settling.proofs.FarKept.{data_opened_apart, hears_apart, receives_apart}
+use Rattle.ftp_settling.proofs.FarCallsApart.{data_opened_apart, hears_apart, receives_apart}
 use Rattle.ftp_settling.proofs.FarLow.{later_cases}
 use Rattle.ftp_settling.proofs.Possible.{taken_can}
 use Rattle.ftp_settling.proofs.NearApart as keeps
@@ -100,9 +101,9 @@ delivered read queue count w (gave ∷ counts) taken some fills takes can asks =
 pub moved_some : (queue : Queue) (w : World) (gave : ℕ) → Gives 4096 (due queue w) gave → can_happen (Deliver queue 0) w ≡ true → 0 < gave
 moved_some queue w gave gives can = gives.some (omega arith) (has_due (has_octets (due queue w)) (nat_lt (length (in_queue queue w)) 0) (has_octets (in_queue queue w)) (may_take queue w) can)
   where
-    has_due : (has lt hasq may : Bool) → ((has && (true || lt)) || (not true && hasq && may)) ≡ true → has ≡ true
-    has_due true lt hasq may is = refl
-    has_due false lt hasq may is = is
+    has_due : (owing short there may : Bool) → ((owing && (true || short)) || (not true && there && may)) ≡ true → owing ≡ true
+    has_due true short there may is = refl
+    has_due false short there may is = is
 
 -- what is lent leaves both ends apart
 pub lent_apart : (queue : Queue) (taken : ℕ) (w : World) → AreApart w → AreApart (taking queue taken w)
