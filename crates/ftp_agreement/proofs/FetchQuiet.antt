@@ -1,5 +1,5 @@
 -- While a download is under way something can happen: octets can move, a link can open, or an end is still to be told.
-use Rattle.std.proofs.Common.{◌≡◌, ◌≢◌, inl, inr, ℕ, Bool, true, false, not, ◌&&◌, ◌||◌, List, [], ◌∷◌, length, refl, sym, ap, subst, ◌∙◌}
+use Rattle.std.proofs.Common.{◌≡◌, ◌≢◌, inl, inr, ℕ, true, false, not, ◌&&◌, ◌||◌, List, [], ◌∷◌, length, refl, sym, ap, subst, ◌∙◌, arith}
 use Rattle.std.specs.Prelude.{nat_lt}
 use Rattle.ftp_ends.specs.Link.{is_wanted}
 use Rattle.ftp_ends.specs.Reply.{Reply}
@@ -13,7 +13,9 @@ use Rattle.ftp_world.specs.Agreement.{Order}
 use Rattle.ftp_world.specs.Claims.{IsAnswered}
 use Rattle.ftp_ends.specs.Octets.{has_octets}
 use Rattle.ftp_world.specs.Events.{DataToServer, DataToClient, IsQuiet, is_closed_by_far, is_gone}
+use Rattle.ftp_world.specs.Still.{IsStill}
 use Rattle.ftp_world.specs.World.{World}
+use Rattle.ftp_world.proofs.StillLemmas.{still_is_quiet}
 use Rattle.ftp_dialogues.specs.Stage.{Way, Asking, Answering, rest}
 use Rattle.ftp_dialogues.proofs.LoginTurns.{no_asking, no_reply}
 use Rattle.ftp_agreement.specs.Cut.{Cut, world_at, PlacedAt}
@@ -22,10 +24,10 @@ use Rattle.ftp_agreement.specs.Stages as Stages
 use Rattle.ftp_agreement.specs.Stages.{Course, Giving, Given, Ended, Severed, Refusing, Unopened, Unclosed, Closed, Lost, NoReply, OneReply, BothReplies, Sent, Granted, Denied, Stage, PortAsked, PortTold, Dials, Restarts, Retrieves, Carries, Answers, Holds, AtFetch, IsLasting}
 use Rattle.ftp_agreement.proofs.FetchServed.{near_form, far_form, moves_on}
 use Rattle.ftp_agreement.proofs.FetchTold.{closed_is}
-use Rattle.ftp_agreement.proofs.Quiet.{can_move_now, follows_answered, never, quiet_at}
+use Rattle.ftp_agreement.proofs.Quiet.{can_move_first, can_take_now, follows_answered, follows_unblocked, never, quiet_at}
 use Rattle.ftp_agreement.proofs.Still.{IsSeen, seen_placed}
 
-module _ (read : Reading) (from : State) (begun : List Order) (w : World) (on : IsFetchingOn read from begun w) (quiet : IsQuiet w) where
+module _ (read : Reading) (from : State) (begun : List Order) (w : World) (on : IsFetchingOn read from begun w) (still : IsStill w) where
   abbrev f : IsFetching read from begun w
   f = on.fetching
 
@@ -43,7 +45,7 @@ module _ (read : Reading) (from : State) (begun : List Order) (w : World) (on : 
 
   -- octets of the control connection are on their way
   moves : (stage : Stage) → Stood stage → is_sound s.base.near.standing ≡ true → s.way ≢ rest → ⊥
-  moves stage h sound some = quiet_at s.base s.way s.cut s.fits sound (ap (λ s. s.life) h.session) some (subst IsQuiet s.is quiet)
+  moves stage h sound some = quiet_at s.base s.way s.cut s.fits sound (ap (λ s. s.life) h.session) some (subst IsStill s.is still)
 
   line_some : (line : List ℕ) → s.way ≡ Asking line → s.way ≢ rest
   line_some line is e = no_asking line [] (sym is ∙ e)
@@ -68,11 +70,27 @@ module _ (read : Reading) (from : State) (begun : List Order) (w : World) (on : 
       by_way (Asking line) c = refl
       by_way (Answering rows) c = refl
 
+  -- an octet that stands in the queue is taken by the client
+  taken : (octet : ℕ) (more : List ℕ) → w.data_to_client ≡ octet ∷ more → near.may_receive w.near ≡ true → ⊥
+  taken octet more is receives =
+      never _ (can_take_now (has_octets (far.to_give w.far) && (false || nat_lt (length w.data_to_client) 1)) (has_octets w.data_to_client) (near.may_receive w.near)
+      (ap has_octets is) receives)
+      (still.moved DataToClient 1 (omega arith) (omega arith))
+
   -- the server gives
   giving_moves : (octet : ℕ) (more came queue : List ℕ) → Stood (carry (Giving true octet more) came queue) → ⊥
-  giving_moves octet more came queue h =
-      let due : far.to_give w.far ≡ octet ∷ more = ap (λ v. far.given_by (far.connection_of v)) (far_form s.base w seen _ false _ h.session) in
-      never _ (can_move_now (has_octets (far.to_give w.far)) (nat_lt (length w.data_to_client) 0) _ (ap has_octets due)) (quiet.moved DataToClient 0)
+  giving_moves octet more came queue h = by_queue queue (queue_is _ h)
+    where
+      receives : near.may_receive w.near ≡ true
+      receives = ap near.may_receive (near_form s.base w seen _ _ h.near)
+
+      due : far.to_give w.far ≡ octet ∷ more
+      due = ap (λ v. far.given_by (far.connection_of v)) (far_form s.base w seen _ false _ h.session)
+
+      by_queue : (queue : List ℕ) → w.data_to_client ≡ queue → ⊥
+      by_queue [] is =
+          never _ (can_move_first w.data_to_client (has_octets (far.to_give w.far)) _ is (ap has_octets due)) (still.moved DataToClient 1 (omega arith) (omega arith))
+      by_queue (x ∷ rest) is = taken x rest is receives
 
   -- all was given, and the client is to be told of the end
   given_moves : (came queue : List ℕ) → Stood (carry (Given BothReplies true) came queue) → ⊥
@@ -87,14 +105,8 @@ module _ (read : Reading) (from : State) (begun : List Order) (w : World) (on : 
       by_queue : (queue : List ℕ) → w.data_to_client ≡ queue → ⊥
       by_queue [] is =
           never (is_closed_by_far w.link && not (has_octets w.data_to_client) && not (has_octets (far.to_give w.far)))
-          (λ i. is_closed_by_far (link_is _ h i) && not (has_octets (is i)) && not (has_octets (none i))) (quiet.ended DataToClient)
-      by_queue (octet ∷ more) is =
-          let take_one : (true && has_octets w.data_to_client && near.may_receive w.near) ≡ true = λ i. true && has_octets (is i) && receives i in
-          never _ (either (has_octets (far.to_give w.far) && (false || nat_lt (length w.data_to_client) 1)) _ take_one) (quiet.moved DataToClient 1)
-        where
-          either : (a b : Bool) → b ≡ true → (a || b) ≡ true
-          either true b is = refl
-          either false b is = is
+          (λ i. is_closed_by_far (link_is _ h i) && not (has_octets (is i)) && not (has_octets (none i))) (still.ended DataToClient)
+      by_queue (octet ∷ more) is = taken octet more is receives
 
   -- the link can open
   dials_open : (port : ℕ) → Stood (Dials port) → ⊥
@@ -102,7 +114,7 @@ module _ (read : Reading) (from : State) (begun : List Order) (w : World) (on : 
   dials_open port h =
       let connects : near.wants w.near ≡ Want.Connect (record { host = s.base.near.peer; port = port }) = ap near.wants (near_form s.base w seen _ _ h.near) in
       let accepts : far.wants w.far ≡ Want.Accept = ap (λ s. far.wants (record w.far { session = s })) (far_form s.base w seen _ false _ h.session) in
-      never (is_gone w.link && is_wanted (near.wants w.near) (far.wants w.far)) (λ i. is_gone (link_is _ h i) && is_wanted (connects i) (accepts i)) quiet.opened
+      never (is_gone w.link && is_wanted (near.wants w.near) (far.wants w.far)) (λ i. is_gone (link_is _ h i) && is_wanted (connects i) (accepts i)) still.opened
 
   carry_moves : (course : Course) (came queue : List ℕ) → Stood (carry course came queue) → Stages.is_passing (carry course came queue) ≡ false → ⊥
   carry_moves (Giving false octet more) came queue h lasts = moves _ h (ap (λ v. is_sound v.standing) h.near) (rows_some _ _ h.way_is)
@@ -123,7 +135,7 @@ module _ (read : Reading) (from : State) (begun : List Order) (w : World) (on : 
   here_moves : (here : At s.way s.base) → IsLasting f.now f.offset f.text f.how read f.own s.way s.base here → ⊥
   here_moves (inl l) lasts =
       let m = moves_on read f.now f.offset f.text f.how f.own s.way s.base.near s.base.far l.on l.some in
-      quiet_at s.base s.way s.cut s.fits m.0.near.sound m.0.far.life l.some (subst IsQuiet s.is quiet)
+      quiet_at s.base s.way s.cut s.fits m.0.near.sound m.0.far.life l.some (subst IsStill s.is still)
   here_moves (inr (PortAsked closing, h)) lasts = absurd (cc)
   here_moves (inr (PortTold port, h)) lasts = moves _ h (ap (λ v. is_sound v.standing) h.near) (rows_some _ _ h.way_is)
   here_moves (inr (Dials port, h)) lasts = dials_open port h
@@ -137,8 +149,16 @@ module _ (read : Reading) (from : State) (begun : List Order) (w : World) (on : 
   pub fetch_moves : ⊥
   fetch_moves = here_moves s.here on.lasts
 
-pub runs_answered : (read : Reading) → IsReading read → (from : State) (begun : List Order) (w : World) → Runs read from begun w → IsQuiet w → IsAnswered begun w
-runs_answered read reads from begun w (inl h) quiet = follows_answered read from begun w h quiet
-runs_answered read reads from begun w (inr (inl on)) quiet = absurd (fetch_moves read from begun w on quiet)
-runs_answered read reads from begun w (inr (inr t)) quiet =
-    absurd (let e : true ≡ false = (subst IsQuiet (closed_is read reads from begun w t) quiet).ended DataToServer in cc)
+pub runs_answered : (read : Reading) → IsReading read → (from : State) (begun : List Order) (w : World) → Runs read from begun w → IsStill w → IsAnswered begun w
+runs_answered read reads from begun w (inl h) still = follows_answered read from begun w h still
+runs_answered read reads from begun w (inr (inl on)) still = absurd (fetch_moves read from begun w on still)
+runs_answered read reads from begun w (inr (inr t)) still =
+    absurd (let e : true ≡ false = (subst IsStill (closed_is read reads from begun w t) still).ended DataToServer in cc)
+
+-- a world of a list of plain events that is still is quiet
+pub runs_quiet : (read : Reading) → IsReading read → (from : State) (begun : List Order) (w : World) → Runs read from begun w → IsStill w → IsQuiet w
+runs_quiet read reads from begun w (inl h) still =
+    elim (still_is_quiet w still) [ inl quiet ↦ quiet | inr blocked ↦ absurd (follows_unblocked read from begun w h still blocked.0 blocked.1) ]
+runs_quiet read reads from begun w (inr (inl on)) still = absurd (fetch_moves read from begun w on still)
+runs_quiet read reads from begun w (inr (inr t)) still =
+    absurd (let e : true ≡ false = (subst IsStill (closed_is read reads from begun w t) still).ended DataToServer in cc)

@@ -7,11 +7,12 @@ use Rattle.ftp_world.specs.Events.{Event, Deliver, Open, Refuse, End, Break, End
 use Rattle.ftp_world.specs.World.{World}
 use Rattle.ftp_world.proofs.AgreementLemmas.{unmarked_is_direct}
 use Rattle.ftp_world.proofs.HonestLemmas.{leads_clean}
+use Rattle.ftp_world.proofs.StillLemmas.{quiet_is_still}
 use Rattle.ftp_agreement.specs.Runs.{Runs}
-use Rattle.ftp_agreement.specs.Laws.{IsPlain, ArePlain, PlainAgrees, PlainIsAnswered, PlainHeadline}
+use Rattle.ftp_agreement.specs.Laws.{IsPlain, ArePlain, PlainAgrees, PlainIsAnswered, PlainHeadline, PlainStillIsQuiet}
 use Rattle.ftp_agreement.proofs.Agreeing.{runs_agree}
 use Rattle.ftp_agreement.proofs.Beginning.{begins_follow}
-use Rattle.ftp_agreement.proofs.FetchQuiet.{runs_answered}
+use Rattle.ftp_agreement.proofs.FetchQuiet.{runs_answered, runs_quiet}
 use Rattle.ftp_agreement.proofs.Running.{runs_lead}
 
 plain_runs : (read : Reading) → IsReading read → (b : Beginning) → IsFair b → (events : List Event) (begun : List Order) (w : World)
@@ -25,7 +26,11 @@ plain-agrees read reads b fair events begun w timed leads plain =
 
 pub plain-is-answered : PlainIsAnswered
 plain-is-answered read reads b fair events begun w timed leads plain quiet =
-    runs_answered read reads (state_of b) begun w (plain_runs read reads b fair events begun w leads plain) quiet
+    runs_answered read reads (state_of b) begun w (plain_runs read reads b fair events begun w leads plain) (quiet_is_still w quiet)
+
+pub plain-still-is-quiet : PlainStillIsQuiet
+plain-still-is-quiet read reads b fair events begun w timed leads plain still =
+    runs_quiet read reads (state_of b) begun w (plain_runs read reads b fair events begun w leads plain) still
 
 -- ---- the headline
 

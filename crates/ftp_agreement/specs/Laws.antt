@@ -5,6 +5,7 @@ use Rattle.ftp_operation.specs.Operation.{can_be_sent}
 use Rattle.ftp_world.specs.Agreement.{WorldAgrees, IsDirect, AreHonest}
 use Rattle.ftp_world.specs.Claims.{state_of, Always, IsAnswered}
 use Rattle.ftp_world.specs.Events.{Event, Next, Upload, IsQuiet}
+use Rattle.ftp_world.specs.Still.{IsStill}
 use Rattle.ftp_dialogues.specs.Dialogue.{HasNoTransfer}
 use Rattle.ftp_dialogues.specs.Fetches.{IsFetch}
 
@@ -30,3 +31,7 @@ PlainIsAnswered = Always (λ read b events begun w. ArePlain events → IsQuiet 
 -- and without an end of the control connection that is the direct run
 abbrev pub PlainHeadline : Type 0
 PlainHeadline = Always (λ read b events begun w. ArePlain events → AreHonest events → IsQuiet w → IsDirect (state_of b) begun w)
+
+-- where nothing moves that takes no memory, nothing is in flight: no queue is full and refused
+abbrev pub PlainStillIsQuiet : Type 0
+PlainStillIsQuiet = Always (λ read b events begun w. ArePlain events → IsStill w → IsQuiet w)

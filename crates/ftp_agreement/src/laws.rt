@@ -1,6 +1,6 @@
 //! Laws of a session: functions that do nothing, whose contracts are the claims of `ftp_world` for operations without a transfer and
 //! passive downloads.
-ghost use Rattle.ftp_agreement.specs.Laws.{PlainAgrees, PlainHeadline, PlainIsAnswered};
+ghost use Rattle.ftp_agreement.specs.Laws.{PlainAgrees, PlainHeadline, PlainIsAnswered, PlainStillIsQuiet};
 
 /// After every event of every list whose operations have no transfer or are passive downloads, reports and map agree with the operations
 /// that were begun.
@@ -16,4 +16,9 @@ pub fn plain_lists_are_answered()
 /// On honest connections, once nothing is in flight, reports and map are those of the operations run directly.
 pub fn plain_lists_are_the_direct_run()
     ensures { PlainHeadline }
+{}
+
+/// Where no delivery of 1 to 4,096 octets, no opening and no end is possible, nothing is in flight.
+pub fn plain_lists_that_are_still_are_quiet()
+    ensures { PlainStillIsQuiet }
 {}
