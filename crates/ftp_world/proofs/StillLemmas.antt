@@ -1,10 +1,11 @@
 -- A world in which nothing moves that takes no memory is quiet, or a queue of it is blocked.
 use Rattle.std.proofs.Common.{◌≡◌, ◌⊎◌, inl, inr, ℕ, suc, ◌≤◌, Bool, true, false, List, [], ◌∷◌, not, ◌&&◌, ◌||◌, length, refl, sym, ap, ◌∙◌, arith}
 use Rattle.std.specs.Prelude.{◌==◌, nat_lt}
-use Rattle.std.proofs.lemmas.Bool.Decides.{leb_tells}
+use Rattle.std.proofs.lemmas.Bool.Decides.{eqb_tells, leb_tells}
+use Rattle.std.proofs.lemmas.Bool.{le-leb}
 use Rattle.ftp_ends.specs.Octets.{has_octets}
 use Rattle.ftp_world.specs.Events.{Queue, ControlToServer, ControlToClient, DataToServer, DataToClient, Deliver, IsQuiet, can_happen, can_move, can_take, due, in_queue, may_take}
-use Rattle.ftp_world.specs.Still.{IsStill, IsBlocked, StillIsQuiet, BlockedIsNotQuiet, QuietIsStill}
+use Rattle.ftp_world.specs.Still.{IsStill, IsBlocked, StillIsQuiet, BlockedIsNotQuiet, QuietIsStill, RestingIsStill}
 use Rattle.ftp_world.specs.World.{World}
 
 -- ---- tests
@@ -108,3 +109,26 @@ blocked_is_not_quiet w queue blocked quiet = never (has_octets (due queue w) && 
 -- what holds of every count holds of few
 pub quiet_is_still : QuietIsStill
 quiet_is_still w quiet = record { moved = λ queue count some few. quiet.moved queue count; opened = quiet.opened; ended = quiet.ended }
+
+-- some octets are not none
+some_count : (count : ℕ) → 1 ≤ count → (count == 0) ≡ false
+some_count count some = elim (eqb_tells count 0) [ inl is ↦ absurd (omega (arith, some, is.1)) | inr isnt ↦ isnt.0 ]
+
+-- what no room of a queue moves, less of it doesn't
+fewer_move : (owes : Bool) (long count : ℕ) → 1 ≤ count → count ≤ 4096 → (owes && nat_lt long 4096) ≡ false → (owes && ((count == 0) || nat_lt long count)) ≡ false
+fewer_move false long count some few none = refl
+fewer_move true long count some few none =
+    ap (λ b. b || nat_lt long count) (some_count count some)
+    ∙ elim (leb_tells (suc long) count) [
+      | inl less ↦ absurd (never (nat_lt long 4096) (le-leb (suc long) 4096 (omega (arith, less.1, few))) none)
+      | inr more ↦ more.0
+    ]
+
+-- so a loop can test it
+pub resting_is_still : RestingIsStill
+resting_is_still w rests closed told = record { moved = moves_none; opened = closed; ended = told }
+  where
+    moves_none : (queue : Queue) (count : ℕ) → 1 ≤ count → count ≤ 4096 → can_happen (Deliver queue count) w ≡ false
+    moves_none queue count some few =
+        ap (λ b. b || can_take queue count w) (fewer_move (has_octets (due queue w)) (length (in_queue queue w)) count some few (rests queue).moved)
+        ∙ takes_none (not (count == 0)) (has_octets (in_queue queue w)) (may_take queue w) (rests queue).taken

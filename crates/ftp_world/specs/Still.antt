@@ -1,5 +1,5 @@
 -- What is quiet: a world in which nothing moves that takes no memory is quiet, unless a queue is full whose receiver may not take.
-use Rattle.std.specs.Prelude.{◌≡◌, ◌⊎◌, ℕ, ◌≤◌, false, length, IsTrue}
+use Rattle.std.specs.Prelude.{◌≡◌, ◌⊎◌, ℕ, ◌≤◌, ◌&&◌, false, nat_lt, length, IsTrue}
 use Rattle.ftp_ends.specs.Octets.{has_octets}
 use Rattle.ftp_world.specs.Events.{Queue, Deliver, Open, End, IsQuiet, can_happen, due, in_queue, may_take}
 use Rattle.ftp_world.specs.World.{World}
@@ -13,6 +13,11 @@ pub record IsStill (w : World) : Type 0 where
   pub moved : (queue : Queue) (count : ℕ) → 1 ≤ count → count ≤ queue_room → can_happen (Deliver queue count) w ≡ false
   pub opened : can_happen Open w ≡ false
   pub ended : (queue : Queue) → can_happen (End queue) w ≡ false
+
+-- what a call that takes no memory finds of a queue: no octet is moved into its room, and none of it may be taken
+pub record IsAtRest (queue : Queue) (w : World) : Type 0 where
+  pub moved : (has_octets (due queue w) && nat_lt (length (in_queue queue w)) queue_room) ≡ false
+  pub taken : (has_octets (in_queue queue w) && may_take queue w) ≡ false
 
 -- a queue is full, its receiver may not take of it, and more is due
 pub record IsBlocked (queue : Queue) (w : World) : Type 0 where
@@ -31,3 +36,8 @@ BlockedIsNotQuiet = (w : World) (queue : Queue) → IsBlocked queue w → IsQuie
 -- what is quiet is still
 abbrev pub QuietIsStill : Type 0
 QuietIsStill = (w : World) → IsQuiet w → IsStill w
+
+-- where every queue is at rest, no link is asked for and nobody is to be told of an end, a world is still: so settling can test it
+abbrev pub RestingIsStill : Type 0
+RestingIsStill =
+    (w : World) → ((queue : Queue) → IsAtRest queue w) → can_happen Open w ≡ false → ((queue : Queue) → can_happen (End queue) w ≡ false) → IsStill w

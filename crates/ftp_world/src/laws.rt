@@ -1,6 +1,6 @@
 //! Laws of what is claimed of a session: functions that do nothing, whose contracts are laws of `specs/`.
 ghost use Rattle.ftp_world.specs.Claims.{DoneIsWhole, HeadlineFollows, PeekIsDirect, TriesAreFew, UnmarkedIsDirect};
-ghost use Rattle.ftp_world.specs.Still.{BlockedIsNotQuiet, QuietIsStill, StillIsQuiet};
+ghost use Rattle.ftp_world.specs.Still.{BlockedIsNotQuiet, QuietIsStill, RestingIsStill, StillIsQuiet};
 
 /// Without breaks, refusals and an end of the control connection, agreement is the direct run.
 pub fn unmarked_agreement_is_the_direct_run()
@@ -32,4 +32,5 @@ pub fn still_is_quiet()
     ensures quiet { StillIsQuiet }
     ensures blocked { BlockedIsNotQuiet }
     ensures back { QuietIsStill }
+    ensures rests { RestingIsStill }
 {}
