@@ -1,11 +1,11 @@
 -- What asks nothing of who hears it: lines, replies and the answers WONT and DONT (RFC 854); and that such octets make no more to do for the client.
-use Rattle.std.proofs.Common.{map, length, ◌≡◌, ℕ, zero, suc, ◌<◌, inl, inr, List, [], ◌∷◌, ◌++◌, true, false, ◌==◌, refl, sym, ap, subst, ◌∙◌, take, append-nil, arith}
+use Rattle.std.proofs.Common.{map, length, ◌≡◌, ℕ, suc, ◌<◌, inl, inr, List, [], ◌∷◌, ◌++◌, true, false, ◌==◌, refl, sym, ap, subst, ◌∙◌, take, append-nil, arith}
 use Rattle.std.specs.Prelude.{IsTrue, nat_le}
 use Rattle.std.specs.List.{flat_map}
 use Rattle.std.proofs.lemmas.Bool.{and_parts, cond_both}
 use Rattle.ftp_nvt.proofs.FoldLemmas.{ends}
 use Rattle.ftp_nvt.specs.Lines.{NvtEvent, line, too_long, owed, written_line, written_octet}
-use Rattle.ftp_nvt.specs.Telnet.{TelnetUnit, data_octet, option, subnegotiation, command, owed_of, place_behind, place_from, unit_ended}
+use Rattle.ftp_nvt.specs.Telnet.{TelnetUnit, data_octet, option, owed_of, place_behind, place_from, unit_ended}
 use Rattle.ftp_nvt.specs.declared.line.Stage.{Stage}
 use Rattle.ftp_nvt.specs.declared.line.Stage.TheVariants as Lined
 use Rattle.ftp_nvt.specs.declared.line.TheConstants.{LF, CR}

@@ -6,7 +6,6 @@ use Rattle.ftp_endpoint.specs.declared.host.Host.{Host}
 use Rattle.ftp_ends.specs.Link.{is_accepting, is_connecting, is_wanted, same_host}
 use Rattle.ftp_ends.specs.declared.link.Wants.{Wants}
 use Rattle.ftp_ends.specs.declared.link.Wants.TheVariants as Want
-use Rattle.ftp_client_machine.specs.Bounds.{AddsAtMost}
 use Rattle.ftp_client_machine.specs.Calls as near
 use Rattle.ftp_client_machine.specs.Calls.{is_sound}
 use Rattle.ftp_client_machine.specs.View.{View as Near}
@@ -22,7 +21,7 @@ use Rattle.ftp_server_machine.specs.declared.session.Way.TheVariants as Ways
 use Rattle.ftp_ends.specs.Octets.{has_octets}
 use Rattle.ftp_world.specs.Events.{Queue, ControlToServer, ControlToClient, DataToServer, DataToClient, Deliver, DeliversBy, Fills, Gives, MayTakeFrom, Takes, can_happen, due, filled, in_queue, is_asked_for, is_closed_by_far, is_closed_by_near, is_gone, link_opens, may_take, pulled, pushed, taking, told}
 use Rattle.ftp_world.specs.Settling.{left_in, ends_to_client, ends_to_server}
-use Rattle.ftp_world.specs.World.{World, Link, Gone, Opened, ClosedByNear, ClosedByFar}
+use Rattle.ftp_world.specs.World.{World, Link, ClosedByNear, ClosedByFar}
 use Rattle.ftp_settling.specs.Steady.{AreApart, AsksNothing, NearIsApart}
 use Rattle.ftp_settling.proofs.Moving.{Less, Pushes, control_in, data_in, file_in, fill_apart, fill_asks, fill_less, gives_few, pull_apart, pull_less, replies_in, served_behind}
 use Rattle.ftp_server_machine.proofs.ServerBounds.{completed_lowers}
@@ -31,9 +30,8 @@ use Rattle.ftp_settling.proofs.FarCallsApart.{data_opened_apart, hears_apart, re
 use Rattle.ftp_settling.proofs.FarLow.{later_cases}
 use Rattle.ftp_settling.proofs.Possible.{taken_can}
 use Rattle.ftp_settling.proofs.NearApart as keeps
-use Rattle.ftp_client_machine.proofs.ClientBounds.{if_low, positive}
-use Rattle.ftp_client_machine.proofs.ClientBounds as bounds
-use Rattle.ftp_client_machine.proofs.ClientCalls.{calls_lower, opened_by_low}
+use Rattle.ftp_client_machine.proofs.ClientBounds.{positive}
+use Rattle.ftp_client_machine.proofs.ClientCalls.{calls_lower}
 use Rattle.ftp_settling.proofs.Order.{falls_most, falls_then, le_then, not_less}
 
 -- ---- a delivery
@@ -126,11 +124,6 @@ delivery_falls read queue count false w new is a asks can d =
 
 -- ---- an opening
 
--- a link that opens makes no more to do for the client
-near_opened_low : (host : Host) (v : Near) → AddsAtMost 0 v (near.data_opened host v)
-unfolding near.data_opened
-near_opened_low host v = if_low v.closing v v (near.opened_by v.connection host v) (bounds.same v) (opened_by_low v.connection host v refl)
-
 -- an end that a link is wanted for
 abbrev Links : Wants → Type 0
 Links wants = (is_accepting wants ≡ true) ⊎ (is_connecting wants ≡ true)
@@ -193,7 +186,7 @@ opens_less w is =
     let wanted = (and_parts (is_gone w.link) (is_wanted (near.wants w.near) (far.wants w.far)) is).1 in
     let links = wanted_links (is_connecting (near.wants w.near)) (is_accepting (near.wants w.near)) (is_connecting (far.wants w.far)) (is_accepting (far.wants w.far)) wanted in
     let found = link_or w.far.session.closing (is_done w.far.session.life w.far.owed) (wants_of w.far.session.connection) links in
-    let low = near_opened_low w.far.footing.here w.near in
+    let low = (calls_lower w.near).opened_lowers w.far.footing.here in
     le_then _ _ low.begins (λ e. elim low.gives [
       | inl less ↦ not_less _ _ e less
       | inr gives ↦ le_then _ _ (omega (arith, gives)) (λ f. inl (far_opened_falls w.near.here w.far found.0 found.1))

@@ -4,8 +4,8 @@ use Rattle.std.specs.Prelude.{not}
 use Rattle.ftp_server_machine.specs.Machine.{Reading}
 use Rattle.ftp_world.specs.Claims.{IsSettling}
 use Rattle.ftp_ends.specs.Octets.{has_octets}
-use Rattle.ftp_world.specs.Events.{Queue, ControlToServer, ControlToClient, DataToServer, DataToClient, Event, Deliver, Open, Refuse, End, Break, EndControl, Next, Upload, Does, can_happen, due, in_queue, is_closed, is_left_by_far, is_left_by_near, lends_none, link_opens, told}
-use Rattle.ftp_world.specs.World.{World, Control, Stands, LeftByNear, LeftByFar, Parted}
+use Rattle.ftp_world.specs.Events.{Queue, ControlToServer, ControlToClient, DataToServer, DataToClient, Event, Deliver, Open, End, Does, can_happen, due, in_queue, is_closed, is_left_by_far, is_left_by_near, lends_none, link_opens, told}
+use Rattle.ftp_world.specs.World.{World, Control, LeftByNear, LeftByFar}
 use Rattle.ftp_settling.specs.Laws.{EventsFall}
 use Rattle.ftp_settling.specs.Steady.{AreApart, AsksNothing}
 use Rattle.ftp_settling.proofs.Moving.{Less, served_behind}

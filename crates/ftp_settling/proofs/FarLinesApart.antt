@@ -1,5 +1,5 @@
 -- While the server's close is wanted, nothing else of the link stands: each command keeps it, and each line that is acted on.
-use Rattle.std.proofs.Common.{◌≡◌, ℕ, List, [], ◌∷◌, Bool, true, false, Option, Some, None, refl, ap}
+use Rattle.std.proofs.Common.{◌≡◌, ℕ, List, [], Bool, true, false, Option, Some, None, refl, ap}
 use Rattle.std.proofs.lemmas.Bool.{cond_both}
 use Rattle.ftp_command.specs.declared.command.Command.{Command}
 use Rattle.ftp_command.specs.declared.command.Command.TheVariants as command
@@ -29,9 +29,9 @@ use Rattle.ftp_server_machine.specs.declared.reply.ReplyKind.{ReplyKind}
 use Rattle.ftp_server_machine.specs.declared.reply.ReplyKind.TheVariants as Replies
 use Rattle.ftp_server_machine.specs.declared.reply.Text.TheVariants as Texts
 use Rattle.ftp_server_machine.specs.declared.heard.Heard.{Heard}
-use Rattle.ftp_server_machine.specs.declared.heard.Heard.TheVariants.{TooLong, Bad, Asks}
+use Rattle.ftp_server_machine.specs.declared.heard.Heard.TheVariants.{Asks}
 use Rattle.ftp_server_machine.specs.declared.session.Access.{Access}
-use Rattle.ftp_server_machine.specs.declared.session.Access.TheVariants.{Nobody, AwaitsPass, Known}
+use Rattle.ftp_server_machine.specs.declared.session.Access.TheVariants.{AwaitsPass}
 use Rattle.ftp_server_machine.specs.declared.session.DataConnection.{DataConnection}
 use Rattle.ftp_server_machine.specs.declared.session.DataConnection.TheVariants as Data
 use Rattle.ftp_server_machine.specs.declared.session.Facts.{Facts}

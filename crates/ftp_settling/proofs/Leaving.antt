@@ -19,7 +19,7 @@ use Rattle.ftp_server_machine.specs.declared.session.Life.TheVariants as Lives
 use Rattle.ftp_world.specs.Events.{ControlToServer, ControlToClient, told}
 use Rattle.ftp_world.specs.Serving.{after_event, far_closes, far_served, far_served_by, left_by_far, left_by_near, link_closed_by_far, link_closed_by_near, near_closes, near_served, near_served_by, served}
 use Rattle.ftp_world.specs.Settling.{control_ends, left_in}
-use Rattle.ftp_world.specs.World.{World, LeftByNear, LeftByFar, Link, Gone, Opened, ClosedByNear, ClosedByFar}
+use Rattle.ftp_world.specs.World.{World, LeftByNear, LeftByFar, Link, Gone}
 use Rattle.ftp_settling.specs.Steady.{AreApart}
 use Rattle.ftp_settling.proofs.Moving.{Less}
 use Rattle.ftp_settling.proofs.FarCallsApart.{control_end_apart}

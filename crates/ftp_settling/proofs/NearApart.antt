@@ -22,7 +22,7 @@ use Rattle.ftp_client_machine.specs.Replies.{Verdict, Preliminary, Completion, I
 use Rattle.ftp_client_machine.specs.Tries.{run_at}
 use Rattle.ftp_reply.specs.Reader.{Heard, GoesOn, Says, Faulty, line_heard, Between}
 use Rattle.ftp_reply.specs.Values.{passive_value, extended_value, mark_value}
-use Rattle.ftp_client_machine.specs.View.{View, Job, Idle, Waiting, Doing, Transferring, Told, Transfer, Flow, strange, dropped, fails_by}
+use Rattle.ftp_client_machine.specs.View.{View, Job, Waiting, Doing, Transferring, Told, Transfer, Flow, strange, dropped, fails_by}
 use Rattle.ftp_client_machine.specs.declared.client.Abort.{Abort}
 use Rattle.ftp_client_machine.specs.declared.client.Abort.TheVariants as Aborts
 use Rattle.ftp_client_machine.specs.declared.client.Ending.{Ending}

@@ -8,7 +8,7 @@ use Rattle.ftp_operation.specs.Answer.{Said}
 use Rattle.ftp_client_machine.specs.Calls as near
 use Rattle.ftp_client_machine.specs.Calls.{data_wants, is_down, is_sound, link_wants, reported_by, transfer_under_way}
 use Rattle.ftp_client_machine.specs.Dialogue.{has_begun}
-use Rattle.ftp_client_machine.specs.View.{View as Near, Transfer, Idle, Waiting, Doing, Transferring, Told, stands, Job}
+use Rattle.ftp_client_machine.specs.View.{View as Near, Transfer, Told, stands, Job}
 use Rattle.ftp_client_machine.specs.declared.client.DataConnection.{DataConnection as NearData}
 use Rattle.ftp_client_machine.specs.declared.client.DataConnection.TheVariants as NearDatas
 use Rattle.ftp_server_machine.specs.Calls as far
@@ -21,7 +21,7 @@ use Rattle.ftp_server_machine.specs.declared.session.Transfer.TheVariants as Tra
 use Rattle.ftp_server_machine.specs.declared.session.Way.TheVariants as Ways
 use Rattle.ftp_world.specs.Serving.{near_closes, far_closes, near_listens, far_listens, left_by_near, left_by_far, near_served, far_served, near_served_by, far_served_by, served, collected, collected_by, after_event, link_closed_by_near, link_closed_by_far}
 use Rattle.ftp_world.specs.Settling.{left_in, control_ends, ends_to_server, ends_to_client}
-use Rattle.ftp_world.specs.World.{World, Control, Stands, LeftByNear, LeftByFar, Parted, Link, Gone, Opened, ClosedByNear, ClosedByFar, port_at}
+use Rattle.ftp_world.specs.World.{World, Control, Stands, LeftByNear, LeftByFar, Link, Gone, Opened, ClosedByNear, ClosedByFar, port_at}
 use Rattle.ftp_settling.specs.Laws.{AtMost, ServingIsLow}
 use Rattle.ftp_settling.specs.Steady.{AreApart, NearIsApart, FarIsApart}
 use Rattle.ftp_settling.proofs.Order.{FarLow, NearLow, far_most, le_then, most_most, most_same, near_most, near_same}

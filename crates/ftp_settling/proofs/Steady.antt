@@ -15,7 +15,7 @@ use Rattle.ftp_world.specs.Agreement.{Leads, Order}
 use Rattle.ftp_world.specs.Claims.{Beginning, SettlingFalls, world_of}
 use Rattle.ftp_world.specs.Events.{Queue, ControlToServer, ControlToClient, DataToServer, DataToClient, Event, Deliver, Open, Refuse, End, Break, EndControl, Next, Upload, DeliversBy, Does, begun_at, broken_by, can_happen, ends_control, filled, lends_none, link_breaks, link_opens, link_refused, operation_begins, pulled, pushed, refused_by, taking, told, upload_begins}
 use Rattle.ftp_world.specs.Serving.{after_event, collected_by, far_closes, far_listens, far_served, left_by_far, link_closed_by_far, link_closed_by_near, near_closes, near_listens, near_served, served}
-use Rattle.ftp_world.specs.World.{World, Control, Stands, LeftByNear, LeftByFar, Parted, Link, Gone, Opened, ClosedByNear, ClosedByFar, port_at}
+use Rattle.ftp_world.specs.World.{World, Control, Stands, LeftByNear, Link, Gone, Opened, ClosedByNear, ClosedByFar, port_at}
 use Rattle.ftp_settling.specs.Laws.{EventsKeepSteady, StaysSteady}
 use Rattle.ftp_settling.specs.Steady.{AreApart, AskNothing, AsksNothing, FarIsApart, IsSteady, NearIsApart, is_left}
 use Rattle.ftp_settling.proofs.Asking.{ask_more, calm_reply, octet_place}
