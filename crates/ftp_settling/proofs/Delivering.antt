@@ -67,7 +67,7 @@ fill_asks_at ControlToClient w counts asks is = fill_asks w counts asks
 fill_asks_at queue w counts asks is = absurd (cc)
 
 -- what was taken was there
-pub in_few : (count taken long : ℕ) → taken ≤ min count long → taken ≤ long
+in_few : (count taken long : ℕ) → taken ≤ min count long → taken ≤ long
 in_few count taken long within = omega (arith, within)
 
 -- a delivery lowers a number: by a call that gave, or by an octet that was taken
@@ -96,7 +96,7 @@ delivered read queue count w (gave ∷ counts) taken some fills takes can asks =
     both_less a b c x y = falls_then (left_in a) (left_in b) (left_in c) x y
 
 -- one that moves what one call gives
-pub moved_some : (queue : Queue) (w : World) (gave : ℕ) → Gives 4096 (due queue w) gave → can_happen (Deliver queue 0) w ≡ true → 0 < gave
+moved_some : (queue : Queue) (w : World) (gave : ℕ) → Gives 4096 (due queue w) gave → can_happen (Deliver queue 0) w ≡ true → 0 < gave
 moved_some queue w gave gives can = gives.some (omega arith) (has_due (has_octets (due queue w)) (nat_lt (length (in_queue queue w)) 0) (has_octets (in_queue queue w)) (may_take queue w) can)
   where
     has_due : (owing short there may : Bool) → ((owing && (true || short)) || (not true && there && may)) ≡ true → owing ≡ true
@@ -108,7 +108,7 @@ pub lent_apart : (queue : Queue) (taken : ℕ) (w : World) → AreApart w → Ar
 lent_apart queue taken w a = record { near = a.near; far = a.far }
 
 -- a test of zero
-pub zero_is : (count : ℕ) → (count == 0) ≡ true → count ≡ 0
+zero_is : (count : ℕ) → (count == 0) ≡ true → count ≡ 0
 zero_is count is = eqb-true count 0 is
 
 -- each delivery falls

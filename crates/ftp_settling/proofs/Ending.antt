@@ -1,13 +1,12 @@
--- Each run of turns from a steady world ends: five numbers of which the first that changes is less cannot fall for ever.
+-- Each run of deliveries, openings and ends from a steady world ends: five numbers of which the first that changes is less cannot fall for ever.
 use Rattle.std.proofs.Common.{◌≡◌, inl, inr, ℕ, zero, suc, ◌<◌, true, refl, sym, subst, arith}
+use mathlib.Core.Path.{ap, fun_ext}
 use Rattle.ftp_server_machine.specs.Machine.{Reading}
-use Rattle.ftp_world.specs.Claims.{IsSettling}
-use Rattle.ftp_world.specs.Events.{Event, Deliver, Open, End}
 use Rattle.ftp_world.specs.Settling.{Falls, Left, left_in}
 use Rattle.ftp_world.specs.World.{World}
 use Rattle.ftp_settling.specs.Laws.{SteadyEnds}
 use Rattle.ftp_settling.specs.Steady.{IsSteady}
-use Rattle.ftp_settling.specs.Turns.{Ends, ends, IsTurn}
+use Rattle.ftp_settling.specs.Turns.{Ends, ends}
 use Rattle.ftp_settling.proofs.EventsFall.{events_fall}
 use Rattle.ftp_settling.proofs.Steady.{happens_steady}
 
@@ -60,22 +59,22 @@ each_descends = strong (λ a. (b c d e : ℕ) → Descends (left a b c d e)) (λ
         (subst (λ z. Descends (left a b z m.to_client m.unqueued)) (sym r)
         (subst (λ z. Descends (left a b c z m.unqueued)) (sym s) (fe m.unqueued x))))
 
--- ---- so each run of turns ends
+-- so it is of all five
+pub left_descends : (l : Left) → Descends l
+left_descends l = each_descends l.at_client l.to_server l.at_server l.to_client l.unqueued
 
--- a turn is a delivery, an opening or an end
-pub turn_settles : (event : Event) (w : World) → IsTurn event w → IsSettling event
-turn_settles (Deliver queue count) w turn = tt
-turn_settles Open w turn = tt
-turn_settles (End queue) w turn = tt
-turn_settles other w turn = absurd turn
+-- there is one way to say so
+pub Descends-prop : (l : Left) → IsProp (Descends l)
+Descends-prop l (descends f) (descends g) = ap descends (fun_ext (λ m. fun_ext (λ falls. Descends-prop m (f m falls) (g m falls))))
+
+-- ---- so each run of them ends
 
 -- from a world with so much left
 ends_from : (read : Reading) (l : Left) (w : World) → Descends l → left_in w ≡ l → IsSteady w → Ends read w
-ends_from read l w (descends f) is s = ends (λ event next turn happens.
-    let falls = events_fall read event w next s.apart s.asks (turn_settles event w turn) happens in
+ends_from read l w (descends f) is s = ends (λ event next settles happens.
+    let falls = events_fall read event w next s.apart s.asks settles happens in
     ends_from read (left_in next) next (f (left_in next) (subst (Falls (left_in next)) is falls)) refl (happens_steady read event true w next s happens))
 
--- each run of turns from a steady world ends
+-- from each world that is steady
 pub steady_ends : SteadyEnds
-steady_ends read w s =
-    ends_from read (left_in w) w (each_descends (left_in w).at_client (left_in w).to_server (left_in w).at_server (left_in w).to_client (left_in w).unqueued) refl s
+steady_ends read w s = ends_from read (left_in w) w (left_descends (left_in w)) refl s

@@ -48,7 +48,7 @@ served_behind old mid new less apart is =
 -- ---- octets are pulled
 
 -- so many octets more are on their way
-few_taken : (queue owed : List ℕ) (count : ℕ) → count ≤ length owed → length (queue ++ take count owed) ≡ length queue + count
+pub few_taken : (queue owed : List ℕ) (count : ℕ) → count ≤ length owed → length (queue ++ take count owed) ≡ length queue + count
 few_taken queue owed count few = omega (arith, length-append queue (take count owed), length-take count owed, few)
 
 -- control octets leave the client

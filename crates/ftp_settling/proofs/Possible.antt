@@ -11,11 +11,6 @@ pub some_octets : (octets : List ℕ) → has_octets octets ≡ true → 0 < len
 some_octets [] is = absurd (cc)
 some_octets (octet ∷ octets) is = omega arith
 
--- and where some are, the test says so
-pub has_some : (octets : List ℕ) → 0 < length octets → has_octets octets ≡ true
-has_some [] some = absurd (omega (arith, some))
-has_some (octet ∷ octets) some = refl
-
 -- ---- the test of a delivery: octets are due, and fewer are on their way than are offered; none are offered; octets are on their way, and may be taken
 
 -- what is due moves

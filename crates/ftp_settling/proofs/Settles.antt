@@ -1,26 +1,26 @@
--- From every steady world turns lead to one in which nothing is in flight.
+-- From every steady world deliveries, openings and ends lead to one in which nothing is in flight.
 use Rattle.std.proofs.Common.{◌≡◌, ◌⊎◌, inl, inr, ℕ, zero, suc, ◌==◌, List, [], ◌∷◌, ◌++◌, length, Bool, true, false, ◌&&◌, refl, sym, ap, ◌∙◌, arith}
 use Rattle.std.specs.Prelude.{min, nat_lt}
 use Rattle.ftp_nvt.proofs.CutLemmas.{decided}
 use Rattle.ftp_server_machine.specs.Machine.{Reading}
 use Rattle.ftp_world.specs.Agreement.{begun_by}
-use Rattle.ftp_world.specs.Claims.{SettlesAlways, Settles, world_of}
+use Rattle.ftp_world.specs.Claims.{IsSettling, SettlesAlways, Settles, world_of}
 use Rattle.ftp_ends.specs.Octets.{has_octets}
 use Rattle.ftp_world.specs.Events.{Queue, ControlToServer, ControlToClient, DataToServer, DataToClient, Event, Deliver, Open, End, Gives, Happens, IsQuiet, MayTakeFrom, can_happen, due, in_queue, lends_none, link_opens, may_take, pulled, pushed, taking, told}
 use Rattle.ftp_world.specs.Serving.{after_event}
 use Rattle.ftp_world.specs.World.{World}
-use Rattle.ftp_settling.specs.Turns.{Ends, ends, IsTurn}
-use Rattle.ftp_settling.proofs.Ending.{steady_ends, turn_settles}
+use Rattle.ftp_settling.specs.Turns.{Ends, ends}
+use Rattle.ftp_settling.proofs.Ending.{steady_ends}
 use Rattle.ftp_settling.proofs.Possible.{and_none, lent_due, lent_may, lent_queue, moves_can, some_octets, still, takes_can}
 use Rattle.ftp_settling.proofs.Steady.{leads_steady, starts_steady}
 
 -- ---- a world is quiet, or something happens
 
--- a turn of it, that begins no operation
+-- a delivery, an opening or an end of it
 pub record Stirs (read : Reading) (w : World) : Type 0 where
   pub event : Event
   pub next : World
-  pub turn : IsTurn event w
+  pub settles : IsSettling event
   pub nothing : begun_by event true ≡ []
   pub happens : Happens read event w true next
 
@@ -35,7 +35,7 @@ moves read queue w is =
     record {
       event = Deliver queue 0;
       next = after_event (pulled queue (lends_none w) gave);
-      turn = omega arith;
+      settles = tt;
       nothing = refl;
       happens = (
         moves_can (has_octets (due queue w)) (nat_lt (length (in_queue queue w)) 0) true (has_octets (in_queue queue w)) (may_take queue w) is refl,
@@ -59,7 +59,7 @@ takes read queue w none is may =
     record {
       event = Deliver queue 1;
       next = after_event (pushed read queue 1 (taking queue 1 u));
-      turn = omega (arith, some_octets (in_queue queue w) is);
+      settles = tt;
       nothing = refl;
       happens = (
         takes_can (has_octets (due queue w)) (nat_lt (length (in_queue queue w)) 1) (has_octets (in_queue queue w)) (may_take queue w) is may,
@@ -93,14 +93,14 @@ queue_rests read queue w = elim (decided (has_octets (due queue w))) [
 -- an end can be told, or not
 end_rests : (read : Reading) (queue : Queue) (w : World) → Stirs read w ⊎ (can_happen (End queue) w ≡ false)
 end_rests read queue w = elim (decided (can_happen (End queue) w)) [
-  | inl can ↦ inl (record { event = End queue; next = after_event (told queue (lends_none w)); turn = tt; nothing = refl; happens = (can, refl) })
+  | inl can ↦ inl (record { event = End queue; next = after_event (told queue (lends_none w)); settles = tt; nothing = refl; happens = (can, refl) })
   | inr none ↦ inr none
 ]
 
 -- a link can be opened, or not
 open_rests : (read : Reading) (w : World) → Stirs read w ⊎ (can_happen Open w ≡ false)
 open_rests read w = elim (decided (can_happen Open w)) [
-  | inl can ↦ inl (record { event = Open; next = after_event (link_opens (lends_none w)); turn = tt; nothing = refl; happens = (can, refl) })
+  | inl can ↦ inl (record { event = Open; next = after_event (link_opens (lends_none w)); settles = tt; nothing = refl; happens = (can, refl) })
   | inr none ↦ inr none
 ]
 
@@ -121,7 +121,7 @@ each_queue P Q f = by_four (f ControlToServer) (f ControlToClient) (f DataToServ
     by_four (inr a) (inr b) (inr c) (inl q) = inl q
     by_four (inr a) (inr b) (inr c) (inr d) = inr (by_all a b c d)
 
--- a world is quiet, or has a turn
+-- a world is quiet, or one of them happens
 rests_or_stirs : (read : Reading) (w : World) → Stirs read w ⊎ IsQuiet w
 rests_or_stirs read w =
     by_three (each_queue (λ queue. (count : ℕ) → can_happen (Deliver queue count) w ≡ false) (Stirs read w) (λ queue. queue_rests read queue w)) (open_rests read w)
@@ -136,14 +136,14 @@ rests_or_stirs read w =
 
 -- ---- so it settles
 
--- a world whose runs end comes to rest: it is quiet, or a turn leads to one that does
+-- a world whose runs end comes to rest: it is quiet, or one of them leads to one that does
 settles_from : (read : Reading) (w : World) → Ends read w → Settles read w
 settles_from read w (ends f) = elim (rests_or_stirs read w) [
   | inr quiet ↦ ([], w, tt, (refl, refl), quiet)
-  | inl stirs ↦ (let after = settles_from read stirs.next (f stirs.event stirs.next stirs.turn stirs.happens) in (
+  | inl stirs ↦ (let after = settles_from read stirs.next (f stirs.event stirs.next stirs.settles stirs.happens) in (
     stirs.event ∷ after.0,
     after.1,
-    (turn_settles stirs.event w stirs.turn, after.2),
+    (stirs.settles, after.2),
     (true, stirs.next, [], stirs.happens, ap (λ orders. orders ++ []) (sym stirs.nothing), after.3),
     after.4,
   ))

@@ -44,13 +44,12 @@ EventsKeepSteady = (read : Reading) (event : Event) (possible : Bool) (w new : W
 abbrev pub StaysSteady : Type 0
 StaysSteady = Always (λ read b events begun w. IsSteady w)
 
--- each run of turns from a steady world ends
+-- each run of deliveries, openings and ends from a steady world ends
 abbrev pub SteadyEnds : Type 0
 SteadyEnds = (read : Reading) (w : World) → IsSteady w → Ends read w
 
--- there is a number that each turn lowers, for a loop to count down: a function of the world and of the fact that its runs end
+-- there is a number that each turn from a steady world lowers, for a loop to count down: a function of the world
 abbrev pub HasHeight : Type 0
 HasHeight =
     (read : Reading)
-    → (height : (w : World) → Ends read w → ℕ)
-    × ((event : Event) (w new : World) (here : Ends read w) (there : Ends read new) → IsTurn event w → Happens read event w true new → height new there < height w here)
+    → (height : World → ℕ) × ((event : Event) (w new : World) → IsSteady w → IsTurn event w → Happens read event w true new → height new < height w)

@@ -30,8 +30,8 @@ pub fn settles_always()
     ensures { SettlesAlways }
 {}
 
-/// Nor can a loop of turns go on for ever, whatever each of them moves or takes: from a steady world each run of turns ends, and there
-/// is a number that each turn lowers.
+/// Nor can a loop go on for ever, whatever each turn of it moves or takes: each run of deliveries, openings and ends from a steady world
+/// ends, and there is a number, a function of the world, that each turn lowers.
 pub fn turns_end()
     ensures steady { SteadyEnds }
     ensures height { HasHeight }
