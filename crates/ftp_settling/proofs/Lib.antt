@@ -20,3 +20,4 @@ pub mod Ending
 pub mod Settles
 pub mod Turning
 pub mod Heights
+pub mod Looping

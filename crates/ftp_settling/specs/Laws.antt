@@ -7,7 +7,7 @@ use Rattle.ftp_world.specs.Serving.{after_event}
 use Rattle.ftp_world.specs.Settling.{Left, Falls, left_in}
 use Rattle.ftp_world.specs.World.{World}
 use Rattle.ftp_settling.specs.Steady.{AreApart, AsksNothing, IsSteady}
-use Rattle.ftp_settling.specs.Turns.{IsTurn, Ends}
+use Rattle.ftp_settling.specs.Turns.{Ends, IsTurn, Turned}
 
 -- ---- the numbers
 
@@ -53,3 +53,12 @@ abbrev pub HasHeight : Type 0
 HasHeight =
     (read : Reading)
     → (height : World → ℕ) × ((event : Event) (w new : World) → IsSteady w → IsTurn event w → Happens read event w true new → height new < height w)
+
+-- a step of a loop leaves its world steady, and lowers a number
+pub record StepsDown (height : World → ℕ) (old new : World) : Type 0 where
+  pub steady : ∥ IsSteady new ∥₁
+  pub less : height new < height old
+
+-- so does each turn, as a loop knows of it: that its world is steady is no more than a fact, which a ghost field may hold
+abbrev pub LoopsEnd : Type 0
+LoopsEnd = (height : World → ℕ) × ((old new : World) → ∥ IsSteady old ∥₁ → Turned old new → StepsDown height old new)

@@ -1,7 +1,7 @@
 -- What a world does by itself until nothing is in flight: turns. A loop of turns ends, since no run of deliveries, openings and ends goes
 -- on for ever.
 use Rattle.std.specs.Prelude.{◌+◌, ◌≤◌, true, length}
-use Rattle.ftp_server_machine.specs.Machine.{Reading}
+use Rattle.ftp_server_machine.specs.Machine.{IsReading, Reading}
 use Rattle.ftp_world.specs.Claims.{IsSettling}
 use Rattle.ftp_world.specs.Events.{Event, Deliver, Open, End, Happens, in_queue}
 use Rattle.ftp_world.specs.Still.{queue_room}
@@ -17,3 +17,7 @@ IsTurn (Deliver queue count) w = count ≤ queue_room + length (in_queue queue w
 IsTurn Open w = Unit {0}
 IsTurn (End queue) w = Unit {0}
 IsTurn event w = ⊥
+
+-- a turn happened, whatever reads the server's lines
+abbrev pub Turned : (old new : World) → Type 0
+Turned old new = (event : Event) × IsTurn event old × ((read : Reading) → IsReading read → Happens read event old true new)

@@ -1,5 +1,5 @@
 //! Laws of a session that comes to rest: functions that do nothing, whose contracts are laws.
-ghost use Rattle.ftp_settling.specs.Laws.{EventsFall, EventsKeepSteady, HasHeight, ServingIsLow, StaysSteady, SteadyEnds};
+ghost use Rattle.ftp_settling.specs.Laws.{EventsFall, EventsKeepSteady, HasHeight, LoopsEnd, ServingIsLow, StaysSteady, SteadyEnds};
 ghost use Rattle.ftp_world.specs.Claims.{SettlesAlways, SettlingFalls};
 
 /// What a world does for its ends after an event (closes, ports, leaving, the report) makes no more to do.
@@ -31,8 +31,10 @@ pub fn settles_always()
 {}
 
 /// Nor can a loop go on for ever, whatever each turn of it moves or takes: each run of deliveries, openings and ends from a steady world
-/// ends, and there is a number, a function of the world, that each turn lowers.
+/// ends, and there is a number, a function of the world, that each turn lowers. `looping` says it as a loop needs it, of a world that is known
+/// to be steady, and of turns that happen whatever reads the server's lines.
 pub fn turns_end()
     ensures steady { SteadyEnds }
     ensures height { HasHeight }
+    ensures looping { LoopsEnd }
 {}
