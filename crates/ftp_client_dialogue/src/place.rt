@@ -80,7 +80,8 @@ impl<A: Allocator, F: Carries<A>> Place<A, F> {
         ensures { result ≡ has_octets (job_left (job_of F.flow op.now self.now)) }
     {
         match self {
-            Place::Transferring(transfer) => !transfer.flow.is_down(op) && !transfer.flow.is_given(op),
+            Place::Transferring(transfer) => !transfer.flow.is_down(op)
+                && !transfer.flow.is_given(op),
             Place::Idle | Place::Waiting | Place::Doing(_) | Place::Told(_) => false,
         }
     }
