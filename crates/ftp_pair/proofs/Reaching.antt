@@ -1,0 +1,68 @@
+-- A world that is reached, and the one after an event.
+use Rattle.std.proofs.Common.{◌≡◌, ◌∙◌, ℕ, Bool, true, List, [], ◌∷◌, ◌++◌, refl, sym, ap, subst, arith, Ok, Err}
+use Rattle.std.proofs.Math.Logic.{∥∥₁_prop, ∥∥₁_elim}
+use Rattle.std.specs.Prelude.{IfOk, OnErr}
+use Rattle.std.specs.declared.result.Result.{Result}
+use Rattle.ftp_world.specs.Agreement.{Leads, Order}
+use Rattle.ftp_world.specs.Claims.{AgreesAlways, Beginning, IsFair, IsTimed, AreTimed, world_of}
+use Rattle.ftp_world.specs.Events.{Happens}
+use Rattle.ftp_world.specs.Events as events
+use Rattle.ftp_world.specs.World.{World}
+use Rattle.ftp_pair.specs.Happening.{AgreesHere, Seen, Reached, IsReached, event_of}
+use Rattle.ftp_pair.specs.Shown.{Steps}
+use Rattle.ftp_pair.specs.declared.event.Event.{Event}
+use Rattle.ftp_pair.specs.declared.event.Event.TheVariants as Given
+use Rattle.ftp_pair.proofs.Running.{leads_last}
+
+-- every event has a moment in range
+pub timed : {A : Type 0} (event : Event A) → IsTimed (event_of event)
+timed (Given.Deliver queue count) = tt
+timed Given.Open = tt
+timed Given.Refuse = tt
+timed (Given.End queue) = tt
+timed Given.Break = tt
+timed Given.EndControl = tt
+timed (Given.Next op moment) = moment.in_range
+timed (Given.Upload path octets how moment) = moment.in_range
+
+-- a timed event after timed ones
+timed_last : (given : List events.Event) (event : events.Event) → AreTimed given → IsTimed event → AreTimed (given ++ event ∷ [])
+timed_last [] event all one = (one, tt)
+timed_last (first ∷ given) event all one = (all.0, timed_last given event all.1 one)
+
+-- where it begins
+pub reached_first : (from : Beginning) (s : Seen) → IsFair from → s.world ≡ world_of from → ∥ IsReached s ∥₁
+reached_first from s fair is = ∣ (λ calm. record { from = from; fair = fair; given = []; timed = tt; leads = λ read reads. ([], (refl, is)) }) ∣₁
+
+-- one event more
+reached_more : (event : events.Event) (possible : Bool) (old new : Seen) → IsTimed event → Steps old.calm new.calm (λ read. Happens read event old.world possible new.world) → IsReached old → IsReached new
+reached_more event possible old new in_time steps reached calm =
+    let step = steps calm in
+    let before = reached step.0 in
+    record {
+      from = before.from;
+      fair = before.fair;
+      given = before.given ++ event ∷ [];
+      timed = timed_last before.given event before.timed in_time;
+      leads = λ read reads. let so = before.leads read reads in leads_last read before.given event so.0 possible (world_of before.from) old.world new.world so.1 (step.1 read reads);
+    }
+
+-- after an event, and where nothing changed
+pub reached_on : {E : Type 0} (event : events.Event) (result : Result Bool E) (old new : Seen) → IsTimed event
+    → IfOk result (λ possible. Steps old.calm new.calm (λ read. Happens read event old.world possible new.world)) → OnErr result ((new.world ≡ old.world) × (new.calm ≡ old.calm)) → ∥ IsReached old ∥₁ → ∥ IsReached new ∥₁
+reached_on event (Ok possible) old new in_time does same was = ∥∥₁_elim was ∥∥₁_prop (λ reached. ∣ reached_more event possible old new in_time does reached ∣₁)
+reached_on event (Err e) old new in_time does same was =
+    ∥∥₁_elim was ∥∥₁_prop (λ reached. ∣ (λ calm. subst Reached (sym same.0) (reached (sym same.1 ∙ calm))) ∣₁)
+
+-- where nothing failed
+pub reached_calm : (s : Seen) → ∥ IsReached s ∥₁ → s.calm ≡ true → ∥ Reached s.world ∥₁
+reached_calm s was calm = ∥∥₁_elim was ∥∥₁_prop (λ reached. ∣ reached calm ∣₁)
+
+-- by the law that there is always agreement, there is in every world that is reached
+pub agrees_here : (w : World) → AgreesAlways → ∥ Reached w ∥₁ → ∥ AgreesHere w ∥₁
+agrees_here w law was = ∥∥₁_elim was ∥∥₁_prop
+    (λ reached. ∣ record {
+      from = reached.from;
+      fair = reached.fair;
+      agrees = λ read reads. let so = reached.leads read reads in (so.0, law read reads reached.from reached.fair reached.given so.0 w reached.timed so.1);
+    } ∣₁)

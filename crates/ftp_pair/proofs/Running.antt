@@ -1,0 +1,76 @@
+-- One event after the other.
+use Rattle.std.proofs.Common.{◌≡◌, ◌∙◌, ℕ, Bool, true, List, [], ◌∷◌, ◌++◌, map, take, length, refl, sym, ap, subst, append-nil, append_assoc, arith, Ok, Err}
+use Rattle.std.specs.Prelude.{IfOk, OnErr}
+use Rattle.std.proofs.lemmas.List.{map-append}
+use Rattle.std.specs.declared.result.Result.{Result}
+use Rattle.std.specs.Iterator.{Yields}
+use Rattle.std.specs.Vec.Iter.{into_iter_items, into_iter_steps}
+use Rattle.std.specs.declared.vec.IntoIter.{IntoIter}
+use Rattle.ftp_server_machine.specs.Machine.{Reading, IsReading}
+use Rattle.ftp_world.specs.Agreement.{Leads, Order, begun_by}
+use Rattle.ftp_world.specs.Events.{Event, Happens}
+use Rattle.ftp_world.specs.World.{World}
+use Rattle.ftp_pair.specs.Shown.{Steps}
+use Rattle.ftp_pair.specs.Happening.{Seen, LeadsCalmly, LeadsPartly}
+
+-- one event more
+pub leads_last : (read : Reading) (given : List Event) (event : Event) (begun : List Order) (possible : Bool) (old mid new : World) → Leads read old given begun mid → Happens read event mid possible new
+    → (all : List Order) × Leads read old (given ++ event ∷ []) all new
+leads_last read [] event begun possible old mid new leads happens =
+    (begun_by event possible ++ [], (possible, new, [], subst (λ w. Happens read event w possible new) leads.1 happens, refl, (refl, refl)))
+leads_last read (one ∷ given) event begun possible old mid new leads happens =
+    let rest = leads_last read given event leads.2 possible leads.1 mid new leads.5 happens in
+    (begun_by one leads.0 ++ rest.0, (leads.0, leads.1, rest.0, leads.3, refl, rest.1))
+
+-- no event leads from a world to itself
+pub nothing_yet : (old : Seen) → LeadsCalmly [] old old
+nothing_yet old calm = (calm, λ read reads. ([], (refl, refl)))
+
+-- one event more, where nothing failed
+pub one_more : (given : List Event) (event : Event) (possible : Bool) (old mid new : Seen) → LeadsCalmly given old mid
+    → Steps mid.calm new.calm (λ read. Happens read event mid.world possible new.world) → LeadsCalmly (given ++ event ∷ []) old new
+one_more given event possible old mid new leads steps calm =
+    let step = steps calm in
+    let so = leads step.0 in
+    (so.0, λ read reads. let before = so.1 read reads in leads_last read given event before.0 possible old.world mid.world new.world before.1 (step.1 read reads))
+
+-- the same of events by their names
+pub one_more_of : {S : Type 0} (f : S → Event) (given : List S) (event : S) (possible : Bool) (old mid new : Seen) → LeadsCalmly (map f given) old mid
+    → Steps mid.calm new.calm (λ read. Happens read (f event) mid.world possible new.world) → LeadsCalmly (map f (given ++ event ∷ [])) old new
+one_more_of f given event possible old mid new leads steps =
+    subst (λ l. LeadsCalmly l old new) (sym (map-append f given (event ∷ []))) (one_more (map f given) (f event) possible old mid new leads steps)
+
+-- what the iterator of a vector has given is a front of its items
+pub taken_front : {X A : Type 0} (s : IntoIter X A) (xs : List X) (t : IntoIter X A) → Yields into_iter_steps s xs t → into_iter_items s ≡ xs ++ into_iter_items t
+taken_front s [] t y = ap into_iter_items y
+taken_front s (x ∷ xs) t y = y.1.0 ∙ ap (λ ys. x ∷ ys) (taken_front y.0 xs t y.2)
+
+-- the names of a front are the front of the names
+take_front : {S R : Type 0} (f : S → R) (front rest : List S) → take (length front) (map f (front ++ rest)) ≡ map f front
+take_front f [] rest = refl
+take_front f (one ∷ front) rest = ap (λ l. f one ∷ l) (take_front f front rest)
+
+-- events that were a front of all
+pub partly : {S : Type 0} (f : S → Event) (all front rest : List S) (old new : Seen) → all ≡ front ++ rest → LeadsCalmly (map f front) old new → LeadsPartly (map f all) old new
+partly f all front rest old new is leads =
+    (length front, subst (λ l. LeadsCalmly l old new) (sym (ap (λ l. take (length front) (map f l)) is ∙ take_front f front rest)) leads)
+
+-- an event by another name
+pub stepped : {E : Type 0} {event same : Event} (result : Result Bool E) (was calm : Bool) (old new : World) → event ≡ same
+    → IfOk result (λ possible. Steps was calm (λ read. Happens read event old possible new)) → IfOk result (λ possible. Steps was calm (λ read. Happens read same old possible new))
+stepped result was calm old new is did = subst (λ e. IfOk result (λ possible. Steps was calm (λ read. Happens read e old possible new))) is did
+
+-- a list without length has no items
+no_items : {S : Type 0} (l : List S) → length l ≡ 0 → l ≡ []
+no_items [] none = refl
+no_items (one ∷ l) none = absurd (omega (arith, none))
+
+-- events that were all
+pub wholly : {S : Type 0} (f : S → Event) (all front rest : List S) (old new : Seen) → all ≡ front ++ rest → length rest ≡ 0 → LeadsCalmly (map f front) old new → LeadsCalmly (map f all) old new
+wholly f all front rest old new is none leads =
+    subst (λ l. LeadsCalmly (map f l) old new) (sym (is ∙ ap (λ l. front ++ l) (no_items rest none) ∙ append-nil front)) leads
+
+-- what holds anyway holds of an error
+pub on_err : {T E P : Type 0} (r : Result T E) → P → OnErr r P
+on_err (Ok x) p = tt
+on_err (Err e) p = p

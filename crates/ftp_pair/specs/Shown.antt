@@ -1,0 +1,130 @@
+-- The world that parts are, and what is said of a step while it is under way.
+use Rattle.std.specs.Prelude.{◌≡◌, ℕ, Bool, true, false, not, ◌&&◌, IsTrue, List, map, Option, ◌==◌, ◌≤◌, ◌++◌, vec_len, vec_capacity}
+use Rattle.ftp_operation.specs.Answer.{said_of}
+use Rattle.ftp_client_machine.specs.Failing.{Client}
+use Rattle.ftp_server_machine.specs.Far.{Server}
+use Rattle.ftp_server_machine.specs.Machine.{Reading, IsReading}
+use Rattle.ftp_world.specs.World as world
+use Rattle.ftp_world.specs.World.{World}
+use Rattle.ftp_world.specs.Events as events
+use Rattle.ftp_operation.specs.declared.op.Op.{Op}
+use Rattle.ftp_world.specs.Events.{pulled, pushed, due, in_queue, Gives, filled, Fills, can_begin, operation_begins, is_gone, is_asked_for, Takes, taking, DeliversBy}
+use Rattle.ftp_world.specs.Serving.{after_event}
+use Rattle.ftp_pair.specs.declared.parts.Control.{Control}
+use Rattle.ftp_pair.specs.declared.parts.Control.TheVariants as Controls
+use Rattle.ftp_pair.specs.declared.parts.Link.{Link}
+use Rattle.ftp_pair.specs.declared.parts.Link.TheVariants as Links
+use Rattle.ftp_pair.specs.declared.parts.Mark.{Mark}
+use Rattle.ftp_pair.specs.declared.parts.Mark.TheVariants as Marks
+use Rattle.ftp_pair.specs.declared.parts.Queue.{Queue}
+use Rattle.ftp_pair.specs.declared.parts.Queue.TheVariants as Queues
+use Rattle.ftp_pair.specs.declared.parts.Parts.{Parts}
+
+-- how the control connection stands, as theorems speak of it
+abbrev pub control_of : Control → world.Control
+control_of Controls.Stands = world.Stands
+control_of Controls.LeftByNear = world.LeftByNear
+control_of Controls.LeftByFar = world.LeftByFar
+control_of Controls.Parted = world.Parted
+
+-- how the data link stands
+abbrev pub link_of : Link → world.Link
+link_of Links.Gone = world.Gone
+link_of Links.Opened = world.Opened
+link_of Links.ClosedByNear = world.ClosedByNear
+link_of Links.ClosedByFar = world.ClosedByFar
+
+-- a mark
+abbrev pub mark_of : Mark → world.Mark
+mark_of Marks.Refused = world.Refused
+mark_of (Marks.Broken came) = world.Broken came
+
+-- a queue
+abbrev pub queue_of : Queue → events.Queue
+queue_of Queues.ControlToServer = events.ControlToServer
+queue_of Queues.ControlToClient = events.ControlToClient
+queue_of Queues.DataToServer = events.DataToServer
+queue_of Queues.DataToClient = events.DataToClient
+
+-- the world that parts are
+abbrev pub shown : {A T N F : Type 0} → (N → Client) → (F → Server) → Parts A T N F → World
+shown near far w = record {
+  near = (near w.near).view;
+  far = (far w.far).view;
+  control_to_server = w.control_to_server.items;
+  control_to_client = w.control_to_client.items;
+  data_to_server = w.data_to_server.items;
+  data_to_client = w.data_to_client.items;
+  control = control_of w.control;
+  link = link_of w.link;
+  came = w.came;
+  listens = w.listens;
+  marks = map (λ marks. map mark_of marks.items) w.marks.items;
+  reports = map said_of w.reports.items;
+  cutoff = w.cutoff;
+  taken = w.taken.items;
+}
+
+-- where nothing failed in it and nothing had before, this became of it
+abbrev pub Calmly : {A T N F : Type 0} → Parts A T N F → Parts A T N F → Type 0 → Type 0
+Calmly old new Becomes = new.calm ≡ true → (old.calm ≡ true) × Becomes
+
+-- a queue was filled up to so many octets, by some calls
+pub record FillsTo (queue : events.Queue) (count : ℕ) (old new : World) : Type 0 where
+  pub counts : List ℕ
+  pub fills : Fills queue count old counts
+  pub is : new ≡ filled queue old counts
+
+-- some calls so far, after which others may go on
+pub record FillsSo (queue : events.Queue) (count : ℕ) (old new : World) : Type 0 where
+  pub counts : List ℕ
+  pub before : (more : List ℕ) → Fills queue count new more → Fills queue count old (counts ++ more)
+  pub is : new ≡ filled queue old counts
+
+-- no link stands or is wanted
+abbrev pub is_unlinked : World → Bool
+is_unlinked w = is_gone w.link && not (is_asked_for w)
+
+-- a delivery of some octets, before what is served after it
+pub record Offers (read : Reading) (queue : events.Queue) (count : ℕ) (old new : World) : Type 0 where
+  pub counts : List ℕ
+  pub taken : ℕ
+  pub fills : Fills queue count old counts
+  pub takes : Takes read queue count (filled queue old counts) taken
+  pub is : new ≡ pushed read queue taken (taking queue taken (filled queue old counts))
+
+-- what happened, where nothing failed, however the server reads its lines
+abbrev pub Steps : (was calm : Bool) → (Reading → Type 0) → Type 0
+Steps was calm Happened = calm ≡ true → (was ≡ true) × ((read : Reading) → IsReading read → Happened read)
+
+-- how many octets are in a queue
+abbrev pub len_of : {A T N F : Type 0} → Queue → Parts A T N F → ℕ
+len_of Queues.ControlToServer parts = vec_len parts.control_to_server
+len_of Queues.ControlToClient parts = vec_len parts.control_to_client
+len_of Queues.DataToServer parts = vec_len parts.data_to_server
+len_of Queues.DataToClient parts = vec_len parts.data_to_client
+
+-- for how many octets it has room
+abbrev pub room_of : {A T N F : Type 0} → Queue → Parts A T N F → ℕ
+room_of Queues.ControlToServer parts = vec_capacity parts.control_to_server
+room_of Queues.ControlToClient parts = vec_capacity parts.control_to_client
+room_of Queues.DataToServer parts = vec_capacity parts.data_to_server
+room_of Queues.DataToClient parts = vec_capacity parts.data_to_client
+
+-- a delivery: whatever world is served after it, that is the world after the delivery
+abbrev pub Carries : Reading → events.Queue → ℕ → World → World → Type 0
+Carries read queue count old mid = (new : World) → new ≡ after_event mid → DeliversBy (count == 0) read queue count old new
+
+-- no octet moves or is taken
+pub record IsStill (w : World) : Type 0 where
+  pub to_server : (count : ℕ) → events.can_happen (events.Deliver events.ControlToServer count) w ≡ false
+  pub to_client : (count : ℕ) → events.can_happen (events.Deliver events.ControlToClient count) w ≡ false
+  pub up : (count : ℕ) → events.can_happen (events.Deliver events.DataToServer count) w ≡ false
+  pub down : (count : ℕ) → events.can_happen (events.Deliver events.DataToClient count) w ≡ false
+
+-- nobody is to be told of an end
+pub record IsTold (w : World) : Type 0 where
+  pub to_server : events.can_happen (events.End events.ControlToServer) w ≡ false
+  pub to_client : events.can_happen (events.End events.ControlToClient) w ≡ false
+  pub up : events.can_happen (events.End events.DataToServer) w ≡ false
+  pub down : events.can_happen (events.End events.DataToClient) w ≡ false

@@ -1,0 +1,208 @@
+// Links that open, are refused, or break.
+ghost use Rattle.std.specs.Prelude.{◌≡◌, ◌<◌, true, false, vec_len, vec_capacity, IfOk, OnErr, OnOk};
+ghost use Rattle.ftp_client_machine.specs.Calls as near;
+ghost use Rattle.ftp_ends.specs.Link.{is_connecting, is_wanted};
+ghost use Rattle.ftp_server_machine.specs.Calls as far;
+ghost use Rattle.ftp_world.specs.Events.{Happens, Open, Break, Refuse, broken_by, refused_by, can_happen, is_asked_for, link_opens, lends_none};
+ghost use Rattle.ftp_world.specs.World.{gone, with_mark};
+ghost use Rattle.ftp_pair.specs.Shown.{shown, Calmly, Steps, link_of, mark_of};
+
+use crate::parts::{Link, Mark, Parts};
+use crate::queue::{both_stay, stays};
+use ftp_client_machine::Near;
+use ftp_ends::Wants;
+use ftp_server_machine::Far;
+use ftp_tree::Tree;
+use std::alloc::{AllocError, Allocator};
+
+/// One end connects and the other accepts.
+fn is_wanted(one: Wants, other: Wants) -> bool
+    ensures { result ≡ is_wanted one other }
+{
+    (matches!(one, Wants::Connect(_)) && matches!(other, Wants::Accept))
+        || (matches!(one, Wants::Accept) && matches!(other, Wants::Connect(_)))
+}
+
+/// An end wants to connect.
+fn is_connecting(wants: Wants) -> bool
+    ensures { result ≡ is_connecting wants }
+{
+    matches!(wants, Wants::Connect(_))
+}
+
+impl<A: Allocator, T: Tree<A>, N: Near<A>, F: Far<A, T>> Parts<A, T, N, F> {
+    /// Whether a link is wanted: there is none, one end connects and the other accepts.
+    pub(crate) fn is_asked_for(&self) -> bool
+        ensures { result ≡ is_asked_for (shown N.client F.server self.now) }
+    {
+        matches!(self.link, Link::Gone) && is_wanted(self.near.wants(), self.far.wants())
+    }
+
+    /// A wanted link opens; it answers whether one was wanted. Room for a report is made first.
+    pub(crate) fn step_open(&mut self) -> Result<bool, AllocError>
+        requires { self.old.listens < 16384 }
+        ensures ok { IfOk result (λ possible. Steps self.old.calm self.new.calm (λ read. Happens read Open (shown N.client F.server self.old) possible (shown N.client F.server self.new))) }
+        ensures err { OnErr result ((shown N.client F.server self.new ≡ shown N.client F.server self.old) × (self.new.calm ≡ self.old.calm)) }
+        ensures few { self.new.listens < 16384 }
+    {
+        if !self.is_asked_for() {
+            return Ok(false);
+        }
+        self.ready_lent()?;
+        self.open_link();
+        self.finish();
+        Ok(true)
+    }
+
+    #[tactic(auto, unfolding(ftp_server_machine::specs::Calls::data_opened))]
+    pub(crate) fn open_link(&mut self)
+        ensures moved { Calmly self.old self.new (shown N.client F.server self.new ≡ link_opens (shown N.client F.server self.old)) }
+        ensures reports { self.new.reports ≡ self.old.reports }
+        ensures few { self.new.listens ≡ self.old.listens }
+    {
+        let near_refusals = self.near.refusals();
+        let counts = self.far.counts();
+        let near_host = self.near.here();
+        let far_host = self.far.here();
+        self.link = Link::Opened;
+        self.came = 0;
+        self.near.data_opened(far_host);
+        self.far.data_opened(near_host);
+        let calm = stays(self.calm, near_refusals, self.near.refusals());
+        self.calm = both_stay(calm, counts, self.far.counts());
+    }
+
+    /// A wanted link is refused; it answers whether one was wanted. Room for the mark and for a report is made first.
+    pub(crate) fn step_refuse(&mut self) -> Result<bool, AllocError>
+        requires ports { self.old.listens < 16384 }
+        ensures ok { IfOk result (λ possible. Steps self.old.calm self.new.calm (λ read. Happens read Refuse (shown N.client F.server self.old) possible (shown N.client F.server self.new))) }
+        ensures err { OnErr result ((shown N.client F.server self.new ≡ shown N.client F.server self.old) × (self.new.calm ≡ self.old.calm)) }
+        ensures few { self.new.listens < 16384 }
+    {
+        if !self.is_asked_for() {
+            return Ok(false);
+        }
+        self.ready_marked(Mark::Refused)?;
+        self.refuse_link();
+        self.finish();
+        Ok(true)
+    }
+
+    /// The same, and the operation that was begun last has one mark more.
+    fn ready_marked(&mut self, mark: Mark) -> Result<(), AllocError>
+        ensures ok { OnOk result (shown N.client F.server self.new ≡ lends_none (with_mark (mark_of mark) (shown N.client F.server self.old))) }
+        ensures err { OnErr result (shown N.client F.server self.new ≡ shown N.client F.server self.old) }
+        ensures report { OnOk result (vec_len self.new.reports < vec_capacity self.new.reports) }
+        ensures calm { self.new.calm ≡ self.old.calm }
+        ensures few { self.new.listens ≡ self.old.listens }
+    {
+        self.reports.reserve(1)?;
+        self.add_mark(mark)?;
+        self.taken.clear();
+        Ok(())
+    }
+
+    /// The end that connects is told that the link is refused.
+    fn refuse_link(&mut self)
+        ensures moved { Calmly self.old self.new (shown N.client F.server self.new ≡ refused_by (is_connecting (near.wants (N.client self.old.near).view)) (shown N.client F.server self.old)) }
+        ensures reports { self.new.reports ≡ self.old.reports }
+        ensures few { self.new.listens ≡ self.old.listens }
+    {
+        if is_connecting(self.near.wants()) {
+            self.refuse_near();
+        } else {
+            self.refuse_far();
+        }
+    }
+
+    fn refuse_near(&mut self)
+        ensures moved { Calmly self.old self.new (shown N.client F.server self.new ≡ refused_by true (shown N.client F.server self.old)) }
+        ensures reports { self.new.reports ≡ self.old.reports }
+        ensures few { self.new.listens ≡ self.old.listens }
+    {
+        let refusals = self.near.refusals();
+        self.near.data_refused();
+        self.calm = stays(self.calm, refusals, self.near.refusals());
+    }
+
+    #[tactic(auto, unfolding(ftp_server_machine::specs::Calls::data_refused))]
+    fn refuse_far(&mut self)
+        ensures moved { Calmly self.old self.new (shown N.client F.server self.new ≡ refused_by false (shown N.client F.server self.old)) }
+        ensures reports { self.new.reports ≡ self.old.reports }
+        ensures few { self.new.listens ≡ self.old.listens }
+    {
+        let counts = self.far.counts();
+        self.far.data_refused();
+        self.calm = both_stay(self.calm, counts, self.far.counts());
+    }
+
+    /// The link breaks; it answers whether there was one. Room for the mark and for a report is made first.
+    pub(crate) fn step_break(&mut self) -> Result<bool, AllocError>
+        requires ports { self.old.listens < 16384 }
+        ensures ok { IfOk result (λ possible. Steps self.old.calm self.new.calm (λ read. Happens read Break (shown N.client F.server self.old) possible (shown N.client F.server self.new))) }
+        ensures err { OnErr result ((shown N.client F.server self.new ≡ shown N.client F.server self.old) × (self.new.calm ≡ self.old.calm)) }
+        ensures few { self.new.listens < 16384 }
+    {
+        if !self.is_linked() {
+            return Ok(false);
+        }
+        self.ready_marked(Mark::Broken(self.came))?;
+        self.break_link();
+        self.finish();
+        Ok(true)
+    }
+
+    /// There is a link.
+    fn is_linked(&self) -> bool
+        ensures { result ≡ can_happen Break (shown N.client F.server self.now) }
+    {
+        !matches!(self.link, Link::Gone)
+    }
+
+    fn break_link(&mut self)
+        ensures moved { Calmly self.old self.new (shown N.client F.server self.new ≡ gone (broken_by (link_of self.old.link) (shown N.client F.server self.old))) }
+        ensures reports { self.new.reports ≡ self.old.reports }
+        ensures few { self.new.listens ≡ self.old.listens }
+    {
+        self.tell_break();
+        self.lose_link();
+    }
+
+    /// Each end that hasn't closed the link is told that it broke.
+    fn tell_break(&mut self)
+        ensures moved { Calmly self.old self.new (shown N.client F.server self.new ≡ broken_by (link_of self.old.link) (shown N.client F.server self.old)) }
+        ensures reports { self.new.reports ≡ self.old.reports }
+        ensures few { self.new.listens ≡ self.old.listens }
+    {
+        match self.link {
+            Link::Gone => {}
+            Link::Opened => {
+                self.fault_near();
+                self.fault_far();
+            }
+            Link::ClosedByNear => self.fault_far(),
+            Link::ClosedByFar => self.fault_near(),
+        }
+    }
+
+    fn fault_near(&mut self)
+        ensures moved { Calmly self.old self.new (shown N.client F.server self.new ≡ record (shown N.client F.server self.old) { near = near.data_fault (N.client self.old.near).view }) }
+        ensures reports { self.new.reports ≡ self.old.reports }
+        ensures few { self.new.listens ≡ self.old.listens }
+    {
+        let refusals = self.near.refusals();
+        self.near.data_fault();
+        self.calm = stays(self.calm, refusals, self.near.refusals());
+    }
+
+    #[tactic(auto, unfolding(ftp_server_machine::specs::Calls::data_fault))]
+    fn fault_far(&mut self)
+        ensures moved { Calmly self.old self.new (shown N.client F.server self.new ≡ record (shown N.client F.server self.old) { far = far.data_fault (F.server self.old.far).view }) }
+        ensures reports { self.new.reports ≡ self.old.reports }
+        ensures few { self.new.listens ≡ self.old.listens }
+    {
+        let counts = self.far.counts();
+        self.far.data_fault();
+        self.calm = both_stay(self.calm, counts, self.far.counts());
+    }
+}

@@ -1,0 +1,57 @@
+// Octets on their way.
+ghost use Rattle.std.specs.Prelude.{◌≡◌, ◌+◌, ◌≤◌, ◌++◌, length, take, drop, vec_len, vec_capacity, true, [], ◌∷◌, ◌<◌};
+ghost use Rattle.ftp_world.specs.World.{counted};
+
+use ftp_server_machine::Counts;
+use std::alloc::Allocator;
+
+/// Adds octets, for which there is room.
+pub(crate) fn append<A: Allocator>(octets: &mut Vec<u8, A>, more: &[u8])
+    requires { vec_len octets.old + length more.now ≤ vec_capacity octets.old }
+    ensures items { octets.new.items ≡ octets.old.items ++ more.now }
+    ensures capacity { vec_capacity octets.old ≤ vec_capacity octets.new }
+{
+    if octets.extend_from_slice(more).is_err() {
+        unreachable!()
+    }
+}
+
+/// Drops octets from the front.
+pub(crate) fn drop_front<A: Allocator>(octets: &mut Vec<u8, A>, count: usize)
+    requires { count ≤ vec_len octets.old }
+    ensures items { octets.new.items ≡ drop count octets.old.items }
+    ensures capacity { vec_capacity octets.new ≡ vec_capacity octets.old }
+{
+    octets.drain(..count);
+}
+
+/// Adds an item, for which there is room.
+pub(crate) fn keep<A: Allocator, T: Drop>(items: &mut Vec<T, A>, item: T)
+    requires { vec_len items.old < vec_capacity items.old }
+    ensures { items.new.items ≡ items.old.items ++ item ∷ [] }
+{
+    if items.push(item).is_err() {
+        unreachable!()
+    }
+}
+
+/// Whether all was calm, and a count has not moved.
+pub(crate) fn stays(calm: bool, old: u64, new: u64) -> bool
+    ensures { result ≡ true → (calm ≡ true) × (new ≡ old) }
+{
+    calm && new == old
+}
+
+/// Whether all was calm, and neither count has moved.
+pub(crate) fn both_stay(calm: bool, old: Counts, new: Counts) -> bool
+    ensures { result ≡ true → (calm ≡ true) × (new ≡ old) }
+{
+    calm && new == old
+}
+
+/// So many more octets are counted, so far as a count goes.
+pub(crate) fn count_on(came: u64, more: usize) -> u64
+    ensures { result ≡ counted (came + more) }
+{
+    came.saturating_add(more as u64)
+}

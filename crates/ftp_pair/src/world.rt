@@ -1,0 +1,136 @@
+// A world of two ends.
+ghost use Rattle.std.specs.Prelude.{◌≡◌, true, length, map, nat_eq, IfOk, OnErr, OnOk};
+ghost use Rattle.ftp_operation.specs.Answer.{said_of};
+ghost use Rattle.ftp_world.specs.Claims.{AgreesAlways, Beginning, IsFair, world_of};
+ghost use Rattle.ftp_world.specs.Events.{Happens, IsQuiet};
+ghost use Rattle.ftp_world.specs.World.{world};
+ghost use Rattle.ftp_pair.specs.Happening.{AgreesHere, IsReached, LeadsCalmly, LeadsPartly, Reached, event_of, seen};
+ghost use Rattle.ftp_pair.specs.Shown.{Steps};
+
+use crate::event::Event;
+use crate::parts::{Control, Link, Parts};
+use ftp_client_machine::Near;
+use ftp_operation::Answer;
+use ftp_server_machine::Far;
+use ftp_tree::Tree;
+use std::alloc::{AllocError, Allocator};
+use std::marker::{Model, PhantomData};
+
+/// A client and a server, and what lies between them.
+#[derive(Drop)]
+pub struct World<A: Allocator + Copy, T: Tree<A>, N: Near<A>, F: Far<A, T>> {
+    parts: Parts<A, T, N, F>,
+    alloc: A,
+    ghost reached: { ∥ IsReached (seen N.client F.server parts) ∥₁ },
+}
+
+impl<A: Allocator + Copy, T: Tree<A>, N: Near<A>, F: Far<A, T>> Model for World<A, T, N, F> {
+    ghost use Rattle.std.specs.Prelude.{◌<◌};
+    ghost use Rattle.ftp_pair.specs.Happening.{Seen, seen};
+    ghost use Rattle.std.specs.Coded.{codes};
+    ghost use Rattle.ftp_tree.specs.Store.{table_code};
+
+    ghost Value = { Seen };
+
+    ghost coded = { Prim.hlevel (codes, table_code) };
+
+    ghost view = { λ w. seen N.client F.server w.parts };
+
+    ghost invariant = { λ w. w.parts.listens < 16384 };
+}
+
+impl<A: Allocator + Copy, T: Tree<A>, N: Near<A>, F: Far<A, T>> World<A, T, N, F> {
+    /// Two ends as they begin.
+    #[tactic(auto, using(crate::proofs::Reaching::reached_first))]
+    pub fn new(alloc: A, near: N, far: F) -> Self
+        requires fair { (from : Beginning) × IsFair from × (world (N.client near).view (F.server far).view ≡ world_of from) }
+        ensures world { result.world ≡ world (N.client near).view (F.server far).view }
+        ensures calm { result.calm ≡ true }
+    {
+        World {
+            parts: Parts {
+                near,
+                far,
+                control_to_server: Vec::new(alloc),
+                control_to_client: Vec::new(alloc),
+                data_to_server: Vec::new(alloc),
+                data_to_client: Vec::new(alloc),
+                control: Control::Stands,
+                link: Link::Gone,
+                came: 0,
+                listens: 0,
+                marks: Vec::new(alloc),
+                reports: Vec::new(alloc),
+                cutoff: None,
+                taken: Vec::new(alloc),
+                calm: true,
+                tree: PhantomData,
+            },
+            alloc,
+        }
+    }
+
+    /// Nothing failed so far: no end was refused memory, and no device failed.
+    #[tactic(auto, using(crate::proofs::Reaching::reached_calm))]
+    pub fn is_calm(&self) -> bool
+        ensures calm { result ≡ self.now.calm }
+        ensures reached { result ≡ true → ∥ Reached self.now.world ∥₁ }
+        ensures agrees { AgreesAlways → result ≡ true → ∥ AgreesHere self.now.world ∥₁ }
+    {
+        self.parts.calm
+    }
+
+    /// An event happens where it is possible; it answers whether it was. Where the room that it takes is refused, nothing has changed.
+    pub fn step(&mut self, event: Event<A>) -> Result<bool, AllocError>
+        ensures does { IfOk result (λ possible. Steps self.old.calm self.new.calm (λ read. Happens read (event_of event) self.old.world possible self.new.world)) }
+        ensures err { OnErr result (self.new ≡ self.old) }
+    {
+        self.parts.step(self.alloc, event)
+    }
+
+    /// The events happen in order, each where it is possible. Where room is refused, those before it have happened.
+    pub fn run(&mut self, events: Vec<Event<A>>) -> Result<(), AllocError>
+        ensures leads { OnOk result (LeadsCalmly (map event_of events.items) self.old self.new) }
+        ensures partly { OnErr result (LeadsPartly (map event_of events.items) self.old self.new) }
+    {
+        for event in events {
+            self.step(event)?;
+        }
+        Ok(())
+    }
+
+    /// Nothing is in flight: no octet moves, no link opens, and nobody is to be told of an end.
+    pub fn is_quiet(&self) -> bool
+        ensures { result ≡ true → IsQuiet self.now.world }
+    {
+        self.parts.is_quiet()
+    }
+
+    /// Each operation begun has its report.
+    pub fn finished(&self) -> bool
+        ensures { result ≡ nat_eq (length self.now.world.reports) (length self.now.world.marks) }
+    {
+        self.parts.reports.len() == self.parts.marks.len()
+    }
+
+    /// The reports so far.
+    pub fn reports(&self) -> &[Answer<A>]
+        ensures { map said_of result.now ≡ self.now.world.reports }
+    {
+        &self.parts.reports
+    }
+
+    /// The octets that the last event took, where it was a delivery.
+    pub fn taken(&self) -> &[u8]
+        ensures { result.now ≡ self.now.world.taken }
+    {
+        &self.parts.taken
+    }
+
+    /// The server's tree.
+    pub fn tree(&self) -> &T
+        ensures { T.table result.now ≡ self.now.world.far.session.table }
+    {
+        self.parts.far.tree()
+    }
+}
