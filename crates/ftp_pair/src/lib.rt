@@ -7,16 +7,14 @@ mod ending;
 mod event;
 mod lane;
 mod link;
-mod mark;
 mod parts;
 mod pull;
 mod push;
 mod queue;
-mod quiet;
 mod serve;
 mod step;
 mod world;
 
 pub use event::Event;
-pub use parts::{Control, Link, Mark, Parts, Queue};
+pub use parts::{Control, Link, Mark, Queue};
 pub use world::World;

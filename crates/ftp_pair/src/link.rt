@@ -1,14 +1,14 @@
-// Links that open, are refused, or break.
-ghost use Rattle.std.specs.Prelude.{◌≡◌, ◌<◌, true, false, vec_len, vec_capacity, IfOk, OnErr, OnOk};
+// Links that open, are refused, or break, and the marks of the two last.
+ghost use Rattle.std.specs.Prelude.{◌≡◌, ◌<◌, ◌++◌, [], ◌∷◌, map, true, false, vec_len, vec_capacity, IfOk, OnErr, OnOk};
 ghost use Rattle.ftp_client_machine.specs.Calls as near;
 ghost use Rattle.ftp_ends.specs.Link.{is_connecting, is_wanted};
 ghost use Rattle.ftp_server_machine.specs.Calls as far;
 ghost use Rattle.ftp_world.specs.Events.{Happens, Open, Break, Refuse, broken_by, refused_by, can_happen, is_asked_for, link_opens, lends_none};
-ghost use Rattle.ftp_world.specs.World.{gone, with_mark};
+ghost use Rattle.ftp_world.specs.World.{gone, marked_last, with_mark};
 ghost use Rattle.ftp_pair.specs.Shown.{shown, Calmly, Steps, link_of, mark_of};
 
 use crate::parts::{Link, Mark, Parts};
-use crate::queue::{both_stay, stays};
+use crate::queue::{both_stay, keep, stays};
 use ftp_client_machine::Near;
 use ftp_ends::Wants;
 use ftp_server_machine::Far;
@@ -28,6 +28,29 @@ fn is_connecting(wants: Wants) -> bool
     ensures { result ≡ is_connecting wants }
 {
     matches!(wants, Wants::Connect(_))
+}
+
+/// One mark more.
+fn add<A: Allocator>(marks: &mut Vec<Mark, A>, mark: Mark) -> Result<(), AllocError>
+    ensures ok { OnOk result (marks.new.items ≡ marks.old.items ++ mark ∷ []) }
+    ensures err { OnErr result (marks.new.items ≡ marks.old.items) }
+{
+    marks.push(mark)?;
+    Ok(())
+}
+
+/// The last of these has one mark more.
+#[tactic(auto, using(crate::proofs::Marking::marks_last, crate::proofs::Marking::marks_none))]
+fn mark_last<A: Allocator>(marks: &mut Vec<Vec<Mark, A>, A>, mark: Mark) -> Result<(), AllocError>
+    ensures ok { OnOk result (map (λ marks. map mark_of marks.items) marks.new.items ≡ marked_last (mark_of mark) (map (λ marks. map mark_of marks.items) marks.old.items)) }
+    ensures err { OnErr result (map (λ marks. map mark_of marks.items) marks.new.items ≡ map (λ marks. map mark_of marks.items) marks.old.items) }
+{
+    let Some(mut last) = marks.pop() else {
+        return Ok(());
+    };
+    let added = add(&mut last, mark);
+    keep(marks, last);
+    added
 }
 
 impl<A: Allocator, T: Tree<A>, N: Near<A>, F: Far<A, T>> Parts<A, T, N, F> {
@@ -204,5 +227,16 @@ impl<A: Allocator, T: Tree<A>, N: Near<A>, F: Far<A, T>> Parts<A, T, N, F> {
         let counts = self.far.counts();
         self.far.data_fault();
         self.calm = both_stay(self.calm, counts, self.far.counts());
+    }
+
+    /// The operation that was begun last has one mark more.
+    pub(crate) fn add_mark(&mut self, mark: Mark) -> Result<(), AllocError>
+        ensures ok { OnOk result (shown N.client F.server self.new ≡ with_mark (mark_of mark) (shown N.client F.server self.old)) }
+        ensures err { OnErr result (shown N.client F.server self.new ≡ shown N.client F.server self.old) }
+        ensures calm { self.new.calm ≡ self.old.calm }
+        ensures reports { self.new.reports ≡ self.old.reports }
+        ensures few { self.new.listens ≡ self.old.listens }
+    {
+        mark_last(&mut self.marks, mark)
     }
 }

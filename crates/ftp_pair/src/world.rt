@@ -1,14 +1,15 @@
 // A world of two ends.
-ghost use Rattle.std.specs.Prelude.{◌≡◌, true, length, map, nat_eq, IfOk, OnErr, OnOk};
+ghost use Rattle.std.specs.Prelude.{◌≡◌, true, length, map, nat_eq, option_map, IfOk, OnErr, OnOk};
+ghost use Rattle.std.specs.List.{slice_get};
 ghost use Rattle.ftp_operation.specs.Answer.{said_of};
 ghost use Rattle.ftp_world.specs.Claims.{AgreesAlways, Beginning, IsFair, world_of};
 ghost use Rattle.ftp_world.specs.Events.{Happens, IsQuiet};
 ghost use Rattle.ftp_world.specs.World.{world};
 ghost use Rattle.ftp_pair.specs.Happening.{AgreesHere, IsReached, LeadsCalmly, LeadsPartly, Reached, event_of, seen};
-ghost use Rattle.ftp_pair.specs.Shown.{Steps};
+ghost use Rattle.ftp_pair.specs.Shown.{Steps, mark_of};
 
 use crate::event::Event;
-use crate::parts::{Control, Link, Parts};
+use crate::parts::{Control, Link, Mark, Parts};
 use ftp_client_machine::Near;
 use ftp_operation::Answer;
 use ftp_server_machine::Far;
@@ -16,7 +17,7 @@ use ftp_tree::Tree;
 use std::alloc::{AllocError, Allocator};
 use std::marker::{Model, PhantomData};
 
-/// A client and a server, and what lies between them.
+/// A client and a server, and what lies between them (RFC 959, section 2.3).
 #[derive(Drop)]
 pub struct World<A: Allocator + Copy, T: Tree<A>, N: Near<A>, F: Far<A, T>> {
     parts: Parts<A, T, N, F>,
@@ -40,7 +41,7 @@ impl<A: Allocator + Copy, T: Tree<A>, N: Near<A>, F: Far<A, T>> Model for World<
 }
 
 impl<A: Allocator + Copy, T: Tree<A>, N: Near<A>, F: Far<A, T>> World<A, T, N, F> {
-    /// Two ends as they begin.
+    /// Two ends as they begin, each on the host of the other's peer. Takes no memory.
     #[tactic(auto, using(crate::proofs::Reaching::reached_first))]
     pub fn new(alloc: A, near: N, far: F) -> Self
         requires fair { (from : Beginning) × IsFair from × (world (N.client near).view (F.server far).view ≡ world_of from) }
@@ -80,7 +81,8 @@ impl<A: Allocator + Copy, T: Tree<A>, N: Near<A>, F: Far<A, T>> World<A, T, N, F
         self.parts.calm
     }
 
-    /// An event happens where it is possible; it answers whether it was. Where the room that it takes is refused, nothing has changed.
+    /// An event happens where it is possible; it answers whether it was. What it is given it keeps or lets go. Refused the room that it takes,
+    /// it has changed nothing.
     pub fn step(&mut self, event: Event<A>) -> Result<bool, AllocError>
         ensures does { IfOk result (λ possible. Steps self.old.calm self.new.calm (λ read. Happens read (event_of event) self.old.world possible self.new.world)) }
         ensures err { OnErr result (self.new ≡ self.old) }
@@ -88,7 +90,7 @@ impl<A: Allocator + Copy, T: Tree<A>, N: Near<A>, F: Far<A, T>> World<A, T, N, F
         self.parts.step(self.alloc, event)
     }
 
-    /// The events happen in order, each where it is possible. Where room is refused, those before it have happened.
+    /// The events happen in order, each where it is possible. Refused the room of one, those before it have happened, and no other.
     pub fn run(&mut self, events: Vec<Event<A>>) -> Result<(), AllocError>
         ensures leads { OnOk result (LeadsCalmly (map event_of events.items) self.old self.new) }
         ensures partly { OnErr result (LeadsPartly (map event_of events.items) self.old self.new) }
@@ -106,21 +108,29 @@ impl<A: Allocator + Copy, T: Tree<A>, N: Near<A>, F: Far<A, T>> World<A, T, N, F
         self.parts.is_quiet()
     }
 
-    /// Each operation begun has its report.
+    /// Each operation that was begun has its report.
     pub fn finished(&self) -> bool
         ensures { result ≡ nat_eq (length self.now.world.reports) (length self.now.world.marks) }
     {
         self.parts.reports.len() == self.parts.marks.len()
     }
 
-    /// The reports so far.
+    /// What became of links that an operation asked for: that they were refused, or broke, in order. Operations are counted from 0, as they
+    /// were begun; none where that one was not.
+    pub fn marks(&self, operation: usize) -> Option<&[Mark]>
+        ensures { option_map (λ marks. map mark_of marks.now) result ≡ slice_get self.now.world.marks operation }
+    {
+        Some(self.parts.marks.get(operation)?.as_slice())
+    }
+
+    /// The reports so far, of the operations in the order in which they were begun.
     pub fn reports(&self) -> &[Answer<A>]
         ensures { map said_of result.now ≡ self.now.world.reports }
     {
         &self.parts.reports
     }
 
-    /// The octets that the last event took, where it was a delivery.
+    /// The octets that the last event handed to a receiver, where it was a delivery, and else none. Lent until the next event.
     pub fn taken(&self) -> &[u8]
         ensures { result.now ≡ self.now.world.taken }
     {
