@@ -1,5 +1,5 @@
 -- A report is of an operation that is under way.
-use Rattle.std.proofs.Common.{◌≡◌, ◌∙◌, ℕ, Bool, true, false, not, ◌&&◌, Option, Some, None, refl, subst, sym, ap}
+use Rattle.std.proofs.Common.{◌≡◌, ◌∙◌, ℕ, Bool, true, false, not, ◌&&◌, Some, None, refl, sym, ap}
 use Rattle.std.specs.Prelude.{IsTrue, is_some}
 use Rattle.ftp_operation.specs.Answer.{Said}
 use Rattle.ftp_client_machine.specs.Tries.{OverBreaks}

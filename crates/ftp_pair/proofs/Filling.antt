@@ -1,12 +1,12 @@
 -- A queue is filled by one call after the other.
-use Rattle.std.proofs.Common.{◌≡◌, ℕ, zero, suc, ◌+◌, ◌-◌, ◌<◌, ◌≤◌, ◌&&◌, Bool, true, false, List, [], ◌∷◌, ◌++◌, length, refl, sym, ap, subst, ◌∙◌, append-nil, append_assoc, arith}
+use Rattle.std.proofs.Common.{◌≡◌, ℕ, suc, ◌+◌, ◌-◌, ◌<◌, ◌≤◌, ◌&&◌, Bool, true, false, List, [], ◌∷◌, ◌++◌, length, refl, sym, ap, subst, ◌∙◌, append-nil, append_assoc, arith}
 use Rattle.std.specs.Prelude.{◌==◌, nat_eq, nat_lt, not, min, IsTrue}
 use Rattle.std.proofs.lemmas.Bool.Decides.{nat_tests}
 use Rattle.ftp_world.specs.Events.{Queue, pulled, filled, Fills, Gives, Moves, due, in_queue, can_happen, Happens}
 use Rattle.ftp_ends.specs.Octets.{has_octets}
 use Rattle.ftp_world.specs.World.{World}
 use Rattle.ftp_server_machine.specs.Machine.{Reading}
-use Rattle.ftp_world.specs.Events.{Takes, taking, pushed, Deliver, Does, Delivers, DeliversBy, lends_none}
+use Rattle.ftp_world.specs.Events.{Takes, taking, pushed, Deliver, Delivers, DeliversBy, lends_none}
 use Rattle.ftp_world.specs.Serving.{after_event}
 use Rattle.ftp_client_machine.specs.Failing.{Client}
 use Rattle.ftp_server_machine.specs.Far.{Server}

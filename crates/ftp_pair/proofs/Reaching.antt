@@ -1,9 +1,8 @@
 -- A world that is reached, and the one after an event.
-use Rattle.std.proofs.Common.{◌≡◌, ◌∙◌, ℕ, Bool, true, List, [], ◌∷◌, ◌++◌, refl, sym, ap, subst, arith, Ok, Err}
+use Rattle.std.proofs.Common.{◌≡◌, ◌∙◌, Bool, true, List, [], ◌∷◌, ◌++◌, refl, sym, subst, Ok, Err}
 use Rattle.std.proofs.Math.Logic.{∥∥₁_prop, ∥∥₁_elim}
 use Rattle.std.specs.Prelude.{IfOk, OnErr}
 use Rattle.std.specs.declared.result.Result.{Result}
-use Rattle.ftp_world.specs.Agreement.{Leads, Order}
 use Rattle.ftp_world.specs.Claims.{AgreesAlways, Beginning, IsFair, IsTimed, AreTimed, world_of}
 use Rattle.ftp_world.specs.Events.{Happens}
 use Rattle.ftp_world.specs.Events as events

@@ -1,12 +1,12 @@
 -- One event after the other.
-use Rattle.std.proofs.Common.{◌≡◌, ◌∙◌, ℕ, Bool, true, List, [], ◌∷◌, ◌++◌, map, take, length, refl, sym, ap, subst, append-nil, append_assoc, arith, Ok, Err}
+use Rattle.std.proofs.Common.{◌≡◌, ◌∙◌, Bool, List, [], ◌∷◌, ◌++◌, map, take, length, refl, sym, ap, subst, append-nil, arith, Ok, Err}
 use Rattle.std.specs.Prelude.{IfOk, OnErr}
 use Rattle.std.proofs.lemmas.List.{map-append}
 use Rattle.std.specs.declared.result.Result.{Result}
 use Rattle.std.specs.Iterator.{Yields}
 use Rattle.std.specs.Vec.Iter.{into_iter_items, into_iter_steps}
 use Rattle.std.specs.declared.vec.IntoIter.{IntoIter}
-use Rattle.ftp_server_machine.specs.Machine.{Reading, IsReading}
+use Rattle.ftp_server_machine.specs.Machine.{Reading}
 use Rattle.ftp_world.specs.Agreement.{Leads, Order, begun_by}
 use Rattle.ftp_world.specs.Events.{Event, Happens}
 use Rattle.ftp_world.specs.World.{World}

@@ -1,5 +1,5 @@
 -- The world that parts are, and what is said of a step while it is under way.
-use Rattle.std.specs.Prelude.{◌≡◌, ℕ, Bool, true, false, not, ◌&&◌, IsTrue, List, map, Option, ◌==◌, ◌≤◌, ◌++◌, vec_len, vec_capacity}
+use Rattle.std.specs.Prelude.{◌≡◌, ℕ, Bool, true, false, not, ◌&&◌, List, map, ◌==◌, ◌++◌, vec_len, vec_capacity}
 use Rattle.ftp_operation.specs.Answer.{said_of}
 use Rattle.ftp_client_machine.specs.Failing.{Client}
 use Rattle.ftp_server_machine.specs.Far.{Server}
@@ -7,8 +7,7 @@ use Rattle.ftp_server_machine.specs.Machine.{Reading, IsReading}
 use Rattle.ftp_world.specs.World as world
 use Rattle.ftp_world.specs.World.{World}
 use Rattle.ftp_world.specs.Events as events
-use Rattle.ftp_operation.specs.declared.op.Op.{Op}
-use Rattle.ftp_world.specs.Events.{pulled, pushed, due, in_queue, Gives, filled, Fills, can_begin, operation_begins, is_gone, is_asked_for, Takes, taking, DeliversBy}
+use Rattle.ftp_world.specs.Events.{pushed, filled, Fills, is_gone, is_asked_for, Takes, taking, DeliversBy}
 use Rattle.ftp_world.specs.Serving.{after_event}
 use Rattle.ftp_pair.specs.declared.parts.Control.{Control}
 use Rattle.ftp_pair.specs.declared.parts.Control.TheVariants as Controls

@@ -1,7 +1,7 @@
 // A delivery: a queue is filled, and its first octets are offered.
-ghost use Rattle.std.specs.Prelude.{◌≡◌, ◌+◌, ◌<◌, ◌≤◌, ℕ, List, true, false, vec_len, vec_capacity, IfOk, OnErr, OnOk};
+ghost use Rattle.std.specs.Prelude.{◌≡◌, ◌+◌, ◌<◌, ◌≤◌, true, false, vec_len, vec_capacity, IfOk, OnErr, OnOk};
 ghost use Rattle.ftp_server_machine.specs.Machine.{Reading, IsReading};
-ghost use Rattle.ftp_world.specs.Events.{can_happen, Deliver, Fills, Happens, filled, lends_none};
+ghost use Rattle.ftp_world.specs.Events.{can_happen, Deliver, Happens, filled, lends_none};
 ghost use Rattle.ftp_pair.specs.Shown.{shown, Calmly, FillsTo, Offers, Carries, Steps, queue_of, len_of, room_of};
 
 use crate::parts::{Parts, Queue};

@@ -1,5 +1,5 @@
 // One output call of a sender fills its queue.
-ghost use Rattle.std.specs.Prelude.{◌≡◌, ◌+◌, ◌≤◌, ◌++◌, ℕ, true, length, take, drop, vec_len, vec_capacity, nat_lt};
+ghost use Rattle.std.specs.Prelude.{◌≡◌, ◌+◌, ◌≤◌, vec_len, vec_capacity};
 ghost use Rattle.ftp_world.specs.Events.{pulled, due, Gives, ControlToServer, ControlToClient, DataToServer, DataToClient};
 ghost use Rattle.ftp_pair.specs.Shown.{shown, Calmly, queue_of, len_of, room_of};
 

@@ -1,5 +1,5 @@
 // The first octets of a queue are offered to its receiver.
-ghost use Rattle.std.specs.Prelude.{◌≡◌, ◌+◌, ◌≤◌, ◌++◌, ℕ, true, length, take, drop, vec_len, vec_capacity};
+ghost use Rattle.std.specs.Prelude.{◌≡◌, ◌≤◌, vec_capacity};
 ghost use Rattle.ftp_server_machine.specs.Machine.{Reading, IsReading};
 ghost use Rattle.ftp_world.specs.Events.{pushed, taking, Takes, ControlToServer, ControlToClient, DataToServer, DataToClient};
 ghost use Rattle.ftp_pair.specs.Shown.{shown, Calmly, queue_of};

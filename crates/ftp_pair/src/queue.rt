@@ -1,5 +1,5 @@
 // Octets on their way.
-ghost use Rattle.std.specs.Prelude.{◌≡◌, ◌+◌, ◌≤◌, ◌++◌, length, take, drop, vec_len, vec_capacity, true, [], ◌∷◌, ◌<◌};
+ghost use Rattle.std.specs.Prelude.{◌≡◌, ◌+◌, ◌≤◌, ◌++◌, length, drop, vec_len, vec_capacity, true, [], ◌∷◌, ◌<◌};
 ghost use Rattle.ftp_world.specs.World.{counted};
 
 use ftp_server_machine::Counts;

@@ -1,5 +1,5 @@
 // What a world does for its ends after each event: a wanted close is done, a wanted listen gets its port, and an end that leaves has left.
-ghost use Rattle.std.specs.Prelude.{◌≡◌, ◌<◌, true};
+ghost use Rattle.std.specs.Prelude.{◌≡◌, ◌<◌};
 ghost use Rattle.ftp_world.specs.Serving.{near_served, near_closes, near_listens, left_by_near, far_served, far_closes, far_listens, left_by_far, served};
 ghost use Rattle.ftp_world.specs.World.{gone, parted};
 ghost use Rattle.ftp_pair.specs.Shown.{shown, Calmly};

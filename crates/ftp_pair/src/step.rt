@@ -1,5 +1,5 @@
 // One event, and what follows each: what is wanted is served, and the report is taken.
-ghost use Rattle.std.specs.Prelude.{◌≡◌, ◌<◌, true, false, vec_len, vec_capacity, IfOk, IsTrue, OnErr};
+ghost use Rattle.std.specs.Prelude.{◌≡◌, ◌<◌, vec_len, vec_capacity, IfOk, IsTrue, OnErr};
 ghost use Rattle.ftp_client_machine.specs.Calls.{is_busy};
 ghost use Rattle.ftp_world.specs.Events.{Happens};
 ghost use Rattle.ftp_world.specs.Serving.{after_event, collected};
