@@ -1,6 +1,6 @@
 // How far a transfer is, on standard error.
 use crate::seat::Opens;
-use ftp_drive::{Accepted, For, Ports, Ready};
+use ftp_drive::{Accepted, For, Ports, Ready, Spoken};
 use ftp_endpoint::Endpoint;
 use ftp_sockets::{Link, SocketPorts};
 use std::io;
@@ -93,11 +93,19 @@ where
         self.ports.wait(&mut stream.link, what, hears)
     }
 
+    fn spoken(&mut self) -> Spoken {
+        self.ports.spoken()
+    }
+
     fn close(&mut self, stream: Option<MeteredLink<'a, R>>) {
         self.ports.close(match stream {
             Some(metered) => Some(metered.ended()),
             None => None,
         });
+    }
+
+    fn reset(&mut self, stream: MeteredLink<'a, R>) {
+        self.ports.reset(stream.ended());
     }
 }
 

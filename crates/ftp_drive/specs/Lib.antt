@@ -1,3 +1,4 @@
 pub mod Deeds
 pub mod Driving
 pub mod Beside
+pub mod Ending

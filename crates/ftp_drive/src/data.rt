@@ -1,10 +1,11 @@
 // The octets of a data connection, between a stream and the server, and those of a download that are not written yet.
-ghost use Rattle.std.specs.Prelude.{◌<◌, ◌≤◌, IfOk, length};
+ghost use Rattle.std.specs.Prelude.{◌≡◌, ◌≢◌, ◌<◌, ◌≤◌, IfOk, length};
+ghost use Rattle.ftp_server_machine.specs.Calls.{wants};
 ghost use Rattle.ftp_drive.specs.Beside.{beside};
 ghost use Rattle.ftp_drive.specs.Driving.{Goes, Quietly};
 
 use crate::control::Control;
-use crate::ports::{For, Ports, Ready, Watch};
+use crate::ports::{For, Ports, Ready, Spoken, Watch};
 use ftp_ends::Wants;
 use ftp_pieces::{Failed, TURNS};
 use ftp_server_machine::Far;
@@ -15,11 +16,36 @@ use std::io::{ErrorKind, Read, Write};
 /// The most octets that go over a data connection in one call.
 const DATA_PIECE: usize = 262_144;
 
-/// Whether a data connection is open still.
+/// The most octets of a download that are taken at once: few, since an ABOR is heard between two pieces alone, and the system mostly has room
+/// for so many where it tells of any.
+const SENT_PIECE: usize = 32_768;
+
+/// What a data connection has.
 #[derive(Clone, Copy, Debug, PartialEq, Eq)]
-pub(crate) enum Link {
-    Open,
-    Ended,
+pub(crate) enum Came {
+    /// Room, where octets go.
+    Room,
+    /// So many octets, which were read.
+    Octets(usize),
+    End,
+    Break,
+}
+
+/// Whether octets of a download are still to be taken from the server.
+#[derive(Clone, Copy, Debug, PartialEq, Eq)]
+pub(crate) enum Rest {
+    /// None: all were taken, or there is no download.
+    Nothing,
+    More,
+}
+
+/// How a data connection is closed.
+#[derive(Clone, Copy, Debug, PartialEq, Eq)]
+pub(crate) enum Ending {
+    /// By an end, behind all octets that were to go.
+    Clean,
+    /// By a reset, since octets that were to go did not.
+    Reset,
 }
 
 /// A data connection, if there is one, and the octets of a download that were taken from the server and not written yet.
@@ -29,11 +55,14 @@ pub(crate) struct DataConnection<S: Read + Write + Drop> {
     room: [u8; DATA_PIECE],
     at: usize,
     end: usize,
+    rest: Rest,
     ghost order: { at ≤ end },
     ghost within: { end ≤ 262144 },
 }
 
 impl<S: Read + Write + Drop> DataConnection<S> {
+    ghost use Rattle.ftp_drive.specs.Ending.{EndsBy, IsWhole};
+
     /// No data connection.
     pub(crate) fn new() -> DataConnection<S> {
         DataConnection {
@@ -41,19 +70,64 @@ impl<S: Read + Write + Drop> DataConnection<S> {
             room: [0; DATA_PIECE],
             at: 0,
             end: 0,
+            rest: Rest::Nothing,
         }
     }
 
     /// It is open now.
-    pub(crate) fn begin(&mut self, stream: S) {
+    pub(crate) fn begin(&mut self, stream: S)
+        ensures { IsWhole self.new.at self.new.end self.new.rest }
+    {
         self.stream = Some(stream);
         self.at = self.end;
+        self.rest = Rest::Nothing;
     }
 
-    /// The stream, which is to be closed; what is not written yet is dropped.
-    pub(crate) fn take(&mut self) -> Option<S> {
-        self.at = self.end;
+    /// How it is to be closed now.
+    pub(crate) fn ending(&self) -> Ending
+        ensures { EndsBy result self.now.at self.now.end self.now.rest }
+    {
+        if self.at == self.end && self.rest == Rest::Nothing {
+            Ending::Clean
+        } else {
+            Ending::Reset
+        }
+    }
+
+    /// The stream, which is to be closed by an end: nothing that was to go is left.
+    pub(crate) fn take_whole(&mut self) -> Option<S>
+        requires { IsWhole self.old.at self.old.end self.old.rest }
+    {
         self.stream.take()
+    }
+
+    /// The stream, which is to be closed by a reset; what is left is dropped.
+    pub(crate) fn take_cut(&mut self) -> Option<S>
+        ensures { IsWhole self.new.at self.new.end self.new.rest }
+    {
+        self.at = self.end;
+        self.rest = Rest::Nothing;
+        self.stream.take()
+    }
+
+    /// What it has: octets that are read now, or room where the server wants to send.
+    pub(crate) fn come(&mut self, wants: Wants) -> Came {
+        if wants == Wants::Send {
+            return Came::Room;
+        }
+        let Some(stream) = &mut self.stream else {
+            return Came::Break;
+        };
+        match ftp_pieces::get(stream, &mut self.room) {
+            Ok(0) => Came::End,
+            Ok(count) => Came::Octets(count),
+            Err(Failed) => Came::Break,
+        }
+    }
+
+    /// The front of the room, so many octets.
+    pub(crate) fn front(&self, count: usize) -> &[u8] {
+        self.room.get(..count).unwrap_or(&[])
     }
 
     /// Takes octets of a download from the server, where all before were written.
@@ -65,23 +139,25 @@ impl<S: Read + Write + Drop> DataConnection<S> {
         ensures { Quietly (F.server server.old) (F.server server.new) }
     {
         if self.at == self.end {
-            let count = fill(server, &mut self.room);
+            let (front, _) = self.room.split_at_mut(SENT_PIECE);
+            let count = fill(server, front);
             self.at = 0;
             self.end = count;
         }
     }
 
-    /// Writes octets that are not written yet: what one write takes, or all.
-    fn write(&mut self, all: bool) -> Result<(), Failed> {
+    /// Writes octets that are not written yet: what one write takes, or all where no others come.
+    fn write(&mut self) -> Result<(), Failed>
+        ensures { self.new.rest ≡ self.old.rest }
+    {
         let Some(stream) = &mut self.stream else {
             return Err(Failed);
         };
         let (front, _) = self.room.split_at(self.end);
         let (_, unwritten) = front.split_at(self.at);
-        let count = if all {
-            write_all(stream, unwritten)?
-        } else {
-            write_some(stream, unwritten)?
+        let count = match self.rest {
+            Rest::Nothing => write_all(stream, unwritten)?,
+            Rest::More => write_some(stream, unwritten)?,
         };
         self.at += count;
         Ok(())
@@ -136,75 +212,14 @@ where
     }
 }
 
-/// Moves octets over the data connection once, the way that the server wants.
-pub(crate) fn move_once<A, T, F, R, W, S, C>(
-    server: &mut F,
-    control: &mut Control<R, W>,
-    connection: &mut DataConnection<S>,
-    watch: &mut C,
-) -> Result<Link, Failed>
-where
-    A: Allocator,
-    T: Tree<A>,
-    F: Far<A, T>,
-    R: Read + Drop,
-    W: Write + Drop,
-    S: Read + Write + Drop,
-    C: Watch,
-    ensures { Goes (beside R.remaining W.contents (F.server server.old) control.old) (beside R.remaining W.contents (F.server server.new) control.new) result }
-{
-    if server.wants() == Wants::Send {
-        return Ok(send(server, connection, watch));
-    }
-    let Some(stream) = &mut connection.stream else {
-        fault(server, watch);
-        return Ok(Link::Ended);
-    };
-    receive(server, control, stream, watch, &mut connection.room)
-}
-
-/// Reads once from the data connection, and tells the server what came: octets, the end, or a break.
-fn receive<A, T, F, R, W, S, C>(
-    server: &mut F,
-    control: &mut Control<R, W>,
-    stream: &mut S,
-    watch: &mut C,
-    room: &mut [u8],
-) -> Result<Link, Failed>
-where
-    A: Allocator,
-    T: Tree<A>,
-    F: Far<A, T>,
-    R: Read + Drop,
-    W: Write + Drop,
-    S: Read,
-    C: Watch,
-    ensures { Goes (beside R.remaining W.contents (F.server server.old) control.old) (beside R.remaining W.contents (F.server server.new) control.new) result }
-{
-    match ftp_pieces::get(stream, room) {
-        Ok(0) => {
-            end(server, watch);
-            Ok(Link::Ended)
-        }
-        Ok(count) => {
-            let (octets, _) = room.split_at(count);
-            hand(server, control, octets)?;
-            Ok(Link::Open)
-        }
-        Err(Failed) => {
-            fault(server, watch);
-            Ok(Link::Ended)
-        }
-    }
-}
-
-/// The data connection ended now.
-fn end<A, T, F, C>(server: &mut F, watch: &mut C)
+/// The data connection ended now, and the control connection, which was looked at behind that, has not.
+pub(crate) fn end<A, T, F, C>(server: &mut F, watch: &mut C, _spoken: Spoken)
 where
     A: Allocator,
     T: Tree<A>,
     F: Far<A, T>,
     C: Watch,
+    requires { _spoken ≢ Spoken.Ended }
     ensures { Quietly (F.server server.old) (F.server server.new) }
 {
     server.clock(watch.moment());
@@ -225,7 +240,7 @@ where
 }
 
 /// Hands octets of an upload to the server until it has taken them all or the upload is over, which drops the rest.
-fn hand<A, T, F, R, W>(
+pub(crate) fn hand<A, T, F, R, W>(
     server: &mut F,
     control: &mut Control<R, W>,
     octets: &[u8],
@@ -273,24 +288,36 @@ where
     Ok(taken)
 }
 
-/// Writes octets of a download, once, and tells the server where that fails. With the last octet of it the server owes its reply, so
-/// all is written before that.
-fn send<A, T, F, S, C>(server: &mut F, connection: &mut DataConnection<S>, watch: &mut C) -> Link
+/// Writes octets of a download, once. With the last octet of it the server owes its reply, so all is written before that.
+pub(crate) fn send<A, T, F, S>(
+    server: &mut F,
+    connection: &mut DataConnection<S>,
+) -> Result<(), Failed>
 where
     A: Allocator,
     T: Tree<A>,
     F: Far<A, T>,
     S: Read + Write + Drop,
-    C: Watch,
-    ensures { Quietly (F.server server.old) (F.server server.new) }
+    ensures quiet { Quietly (F.server server.old) (F.server server.new) }
+    ensures rest { (connection.new.rest ≡ Rest.Nothing) → wants (F.server server.new).view ≢ Wants.Send }
 {
     connection.fill(server);
-    let last = server.wants() != Wants::Send;
-    if connection.write(last).is_err() {
-        fault(server, watch);
-        return Link::Ended;
+    connection.rest = rest_of(server);
+    connection.write()
+}
+
+/// Whether the server has more octets of a download.
+fn rest_of<A, T, F>(server: &F) -> Rest
+where
+    A: Allocator,
+    T: Tree<A>,
+    F: Far<A, T>,
+    ensures { (result ≡ Rest.Nothing) → wants (F.server server.now).view ≢ Wants.Send }
+{
+    match server.wants() {
+        Wants::Send => Rest::More,
+        _ => Rest::Nothing,
     }
-    Link::Open
 }
 
 /// Fills the room with the octets that the server gives, as far as they go; gives how many they are.

@@ -1,11 +1,11 @@
 // The drive: what the server wants is done, turn by turn.
-ghost use Rattle.std.specs.Prelude.{◌<◌, ◌≤◌};
+ghost use Rattle.std.specs.Prelude.{◌≢◌, ◌<◌, ◌≤◌};
 ghost use Rattle.ftp_drive.specs.Beside.{beside};
 ghost use Rattle.ftp_drive.specs.Driving.{Drives, EndsOver, Goes, GoesSettled, Quietly, Turns};
 
 use crate::control::Control;
-use crate::data::{DataConnection, Link, fault, move_once, wait_at};
-use crate::ports::{Accepted, Ports, Ready, Watch};
+use crate::data::{Came, DataConnection, Ending, end, fault, hand, send, wait_at};
+use crate::ports::{Accepted, Ports, Ready, Spoken, Watch};
 use ftp_endpoint::Endpoint;
 use ftp_ends::Wants;
 use ftp_pieces::{Failed, TURNS};
@@ -45,12 +45,12 @@ where
     let mut connection = DataConnection::new();
     match turns(server, control, ports, watch, &mut connection) {
         Ok(()) => {
-            ports.close(connection.take());
+            close(ports, &mut connection);
             Ok(())
         }
         Err(Failed) => {
             server.control_end();
-            ports.close(connection.take());
+            close(ports, &mut connection);
             Err(Failed)
         }
     }
@@ -141,7 +141,7 @@ where
             Ok(())
         }
         Wants::CloseData => {
-            ports.close(connection.take());
+            close(ports, connection);
             server.data_closed();
             Ok(())
         }
@@ -177,7 +177,8 @@ where
     carry_alone(server, control, ports, watch, connection)
 }
 
-/// Reads the control connection where it has octets or ended, and else moves octets over the data connection.
+/// Reads the control connection where it has octets, or where the data connection waits or is over and the control connection ended; and else
+/// moves octets over the data connection.
 fn carry_hearing<A, T, F, R, W, P, C>(
     server: &mut F,
     control: &mut Control<R, W>,
@@ -198,15 +199,20 @@ where
 {
     match wait_at(server, ports, connection, true) {
         Ready::Control => read(server, control, watch),
-        Ready::Data => carry_once(server, control, ports, watch, connection),
-        Ready::Lost => {
-            lose(server, ports, watch, connection);
-            Ok(())
+        Ready::Data => {
+            let came = connection.come(server.wants());
+            let spoken = spoken_behind(ports, came);
+            if spoken != Spoken::Nothing {
+                return read(server, control, watch);
+            }
+            carry_came(server, control, ports, watch, connection, came, spoken)
         }
+        Ready::Lost => Err(Failed),
     }
 }
 
-/// Moves octets over the data connection, however long that waits.
+/// Moves octets over the data connection, however long that waits. Where the control connection ended while that waits, or before it is over,
+/// this fails: what the client said last is not heard, and the server is told of that end alone.
 fn carry_alone<A, T, F, R, W, P, C>(
     server: &mut F,
     control: &mut Control<R, W>,
@@ -225,21 +231,37 @@ where
     ensures { Goes (beside R.remaining W.contents (F.server server.old) control.old) (beside R.remaining W.contents (F.server server.new) control.new) result }
 {
     match wait_at(server, ports, connection, false) {
-        Ready::Data => carry_once(server, control, ports, watch, connection),
-        Ready::Control | Ready::Lost => {
-            lose(server, ports, watch, connection);
-            Ok(())
+        Ready::Data => {
+            let came = connection.come(server.wants());
+            let spoken = spoken_behind(ports, came);
+            if spoken == Spoken::Ended {
+                return Err(Failed);
+            }
+            carry_came(server, control, ports, watch, connection, came, spoken)
         }
+        Ready::Control | Ready::Lost => Err(Failed),
     }
 }
 
-/// Moves octets over the data connection once; closes it where it ended.
-fn carry_once<A, T, F, R, W, P, C>(
+/// What the control connection has where nothing more comes over the data connection: its end is told before that of the data connection, so that
+/// an upload is dropped with its session.
+fn spoken_behind<P: Ports>(ports: &mut P, came: Came) -> Spoken {
+    match came {
+        Came::End | Came::Break => ports.spoken(),
+        Came::Room | Came::Octets(_) => Spoken::Nothing,
+    }
+}
+
+/// Serves what a data connection has: octets go over it, or the server is told what came; it is closed where it is over. The control connection
+/// has not ended then, as far as it was looked at.
+fn carry_came<A, T, F, R, W, P, C>(
     server: &mut F,
     control: &mut Control<R, W>,
     ports: &mut P,
     watch: &mut C,
     connection: &mut DataConnection<P::Stream>,
+    came: Came,
+    spoken: Spoken,
 ) -> Result<(), Failed>
 where
     A: Allocator,
@@ -249,13 +271,47 @@ where
     W: Write + Drop,
     P: Ports,
     C: Watch,
+    requires { spoken ≢ Spoken.Ended }
     ensures { Goes (beside R.remaining W.contents (F.server server.old) control.old) (beside R.remaining W.contents (F.server server.new) control.new) result }
 {
-    let link = move_once(server, control, connection, watch)?;
-    if link == Link::Ended {
-        ports.close(connection.take());
+    match came {
+        Came::Octets(count) => hand(server, control, connection.front(count)),
+        Came::Room => {
+            send_once(server, ports, watch, connection);
+            Ok(())
+        }
+        Came::End => {
+            end(server, watch, spoken);
+            close(ports, connection);
+            Ok(())
+        }
+        Came::Break => {
+            fault(server, watch);
+            close(ports, connection);
+            Ok(())
+        }
     }
-    Ok(())
+}
+
+/// Writes octets of a download, once; where that fails, the data connection is lost.
+fn send_once<A, T, F, P, C>(
+    server: &mut F,
+    ports: &mut P,
+    watch: &mut C,
+    connection: &mut DataConnection<P::Stream>,
+)
+where
+    A: Allocator,
+    T: Tree<A>,
+    F: Far<A, T>,
+    P: Ports,
+    C: Watch,
+    ensures { Quietly (F.server server.old) (F.server server.new) }
+{
+    match send(server, connection) {
+        Ok(()) => {}
+        Err(Failed) => lose(server, ports, watch, connection),
+    }
 }
 
 /// The data connection is lost: the server is told, and it is closed.
@@ -274,7 +330,19 @@ where
     ensures { Quietly (F.server server.old) (F.server server.new) }
 {
     fault(server, watch);
-    ports.close(connection.take());
+    close(ports, connection);
+}
+
+/// Closes a data connection and a port: by an end only where all that was to go is written, and else by a reset.
+fn close<P: Ports>(ports: &mut P, connection: &mut DataConnection<P::Stream>) {
+    match connection.ending() {
+        Ending::Clean => ports.close(connection.take_whole()),
+        Ending::Reset => {
+            if let Some(stream) = connection.take_cut() {
+                ports.reset(stream);
+            }
+        }
+    }
 }
 
 /// Hears the next octet of the control connection, which is read where all before were heard.

@@ -9,4 +9,4 @@ mod ports;
 
 pub use control::Control;
 pub use drive::drive_server;
-pub use ports::{Accepted, For, Ports, Ready, Watch};
+pub use ports::{Accepted, For, Ports, Ready, Spoken, Watch};

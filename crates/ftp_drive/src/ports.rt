@@ -28,10 +28,20 @@ pub enum For {
 pub enum Ready {
     /// What was waited for is there.
     Data,
-    /// The control connection has octets.
+    /// The control connection has octets, or ended.
     Control,
-    /// Nothing more will go over the data connection.
+    /// The control connection ended, or the waiting failed: nothing more will go over the data connection.
     Lost,
+}
+
+/// What the control connection has, told without waiting.
+#[derive(Clone, Copy, Debug, PartialEq, Eq)]
+pub enum Spoken {
+    /// No octets, and no end.
+    Nothing,
+    Octets,
+    /// It ended or was reset, behind whatever octets are not read yet.
+    Ended,
 }
 
 /// What opens data connections (RFC 959, section 3.2). Each call may fail; none of them may wait past the end of the control connection.
@@ -49,11 +59,17 @@ pub trait Ports {
     fn connect(&mut self, endpoint: Endpoint) -> Option<Self::Stream>;
 
     /// Waits at an open data connection. Where `hears`, octets of the control connection stop the waiting, and go first. Its end stops it where
-    /// the data connection is not ready, and the answer is then `Lost`.
+    /// the data connection is not ready; the answer is then `Control` where `hears`, and else `Lost`.
     fn wait(&mut self, stream: &mut Self::Stream, what: For, hears: bool) -> Ready;
 
-    /// Closes a data connection and the port that is listened at, if there are any.
+    /// What the control connection has now.
+    fn spoken(&mut self) -> Spoken;
+
+    /// Closes a data connection and the port that is listened at, if there are any: the peer finds the end behind all that was written.
     fn close(&mut self, stream: Option<Self::Stream>);
+
+    /// Closes a data connection on which not all was written: the peer finds a reset, and never an end.
+    fn reset(&mut self, stream: Self::Stream);
 }
 
 /// What tells the time.

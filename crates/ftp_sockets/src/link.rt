@@ -1,5 +1,6 @@
 // A data connection that does not outlast its control connection.
-use crate::wait::{Heeds, Woke, wait};
+use crate::options::drop_connection;
+use crate::wait::{Heeds, Woke, has_room, wait};
 use ftp_drive::{For, Ready};
 use ftp_pieces::TURNS;
 use std::io;
@@ -9,8 +10,12 @@ use std::net::{Shutdown, TcpStream};
 /// The most reads of octets that came behind the end of a transfer.
 const LAST_READS: u32 = 4096;
 
-/// A data connection. A read or a write that would wait ends where the control connection does; one that hears fails as `WouldBlock` where
-/// the control connection has octets or ended.
+/// How long a write waits behind the end of the control connection, in milliseconds.
+const LAST_MILLIS: i32 = 30_000;
+
+/// A data connection. A read that would wait ends where the control connection does; one that hears fails as `WouldBlock` where
+/// the control connection has octets or ended, and so does a write. A write that doesn't hear goes on behind the end of the control connection
+/// while the peer takes octets within 30 seconds.
 #[derive(Drop)]
 pub struct Link<'a> {
     control: &'a TcpStream,
@@ -66,6 +71,11 @@ impl<'a> Link<'a> {
         self.stream.shutdown(Shutdown::Write)
     }
 
+    /// Drops the connection, with what was not sent: the peer finds a reset.
+    pub(crate) fn reset(self) {
+        drop_connection(&self.stream);
+    }
+
     /// Reads what the peer sent too much, since a connection that is dropped with unread octets is reset, and loses what was sent. Waits
     /// at most so many milliseconds for more.
     pub(crate) fn finish(mut self, millis: i32) {
@@ -112,6 +122,7 @@ impl<'a> Write for Link<'a> {
             }
             match wait(self.control, &self.stream, For::Room, self.heeds, -1) {
                 Woke::Ready => {}
+                Woke::Ended if has_room(&self.stream, LAST_MILLIS) => {}
                 woke => return Err(halted(woke)),
             }
         }

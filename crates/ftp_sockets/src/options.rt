@@ -1,10 +1,13 @@
-// Options of sockets.
+// Options of sockets, and how a connection is dropped.
 ghost use Rattle.std.specs.Prelude.{◌↔◌, ◌≤ℤ◌, pos, IsOk};
 
 use libc::net as c;
 use std::io;
 use std::io::Error;
 use std::os::fd::AsRawFd;
+
+/// The length of an address that names no family, `AF_UNSPEC`.
+const NO_ADDRESS: u32 = 16;
 
 /// Whether a call of the system went well.
 fn check(status: i32) -> io::Result<()>
@@ -32,4 +35,10 @@ pub fn keep_alive<S: AsRawFd>(stream: &S, idle: i32, between: i32, times: i32) -
     check(unsafe { c::setsockopt(fd, tcp, c::TCP_KEEPIDLE, &value(idle), 4) })?;
     check(unsafe { c::setsockopt(fd, tcp, c::TCP_KEEPINTVL, &value(between), 4) })?;
     check(unsafe { c::setsockopt(fd, tcp, c::TCP_KEEPCNT, &value(times), 4) })
+}
+
+/// Drops a connection: its peer finds a reset, and what was not sent is lost. Linux does that where a connected socket is connected to no
+/// address; where it is refused, the peer finds an end.
+pub(crate) fn drop_connection<S: AsRawFd>(stream: &S) {
+    let _status = unsafe { c::connect(stream.as_raw_fd(), &[0; 128], NO_ADDRESS) };
 }

@@ -1,8 +1,8 @@
 // Data connections over real sockets.
 use crate::host::{addr_of, host_of};
 use crate::link::Link;
-use crate::wait::{Heeds, Woke, wait};
-use ftp_drive::{Accepted, For, Ports, Ready};
+use crate::wait::{Heeds, Woke, spoken, wait};
+use ftp_drive::{Accepted, For, Ports, Ready, Spoken};
 use ftp_endpoint::Endpoint;
 use ftp_pieces::TURNS;
 use std::io;
@@ -161,6 +161,10 @@ impl<'a, R: Net<Listener = TcpListener, Stream = TcpStream>> Ports for SocketPor
         stream.wait(what, hears)
     }
 
+    fn spoken(&mut self) -> Spoken {
+        spoken(self.control)
+    }
+
     fn close(&mut self, stream: Option<Link<'a>>) {
         let Some(link) = stream else {
             self.listener = None;
@@ -170,5 +174,10 @@ impl<'a, R: Net<Listener = TcpListener, Stream = TcpStream>> Ports for SocketPor
         if link.end().is_ok() {
             self.leaving = Some(link);
         }
+    }
+
+    fn reset(&mut self, stream: Link<'a>) {
+        self.finish(0);
+        stream.reset();
     }
 }

@@ -1,5 +1,5 @@
 // Waiting for the control connection and another socket together, or for nothing.
-use ftp_drive::For;
+use ftp_drive::{For, Spoken};
 use ftp_pieces::TURNS;
 use libc::net as c;
 use libc::types::pollfd;
@@ -58,34 +58,81 @@ pub(crate) fn wait<C: AsRawFd, S: AsRawFd>(
             revents: 0,
         },
     ];
+    match polled(&mut asked, millis) {
+        Polled::Told => woken(asked[0].revents, asked[1].revents, heeds),
+        Polled::TimeOver => Woke::TimeOver,
+        Polled::Failed => Woke::Failed,
+    }
+}
+
+/// How a poll ended.
+#[derive(Clone, Copy, Debug, PartialEq, Eq)]
+enum Polled {
+    /// What was asked for of a socket is there.
+    Told,
+    TimeOver,
+    Failed,
+}
+
+/// Polls, also behind signals.
+fn polled(asked: &mut [pollfd], millis: i32) -> Polled {
     for _ in 0..TURNS {
-        let count = c::poll(&mut asked, millis);
+        let count = c::poll(asked, millis);
         if count == 0 {
-            return Woke::TimeOver;
+            return Polled::TimeOver;
         }
         if count > 0 {
-            return woken(asked[0].revents, asked[1].revents, heeds);
+            return Polled::Told;
         }
         if os::errno() != libc::EINTR {
-            return Woke::Failed;
+            return Polled::Failed;
         }
     }
-    Woke::Failed
+    Polled::Failed
+}
+
+/// Whether there is room for octets on a socket within so many milliseconds, whatever the control connection does.
+pub(crate) fn has_room<S: AsRawFd>(socket: &S, millis: i32) -> bool {
+    let mut asked = [pollfd {
+        fd: socket.as_raw_fd(),
+        events: c::POLLOUT,
+        revents: 0,
+    }];
+    polled(&mut asked, millis) == Polled::Told
+}
+
+/// What a control connection has now.
+pub(crate) fn spoken<C: AsRawFd>(control: &C) -> Spoken {
+    let mut asked = [pollfd {
+        fd: control.as_raw_fd(),
+        events: c::POLLIN | c::POLLRDHUP,
+        revents: 0,
+    }];
+    match polled(&mut asked, 0) {
+        Polled::Told if has_ended(asked[0].revents) => Spoken::Ended,
+        Polled::Told => Spoken::Octets,
+        Polled::TimeOver => Spoken::Nothing,
+        Polled::Failed => Spoken::Ended,
+    }
+}
+
+/// Whether these events tell of the end of a connection, or of its break.
+fn has_ended(events: i16) -> bool {
+    events & (c::POLLRDHUP | c::POLLHUP | c::POLLERR) != 0
 }
 
 /// What the events of both say.
 fn woken(control: i16, other: i16, heeds: Heeds) -> Woke {
-    let ended = control & (c::POLLRDHUP | c::POLLHUP | c::POLLERR) != 0;
-    if heeds == Heeds::OctetsFirst && control != 0 && !ended {
+    if heeds == Heeds::OctetsFirst && control != 0 && !has_ended(control) {
         Woke::Spoken
     } else if other != 0 {
         Woke::Ready
     } else if control == 0 {
         Woke::Failed
-    } else if heeds == Heeds::Octets {
-        Woke::Spoken
-    } else {
+    } else if heeds == Heeds::End {
         Woke::Ended
+    } else {
+        Woke::Spoken
     }
 }
 

@@ -2,7 +2,7 @@
 use crate::drive::peer::PEER;
 use ftp_client_drive::{Control, drive_client};
 use ftp_client_machine::Near;
-use ftp_drive::{Accepted, For, Ports, Ready};
+use ftp_drive::{Accepted, For, Ports, Ready, Spoken};
 use ftp_endpoint::Endpoint;
 use ftp_facts::Text;
 use ftp_operation::{Answer, How};
@@ -102,10 +102,18 @@ impl Ports for Breaking {
         Ready::Data
     }
 
+    fn spoken(&mut self) -> Spoken {
+        Spoken::Nothing
+    }
+
     fn close(&mut self, stream: Option<Link>) {
         if let Some(link) = stream {
             self.taken.put(link.taken.get(..link.end).unwrap_or(b""));
         }
+    }
+
+    fn reset(&mut self, stream: Link) {
+        self.close(Some(stream));
     }
 }
 

@@ -1,6 +1,6 @@
 // A client's side of data connections that is the same each time: it opens each port, sends so many octets, has no room at first, and speaks at
 // a time of its choice.
-use ftp_drive::{Accepted, For, Ports, Ready, Watch};
+use ftp_drive::{Accepted, For, Ports, Ready, Spoken, Watch};
 use ftp_endpoint::{Endpoint, Host};
 use ftp_facts::Moment;
 use std::io;
@@ -104,10 +104,18 @@ impl Ports for Client {
         Ready::Data
     }
 
+    fn spoken(&mut self) -> Spoken {
+        Spoken::Nothing
+    }
+
     fn close(&mut self, stream: Option<Link>) {
         if let Some(link) = stream {
             self.taken = self.taken.wrapping_add(link.taken);
         }
+    }
+
+    fn reset(&mut self, stream: Link) {
+        self.close(Some(stream));
     }
 }
 
