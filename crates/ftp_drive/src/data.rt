@@ -83,6 +83,17 @@ impl<S: Read + Write + Drop> DataConnection<S> {
         self.rest = Rest::Nothing;
     }
 
+    /// Notes whether the server has more octets of a download.
+    pub(crate) fn note<A, T, F>(&mut self, server: &F)
+    where
+        A: Allocator,
+        T: Tree<A>,
+        F: Far<A, T>,
+        ensures { (self.new.rest ≡ Rest.Nothing) → wants (F.server server.now).view ≢ Wants.Send }
+    {
+        self.rest = rest_of(server);
+    }
+
     /// How it is to be closed now.
     pub(crate) fn ending(&self) -> Ending
         ensures { EndsBy result self.now.at self.now.end self.now.rest }
@@ -302,7 +313,7 @@ where
     ensures rest { (connection.new.rest ≡ Rest.Nothing) → wants (F.server server.new).view ≢ Wants.Send }
 {
     connection.fill(server);
-    connection.rest = rest_of(server);
+    connection.note(server);
     connection.write()
 }
 

@@ -49,6 +49,7 @@ where
             Ok(())
         }
         Err(Failed) => {
+            connection.note(server);
             server.control_end();
             close(ports, &mut connection);
             Err(Failed)
@@ -168,6 +169,7 @@ where
     C: Watch,
     ensures { GoesSettled (beside R.remaining W.contents (F.server server.old) control.old) (beside R.remaining W.contents (F.server server.new) control.new) result }
 {
+    connection.note(server);
     if !control.has_unheard() {
         return carry_hearing(server, control, ports, watch, connection);
     }

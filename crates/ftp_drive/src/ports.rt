@@ -46,7 +46,7 @@ pub enum Spoken {
 
 /// What opens data connections (RFC 959, section 3.2). Each call may fail; none of them may wait past the end of the control connection.
 pub trait Ports {
-    /// An open data connection; its read and its write end as failed where the control connection ended.
+    /// An open data connection. Its read ends as failed where the control connection ended; its write may go on for a while then.
     type Stream: Read + Write + Drop;
 
     /// Listens at a port of its choice for one data connection.
