@@ -1,7 +1,7 @@
 // Data connections over real sockets.
 use crate::host::{addr_of, host_of};
 use crate::link::Link;
-use crate::wait::{Heeds, Woke, spoken, wait};
+use crate::wait::{Heeds, Woke, look_at, wait};
 use ftp_drive::{Accepted, For, Ports, Ready, Spoken};
 use ftp_endpoint::Endpoint;
 use ftp_pieces::TURNS;
@@ -162,7 +162,7 @@ impl<'a, R: Net<Listener = TcpListener, Stream = TcpStream>> Ports for SocketPor
     }
 
     fn spoken(&mut self) -> Spoken {
-        spoken(self.control)
+        look_at(self.control)
     }
 
     fn close(&mut self, stream: Option<Link<'a>>) {

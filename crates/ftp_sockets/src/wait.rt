@@ -58,7 +58,7 @@ pub(crate) fn wait<C: AsRawFd, S: AsRawFd>(
             revents: 0,
         },
     ];
-    match polled(&mut asked, millis) {
+    match ask(&mut asked, millis) {
         Polled::Told => woken(asked[0].revents, asked[1].revents, heeds),
         Polled::TimeOver => Woke::TimeOver,
         Polled::Failed => Woke::Failed,
@@ -75,7 +75,7 @@ enum Polled {
 }
 
 /// Polls, also behind signals.
-fn polled(asked: &mut [pollfd], millis: i32) -> Polled {
+fn ask(asked: &mut [pollfd], millis: i32) -> Polled {
     for _ in 0..TURNS {
         let count = c::poll(asked, millis);
         if count == 0 {
@@ -98,17 +98,17 @@ pub(crate) fn has_room<S: AsRawFd>(socket: &S, millis: i32) -> bool {
         events: c::POLLOUT,
         revents: 0,
     }];
-    polled(&mut asked, millis) == Polled::Told
+    ask(&mut asked, millis) == Polled::Told
 }
 
 /// What a control connection has now.
-pub(crate) fn spoken<C: AsRawFd>(control: &C) -> Spoken {
+pub(crate) fn look_at<C: AsRawFd>(control: &C) -> Spoken {
     let mut asked = [pollfd {
         fd: control.as_raw_fd(),
         events: c::POLLIN | c::POLLRDHUP,
         revents: 0,
     }];
-    match polled(&mut asked, 0) {
+    match ask(&mut asked, 0) {
         Polled::Told if has_ended(asked[0].revents) => Spoken::Ended,
         Polled::Told => Spoken::Octets,
         Polled::TimeOver => Spoken::Nothing,
