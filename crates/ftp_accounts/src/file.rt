@@ -4,7 +4,9 @@ ghost use Rattle.ftp_operation.specs.Account.{accounts_refusal};
 
 use crate::fault::AccountsFileFault;
 use crate::reading::read_accounts;
+use crate::roots::read_roots;
 use ftp_operation::Accounts;
+use ftp_path::Path;
 use std::alloc::Global;
 use std::fs::{File, Files, OpenFile};
 use std::io::Read;
@@ -22,6 +24,15 @@ pub fn load_accounts<R: Files + AllocGlobal>(
 {
     let text = read_private(files, file)?;
     read_accounts(files.alloc(), text.as_slice())
+}
+
+/// The roots of the accounts that a file says.
+pub fn load_roots<R: Files + AllocGlobal>(
+    files: &R,
+    file: &str,
+) -> Result<Vec<Path<Global>, Global>, AccountsFileFault> {
+    let text = read_private(files, file)?;
+    read_roots(files.alloc(), text.as_slice())
 }
 
 /// The octets of a file that its owner alone may use.

@@ -5,7 +5,9 @@ mod fault;
 mod file;
 mod line;
 mod reading;
+mod roots;
 
 pub use fault::{AccountsFileFault, LineFault};
-pub use file::load_accounts;
+pub use file::{load_accounts, load_roots};
 pub use reading::read_accounts;
+pub use roots::read_roots;

@@ -41,7 +41,7 @@ pub fn read_accounts<A: Allocator + Copy>(
 }
 
 /// A line without the CR at its end.
-fn without_cr(line: &[u8]) -> &[u8]
+pub(crate) fn without_cr(line: &[u8]) -> &[u8]
     ensures { result.now ≡ without_cr line.now }
 {
     match line.split_last() {

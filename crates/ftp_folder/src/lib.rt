@@ -5,8 +5,10 @@ mod fault;
 mod folder;
 mod loading;
 mod place;
+mod reasons;
 mod writing;
 
 pub use fault::{LoadFault, Reason};
 pub use folder::DiskFolder;
 pub use loading::{load, open};
+pub use reasons::Reasons;

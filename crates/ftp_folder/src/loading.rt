@@ -4,7 +4,8 @@ ghost use Rattle.ftp_folder.specs.Place.{folder_text};
 
 use crate::fault::{LoadFault, Reason};
 use crate::folder::DiskFolder;
-use crate::place::place_of;
+use crate::place::{check_free, place_of};
+use crate::reasons::Reasons;
 use crate::writing::BESIDE;
 use ftp_facts::Moment;
 use ftp_mirror::Mirror;
@@ -16,8 +17,14 @@ use std::io::{ErrorKind, Read};
 use std::os::unix::fs::MetadataExt;
 use std::{fs, io};
 
-/// The most directories: the root, and as many nodes as a tree has beside it.
-const DIR_LIMIT: u32 = 16_385;
+/// The loop over directories ends, as at a limit, once it has made so many turns.
+const DIR_TURNS: u64 = 1_099_511_627_776;
+
+/// The most parts that interrupted writes left in one directory and that are kept.
+const LEFT_LIMIT: u32 = 10_000;
+
+/// What a part that an interrupted write left is called, behind it a number and the octet 127, which is of no name of a tree.
+const LEFT: &str = "ftp-left-";
 
 /// How many octets of a file are read at once.
 const PIECE: usize = 65_536;
@@ -25,35 +32,45 @@ const PIECE: usize = 65_536;
 /// The last moment of the profile, the end of the year 9999.
 const LAST_SECOND: u64 = 253_402_300_799;
 
-/// Loads the folder below a directory, and mirrors it: the changes of the tree that it gives go there.
-pub fn open<R: Files + AllocGlobal + Clone + Drop>(
+/// Loads the folder below a directory, and mirrors it: the changes of the tree that it gives go there. What fails of them is told by `reasons`.
+/// Limits are counted as `load` says.
+pub fn open<'a, R: Files + AllocGlobal + Clone + Drop>(
     files: R,
     dir: &str,
-) -> Result<Mirror<Global, DiskFolder<R>>, LoadFault>
+    roots: &[Path<Global>],
+    reasons: &'a Reasons,
+) -> Result<Mirror<Global, DiskFolder<'a, R>>, LoadFault>
     ensures dir { IfOk result (λ mirror. string_bytes mirror.folder.dir ≡ folder_text dir.now) }
     ensures failures { IfOk result (λ mirror. mirror.folder.failures ≡ 0) }
 {
-    let tree = load(&files, dir)?;
-    match DiskFolder::new(files, dir) {
+    let tree = load(&files, dir, roots)?;
+    match DiskFolder::new(files, dir, reasons) {
         Ok(folder) => Ok(Mirror::new(tree, folder)),
         Err(_) => Err(LoadFault::Memory),
     }
 }
 
 /// The files and directories below a directory, as a tree, each file with its moment; those before 1970 have the first one.
-/// What an interrupted write left is removed.
+///
+/// Below each of the roots limits are counted as sessions at that root count them: what they leave can be loaded. What is below none of them is
+/// counted together, as one root. No root may be below another.
+///
+/// What an interrupted write left is kept as `ftp-left-1`, `ftp-left-2` and so on, each with the octet 127 behind it, and is not part of the
+/// tree; it is removed where it is empty.
 ///
 /// Refused: what is neither a file nor a directory, a name that is none of a tree, a limit of a tree that is passed, and what the
 /// system refuses to read; the first that is met is told, in the order in which the system lists.
 pub fn load<'a, R: Files + AllocGlobal + Clone + Drop>(
     files: &'a R,
     dir: &'a str,
+    roots: &'a [Path<Global>],
 ) -> Result<MemTree<Global>, LoadFault> {
-    let Ok(mut loading) = Loading::new(files, if dir.is_empty() { "." } else { dir }) else {
+    let dir = if dir.is_empty() { "." } else { dir };
+    let Ok(mut loading) = Loading::new(files, dir, roots) else {
         return Err(LoadFault::Memory);
     };
-    for _ in 0..DIR_LIMIT {
-        let Some(here) = loading.waiting.pop() else {
+    for _ in 0..DIR_TURNS {
+        let Some(here) = loading.next_dir() else {
             return Ok(loading.tree);
         };
         loading.load_dir(&here)?;
@@ -61,30 +78,53 @@ pub fn load<'a, R: Files + AllocGlobal + Clone + Drop>(
     Err(LoadFault::of_tree(files.alloc(), dir, TreeFault::Full))
 }
 
-/// A tree that is being loaded, and the directories that are still to be read.
+/// A tree that is being loaded, and the directories that are still to be read: those below the root that is being loaded now, and the roots
+/// that come behind it.
 #[derive(Drop)]
 struct Loading<'a, R: Files + AllocGlobal + Clone + Drop> {
     files: &'a R,
     dir: &'a str,
+    roots: &'a [Path<Global>],
     root: Path<Global>,
     tree: MemTree<Global>,
     waiting: Vec<Path<Global>, Global>,
+    later: Vec<Path<Global>, Global>,
     buffer: Vec<u8, Global>,
 }
 
 impl<'a, R: Files + AllocGlobal + Clone + Drop> Loading<'a, R> {
-    fn new(files: &'a R, dir: &'a str) -> Result<Loading<'a, R>, AllocError> {
+    fn new(
+        files: &'a R,
+        dir: &'a str,
+        roots: &'a [Path<Global>],
+    ) -> Result<Loading<'a, R>, AllocError> {
         let alloc = files.alloc();
         let mut waiting = Vec::new(alloc);
         waiting.push(Path::root(alloc))?;
         Ok(Loading {
             files,
             dir,
+            roots,
             root: Path::root(alloc),
             tree: MemTree::new(alloc),
             waiting,
+            later: Vec::new(alloc),
             buffer: vec![in alloc; 0u8; PIECE]?,
         })
+    }
+
+    /// The next directory, below the root that is being loaded; where none waits there, the next root is.
+    fn next_dir(&mut self) -> Option<Path<Global>> {
+        if let Some(here) = self.waiting.pop() {
+            return Some(here);
+        }
+        self.root = self.later.pop()?;
+        Some(Path::root(self.files.alloc()))
+    }
+
+    /// Whether a path is one of the roots, which is loaded behind what is below none.
+    fn is_later(&self, path: &Path<Global>) -> bool {
+        self.root.key().is_empty() && self.roots.iter().any(|root| root.key() == path.key())
     }
 
     /// Loads what stands directly in a directory; the directories in it wait.
@@ -119,8 +159,8 @@ impl<'a, R: Files + AllocGlobal + Clone + Drop> Loading<'a, R> {
             Ok(found) => found,
             Err(error) => return Err(LoadFault::of_system(alloc, place, error)),
         };
-        if entry.file_name() == BESIDE && found.is_file() {
-            return match fs::remove_file(self.files, place) {
+        if found.is_file() && is_left(entry.file_name()) {
+            return match leave(self.files, place, found.len()) {
                 Ok(()) => Ok(()),
                 Err(error) => Err(LoadFault::of_system(alloc, place, error)),
             };
@@ -141,7 +181,12 @@ impl<'a, R: Files + AllocGlobal + Clone + Drop> Loading<'a, R> {
         if let Err(fault) = self.tree.make_dir(&self.root, &path) {
             return Err(LoadFault::of_tree(alloc, place, fault));
         }
-        match self.waiting.push(path) {
+        let waits = if self.is_later(&path) {
+            self.later.push(path)
+        } else {
+            self.waiting.push(path)
+        };
+        match waits {
             Ok(()) => Ok(()),
             Err(_) => Err(LoadFault::Memory),
         }
@@ -170,6 +215,28 @@ impl<'a, R: Files + AllocGlobal + Clone + Drop> Loading<'a, R> {
             Err(fault) => Err(LoadFault::of_tree(alloc, place, fault)),
         }
     }
+}
+
+/// Whether a name is that of a part that an interrupted write left.
+fn is_left(name: &str) -> bool {
+    name == BESIDE || (name.starts_with(LEFT) && name.ends_with('\x7f'))
+}
+
+/// Keeps a part that an interrupted write left under a name of its own; one that has no octet is removed.
+fn leave<R: Files + AllocGlobal>(files: &R, place: &str, len: u64) -> io::Result<()> {
+    if len == 0 {
+        return fs::remove_file(files, place);
+    }
+    let Some(dir) = place.strip_suffix(BESIDE) else {
+        return Ok(());
+    };
+    for number in 1..LEFT_LIMIT {
+        let free = format!(in files.alloc(); "{dir}{LEFT}{number}\x7f")?;
+        if check_free(files, free.as_str()).is_ok() {
+            return fs::rename(files, place, free.as_str());
+        }
+    }
+    Err(io::Error::from(ErrorKind::AlreadyExists))
 }
 
 /// The path of a name in a directory.

@@ -1,11 +1,11 @@
-// Writing a file so that a crash leaves the old one or the new one.
+// Writing a file so that a crash leaves the old one or the new one, and names so that they are on the disk.
 ghost use Rattle.std.specs.Prelude.{IfOk, OnOk};
 ghost use Rattle.std.specs.Io.KnownBytes.{Appends};
 
 use ftp_facts::Moment;
 use ftp_tree::Content;
 use std::alloc::{AllocError, Allocator, Global};
-use std::fs::{FileTimes, Files, OpenFile, OpenOptions, Permissions};
+use std::fs::{File, FileTimes, Files, OpenFile, OpenOptions, Permissions};
 use std::io::{BufWriter, Error, ErrorKind, Write};
 use std::os::unix::fs::{OpenOptionsExt, PermissionsExt};
 use std::time::{Duration, SystemTime, UNIX_EPOCH};
@@ -22,8 +22,8 @@ const OWN_MODE: u32 = 0o600;
 /// How many octets are gathered for one call of the system: a page of a content has 4,096.
 const GATHERED: u64 = 256 * 1024;
 
-/// Writes a file beside its name, flushes it, and moves it over the name. It keeps the permissions of the file that it replaces.
-/// Where that fails, what was written beside is removed again.
+/// Writes a file beside its name, flushes it, moves it over the name, and flushes the directory. It keeps the permissions of the file that it
+/// replaces. Where that fails before the move, what was written beside is removed again.
 pub(crate) fn write_over<R: Files + AllocGlobal, A: Allocator>(
     files: &R,
     place: &str,
@@ -35,16 +35,30 @@ pub(crate) fn write_over<R: Files + AllocGlobal, A: Allocator>(
     if written.is_err() {
         let _gone = fs::remove_file(files, beside.as_str());
     }
-    written
+    written?;
+    sync_above(files, place)
+}
+
+/// The text of the directory in which a place is.
+fn above(place: &str) -> &str {
+    match place.rsplit_once('/') {
+        Some((dir, _)) => dir,
+        None => ".",
+    }
+}
+
+/// Flushes the directory in which a place is, so that its name there, or that it has none, is on the disk. A file system that can't flush a
+/// directory says that the call is not valid; it is left alone (own choice).
+pub(crate) fn sync_above<R: Files>(files: &R, place: &str) -> io::Result<()> {
+    match File::open(files, above(place))?.sync_all() {
+        Err(error) if error.kind() == ErrorKind::InvalidInput => Ok(()),
+        synced => synced,
+    }
 }
 
 /// The place of the file that is written beside another.
 fn beside(alloc: Global, place: &str) -> Result<String<Global>, AllocError> {
-    let dir = match place.rsplit_once('/') {
-        Some((dir, _)) => dir,
-        None => ".",
-    };
-    let mut text = String::from_str(alloc, dir)?;
+    let mut text = String::from_str(alloc, above(place))?;
     text.push_str("/")?;
     text.push_str(BESIDE)?;
     Ok(text)

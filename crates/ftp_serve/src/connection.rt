@@ -4,13 +4,14 @@ use crate::journal::{Journal, Log};
 use ftp_carried::Carried;
 use ftp_drive::{Control, drive_server};
 use ftp_endpoint::Host;
+use ftp_folder::Reasons;
 use ftp_operation::Accounts;
 use ftp_pieces::Failed;
 use ftp_server::{NotBegun, Server};
 use ftp_server_machine::Far;
 use ftp_sockets::{ControlReader, SocketPorts, SystemWatch, host_of, keep_alive, say_goodbye};
 use ftp_tree::Tree;
-use std::alloc::Global;
+use std::alloc::{AllocError, Global};
 use std::io;
 use std::io::Eprint;
 use std::net::{Net, SocketAddr, TcpListener, TcpStream};
@@ -34,19 +35,28 @@ fn ends_of(stream: &TcpStream) -> io::Result<(Host, SocketAddr)> {
 }
 
 /// Serves one control connection over a tree, and gives the tree back and whether no read, no write and no growth outside of the server failed.
+/// Why a change of the tree's folder failed is told from `reasons`.
 pub fn session<R, T>(
     rt: &R,
     tree: T,
     accounts: Accounts<Global>,
     stream: &TcpStream,
     log: Log,
+    reasons: &Reasons,
 ) -> (T, Result<(), Failed>)
 where
     R: Net<Listener = TcpListener, Stream = TcpStream> + Clock + Eprint + AllocGlobal,
     T: Tree<Global>,
 {
     match ends_of(stream) {
-        Ok((here, peer)) => session_between(rt, tree, accounts, stream, (here, peer), log),
+        Ok((here, peer)) => session_between(
+            rt,
+            tree,
+            accounts,
+            stream,
+            (here, peer),
+            (log, reasons),
+        ),
         Err(_) => (tree, Err(Failed)),
     }
 }
@@ -58,7 +68,7 @@ fn session_between<R, T>(
     accounts: Accounts<Global>,
     stream: &TcpStream,
     (here, peer): (Host, SocketAddr),
-    log: Log,
+    telling: (Log, &Reasons),
 ) -> (T, Result<(), Failed>)
 where
     R: Net<Listener = TcpListener, Stream = TcpStream> + Clock + Eprint + AllocGlobal,
@@ -72,7 +82,7 @@ where
         host_of(peer),
     );
     match made {
-        Ok(server) => session_by(rt, server, stream, peer, log),
+        Ok(server) => session_by(rt, server, stream, peer, telling),
         Err(back) => (back.tree, Err(Failed)),
     }
 }
@@ -83,15 +93,17 @@ fn session_by<R, T>(
     server: Server<Global, T, Carried<Global>>,
     stream: &TcpStream,
     peer: SocketAddr,
-    log: Log,
+    (log, reasons): (Log, &Reasons),
 ) -> (T, Result<(), Failed>)
 where
     R: Net<Listener = TcpListener, Stream = TcpStream> + Clock + Eprint + AllocGlobal,
     T: Tree<Global>,
 {
     let mut server = server;
-    let journal = Journal::new(rt, log, peer);
-    let ended = connected(rt, &mut server, stream, &journal);
+    let ended = match Journal::new(rt, log, peer, reasons) {
+        Ok(journal) => connected(rt, &mut server, stream, &journal),
+        Err(AllocError) => Err(Failed),
+    };
     (server.into_tree(), ended)
 }
 
@@ -131,7 +143,7 @@ where
         inner: ControlReader::new(stream),
         journal,
     };
-    let writer = SaidWriter { stream, journal };
+    let writer = SaidWriter::new(stream, journal);
     let mut ports = CountedPorts {
         inner: ports,
         journal,
@@ -142,6 +154,7 @@ where
     if ended.is_ok() {
         let _gone = say_goodbye(stream, Duration::from_millis(u64::from(GOODBYE_MILLIS)));
     }
+    journal.finish();
     journal.note(if ended.is_ok() { "ends" } else { "breaks off" });
     ended
 }

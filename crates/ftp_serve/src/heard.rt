@@ -1,6 +1,6 @@
 // The connections of a session, of which its journal is told.
-use crate::journal::Journal;
-use ftp_drive::{Accepted, For, Ports, Ready};
+use crate::journal::{Fate, Journal};
+use ftp_drive::{Accepted, For, Ports, Ready, Spoken};
 use ftp_endpoint::Endpoint;
 use ftp_sockets::{ControlReader, Link, SocketPorts};
 use std::io;
@@ -24,19 +24,33 @@ impl<'a, R: Clock + Eprint> Read for HeardReader<'a, R> {
     }
 }
 
-/// The writing side of a control connection.
+/// The writing side of a control connection. The journal is told what is said before it is written.
 #[derive(Drop)]
 pub(crate) struct SaidWriter<'a, R: Clock + Eprint> {
-    pub(crate) stream: &'a TcpStream,
-    pub(crate) journal: &'a Journal<'a, R>,
+    stream: &'a TcpStream,
+    journal: &'a Journal<'a, R>,
+    /// How many octets at the front of the next write were told already.
+    told: usize,
+}
+
+impl<'a, R: Clock + Eprint> SaidWriter<'a, R> {
+    pub(crate) fn new(stream: &'a TcpStream, journal: &'a Journal<'a, R>) -> SaidWriter<'a, R> {
+        SaidWriter {
+            stream,
+            journal,
+            told: 0,
+        }
+    }
 }
 
 impl<'a, R: Clock + Eprint> Write for SaidWriter<'a, R> {
     fn write(&mut self, octets: &[u8]) -> io::Result<usize> {
+        let (_, fresh) = octets.split_at(self.told.min(octets.len()));
+        self.journal.say(fresh);
+        self.told = octets.len();
         let mut stream = self.stream;
         let count = stream.write(octets)?;
-        let (said, _) = octets.split_at(count);
-        self.journal.say(said);
+        self.told = octets.len().saturating_sub(count);
         Ok(count)
     }
 
@@ -109,10 +123,22 @@ impl<'a, R: Net<Listener = TcpListener, Stream = TcpStream> + Clock + Eprint> Po
         self.inner.wait(&mut stream.inner, what, hears)
     }
 
+    fn spoken(&mut self) -> Spoken {
+        self.inner.spoken()
+    }
+
     fn close(&mut self, stream: Option<CountedLink<'a, R>>) {
         match stream {
-            Some(link) => self.inner.close(Some(link.inner)),
+            Some(link) => {
+                self.journal.close(Fate::Ended);
+                self.inner.close(Some(link.inner));
+            }
             None => self.inner.close(None),
         }
+    }
+
+    fn reset(&mut self, stream: CountedLink<'a, R>) {
+        self.journal.close(Fate::Reset);
+        self.inner.reset(stream.inner);
     }
 }

@@ -1,8 +1,8 @@
 // What the subcommand `serve` does.
 use crate::connection::session;
 use crate::journal::Log;
-use crate::users::users_of;
-use ftp_folder::open;
+use crate::users::{roots_of, users_of};
+use ftp_folder::{Reasons, open};
 use ftp_operation::Accounts;
 use ftp_pieces::TURNS;
 use ftp_tree::Tree;
@@ -108,8 +108,16 @@ where
         + Eprint
         + AllocGlobal,
 {
-    match open(rt, job.dir) {
-        Ok(tree) => serve_tree(rt, tree, job),
+    let roots = match roots_of(rt, job.accounts) {
+        Ok(roots) => roots,
+        Err(fault) => {
+            eprintln!(rt; "error: accounts: {fault}")?;
+            return Ok(FAILED);
+        }
+    };
+    let reasons = Reasons::new();
+    match open(rt, job.dir, roots.as_slice(), &reasons) {
+        Ok(tree) => serve_tree(rt, tree, job, &reasons),
         Err(fault) => {
             eprintln!(rt; "error: {fault}")?;
             Ok(FAILED)
@@ -118,7 +126,7 @@ where
 }
 
 /// Listens at the port and serves a tree.
-fn serve_tree<R, T>(rt: &R, tree: T, job: Serving<'_>) -> io::Result<u8>
+fn serve_tree<R, T>(rt: &R, tree: T, job: Serving<'_>, reasons: &Reasons) -> io::Result<u8>
 where
     R: Net<Listener = TcpListener, Stream = TcpStream>
         + Files
@@ -129,7 +137,7 @@ where
     T: Tree<Global>,
 {
     match listener_at(rt, job)? {
-        Some(listener) => Ok(serve_at(rt, &listener, tree, job)),
+        Some(listener) => Ok(serve_at(rt, &listener, tree, job, reasons)),
         None => Ok(FAILED),
     }
 }
@@ -152,7 +160,13 @@ where
 }
 
 /// Serves control connections one after another; a session that failed counts, and makes the status 3.
-fn serve_at<R, T>(rt: &R, listener: &TcpListener, tree: T, job: Serving<'_>) -> u8
+fn serve_at<R, T>(
+    rt: &R,
+    listener: &TcpListener,
+    tree: T,
+    job: Serving<'_>,
+    reasons: &Reasons,
+) -> u8
 where
     R: Net<Listener = TcpListener, Stream = TcpStream> + Files + Clock + Eprint + AllocGlobal,
     T: Tree<Global>,
@@ -160,7 +174,7 @@ where
     let mut tree = tree;
     let mut status = DONE;
     for _ in 0..job.sessions.turns() {
-        let (back, went) = next_session(rt, listener, tree, job);
+        let (back, went) = next_session(rt, listener, tree, job, reasons);
         tree = back;
         if !went {
             status = FAILED;
@@ -170,26 +184,38 @@ where
 }
 
 /// Serves the next control connection; gives the tree back, and whether all went well.
-fn next_session<R, T>(rt: &R, listener: &TcpListener, tree: T, job: Serving<'_>) -> (T, bool)
+fn next_session<R, T>(
+    rt: &R,
+    listener: &TcpListener,
+    tree: T,
+    job: Serving<'_>,
+    reasons: &Reasons,
+) -> (T, bool)
 where
     R: Net<Listener = TcpListener, Stream = TcpStream> + Files + Clock + Eprint + AllocGlobal,
     T: Tree<Global>,
 {
     match listener.accept() {
-        Ok((stream, _)) => serve_stream(rt, &stream, tree, job),
+        Ok((stream, _)) => serve_stream(rt, &stream, tree, job, reasons),
         Err(_) => (tree, false),
     }
 }
 
 /// Serves a control connection; gives the tree back, and whether all went well.
-fn serve_stream<R, T>(rt: &R, stream: &TcpStream, tree: T, job: Serving<'_>) -> (T, bool)
+fn serve_stream<R, T>(
+    rt: &R,
+    stream: &TcpStream,
+    tree: T,
+    job: Serving<'_>,
+    reasons: &Reasons,
+) -> (T, bool)
 where
     R: Net<Listener = TcpListener, Stream = TcpStream> + Files + Clock + Eprint + AllocGlobal,
     T: Tree<Global>,
 {
     match users_told(rt, job.accounts) {
         Some(accounts) => {
-            let (tree, ended) = session(rt, tree, accounts, stream, job.log);
+            let (tree, ended) = session(rt, tree, accounts, stream, job.log, reasons);
             (tree, ended.is_ok())
         }
         None => (tree, false),

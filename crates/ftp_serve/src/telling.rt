@@ -1,55 +1,93 @@
 // What is told of a line that was answered: its verb, and what it names where that is no secret.
 use crate::line::Line;
-use crate::talk::Answered;
 use ftp_command::{Verb, verb_of};
 use std::fmt;
 use std::fmt::{Display, Formatter};
 
-/// What is told of a line.
+/// The code of a login (RFC 959, section 4.2.2).
+const LOGGED_IN: u16 = 230;
+
+/// A line of a client as far as it is told: its verb, and the path or the user that it names; no password.
 #[derive(Clone, Copy)]
-pub(crate) struct Told {
+pub(crate) struct Asked {
     /// None: no verb that is known.
     pub(crate) verb: Option<Verb>,
-    /// The path, or behind USER and PASS the user; empty where there is none to be told.
+    /// Empty where there is nothing to be told.
     pub(crate) names: Line,
-    pub(crate) code: u16,
 }
 
-/// What is told of a line, if anything; `user` is who logs in.
-///
-/// Told are refusals, logins, transfers, and what changes the folder or the directory. What stands behind a verb is told where that is a path
-/// alone: a password never is, nor the words of a line that has no verb.
-pub(crate) fn told_of(answered: Answered, user: &mut Line) -> Option<Told> {
-    let code = answered.code;
-    let (word, rest) = parts_of(answered.line.octets());
-    let verb = verb_of(word);
-    let names = match verb {
-        Some(Verb::User) => {
-            *user = Line::front_of(rest);
-            *user
+impl Asked {
+    /// A line of which nothing is known.
+    pub(crate) fn unread() -> Asked {
+        Asked {
+            verb: None,
+            names: Line::new(),
         }
-        Some(Verb::Pass) => *user,
-        Some(verb) if names_path(verb) => Line::front_of(rest),
-        _ => Line::new(),
-    };
-    let tells = code >= 400 || code == 230 || verb.is_some_and(is_told);
-    if tells {
-        Some(Told { verb, names, code })
-    } else {
-        None
+    }
+
+    /// Whether it is told whatever is answered, and where it is not answered.
+    pub(crate) fn is_told(&self) -> bool {
+        self.verb.is_some_and(is_told)
     }
 }
 
-/// The word at the front of a line, and what follows the blank behind it. What comes before the first letter is of Telnet.
+/// What is told of a line, without its end. What stands behind a verb is told where that is a path or a user's name alone: a password never
+/// is, nor the words of a line that has no verb.
+pub(crate) fn asked_of(line: &[u8]) -> Asked {
+    let (word, rest) = parts_of(line);
+    let verb = verb_of(word);
+    let names = match verb {
+        Some(verb) if names_path(verb) => Line::front_of(rest),
+        _ => Line::new(),
+    };
+    Asked { verb, names }
+}
+
+/// Who is logged in, and who is about to.
+#[derive(Clone, Copy)]
+pub(crate) struct Guest {
+    claimed: Line,
+    known: Line,
+}
+
+impl Guest {
+    /// Nobody.
+    pub(crate) fn nobody() -> Guest {
+        Guest {
+            claimed: Line::new(),
+            known: Line::new(),
+        }
+    }
+
+    /// The user who is logged in; empty where nobody is.
+    pub(crate) fn user(&self) -> &[u8] {
+        self.known.octets()
+    }
+
+    /// Takes in that a line was answered, and gives what it names: behind PASS the user.
+    pub(crate) fn answered(&mut self, asked: &Asked, code: u16) -> Line {
+        match asked.verb {
+            Some(Verb::User) => self.claimed = asked.names,
+            Some(Verb::Pass) => {}
+            Some(Verb::Rein) => self.claimed = Line::new(),
+            _ => return asked.names,
+        }
+        self.known = if code == LOGGED_IN {
+            self.claimed
+        } else {
+            Line::new()
+        };
+        self.claimed
+    }
+}
+
+/// Whether a line that was answered is told: refusals, logins, transfers, and what changes the folder or the directory.
+pub(crate) fn tells(asked: &Asked, code: u16) -> bool {
+    code >= 400 || code == LOGGED_IN || asked.is_told()
+}
+
+/// The word at the front of a line, and what follows the blank behind it, as a line is read.
 fn parts_of(line: &[u8]) -> (&[u8], &[u8]) {
-    let line = match line.iter().position(|octet| octet.is_ascii_alphabetic()) {
-        Some(place) => &line[place..],
-        None => &[],
-    };
-    let line = match line.split_last() {
-        Some((last, front)) if *last == b'\r' => front,
-        _ => line,
-    };
     match line.iter().position(|octet| *octet == b' ') {
         Some(place) => {
             let (word, rest) = line.split_at(place);
@@ -61,7 +99,7 @@ fn parts_of(line: &[u8]) -> (&[u8], &[u8]) {
 
 /// Whether a path stands behind a verb.
 fn names_path(verb: Verb) -> bool {
-    is_told(verb) || matches!(verb, Verb::Mlst | Verb::Size | Verb::Mdtm)
+    is_told(verb) || matches!(verb, Verb::User | Verb::Mlst | Verb::Size | Verb::Mdtm)
 }
 
 /// Whether a line of a verb is told whatever is answered: transfers, and what changes the folder or the directory.

@@ -1,5 +1,5 @@
 // Who may log in.
-use ftp_accounts::{AccountsFileFault, load_accounts};
+use ftp_accounts::{AccountsFileFault, load_accounts, load_roots};
 use ftp_facts::Text;
 use ftp_operation::{Account, Accounts};
 use ftp_path::Path;
@@ -17,6 +17,17 @@ pub fn users_of<R: Files + AllocGlobal>(
             Ok(accounts) => Ok(accounts),
             Err(AllocError) => Err(AccountsFileFault::Memory),
         },
+    }
+}
+
+/// The roots of those accounts.
+pub(crate) fn roots_of<R: Files + AllocGlobal>(
+    rt: &R,
+    file: Option<&str>,
+) -> Result<Vec<Path<Global>, Global>, AccountsFileFault> {
+    match file {
+        Some(file) => load_roots(rt, file),
+        None => Ok(Vec::new(rt.alloc())),
     }
 }
 

@@ -1,7 +1,7 @@
 // A session over the loopback, with both ends in one thread: the client says all its lines, and then the server serves them.
 use crate::made::file;
 use crate::meeting::Meeting;
-use ftp_folder::open;
+use ftp_folder::{Reasons, open};
 use ftp_paper::{Paper, cut};
 use ftp_serve::{Log, session, users_of};
 use std::fs::Files;
@@ -85,13 +85,14 @@ where
         + Eprint
         + AllocGlobal,
 {
-    let Ok(tree) = open(rt, DIR) else {
+    let reasons = Reasons::new();
+    let Ok(tree) = open(rt, DIR, &[], &reasons) else {
         return Err(io::Error::from(ErrorKind::InvalidData));
     };
     let Ok(accounts) = users_of(rt, None) else {
         return Err(io::Error::from(ErrorKind::OutOfMemory));
     };
-    let (_tree, ended) = session(&Meeting { rt }, tree, accounts, stream, Log::Told);
+    let (_tree, ended) = session(&Meeting { rt }, tree, accounts, stream, Log::Told, &reasons);
     Ok(ended.is_ok())
 }
 

@@ -1,6 +1,6 @@
 // What `serve` answers where nobody is served.
 use crate::made::{deep, file};
-use ftp_folder::{LoadFault, open};
+use ftp_folder::{LoadFault, Reasons, open};
 use ftp_serve::{Log, Serving, Sessions, serve, users_of};
 use std::fs::Files;
 use std::io::{Eprint, Print};
@@ -34,6 +34,7 @@ const FOLDERS: &[(&str, &str)] = &[
     ("a name that is none of a tree", "rows_of_serve/name"),
     ("a link", "rows_of_serve/link"),
     ("a path that is too long", "rows_of_serve/deep"),
+    ("a part that an upload left", "rows_of_serve/left"),
 ];
 
 /// Files of accounts, with their modes.
@@ -107,12 +108,13 @@ where
         + AllocGlobal,
 {
     for (name, dir) in FOLDERS {
-        if let Err(fault) = open(rt, *dir) {
+        if let Err(fault) = open(rt, *dir, &[], &Reasons::new()) {
             tell(rt, &fault)?;
         }
         status_row(rt, *name, nobody(*dir))?;
     }
-    Ok(())
+    let kept = fs::read_to_string(rt, "rows_of_serve/left/ftp-left-1\u{7f}")?;
+    println!(rt; "kept: {kept}")
 }
 
 /// Writes the status with each file of accounts, and why it is refused.
@@ -169,6 +171,8 @@ fn make<R: Files + AllocGlobal>(rt: &R) -> io::Result<()> {
     file(rt, "rows_of_serve/name/a\u{1}b", "", 0o600)?;
     fs::create_dir(rt, "rows_of_serve/link")?;
     symlink(rt, "../name", "rows_of_serve/link/to")?;
+    fs::create_dir(rt, "rows_of_serve/left")?;
+    file(rt, "rows_of_serve/left/.ftp-writing\u{7f}", "octets", 0o600)?;
     deep(rt, "rows_of_serve/deep")
 }
 
