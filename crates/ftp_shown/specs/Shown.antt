@@ -1,0 +1,115 @@
+-- How octets of a server are shown, so that no terminal obeys them (own choice): UTF-8 as it stands (RFC 3629, section 4), and `\xHH` for each octet
+-- that is of no character, or of a control character.
+use Rattle.std.specs.Prelude.{ℕ, ◌+◌, ◌-◌, ◌/◌, ◌%◌, ◌==◌, ◌&&◌, ◌||◌, ◌++◌, Bool, false, not, nat_le, nat_lt, List, [], ◌∷◌, length, if◌then◌else◌}
+use Rattle.std.specs.List.{list_all}
+
+-- a number from one to another
+abbrev pub is_from : ℕ → ℕ → ℕ → Bool
+is_from least greatest octet = nat_le least octet && nat_le octet greatest
+
+-- an octet of US-ASCII that is no control character, and no backslash, which begins an escape
+abbrev pub is_plain : ℕ → Bool
+is_plain octet = is_from 32 126 octet && not (octet == 92)
+
+-- an octet of a character behind its first, but for the second of some
+abbrev pub is_tail : ℕ → Bool
+is_tail octet = is_from 0x80 0xBF octet
+
+-- a control character of two octets: U+0080 to U+009F (C1), and U+061C, a mark of direction
+abbrev pub is_hidden_two : ℕ → ℕ → Bool
+is_hidden_two first second = (first == 0xC2 && is_from 0x80 0x9F second) || (first == 0xD8 && second == 0x9C)
+
+-- behind 0xE2: the marks of direction U+200E, U+200F and U+202A to U+202E, and the ends of lines U+2028 and U+2029
+abbrev pub is_hidden_80 : ℕ → ℕ → Bool
+is_hidden_80 second third = second == 0x80 && (is_from 0x8E 0x8F third || is_from 0xA8 0xAE third)
+
+-- behind 0xE2: the marks of direction U+2066 to U+2069
+abbrev pub is_hidden_81 : ℕ → ℕ → Bool
+is_hidden_81 second third = second == 0x81 && is_from 0xA6 0xA9 third
+
+-- a control character of three octets
+abbrev pub is_hidden_three : ℕ → ℕ → ℕ → Bool
+is_hidden_three first second third = first == 0xE2 && (is_hidden_80 second third || is_hidden_81 second third)
+
+-- what may stand second in a character of three octets, and of four
+abbrev pub is_second_of_three : ℕ → ℕ → Bool
+is_second_of_three first second =
+    is_from (if first == 0xE0 then 0xA0 else 0x80) (if first == 0xED then 0x9F else 0xBF) second
+
+abbrev pub is_second_of_four : ℕ → ℕ → Bool
+is_second_of_four first second =
+    is_from (if first == 0xF0 then 0x90 else 0x80) (if first == 0xF4 then 0x8F else 0xBF) second
+
+-- octets of a character of three octets that is shown, and of one of four
+abbrev pub is_three : ℕ → ℕ → ℕ → Bool
+is_three first second third = is_second_of_three first second && is_tail third && not (is_hidden_three first second third)
+
+abbrev pub is_four : ℕ → ℕ → ℕ → ℕ → Bool
+is_four first second third fourth = is_second_of_four first second && is_tail third && is_tail fourth
+
+-- how many octets the character has that begins with this one and goes on so, where it is shown as it stands; else 0
+abbrev pub len_two : ℕ → List ℕ → ℕ
+len_two first [] = 0
+len_two first (second ∷ rest) = if is_tail second && not (is_hidden_two first second) then 2 else 0
+
+abbrev pub len_three : ℕ → List ℕ → ℕ
+len_three first [] = 0
+len_three first (second ∷ []) = 0
+len_three first (second ∷ third ∷ rest) =
+    if is_three first second third then 3 else 0
+
+abbrev pub len_four : ℕ → List ℕ → ℕ
+len_four first [] = 0
+len_four first (second ∷ []) = 0
+len_four first (second ∷ third ∷ []) = 0
+len_four first (second ∷ third ∷ fourth ∷ rest) = if is_four first second third fourth then 4 else 0
+
+-- how many octets the character has that stands at the front, where it is shown as it stands; 0 where the first octet is escaped
+abbrev pub shown_len : List ℕ → ℕ
+shown_len [] = 0
+shown_len (first ∷ rest) =
+    if is_plain first then 1
+    else (if is_from 0xC2 0xDF first then len_two first rest
+    else (if is_from 0xE0 0xEF first then len_three first rest
+    else (if is_from 0xF0 0xF4 first then len_four first rest else 0)))
+
+-- a hexadecimal digit
+abbrev pub digit : ℕ → ℕ
+digit value = if nat_lt value 10 then 48 + value else 87 + value
+
+-- an octet as an escape: a backslash twice, and any other as `\xHH`
+abbrev pub escaped : ℕ → List ℕ
+escaped octet = if octet == 92 then 92 ∷ 92 ∷ [] else 92 ∷ 120 ∷ digit (octet / 16) ∷ digit (octet % 16) ∷ []
+
+-- an octet at the front of a row of which so many stand as they are
+abbrev pub octet_shown : ℕ → ℕ → List ℕ
+octet_shown kept octet = if kept == 0 then escaped octet else octet ∷ []
+
+-- of how many octets at the front it is known that they stand as they are, where it is known of so many
+abbrev pub kept_of : ℕ → List ℕ → ℕ
+kept_of kept octets = if kept == 0 then shown_len octets else kept
+
+-- octets as they are shown, where the first so many stand as they are
+unfoldable pub shown_from : ℕ → List ℕ → List ℕ
+shown_from kept [] = []
+shown_from kept (octet ∷ octets) =
+    let now = kept_of kept (octet ∷ octets) in octet_shown now octet ++ shown_from (now - 1) octets
+
+-- octets as they are shown
+abbrev pub shown : List ℕ → List ℕ
+shown octets = shown_from 0 octets
+
+-- `.` and `..`, which name a directory and the one above
+abbrev pub is_dots : List ℕ → Bool
+is_dots [] = false
+is_dots (first ∷ []) = first == 46
+is_dots (first ∷ second ∷ []) = first == 46 && second == 46
+is_dots (first ∷ second ∷ third ∷ rest) = false
+
+-- an octet that is no slash
+abbrev pub is_no_slash : ℕ → Bool
+is_no_slash octet = not (octet == 47)
+
+-- a text that is the name of one file in a directory: not empty, neither `.` nor `..`, and without a slash
+abbrev pub is_name : List ℕ → Bool
+is_name name = not (length name == 0) && not (is_dots name) && list_all is_no_slash name
