@@ -1,11 +1,15 @@
 // A download: what is asked for, and what is left of it at this end.
-use crate::file::{BESIDE, write_over, write_part};
+use crate::came::Came;
+use crate::downloading::Downloading;
+use crate::file::{write_over, write_part};
 use crate::place::Asked;
 use crate::single::{Wish, ask_for};
 use crate::telling::{DONE, FAILED, REFUSED, tell};
-use ftp_asking::{Noticed, Stage, Stop, at};
+use ftp_asking::{Noticed, Stage, Stop, ask, at};
 use ftp_facts::Moment;
-use ftp_operation::Answer;
+use ftp_operation::{Answer, How};
+use ftp_representation::{Mode, Structure};
+use ftp_steps::Arrival;
 use std::alloc::Global;
 use std::env::Env;
 use std::fs::Files;
@@ -19,7 +23,7 @@ use std::time::Clock;
 pub struct Download<'a> {
     /// The file of this end: written beside its name, and moved over it once it is whole.
     pub file: &'a str,
-    /// Whether the octets of a download that broke are kept, in a file of that name with `.ftp-part` behind.
+    /// Whether what came is kept where that is not the whole file, in a file of that name with `.ftp-part` behind.
     pub keep: bool,
     /// Whether its last change is to be at the server's moment of the file.
     pub moment: bool,
@@ -65,8 +69,13 @@ fn get_at<R>(
 where
     R: Net<Listener = TcpListener, Stream = TcpStream> + Files + Env + Eprint + Clock + AllocGlobal,
 {
-    let answer = ask_for(rt, asked, Wish::Get, noticed)?;
-    at(Stage::Report, save(rt, download, moment, &answer, noticed))
+    let mut downloading = Downloading::new(rt, asked.place.path, asked.how);
+    let answer = ask(rt, asked.server(), asked.by(), noticed, &mut downloading)?;
+    let saved = match answer {
+        Answer::Done => save(rt, asked, download, moment, &downloading),
+        _ => save_part(rt, download, &answer, downloading.came(), noticed),
+    };
+    at(Stage::Report, saved)
 }
 
 /// Asks for the moment of the file.
@@ -104,64 +113,95 @@ fn tell_no_moment<R: Eprint>(rt: &R, noticed: &Noticed, code: u16) {
     );
 }
 
-/// Leaves at this end what the server answers to a download, or tells why there is no file.
+/// Leaves at this end what came of a download that the server says is done, where that may be the whole file.
 fn save<R: Files + Eprint + AllocGlobal>(
     rt: &R,
+    asked: &Asked<'_>,
     download: Download<'_>,
     moment: Option<Moment>,
-    answer: &Answer<Global>,
-    noticed: &Noticed,
+    downloading: &Downloading<'_, R>,
 ) -> io::Result<u8> {
-    match answer {
-        Answer::Octets(octets) => write(rt, download.file, octets.as_slice(), moment),
-        Answer::Broken { got, mark: _ } => save_part(rt, download, got.as_slice()),
-        _ => tell(rt, answer, noticed),
+    let came = downloading.came();
+    match downloading.arrived() {
+        Arrival::Whole => write(rt, download.file, came, moment),
+        Arrival::Unknown => {
+            if asked.progress && !is_ended(asked.how) {
+                tell_unknown(rt);
+            }
+            write(rt, download.file, came, moment)
+        }
+        Arrival::Wrong(total) => {
+            let count = came.count();
+            eprintln!(rt;
+                "error: {count} octets came of a file that has {total}, as the server says"
+            )?;
+            keep_part(rt, download, came, REFUSED)
+        }
     }
+}
+
+/// Whether the end of the file is among the octets of the transfer: in block mode and in record structure (RFC 959, sections 3.4.1 and 3.4.2).
+fn is_ended(how: How) -> bool {
+    let form = how.representation;
+    form.mode == Mode::Block || form.structure == Structure::Record
+}
+
+/// Tells that a file may have been cut where nobody could notice.
+fn tell_unknown<R: Eprint>(rt: &R) {
+    let _told = eprintln!(rt;
+        "note: the size of the file is not known; whether all of it came is not known either"
+    );
 }
 
 /// Writes the file.
 fn write<R: Files + Eprint + AllocGlobal>(
     rt: &R,
     file: &str,
-    octets: &[u8],
+    came: &Came,
     moment: Option<Moment>,
 ) -> io::Result<u8> {
-    match at(Stage::Writing, write_over(rt, file, octets, moment)) {
+    match at(Stage::Writing, write_over(rt, file, came.pieces(), moment)) {
         Ok(()) => Ok(DONE),
         Err(stop) => stop.tell(rt),
     }
 }
 
-/// Keeps the octets that came before a break where they are to be kept, and tells of the break.
+/// Tells why a download is not done, and what becomes of the octets that came.
 fn save_part<R: Files + Eprint + AllocGlobal>(
     rt: &R,
     download: Download<'_>,
-    octets: &[u8],
+    answer: &Answer<Global>,
+    came: &Came,
+    noticed: &Noticed,
 ) -> io::Result<u8> {
-    if download.keep && !octets.is_empty() {
-        return keep(rt, download.file, octets);
-    }
-    eprintln!(rt;
-        "error: the data connection broke behind {} octets; no file is written",
-        octets.len()
-    )?;
-    Ok(REFUSED)
+    let status = match answer {
+        Answer::Broken { got: _, mark: _ } => {
+            let count = came.count();
+            eprintln!(rt; "error: the data connection broke behind {count} octets")?;
+            REFUSED
+        }
+        _ => tell(rt, answer, noticed)?,
+    };
+    keep_part(rt, download, came, status)
 }
 
-/// Keeps the octets that came before a break, and tells where they are.
-fn keep<R: Files + Eprint + AllocGlobal>(rt: &R, file: &str, octets: &[u8]) -> io::Result<u8> {
-    let count = octets.len();
-    match write_part(rt, file, octets) {
-        Ok(()) => {
-            eprintln!(rt;
-                "error: the data connection broke behind {count} octets; they are in {file}{BESIDE}"
-            )?;
-            Ok(REFUSED)
+/// Keeps the octets that came where they are to be kept, tells where they are, and gives the status.
+fn keep_part<R: Files + Eprint + AllocGlobal>(
+    rt: &R,
+    download: Download<'_>,
+    came: &Came,
+    status: u8,
+) -> io::Result<u8> {
+    if !download.keep || came.count() == 0 {
+        return Ok(status);
+    }
+    match write_part(rt, download.file, came.pieces()) {
+        Ok(name) => {
+            eprintln!(rt; "note: the octets that came are in {name}")?;
+            Ok(status)
         }
         Err(error) => {
-            eprintln!(rt;
-                "error: the data connection broke behind {count} octets; they are not kept: {error}"
-            )?;
+            eprintln!(rt; "error: the octets that came are not kept: {error}")?;
             Ok(FAILED)
         }
     }

@@ -1,13 +1,13 @@
 // What the subcommands `get`, `put` and `ls` do.
 use crate::download::{Download, get};
-use crate::listing::{entry_lines, name_lines};
+use crate::listing::{Listing, listing_of};
 use crate::place::Asked;
 use crate::single::{Wish, ask_for};
 use crate::telling::{DONE, tell};
 use crate::uploading::put;
 use ftp_asking::{Noticed, Stage, Stop, at};
 use ftp_operation::Answer;
-use std::alloc::{AllocError, Global};
+use std::alloc::Global;
 use std::env::Env;
 use std::fs::Files;
 use std::io;
@@ -68,7 +68,7 @@ where
         + AllocGlobal,
 {
     let answer = listed(rt, asked, noticed)?;
-    at(Stage::Report, show(rt, &answer, noticed))
+    at(Stage::Report, show(rt, asked.place.path, &answer, noticed))
 }
 
 /// The entries of a directory, or its names where MLSD is not known there (RFC 959, section 4.2.2).
@@ -85,19 +85,24 @@ where
 }
 
 /// Writes a listing to standard output, or tells why there is none.
-fn show<R>(rt: &R, answer: &Answer<Global>, noticed: &Noticed) -> io::Result<u8>
+fn show<R>(rt: &R, path: &str, answer: &Answer<Global>, noticed: &Noticed) -> io::Result<u8>
 where
     R: Print + Eprint + AllocGlobal,
 {
-    match answer {
-        Answer::Entries(entries) => write(rt, entry_lines(rt.alloc(), entries.as_slice())),
-        Answer::Names(names) => write(rt, name_lines(rt.alloc(), names.as_slice())),
-        _ => tell(rt, answer, noticed),
+    match listing_of(rt.alloc(), path, answer)? {
+        Some(listing) => write(rt, listing),
+        None => tell(rt, answer, noticed),
     }
 }
 
-/// Writes lines to standard output.
-fn write<R: Print>(rt: &R, lines: Result<Vec<u8, Global>, AllocError>) -> io::Result<u8> {
-    io::writer(rt).write_all(lines?.as_slice())?;
+/// Writes a listing to standard output, and tells how much of it is left out.
+fn write<R: Print + Eprint>(rt: &R, listing: Listing) -> io::Result<u8> {
+    io::writer(rt).write_all(listing.lines.as_slice())?;
+    if listing.left_out > 0 {
+        let _told = eprintln!(rt;
+            "note: names that are none of a single file are left out: {}",
+            listing.left_out
+        );
+    }
     Ok(DONE)
 }

@@ -1,5 +1,6 @@
 // Files of this end.
-use ftp_facts::Moment;
+use ftp_facts::{Moment, Text};
+use itoa::Buffer;
 use std::alloc::{AllocError, Global};
 use std::fs::{File, FileTimes, Files, OpenFile, OpenOptions, Permissions};
 use std::io::{Error, ErrorKind, Read, Seek, SeekFrom, Write};
@@ -8,7 +9,10 @@ use std::time::{Duration, SystemTime, UNIX_EPOCH};
 use std::{fs, io};
 
 /// What a file is called behind its own name while it is written, and where a part of it is kept.
-pub(crate) const BESIDE: &str = ".ftp-part";
+const BESIDE: &str = ".ftp-part";
+
+/// How many names are tried beside a file: that one, and more with `-1`, `-2` and so on behind it.
+const NAMES: u32 = 100;
 
 /// The permissions of a file that has no predecessor, less the umask.
 const NEW_MODE: u32 = 0o666;
@@ -39,34 +43,40 @@ pub(crate) fn read_from<R: Files + AllocGlobal>(
     })
 }
 
+/// A file beside another, which was made just now: no other program writes it or moves it.
+struct Part<F> {
+    name: String<Global>,
+    opened: F,
+}
+
 /// Writes a file beside its name, flushes it, and moves it over the name. It keeps the permissions of the file that it replaces; its last change
 /// was at the moment, where there is one. Where that fails, what was written beside is removed again.
 pub(crate) fn write_over<R: Files + AllocGlobal>(
     files: &R,
     file: &str,
-    octets: &[u8],
+    pieces: &[Text<Global>],
     moment: Option<Moment>,
 ) -> io::Result<()> {
-    let beside = beside(files.alloc(), file)?;
-    let written = replace(files, file, beside.as_str(), octets, moment);
-    removed_unless(files, beside.as_str(), written)
+    let kept = kept_mode(files, file)?;
+    let Part { name, mut opened } = create(files, file, kept.unwrap_or(NEW_MODE))?;
+    let written = match write_to(&mut opened, pieces, kept, moment) {
+        Ok(()) => fs::rename(files, name.as_str(), file),
+        Err(error) => Err(error),
+    };
+    removed_unless(files, name.as_str(), written)
 }
 
-/// Writes a part of a file beside its name, and leaves it there. Where that fails, what was written is removed again.
+/// Writes a part of a file beside its name, leaves it there, and gives its own name. Where that fails, what was written is removed again.
 pub(crate) fn write_part<R: Files + AllocGlobal>(
     files: &R,
     file: &str,
-    octets: &[u8],
-) -> io::Result<()> {
-    let beside = beside(files.alloc(), file)?;
-    let written = write_beside(files, file, beside.as_str(), octets, None);
-    removed_unless(files, beside.as_str(), written)
-}
-
-fn beside(alloc: Global, file: &str) -> Result<String<Global>, AllocError> {
-    let mut beside: String<Global> = String::from_str(alloc, file)?;
-    beside.push_str(BESIDE)?;
-    Ok(beside)
+    pieces: &[Text<Global>],
+) -> io::Result<String<Global>> {
+    let kept = kept_mode(files, file)?;
+    let Part { name, mut opened } = create(files, file, kept.unwrap_or(NEW_MODE))?;
+    let written = write_to(&mut opened, pieces, kept, None);
+    removed_unless(files, name.as_str(), written)?;
+    Ok(name)
 }
 
 /// What was written beside is removed, unless it was written.
@@ -77,27 +87,16 @@ fn removed_unless<R: Files>(files: &R, beside: &str, written: io::Result<()>) ->
     written
 }
 
-fn replace<R: Files>(
-    files: &R,
-    file: &str,
-    beside: &str,
-    octets: &[u8],
+/// Writes the octets of a file, and flushes it.
+fn write_to<F: Write + OpenFile>(
+    opened: &mut F,
+    pieces: &[Text<Global>],
+    kept: Option<u32>,
     moment: Option<Moment>,
 ) -> io::Result<()> {
-    write_beside(files, file, beside, octets, moment)?;
-    fs::rename(files, beside, file)
-}
-
-fn write_beside<R: Files>(
-    files: &R,
-    file: &str,
-    beside: &str,
-    octets: &[u8],
-    moment: Option<Moment>,
-) -> io::Result<()> {
-    let kept = kept_mode(files, file)?;
-    let mut opened = create(files, beside, kept.unwrap_or(NEW_MODE))?;
-    opened.write_all(octets)?;
+    for piece in pieces {
+        opened.write_all(piece.as_slice())?;
+    }
     if let Some(mode) = kept {
         opened.set_permissions(Permissions::from_mode(mode))?;
     }
@@ -121,17 +120,33 @@ fn kept_mode<R: Files>(files: &R, file: &str) -> io::Result<Option<u32>> {
     }
 }
 
-/// Makes the file to be written; one that an interrupted write left goes first.
-fn create<R: Files>(files: &R, beside: &str, mode: u32) -> io::Result<R::File> {
+/// Makes a file beside another, by the first name that no file has: what stands there may be of another program or of the user, and stays.
+fn create<R: Files + AllocGlobal>(files: &R, file: &str, mode: u32) -> io::Result<Part<R::File>> {
     let mut how = OpenOptions::new();
     how.write(true).create_new(true).mode(mode);
-    match how.open(files, beside) {
-        Err(error) if error.kind() == ErrorKind::AlreadyExists => {
-            fs::remove_file(files, beside)?;
-            how.open(files, beside)
+    for number in 0..NAMES {
+        let name = beside(files.alloc(), file, number)?;
+        match how.open(files, name.as_str()) {
+            Ok(opened) => return Ok(Part { name, opened }),
+            Err(error) if error.kind() == ErrorKind::AlreadyExists => {}
+            Err(error) => return Err(error),
         }
-        opened => opened,
     }
+    Err(Error::new(
+        ErrorKind::AlreadyExists,
+        "too many parts of it stand beside it already",
+    ))
+}
+
+/// A name beside a file, by its number from 0.
+fn beside(alloc: Global, file: &str, number: u32) -> Result<String<Global>, AllocError> {
+    let mut name: String<Global> = String::from_str(alloc, file)?;
+    name.push_str(BESIDE)?;
+    if number > 0 {
+        name.push_str("-")?;
+        name.push_str(Buffer::new().format(number))?;
+    }
+    Ok(name)
 }
 
 /// The system's time of a moment.

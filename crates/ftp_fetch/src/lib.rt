@@ -2,20 +2,23 @@
 //! RFC 3659).
 #![tactic(auto)]
 
+mod came;
 mod download;
+mod downloading;
 mod fetching;
 mod file;
 mod listing;
 mod place;
 mod running;
 mod single;
-mod step;
 mod telling;
+mod trying;
 mod uploading;
 
+pub use came::Came;
 pub use download::Download;
+pub use downloading::Downloading;
 pub use fetching::{Task, fetch};
 pub use place::{Asked, Place, place_of};
 pub use running::run;
-pub use step::{Ended, Step, There, Upload, follows};
 pub use uploading::Uploading;

@@ -1,31 +1,33 @@
-// A listing, a line an entry.
-use ftp_facts::{Entry, Text, write_entry};
+// A listing, as it goes to standard output.
+use ftp_operation::Answer;
+use ftp_shown::{put_entries, put_names, strange_entries, strange_names};
 use std::alloc::{AllocError, Global};
 
-/// The lines of entries: the facts, a space and the name, as a machine listing has them (RFC 3659, section 7.2), each with LF at its end.
-pub(crate) fn entry_lines(
-    alloc: Global,
-    entries: &[Entry<Global>],
-) -> Result<Vec<u8, Global>, AllocError> {
-    let mut lines = Vec::new(alloc);
-    for entry in entries {
-        if write_entry(entry, &mut lines).is_err() {
-            return Err(AllocError);
-        }
-        lines.push(b'\n')?;
-    }
-    Ok(lines)
+/// The lines of a listing.
+#[derive(Drop)]
+pub(crate) struct Listing {
+    pub(crate) lines: Vec<u8, Global>,
+    /// How many of its names are left out.
+    pub(crate) left_out: usize,
 }
 
-/// The lines of names, each with LF at its end.
-pub(crate) fn name_lines(
+/// The listing of the directory at a path that an answer has, if it has one.
+pub(crate) fn listing_of(
     alloc: Global,
-    names: &[Text<Global>],
-) -> Result<Vec<u8, Global>, AllocError> {
+    path: &str,
+    answer: &Answer<Global>,
+) -> Result<Option<Listing>, AllocError> {
     let mut lines = Vec::new(alloc);
-    for name in names {
-        lines.extend_from_slice(name.as_slice())?;
-        lines.push(b'\n')?;
-    }
-    Ok(lines)
+    let left_out = match answer {
+        Answer::Entries(entries) => {
+            put_entries(alloc, entries.as_slice(), &mut lines)?;
+            strange_entries(entries.as_slice())
+        }
+        Answer::Names(names) => {
+            put_names(path.as_bytes(), names.as_slice(), &mut lines)?;
+            strange_names(path.as_bytes(), names.as_slice())
+        }
+        _ => return Ok(None),
+    };
+    Ok(Some(Listing { lines, left_out }))
 }

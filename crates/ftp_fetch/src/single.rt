@@ -1,12 +1,11 @@
 // One operation over a control connection of its own.
 use crate::place::Asked;
-use ftp_asking::{Asks, Noticed, Plays, Request, Stage, Stop, ask, at};
+use ftp_asking::{Asks, Noticed, Plays, Request, Stop, ask};
 use ftp_facts::Text;
 use ftp_operation::{Answer, How, Op};
 use std::alloc::{AllocError, Global};
 use std::env::Env;
 use std::fs::Files;
-use std::io;
 use std::io::Eprint;
 use std::net::{Net, TcpListener, TcpStream};
 use std::time::Clock;
@@ -14,7 +13,6 @@ use std::time::Clock;
 /// What is wished for at a place.
 #[derive(Clone, Copy)]
 pub(crate) enum Wish {
-    Get,
     /// The moment of the last change of a file (RFC 3659, section 3).
     Moment,
     /// The entries, with their facts.
@@ -52,14 +50,10 @@ struct Single<'a> {
 
 impl<'a> Plays<Result<Answer<Global>, Stop>> for Single<'a> {
     fn play<S: Asks>(&mut self, seat: &mut S) -> Result<Answer<Global>, Stop> {
-        let request = at(Stage::Asking, self.request())?;
-        Ok(seat.answer(request))
-    }
-}
-
-impl<'a> Single<'a> {
-    fn request(&self) -> io::Result<Request> {
-        Ok(request_of(self.alloc, self.path, self.how, self.wish)?)
+        match request_of(self.alloc, self.path, self.how, self.wish) {
+            Ok(request) => Ok(seat.answer(request)),
+            Err(AllocError) => Ok(Answer::Memory),
+        }
     }
 }
 
@@ -67,7 +61,6 @@ impl<'a> Single<'a> {
 fn request_of(alloc: Global, path: &str, how: How, wish: Wish) -> Result<Request, AllocError> {
     let path = Text::copy_of(alloc, path.as_bytes())?;
     match wish {
-        Wish::Get => Ok(Request::One(Some(Op::Get(path, how)))),
         Wish::Moment => Ok(Request::One(Some(Op::Modified(path)))),
         Wish::Entries => Ok(Request::One(Some(Op::List(path, how)))),
         Wish::Names => Ok(Request::One(Some(Op::Names(path, how)))),

@@ -1,12 +1,12 @@
 // An upload, which goes on where the server has it: over breaks, and where a 226 came and not all is there.
 use crate::file::{Content, read_from};
 use crate::place::Asked;
-use crate::step::{Ended, Step, There, Upload, follows};
 use crate::telling::{DONE, REFUSED, tell};
+use crate::trying::{MOST_TRIES, NO_FILE, ended_of, is_counted, size_request, there_of};
 use ftp_asking::{Asks, Noticed, Plays, Request, Stage, Stop, ask, at};
 use ftp_facts::Text;
 use ftp_operation::{Answer, How, Op};
-use ftp_representation::{Kind, Structure};
+use ftp_steps::{Ended, Step, There, Transfer, follows};
 use std::alloc::{AllocError, Global};
 use std::env::Env;
 use std::fs::Files;
@@ -14,15 +14,6 @@ use std::io;
 use std::io::{Eprint, Error, ErrorKind};
 use std::net::{Net, TcpListener, TcpStream};
 use std::time::{Clock, SystemTime};
-
-/// The most tries of an upload, over all its control connections (own choice).
-const MOST_TRIES: u32 = 16;
-
-/// The code of a reply that there is no such file (RFC 959, section 4.2.2).
-const NO_FILE: u16 = 550;
-
-/// The code of a server that gave up what it was doing (RFC 959, section 4.2.2).
-const GIVEN_UP: u16 = 451;
 
 /// An upload, until the server answers to it.
 pub struct Uploading<'a, R> {
@@ -34,11 +25,11 @@ pub struct Uploading<'a, R> {
     octets: Option<Vec<u8, Global>>,
     /// When the file was changed last, where that is known.
     changed: Option<SystemTime>,
-    upload: Upload,
+    upload: Transfer,
     /// Whether a control connection ended behind the question for the size of what stands there.
     is_blind: bool,
-    /// How many octets the server has, where it says that all is done and they are not those of the file.
-    wrong: Option<u64>,
+    /// What the server has, where it says that all is done and that is not the file.
+    wrong: Option<Wrong>,
 }
 
 /// By hand: a derived drop is proved again, part by part, wherever an upload is let go.
@@ -88,7 +79,7 @@ impl<'a, R: Files + Eprint + AllocGlobal> Uploading<'a, R> {
             how,
             octets: Some(content.octets),
             changed: content.changed,
-            upload: Upload {
+            upload: Transfer {
                 total,
                 left: MOST_TRIES,
                 older: There::Untold,
@@ -98,15 +89,9 @@ impl<'a, R: Files + Eprint + AllocGlobal> Uploading<'a, R> {
         })
     }
 
-    /// Whether its octets are those of the transfer, so that SIZE counts them: type I and file structure.
-    fn goes_on(&self) -> bool {
-        let form = self.how.representation;
-        form.kind == Kind::Image && form.structure == Structure::File
-    }
-
     /// Asks for the size of what stands there before the first try; says whether tries may follow over this control connection.
     fn look<S: Asks>(&mut self, seat: &mut S) -> bool {
-        if !self.goes_on() || self.is_blind {
+        if !is_counted(self.how) || self.is_blind {
             return true;
         }
         self.upload.older = self.size(seat);
@@ -116,8 +101,8 @@ impl<'a, R: Files + Eprint + AllocGlobal> Uploading<'a, R> {
 
     /// The size of what stands there.
     fn size<S: Asks>(&self, seat: &mut S) -> There {
-        match self.path() {
-            Ok(path) => there_of(&seat.answer(Request::One(Some(Op::Size(path, self.how))))),
+        match size_request(self.rt.alloc(), self.path, self.how) {
+            Ok(request) => there_of(&seat.answer(request)),
             Err(AllocError) => There::Untold,
         }
     }
@@ -171,7 +156,7 @@ impl<'a, R: Files + Eprint + AllocGlobal> Uploading<'a, R> {
     /// What follows a try that was answered so, with a data connection or without.
     fn step_behind<S: Asks>(&self, seat: &mut S, answer: &Answer<Global>, is_opened: bool) -> Step {
         match ended_of(answer, is_opened) {
-            Some(ended) if self.goes_on() => {
+            Some(ended) if is_counted(self.how) => {
                 follows(self.upload, ended, self.there_behind(seat, ended))
             }
             _ => Step::Tell,
@@ -190,14 +175,18 @@ impl<'a, R: Files + Eprint + AllocGlobal> Uploading<'a, R> {
     /// Takes a step.
     fn follow(&mut self, answer: Answer<Global>, step: Step, from: u64) -> Turn {
         match step {
-            Step::Put(next) => {
+            Step::From(next) => {
                 self.go_on(next);
                 Turn::From(next)
             }
             Step::Again => Turn::From(from),
             Step::Lost => Turn::Over(Answer::Lost),
             Step::Wrong(count) => {
-                self.wrong = Some(count);
+                self.wrong = Some(Wrong::Octets(count));
+                Turn::Over(answer)
+            }
+            Step::Missing => {
+                self.wrong = Some(Wrong::Nothing);
                 Turn::Over(answer)
             }
             Step::Done | Step::Tell => Turn::Over(answer),
@@ -219,7 +208,8 @@ impl<'a, R: Files + Eprint + AllocGlobal> Uploading<'a, R> {
     pub fn finish(&self, answer: &Answer<Global>, noticed: &Noticed) -> io::Result<u8> {
         match (answer, self.wrong) {
             (Answer::Done, None) => self.tell_tries(noticed.opened()),
-            (Answer::Done, Some(count)) => self.tell_wrong(count),
+            (Answer::Done, Some(Wrong::Octets(count))) => self.tell_wrong(count),
+            (Answer::Done, Some(Wrong::Nothing)) => self.tell_missing(noticed),
             _ => tell(self.rt, answer, noticed),
         }
     }
@@ -237,6 +227,15 @@ impl<'a, R: Files + Eprint + AllocGlobal> Uploading<'a, R> {
         let total = self.upload.total;
         eprintln!(self.rt;
             "error: the server says that it is done, and has {count} octets of a file that has {total}"
+        )?;
+        Ok(REFUSED)
+    }
+
+    /// Tells that the server says that it is done, and then that there is no such file.
+    fn tell_missing(&self, noticed: &Noticed) -> io::Result<u8> {
+        eprintln!(self.rt;
+            "error: the server says that it is done, and tells no size of it: {}",
+            noticed.refusal(NO_FILE)
         )?;
         Ok(REFUSED)
     }
@@ -266,23 +265,11 @@ enum Turn {
     Over(Answer<Global>),
 }
 
-/// How a try ended that was answered so, with a data connection or without; none where its answer is told, whatever the server has.
-fn ended_of(answer: &Answer<Global>, is_opened: bool) -> Option<Ended> {
-    match answer {
-        Answer::Done => Some(Ended::Done),
-        Answer::Broken { got: _, mark: _ } => Some(Ended::Broken),
-        Answer::Refused(GIVEN_UP) if is_opened => Some(Ended::Failed),
-        Answer::Unopened => Some(Ended::Unopened),
-        _ => None,
-    }
-}
-
-/// What the answer to SIZE tells.
-fn there_of(answer: &Answer<Global>) -> There {
-    match answer {
-        Answer::Number(count) => There::Octets(*count),
-        Answer::Refused(NO_FILE) => There::Nothing,
-        Answer::Lost | Answer::Strange => There::Lost,
-        _ => There::Untold,
-    }
+/// What a server has that says that all is done.
+#[derive(Clone, Copy)]
+enum Wrong {
+    /// So many octets.
+    Octets(u64),
+    /// No such file.
+    Nothing,
 }
