@@ -1,7 +1,8 @@
-//! For tests alone: which places texts say, and what `run`, `get`, `put` and `ls` answer where nobody listens, or where nothing can be asked; and what an
-//! upload asks of a server that answers so (RFC 959).
+//! For tests alone: which places texts say, and what `run`, `get`, `put` and `ls` answer where nobody listens, or where nothing can be asked; and what
+//! uploads and downloads ask of a server that answers so (RFC 959; RFC 3659).
 #![tactic(auto)]
 
+mod downloads;
 mod places;
 mod seat;
 mod statuses;
@@ -17,5 +18,6 @@ fn main(rt: HostRuntime) -> io::Result<()> {
     places::rows(&mut paper);
     statuses::rows(&rt, &mut paper)?;
     uploads::rows(&rt, &mut paper)?;
+    downloads::rows(&rt, &mut paper);
     io::writer(&rt).write_all(paper.text())
 }

@@ -11,6 +11,10 @@ pub(crate) enum Told {
     Done,
     /// The data connection broke.
     Broken,
+    /// So many octets of a download, and then its end.
+    Sent(u64),
+    /// So many octets of a download, and then its data connection broke.
+    Cut(u64),
     /// No data connection was opened.
     Unopened,
     /// Refused by a code, without a data connection.
@@ -40,7 +44,7 @@ impl<'a> Asks for Seat<'a> {
         if is_opened(told) {
             self.opened = self.opened.saturating_add(1);
         }
-        answer_of(self.alloc, told)
+        answer_of(self.alloc, told, start_of(&request))
     }
 
     fn opened(&self) -> u32 {
@@ -62,22 +66,51 @@ impl<'a> Seat<'a> {
 
 /// Whether a data connection was opened for it.
 fn is_opened(told: Told) -> bool {
-    matches!(told, Told::Done | Told::Broken | Told::Behind(_))
+    matches!(
+        told,
+        Told::Done | Told::Broken | Told::Sent(_) | Told::Cut(_) | Told::Behind(_)
+    )
 }
 
-fn answer_of(alloc: Global, told: Told) -> Answer<Global> {
+/// From which octet of the file on a download is asked for.
+fn start_of(request: &Request) -> u64 {
+    match request {
+        Request::One(Some(Op::GetFrom(_, from, _))) => *from,
+        _ => 0,
+    }
+}
+
+fn answer_of(alloc: Global, told: Told, from: u64) -> Answer<Global> {
     match told {
         Told::Done => Answer::Done,
-        Told::Broken => Answer::Broken {
-            got: Text::from_vec(Vec::new(alloc)),
-            mark: None,
-        },
+        Told::Broken => broken(alloc, from, 0),
+        Told::Sent(count) => Answer::Octets(octets(alloc, from, count)),
+        Told::Cut(count) => broken(alloc, from, count),
         Told::Unopened => Answer::Unopened,
         Told::Refused(code) | Told::Behind(code) => Answer::Refused(code),
         Told::Size(count) => Answer::Number(count),
         Told::Strange => Answer::Strange,
         Told::Lost => Answer::Lost,
     }
+}
+
+fn broken(alloc: Global, from: u64, count: u64) -> Answer<Global> {
+    Answer::Broken {
+        got: octets(alloc, from, count),
+        mark: None,
+    }
+}
+
+/// So many octets of a file from one of them on: the last digits of their places.
+fn octets(alloc: Global, from: u64, count: u64) -> Text<Global> {
+    let mut octets = Vec::new(alloc);
+    for place in 0..count {
+        let digit = from.saturating_add(place) % 10;
+        if octets.push(b'0' + digit as u8).is_err() {
+            break;
+        }
+    }
+    Text::from_vec(octets)
 }
 
 /// Puts what is asked.
@@ -88,6 +121,10 @@ fn put(paper: &mut Paper, request: &Request) {
             put_octets(paper, *from, octets.as_slice())
         }
         Request::One(Some(Op::Size(_, _))) => paper.put(b" size"),
+        Request::One(Some(Op::Get(_, _) | Op::GetFrom(_, _, _))) => {
+            paper.put(b" from ");
+            paper.number(start_of(request));
+        }
         _ => paper.put(b" another"),
     }
 }

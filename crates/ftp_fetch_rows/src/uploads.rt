@@ -58,6 +58,11 @@ const ROWS: &[Row<'static>] = &[
         again: 9,
     },
     Row {
+        what: "done, and then no such file",
+        told: &[NONE, Told::Done, NONE],
+        again: 9,
+    },
+    Row {
         what: "done with a part",
         told: &[NONE, Told::Done, Told::Size(4), Told::Done, Told::Size(10)],
         again: 9,
