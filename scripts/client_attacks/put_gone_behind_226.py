@@ -1,0 +1,25 @@
+#!/usr/bin/env python3
+"""An upload that the server says is done is no success where the server then says that there is no such file."""
+from hostile import FakeServer, Rows
+
+
+def put(rows, size_reply):
+    server = FakeServer({"SIZE": size_reply, "STOR": lambda session, _: session.receive()})
+    status, _, told = rows.tool("put", "up", f"127.0.0.1:{server.port}/x")
+    server.close()
+    return status, told, server.commands
+
+
+def main():
+    rows = Rows()
+    (rows.folder / "up").write_bytes(b"u" * 1000)
+    status, told, commands = put(rows, "550 no such file")
+    rows.row("226 and then SIZE 550: status 1, one STOR", status == 1 and commands.count("STOR x") == 1, (status, told, commands))
+    status, told, _ = put(rows, "502 no SIZE")
+    rows.row("226, and SIZE is not known: status 0", status == 0, (status, told))
+    status, told, _ = put(rows, "213 1000")
+    rows.row("226, and SIZE has all octets: status 0", status == 0, (status, told))
+    rows.finish()
+
+
+main()
