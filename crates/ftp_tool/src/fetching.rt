@@ -21,7 +21,7 @@ pub const GET: Subcommand<'static> = Subcommand {
         Word {
             name: "keep",
             form: Form::Flag,
-            help: "keeps the octets of a download that broke, in FILE.ftp-part",
+            help: "keeps what came of a download that is not whole, in FILE.ftp-part",
         },
         Word {
             name: "moment",

@@ -77,15 +77,19 @@ Example:
 pub const GET: &str = "\
 HOST is an address or a name, an IPv6 address in brackets; PATH is sent to the server as it stands behind the slash. The file is
 written beside its name, as FILE.ftp-part, and moved over it once it is whole; it keeps the permissions of the file that it replaces.
-With --keep what came before the data connection broke stays in FILE.ftp-part. With --moment the server is asked first when PATH was
-changed last, which FILE has then; where the server does not know it, standard error has a note. With --progress, and where standard
-error is a terminal, it has the octets of a transfer that takes more than a second, each second at most.
+A file of that name stays, and FILE.ftp-part-1 is written in its place, and so on to 99.
+In type I and file structure the server is asked for the size first. Where it tells that, the file is whole once what came has it; where a
+data connection was cut, or broke, the download goes on there, by at most 16 tries in all, and ends with 1 where it is not whole then. In
+type A, and where the server tells no size, a cut that looks like the end of the file is not noticed; with --progress a note says so.
+With --keep what came of a file that is not whole stays beside it; standard error has its name. With --moment the server is asked first
+when PATH was changed last, which FILE has then; where the server does not know it, standard error has a note. With --progress, and where
+standard error is a terminal, it has the octets of a transfer that takes more than a second, each second at most.
 Where the control connection ends, all is done anew over another one, at most four times, behind 1, 2, 4 and 8 seconds; each is told
 on standard error.
 The password of anonymous is none; that of another user is in the environment, in FTP_PASSWORD, or in the file that --password-file
 names. Everything goes in cleartext, passwords too.
-Status: 0 done; 1 refused, or the data connection broke; 2 bad command line, login or path; 3 the control connection or a device failed,
-or memory was refused. All but 0 are told on standard error, a refusal with the server's text.
+Status: 0 done; 1 refused, or not all came; 2 bad command line, login or path; 3 the control connection or a device failed, or memory
+was refused. All but 0 are told on standard error, a refusal with the server's text.
 
 Example:
   ftp_tool get 127.0.0.1:2121/pub/a.txt a.txt";
@@ -95,7 +99,7 @@ pub const PUT: &str = "\
 HOST, PATH, passwords, status, progress and what is done where the control connection ends are as with get; an upload begins anew
 then. Behind an upload in type I and file structure the server is asked for the size of what it has, where it tells that; where that is a part, or the data
 connection alone broke, it goes on there, by at most 16 tries in all, and is done only once the size is that of FILE. More than one try are told on standard
-error; status 1 where the server has another size in the end.
+error; status 1 where the server has another size in the end, or says that there is no such file.
 
 Example:
   FTP_PASSWORD=secret ftp_tool put a.txt 127.0.0.1:2121/a.txt --user guest";
@@ -105,7 +109,8 @@ pub const LS: &str = "\
 HOST, PATH, passwords, status, progress and what is done where the control connection ends are as with get; no PATH is the directory
 of the login.
 Output: the entries of the directory, as a machine listing has them (RFC 3659, section 7.2); where the server knows no MLSD, the names
-that NLST gives. Each has LF at its end.
+that NLST gives. Each has LF at its end. Of characters that a terminal obeys (C0, C1, marks of direction) each octet is \\xHH, and a
+backslash is two. What is named by none but a single file's name, as .. or a/b, is left out, and a note says how many are.
 
 Example:
   ftp_tool ls 127.0.0.1:2121/pub";
