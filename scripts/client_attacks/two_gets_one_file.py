@@ -38,7 +38,8 @@ def beside(rows):
     status, _, told = rows.tool("get", f"127.0.0.1:{cut.port}/f", "out", "--keep")
     seen = mine.read_bytes(), (rows.folder / "out").read_bytes() == A
     named = [name for name in os.listdir(rows.folder) if name not in ("out", "out.ftp-part")]
-    rows.row("--keep leaves both as they were, and says where the octets are", status == 1 and seen == (b"mine", True) and len(named) == 1 and named[0].encode() in told, (status, seen, named, told))
+    holds = status == 1 and seen == (b"mine", True) and len(named) == 1 and named[0].encode() in told
+    rows.row("--keep leaves both as they were, and says where the octets are", holds, (status, seen, named, told))
     for name in [*named, "out.ftp-part", "out"]:
         (rows.folder / name).unlink(missing_ok=True)
 
