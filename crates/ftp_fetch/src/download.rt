@@ -9,7 +9,7 @@ use ftp_asking::{Noticed, Stage, Stop, ask, at};
 use ftp_facts::Moment;
 use ftp_operation::{Answer, How};
 use ftp_representation::{Mode, Structure};
-use ftp_steps::Arrival;
+use ftp_tool_steps::Arrival;
 use std::alloc::Global;
 use std::env::Env;
 use std::fs::Files;

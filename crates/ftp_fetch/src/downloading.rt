@@ -4,7 +4,7 @@ use crate::trying::{MOST_TRIES, ended_of, is_counted, size_request, there_of};
 use ftp_asking::{Asks, Plays, Request, Stop};
 use ftp_facts::Text;
 use ftp_operation::{Answer, How, Op};
-use ftp_steps::{Arrival, Ended, Size, Step, There, arrived, follows_download};
+use ftp_tool_steps::{Arrival, Ended, Size, Step, There, arrived, follows_download};
 use std::alloc::{AllocError, Global};
 use std::io::Eprint;
 

@@ -1,6 +1,6 @@
 // A listing, as it goes to standard output.
 use ftp_operation::Answer;
-use ftp_shown::{put_entries, put_names, strange_entries, strange_names};
+use ftp_tool_shown::{put_entries, put_names, strange_entries, strange_names};
 use std::alloc::{AllocError, Global};
 
 /// The lines of a listing.

@@ -3,7 +3,7 @@ use ftp_asking::Request;
 use ftp_facts::Text;
 use ftp_operation::{Answer, How, Op};
 use ftp_representation::{Kind, Structure};
-use ftp_steps::{Ended, There};
+use ftp_tool_steps::{Ended, There};
 use std::alloc::{AllocError, Global};
 
 /// The most tries of a transfer, over all its control connections (own choice).

@@ -6,7 +6,7 @@ use crate::trying::{MOST_TRIES, NO_FILE, ended_of, is_counted, size_request, the
 use ftp_asking::{Asks, Noticed, Plays, Request, Stage, Stop, ask, at};
 use ftp_facts::Text;
 use ftp_operation::{Answer, How, Op};
-use ftp_steps::{Ended, Step, There, Transfer, follows};
+use ftp_tool_steps::{Ended, Step, There, Transfer, follows};
 use std::alloc::{AllocError, Global};
 use std::env::Env;
 use std::fs::Files;

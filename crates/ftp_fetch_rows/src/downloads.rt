@@ -6,7 +6,7 @@ use ftp_fetch::Downloading;
 use ftp_operation::{Answer, How};
 use ftp_paper::Paper;
 use ftp_representation::{Kind, Representation};
-use ftp_steps::Arrival;
+use ftp_tool_steps::Arrival;
 use std::alloc::Global;
 use std::io::Eprint;
 

@@ -1,0 +1,36 @@
+-- Worked rows: what is shown of octets, and which texts are names. Each is a theorem that computes.
+use Rattle.std.specs.Prelude.{◌≡◌, true, false, codes, [], ◌∷◌}
+use Rattle.ftp_tool_shown.specs.Listing.{is_listed}
+use Rattle.ftp_tool_shown.specs.Shown.{is_name, shown}
+
+-- text, control characters, marks of direction, and octets of no character
+abbrev pub CharactersShown : Type 0
+CharactersShown =
+    (shown (codes "a b.txt") ≡ codes "a b.txt")
+    × (shown (97 ∷ 27 ∷ codes "[2J") ≡ codes "a\\x1b[2J")
+    × (shown (10 ∷ 127 ∷ []) ≡ codes "\\x0a\\x7f")
+    × (shown (codes "\\x41") ≡ codes "\\\\x41")
+    × (shown (0xC3 ∷ 0xA9 ∷ []) ≡ 0xC3 ∷ 0xA9 ∷ [])
+    × (shown (0xC2 ∷ 0x9B ∷ []) ≡ codes "\\xc2\\x9b")
+    × (shown (0x9B ∷ []) ≡ codes "\\x9b")
+    × (shown (0xE2 ∷ 0x80 ∷ 0xAE ∷ []) ≡ codes "\\xe2\\x80\\xae")
+    × (shown (0xE2 ∷ 0x82 ∷ 0xAC ∷ []) ≡ 0xE2 ∷ 0x82 ∷ 0xAC ∷ [])
+    × (shown (0xF0 ∷ 0x9F ∷ 0x98 ∷ 0x80 ∷ []) ≡ 0xF0 ∷ 0x9F ∷ 0x98 ∷ 0x80 ∷ [])
+    × (shown (0xC0 ∷ 0x9B ∷ []) ≡ codes "\\xc0\\x9b")
+    × (shown (0xE2 ∷ 0x82 ∷ []) ≡ codes "\\xe2\\x82")
+
+-- names of single files, and others
+abbrev pub NamesListed : Type 0
+NamesListed =
+    (is_name (codes "a") ≡ true)
+    × (is_name (codes "..a") ≡ true)
+    × (is_name [] ≡ false)
+    × (is_name (codes ".") ≡ false)
+    × (is_name (codes "..") ≡ false)
+    × (is_name (codes "a/b") ≡ false)
+    × (is_name (codes "/") ≡ false)
+    × (is_listed (codes "pub") (codes "pub/a") ≡ true)
+    × (is_listed (codes "pub") (codes "pub") ≡ true)
+    × (is_listed (codes "pub") (codes "pub/..") ≡ false)
+    × (is_listed (codes "pub") (codes "pub/a/b") ≡ false)
+    × (is_listed [] (codes "/a") ≡ false)

@@ -1,0 +1,12 @@
+//! Worked rows: functions that do nothing, whose contracts are rows of `specs/Rows`.
+ghost use Rattle.ftp_tool_shown.specs.Rows.{CharactersShown, NamesListed};
+
+/// What is shown of octets.
+pub fn characters()
+    ensures { CharactersShown }
+{}
+
+/// Which texts are names of single files.
+pub fn names()
+    ensures { NamesListed }
+{}
