@@ -1,4 +1,4 @@
-use Rattle.std.proofs.Common.{◌∙◌, arith, sym}
+use Rattle.std.proofs.Common.{◌∙◌, ap, arith, sym}
 use Rattle.std.proofs.lemmas.Bool.{and_parts, eqb-true}
 use Rattle.ftp_dialogue.proofs.OctetLemmas.{counts_same, one_heard}
 use Rattle.ftp_server.specs.Server.{counts_of, server_of}
@@ -12,5 +12,5 @@ returns-then-eq g c =
     one_heard c.args.octet c.hear-count.result (server c.args.server.now) (server c.hear-count.new.self) c.hear-count.ensures.took c.hear-count.ensures.within
     (c.hear-count.ensures.some c.requires (omega arith))
     (counts_same (counts c.hear-count.new.self) (counts c.args.server.now)
-    (sym c.counts.ensures.refusals ∙ eqb-true _ _ parts.0 ∙ c.counts-counts.ensures.refusals)
-    (sym c.counts.ensures.failures ∙ eqb-true _ _ parts.1 ∙ c.counts-counts.ensures.failures))
+    (ap (λ counts. counts.refusals) (sym c.counts.ensures) ∙ eqb-true _ _ parts.0 ∙ ap (λ counts. counts.refusals) c.counts-counts.ensures)
+    (ap (λ counts. counts.failures) (sym c.counts.ensures) ∙ eqb-true _ _ parts.1 ∙ ap (λ counts. counts.failures) c.counts-counts.ensures))
