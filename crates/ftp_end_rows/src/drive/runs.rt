@@ -147,11 +147,11 @@ fn breaks_at_each_write(alloc: Global) -> bool {
     true
 }
 
-/// How many octets the files of these runs have: three pieces of a data connection, of 262,144 octets each, and a part of a fourth.
+/// How many octets the files of these runs have: three pieces of an upload, of 262,144 octets each, and a part of a fourth.
 const SENT: usize = 800_000;
 
-/// How many octets two pieces have.
-const TWO_PIECES: u64 = 524_288;
+/// How many octets two pieces of a download have, of 32,768 octets each.
+const TWO_PIECES: u64 = 65_536;
 
 /// Whether a run goes so in which a file is sent, and behind two pieces of its download the client says the next octet of this.
 fn speaks(alloc: Global, said: &'static [u8], owed: &'static [u8], taken: u64) -> bool {
