@@ -7,6 +7,7 @@ ghost use Rattle.ftp_framer.specs.Framing.{writing, counting, owed_block, owed_o
 
 use crate::descriptor::{END_OF_BOTH, END_OF_FILE, END_OF_RECORD, GOES_ON, RESTART_MARKER};
 use crate::escape::{BOTH_CODE, ESCAPE, FILE_CODE, RECORD_CODE};
+use crate::pouring::copy_to;
 use arrayvec::ArrayVec;
 use ftp_repr::{Item, first_ff};
 use ftp_representation::{Mode, Structure};
@@ -48,7 +49,7 @@ impl Written {
 
 /// Where in its text a framer stands.
 #[derive(Clone, Copy, Debug, PartialEq, Eq)]
-enum Stage {
+pub(crate) enum Stage {
     /// Stream mode, file structure: octets go as they are.
     Copying,
     /// Stream mode with records: between two items.
@@ -69,7 +70,7 @@ enum Stage {
 
 /// Own restart markers.
 #[derive(Clone, Copy, Debug, PartialEq, Eq)]
-enum Marks {
+pub(crate) enum Marks {
     /// Not in this mode and structure.
     Never,
     /// None are asked for.
@@ -95,20 +96,20 @@ pub enum Manner {
 const MARKED: u64 = 65_536;
 
 /// The most octets of a written block.
-const BLOCK_LIMIT: usize = 8192;
+pub(crate) const BLOCK_LIMIT: usize = 8192;
 
 /// Octets before those of a block: a descriptor and a count.
-const HEADER: usize = 3;
+pub(crate) const HEADER: usize = 3;
 
 /// Writes items as the octets of a data connection, into rooms of any size (RFC 959, sections 3.4.1 and 3.4.2).
 ///
 /// It takes no memory: it holds one block.
 #[derive(Drop)]
 pub struct Framer {
-    stage: Stage,
-    marks: Marks,
-    owed: ArrayVec<u8, 23>,
-    block: ArrayVec<u8, BLOCK_LIMIT>,
+    pub(crate) stage: Stage,
+    pub(crate) marks: Marks,
+    pub(crate) owed: ArrayVec<u8, 23>,
+    pub(crate) block: ArrayVec<u8, BLOCK_LIMIT>,
 }
 
 impl Framer {
@@ -224,175 +225,17 @@ impl Framer {
         (self.block.len() + HEADER).saturating_sub(place)
     }
 
-    fn is_open(&self) -> bool
+    pub(crate) fn is_open(&self) -> bool
         ensures { result ≡ is_open self.now.stage }
     {
         !matches!(self.stage, Stage::Leaving(_, _) | Stage::Last(_, _))
     }
 
     /// Whether all that was decided is out.
-    fn is_clear(&self) -> bool
+    pub(crate) fn is_clear(&self) -> bool
         ensures { IsTrue result ↔ IsClear self.now }
     {
         self.is_open() && self.owed.is_empty()
-    }
-
-    /// An octet of the written block's header.
-    fn header_octet(&self, descriptor: u8, place: usize) -> u8
-        requires { place < 3 }
-        ensures { result ≡ slice_index (block_text descriptor self.now.block.items) place }
-    {
-        let len = self.block.len();
-        match place {
-            0 => descriptor,
-            1 => (len / 256) as u8,
-            _ => (len % 256) as u8,
-        }
-    }
-
-    /// Copies the written block from a place on into the room, and says how far it came in both.
-    fn copy(&self, descriptor: u8, place: usize, room: &mut [u8], at: usize) -> (usize, usize)
-        requires { at ≤ length room.old }
-        ensures within { (at ≤ result.0) × (result.0 ≤ length room.old) }
-        ensures copied { take result.0 room.new ++ drop result.1 (block_text descriptor self.now.block.items)
-            ≡ take at room.old ++ drop place (block_text descriptor self.now.block.items) }
-        ensures all { (length self.now.block.items + 3 ≤ result.1) ⊎ (result.0 ≡ length room.old) }
-    {
-        let (made, next) = self.copy_header(descriptor, place, room, at);
-        if next < HEADER {
-            return (made, next);
-        }
-        let count = self.copy_octets(next - HEADER, room, made);
-        (made + count, next + count)
-    }
-
-    /// Copies what is left of the written block's header.
-    fn copy_header(
-        &self,
-        descriptor: u8,
-        place: usize,
-        room: &mut [u8],
-        at: usize,
-    ) -> (usize, usize)
-        requires { at ≤ length room.old }
-        ensures within { (at ≤ result.0) × (result.0 ≤ length room.old) }
-        ensures copied { take result.0 room.new ++ drop result.1 (block_text descriptor self.now.block.items)
-            ≡ take at room.old ++ drop place (block_text descriptor self.now.block.items) }
-        ensures all { (3 ≤ result.1) ⊎ (result.0 ≡ length room.old) }
-    {
-        let mut made = at;
-        let mut next = place;
-        while made < room.len() && next < HEADER {
-            room[made] = self.header_octet(descriptor, next);
-            made += 1;
-            next += 1;
-        }
-        (made, next)
-    }
-
-    /// Copies the written block's octets from the first of these on, and says how many.
-    fn copy_octets(&self, first: usize, room: &mut [u8], at: usize) -> usize
-        requires { at ≤ length room.old }
-        ensures within { at + result ≤ length room.old }
-        ensures copied { take (at + result) room.new ++ drop (first + result) self.now.block.items
-            ≡ take at room.old ++ drop first self.now.block.items }
-        ensures all { (length self.now.block.items ≤ first + result) ⊎ (at + result ≡ length room.old) }
-        ensures few { 0 < result → first + result ≤ BLOCK_LIMIT }
-    {
-        let (_, rest) = self.block.as_slice().split_at(first.min(self.block.len()));
-        let count = rest.len().min(room.len() - at);
-        let (front, _) = rest.split_at(count);
-        copy_to(room, at, front);
-        count
-    }
-
-    /// Moves a decided block to the room from `at` on.
-    fn pour_block(&mut self, room: &mut [u8], at: usize) -> usize
-        requires { at ≤ length room.old }
-        ensures within { (at ≤ result) × (result ≤ length room.old) }
-        ensures text { take result room.new ++ owed_block self.new.stage self.new.block.items
-            ≡ take at room.old ++ owed_block self.old.stage self.old.block.items }
-        ensures state { writing self.new ≡ writing self.old }
-        ensures owes { self.new.owed.items ≡ self.old.owed.items }
-        ensures all { (is_open self.new.stage ≡ true) ⊎ (result ≡ length room.old) }
-    {
-        match self.stage {
-            Stage::Leaving(descriptor, place) => {
-                let (made, next) = self.copy(descriptor, place, room, at);
-                if next >= self.block.len() + 3 {
-                    self.block.clear();
-                    self.stage = Stage::Filling;
-                } else {
-                    self.stage = Stage::Leaving(descriptor, next);
-                }
-                made
-            }
-            Stage::Last(descriptor, place) => {
-                let (made, next) = self.copy(descriptor, place, room, at);
-                if next >= self.block.len() + 3 {
-                    self.stage = Stage::Closed;
-                } else {
-                    self.stage = Stage::Last(descriptor, next);
-                }
-                made
-            }
-            _ => at,
-        }
-    }
-
-    /// Moves the octets that are decided beside a block to the room from `at` on.
-    fn pour_owed(&mut self, room: &mut [u8], at: usize) -> usize
-        requires { at ≤ length room.old }
-        ensures within { (at ≤ result) × (result ≤ length room.old) }
-        ensures text { take result room.new ++ self.new.owed.items ≡ take at room.old ++ self.old.owed.items }
-        ensures all { (self.new.owed.items ≡ []) ⊎ (result ≡ length room.old) }
-        ensures stage { self.new.stage ≡ self.old.stage }
-        ensures block { self.new.block.items ≡ self.old.block.items }
-        ensures marks { self.new.marks ≡ self.old.marks }
-    {
-        let len = self.owed.len();
-        if len <= room.len() - at {
-            copy_to(room, at, self.owed.as_slice());
-            self.owed.clear();
-            return at + len;
-        }
-        let mut made = at;
-        while made < room.len() && !self.owed.is_empty() {
-            room[made] = self.owed.remove(0);
-            made += 1;
-        }
-        made
-    }
-
-    /// Moves what is decided to the room from `at` on.
-    fn pour(&mut self, room: &mut [u8], at: usize) -> usize
-        requires { at ≤ length room.old }
-        ensures within { (at ≤ result) × (result ≤ length room.old) }
-        ensures text { take result room.new ++ owed_octets self.new ≡ take at room.old ++ owed_octets self.old }
-        ensures state { writing self.new ≡ writing self.old }
-        ensures all { IsClear self.new ⊎ (result ≡ length room.old) }
-        ensures some { at < length room.old → 0 < length (owed_octets self.old) → at < result }
-    {
-        if self.is_clear() {
-            return at;
-        }
-        self.pour_some(room, at)
-    }
-
-    /// The same, where something is decided or nothing.
-    fn pour_some(&mut self, room: &mut [u8], at: usize) -> usize
-        requires { at ≤ length room.old }
-        ensures within { (at ≤ result) × (result ≤ length room.old) }
-        ensures text { take result room.new ++ owed_octets self.new ≡ take at room.old ++ owed_octets self.old }
-        ensures state { writing self.new ≡ writing self.old }
-        ensures all { IsClear self.new ⊎ (result ≡ length room.old) }
-        ensures some { at < length room.old → 0 < length (owed_octets self.old) → at < result }
-    {
-        let made = self.pour_block(room, at);
-        if !self.is_open() {
-            return made;
-        }
-        self.pour_owed(room, made)
     }
 
     /// Takes an octet, or decides what goes before it.
@@ -703,12 +546,4 @@ impl Framer {
         let made = self.pour(room, at);
         Written { taken: 0, made }
     }
-}
-
-/// Copies octets to the room from `at` on.
-fn copy_to(room: &mut [u8], at: usize, octets: &[u8])
-    requires { at + length octets.now ≤ length room.old }
-    ensures { take (at + length octets.now) room.new ≡ take at room.old ++ octets.now }
-{
-    room[at..at + octets.len()].copy_from_slice(octets);
 }

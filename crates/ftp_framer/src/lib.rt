@@ -6,6 +6,7 @@ pub mod descriptor;
 pub mod escape;
 mod framer;
 pub mod laws;
+mod pouring;
 
 pub use framer::{Framer, Manner, Written};
 pub use ftp_representation::Mode;
