@@ -10,7 +10,7 @@ use Rattle.std.specs.Option.{option_map}
 use Rattle.ftp_facts.specs.Listed.{Listed, entry_value}
 use Rattle.ftp_facts.specs.Listing.{all_values, but_empty_last, entries_value, is_shown, line_feed, lines_of, name_value, names_value}
 use Rattle.ftp_facts.specs.Value.{and_then}
-use Rattle.ftp_path.specs.Path.{is_path_text}
+use Rattle.ftp_path.specs.Path.{is_listed_text}
 use Rattle.ftp_carrying.specs.Listing.{kept}
 
 -- ---- lines
@@ -132,20 +132,20 @@ pub entry_none : (octets line behind : List ℕ) → lines_of octets ≡ line �
     → None ≡ entries_value octets
 entry_none octets line behind lines is = sym (entries_next octets line behind None lines is)
 
-names_next : (octets line behind : List ℕ) (b : Bool) → lines_of octets ≡ line ∷ lines_of behind → b ≡ is_path_text line
+names_next : (octets line behind : List ℕ) (b : Bool) → lines_of octets ≡ line ∷ lines_of behind → b ≡ is_listed_text line
     → names_value octets ≡ and_then (then_some b line) (λ value. option_map (λ values. value ∷ values) (all_values name_value (lines_of behind)))
 names_next octets line behind b lines is =
     ap (all_values name_value) lines
     ∙ ap (λ c. and_then (then_some c line) (λ value. option_map (λ values. value ∷ values) (all_values name_value (lines_of behind)))) (sym is)
 
 -- a name more
-pub name_next : (seen : List (List ℕ)) (octets line behind : List ℕ) → lines_of octets ≡ line ∷ lines_of behind → true ≡ is_path_text line
+pub name_next : (seen : List (List ℕ)) (octets line behind : List ℕ) → lines_of octets ≡ line ∷ lines_of behind → true ≡ is_listed_text line
     → with_rest (seen ++ line ∷ []) (names_value behind) ≡ with_rest seen (names_value octets)
 name_next seen octets line behind lines is =
     with_next seen line (names_value behind) ∙ ap (with_rest seen) (sym (names_next octets line behind true lines is))
 
 -- a line that is no name
-pub name_none : (octets line behind : List ℕ) → lines_of octets ≡ line ∷ lines_of behind → false ≡ is_path_text line
+pub name_none : (octets line behind : List ℕ) → lines_of octets ≡ line ∷ lines_of behind → false ≡ is_listed_text line
     → None ≡ names_value octets
 name_none octets line behind lines is = sym (names_next octets line behind false lines is)
 

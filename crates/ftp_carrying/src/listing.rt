@@ -8,7 +8,7 @@ ghost use Rattle.ftp_carrying.specs.Listing.{kept};
 use crate::content::copy_of;
 use ftp_facts::{Entry, Kind, Text};
 use ftp_judging::entry_in;
-use ftp_path::is_path_text;
+use ftp_path::is_listed_text;
 use std::alloc::{AllocError, Allocator};
 
 /// The entries of a machine listing, one a line; `None` where a line says none.
@@ -42,7 +42,7 @@ fn keep<A: Allocator>(entries: &mut Vec<Entry<A>, A>, entry: Entry<A>) -> Result
     Ok(())
 }
 
-/// The pathnames of a listing of names, one a line; `None` where a line is no path text.
+/// The pathnames of a listing of names, one a line; `None` where a line can be none.
 pub(crate) fn names_in<A: Allocator + Clone>(
     octets: &[u8],
     alloc: &A,
@@ -53,7 +53,7 @@ pub(crate) fn names_in<A: Allocator + Clone>(
     let mut rest = octets;
     while !rest.is_empty() {
         let (line, behind) = cut_line(rest);
-        if !is_path_text(line) {
+        if !is_listed_text(line) {
             return Ok(None);
         }
         names.push(copy_of(line, alloc)?)?;

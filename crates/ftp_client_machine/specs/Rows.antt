@@ -124,7 +124,7 @@ Quoted = quoted_value (34 ∷ 47 ∷ 97 ∷ 34 ∷ 34 ∷ 98 ∷ 34 ∷ codes " 
 abbrev pub MarkRead : Type 0
 MarkRead = (mark_value (codes "MARK 65536 = 65537") ≡ Some 65537) × (mark_value (codes "Restart marker") ≡ None)
 
--- each line of a listing of names is a path text, or the listing names nothing (RFC 959, section 4.1.3; own choice)
+-- each line of a listing of names is a text as a pathname is, or the listing names nothing (RFC 959, section 4.1.3; own choice)
 abbrev pub NamesRead : Type 0
 NamesRead =
     (names_value (codes "a b" ++ 10 ∷ codes "c") ≡ Some (codes "a b" ∷ codes "c" ∷ []))

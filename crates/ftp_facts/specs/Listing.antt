@@ -2,7 +2,7 @@
 use Rattle.std.specs.Prelude.{ℕ, ◌==◌, ◌||◌, Bool, true, List, [], ◌∷◌, length, Option, Some, None, if◌then◌else◌, option_map}
 use Rattle.std.specs.Bool.{then_some}
 use Rattle.std.specs.List.{slice_split, filter}
-use Rattle.ftp_path.specs.Path.{is_path_text}
+use Rattle.ftp_path.specs.Path.{is_listed_text}
 use Rattle.ftp_facts.specs.Fact.{is_word, file_word, dir_word}
 use Rattle.ftp_facts.specs.Listed.{Listed, entry_value}
 use Rattle.ftp_facts.specs.Value.{and_then}
@@ -39,9 +39,9 @@ is_shown entry = is_shown_kind entry.kind
 abbrev pub entries_value : List ℕ → Option (List Listed)
 entries_value octets = option_map (filter is_shown) (all_values entry_value (lines_of octets))
 
--- a line of a listing of names; own choice: it has to be a path text, so an empty one is no name
+-- a line of a listing of names; own choice: it has to be a text as a pathname is, of any length, so an empty one is no name
 abbrev pub name_value : List ℕ → Option (List ℕ)
-name_value line = then_some (is_path_text line) line
+name_value line = then_some (is_listed_text line) line
 
 -- the pathnames of a listing of names, one a line (RFC 959, section 4.1.3, NLST)
 abbrev pub names_value : List ℕ → Option (List (List ℕ))

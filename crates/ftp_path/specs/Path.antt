@@ -33,6 +33,11 @@ name_limit = 255
 abbrev pub is_path_text : List ℕ → Bool
 is_path_text text = nat_le 1 (length text) && nat_le (length text) text_limit && is_text text
 
+-- a pathname as a server lists it: such a text, not empty, of any length (own choice), since a directory's pathname of the most octets
+-- stands before the names of its files
+abbrev pub is_listed_text : List ℕ → Bool
+is_listed_text text = nat_le 1 (length text) && is_text text
+
 abbrev pub IsPathText : List ℕ → Type 0
 IsPathText text = IsTrue (is_path_text text)
 

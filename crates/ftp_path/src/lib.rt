@@ -10,5 +10,5 @@ mod path;
 mod walk;
 
 pub use fault::PathFault;
-pub use name::{Name, is_path_text};
+pub use name::{Name, is_listed_text, is_path_text};
 pub use path::Path;

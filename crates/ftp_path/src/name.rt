@@ -2,7 +2,7 @@
 ghost use Rattle.std.specs.Prelude.{◌≡◌, ◌↔◌, IsTrue, IsSome, IfSome};
 ghost use Rattle.std.specs.List.{list_all};
 ghost use Rattle.std.specs.Str.{is_utf8};
-ghost use Rattle.ftp_path.specs.Path.{IsPathText, is_path_octet, is_text, is_name_octet, is_part, is_here, is_above, is_component, is_name, is_rooted};
+ghost use Rattle.ftp_path.specs.Path.{IsPathText, is_listed_text, is_path_octet, is_text, is_name_octet, is_part, is_here, is_above, is_component, is_name, is_rooted};
 
 /// The most octets of a path text and of a canonical text (own choice).
 pub(crate) const TEXT_LIMIT: usize = 900;
@@ -16,6 +16,13 @@ pub fn is_path_text(text: &[u8]) -> bool
     ensures { IsTrue result ↔ IsPathText text.now }
 {
     !text.is_empty() && text.len() <= TEXT_LIMIT && is_text(text)
+}
+
+/// Whether a text may be a pathname that a server lists: as a path text, but of any length.
+pub fn is_listed_text(text: &[u8]) -> bool
+    ensures { IsTrue result ↔ IsTrue (is_listed_text text.now) }
+{
+    !text.is_empty() && is_text(text)
 }
 
 /// What one directory calls one of its nodes: 1 to 255 octets of such a text, no `/`, and neither `.` nor `..`. Names are
