@@ -5,9 +5,9 @@ use Rattle.std.specs.List.{Contains}
 use Rattle.std.specs.Option.{option_or, unwrap_or}
 use Rattle.std.proofs.lemmas.Bool.{and_parts, ltb-true}
 use Rattle.std.proofs.lemmas.List.{length-drop, length-take}
-use Rattle.ftp_ends.specs.Decoder.{decoder_of, ended, image_blocks, no_octets, GivesFile}
-use Rattle.ftp_ends.proofs.DecoderLemmas.{what_is_settled}
-use Rattle.ftp_ends.proofs.WireLemmas.{wire_gives_file, marked_wire_gives_file}
+use Rattle.ftp_decoder.specs.Decoder.{decoder_of, ended, image_blocks, no_octets, GivesFile}
+use Rattle.ftp_decoder.proofs.DecoderLemmas.{what_is_settled}
+use Rattle.ftp_decoder.proofs.WireLemmas.{wire_gives_file, marked_wire_gives_file}
 use Rattle.ftp_framer.specs.Block.{marked_text}
 use Rattle.ftp_framer.specs.Wire.{wire as written_wire}
 use Rattle.ftp_mode.specs.Laws.{settled_content}

@@ -3,7 +3,7 @@ use Rattle.std.proofs.Common.{◌≡◌, inr, ℕ, ◌+◌, ◌≤◌, Bool, tru
 use Rattle.std.specs.Prelude.{min}
 use Rattle.std.proofs.Math.Seq.{take-nil}
 use Rattle.std.proofs.lemmas.List.{take-append-drop, length-take}
-use Rattle.ftp_ends.specs.Decoder.{Decoder, decoded, decoded_octet, decoder_of, no_octets, octet_says}
+use Rattle.ftp_decoder.specs.Decoder.{Decoder, decoded, decoded_octet, decoder_of, no_octets, octet_says}
 use Rattle.ftp_ends.specs.Reply.{Reply, reply_octets}
 use Rattle.ftp_operation.specs.declared.op.How.{How}
 use Rattle.ftp_representation.specs.declared.representation.Representation.{Representation}

@@ -1,6 +1,6 @@
 -- The link of a download: it opens, is refused, ends or breaks, whatever is on its way over the control connection.
 use Rattle.std.proofs.Common.{◌≡◌, ℕ, Bool, true, false, List, [], ◌∷◌, ◌++◌, Option, Some, None, refl, sym, ap, subst, ◌∙◌, append-nil, append_assoc}
-use Rattle.ftp_ends.specs.Decoder.{decoder_of, no_octets}
+use Rattle.ftp_decoder.specs.Decoder.{decoder_of, no_octets}
 use Rattle.ftp_ends.specs.Ear.{Ear, quiet, ear}
 use Rattle.ftp_ends.specs.Reply.{IsWritten, Reply, reply_octets}
 use Rattle.ftp_machine.specs.Machine.{after}

@@ -4,7 +4,7 @@ use Rattle.ftp_nvt.specs.Lines.{written_line}
 use Rattle.ftp_command.specs.Line.{line_of}
 use Rattle.ftp_command.specs.declared.command.Command.TheVariants as Commands
 use Rattle.ftp_command.proofs.CarriedLemmas.{carried}
-use Rattle.ftp_ends.specs.Decoder.{no_octets}
+use Rattle.ftp_decoder.specs.Decoder.{no_octets}
 use Rattle.ftp_endpoint.specs.Written.{IsTypedHost}
 use Rattle.ftp_ends.specs.Reply.{IsWritten, Reply}
 use Rattle.ftp_operation.specs.Answer.{Said, Octets, Refused, Unopened as NotOpened}

@@ -7,7 +7,7 @@ use Rattle.ftp_client_machine.specs.View.{Flow, Sending, Receiving}
 use Rattle.ftp_decoder.specs.Hearing.{EndsBy, HasNoMarker, Hears, Marks}
 use Rattle.ftp_decoder.specs.declared.heard.Heard.{Heard}
 use Rattle.ftp_decoder.specs.declared.heard.Heard.TheVariants.{More, Faulty, Over, NoMemory}
-use Rattle.ftp_ends.specs.Decoder.{Decoder, decoded_octet, octet_says}
+use Rattle.ftp_decoder.specs.Decoder.{Decoder, decoded_octet, octet_says}
 use Rattle.ftp_facts.specs.Value.{number_value}
 use Rattle.ftp_framer.specs.Said.{Said, says, marker}
 use Rattle.ftp_judging.specs.Hearing.{NotYet, heard_all}

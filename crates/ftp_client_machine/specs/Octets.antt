@@ -8,7 +8,7 @@ use Rattle.ftp_operation.specs.declared.op.Op.TheVariants as Ops
 use Rattle.ftp_framer.specs.Block.{marked_text}
 use Rattle.ftp_framer.specs.Wire.{wire}
 use Rattle.ftp_framer.specs.Said.{Said as WireSaid, says, marker}
-use Rattle.ftp_ends.specs.Decoder.{no_octets, octet_says, decoded_octet, is_whole, ended, broken}
+use Rattle.ftp_decoder.specs.Decoder.{no_octets, octet_says, decoded_octet, is_whole, ended, broken}
 use Rattle.ftp_representation.specs.Representation.{form_of, has_markers}
 use Rattle.ftp_facts.specs.Listing.{entries_value, names_value}
 use Rattle.ftp_client_machine.specs.Plan.{settings_of, listing_settings, count_of}

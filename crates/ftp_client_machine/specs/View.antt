@@ -4,7 +4,7 @@ use Rattle.std.specs.Prelude.{ℕ, Bool, true, false, ◌||◌, List, [], Option
 use Rattle.ftp_endpoint.specs.declared.host.Host.{Host}
 use Rattle.ftp_operation.specs.Answer.{Said, Lost, Strange, Memory}
 use Rattle.ftp_operation.specs.declared.op.Op.{Op}
-use Rattle.ftp_ends.specs.Decoder.{Decoder}
+use Rattle.ftp_decoder.specs.Decoder.{Decoder}
 use Rattle.ftp_ends.specs.Ear.{Ear, quiet}
 use Rattle.ftp_representation.specs.Representation.{defaults}
 use Rattle.ftp_reply.specs.Reader.{Gathered, Between}

@@ -10,8 +10,8 @@ use Rattle.ftp_repr.specs.Signs.{octet}
 use Rattle.ftp_mode.specs.declared.fault.FrameFault.{FrameFault}
 use Rattle.ftp_mode.specs.Reading.{Reading, IsGoing, going, failed, reader, read_step, read_out}
 use Rattle.ftp_mode.proofs.ReaderRuns.{failed_after, failed_gives}
-use Rattle.ftp_ends.specs.Decoder.{Decoder, read_on, octet_says, decoded_octet, decoded, fault_in, fault_of}
-use Rattle.ftp_ends.proofs.DecoderLemmas.{decodes}
+use Rattle.ftp_decoder.specs.Decoder.{Decoder, read_on, octet_says, decoded_octet, decoded, fault_in, fault_of}
+use Rattle.ftp_decoder.proofs.DecoderLemmas.{decodes}
 use Rattle.ftp_decoder.specs.Hearing.{HasNoMarker, AreQuiet, Marks, EndsBy, Hears}
 use Rattle.ftp_decoder.specs.declared.heard.Heard.{Heard}
 use Rattle.ftp_decoder.specs.declared.heard.Heard.TheVariants.{More}

@@ -1,3 +1,5 @@
+pub mod DecoderLemmas
 pub mod HearLemmas
 pub mod SettleLemmas
 pub mod StepLemmas
+pub mod WireLemmas

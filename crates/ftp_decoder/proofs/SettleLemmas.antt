@@ -9,7 +9,7 @@ use Rattle.ftp_repr.specs.Receiving.{receiving}
 use Rattle.ftp_repr.specs.Received.{Lends, lent_octets, comes_with, settled_by, receiver_form, taking}
 use Rattle.ftp_repr.specs.declared.item.Lent.{Lent}
 use Rattle.ftp_repr.specs.declared.receiver.Receiver.{Receiver}
-use Rattle.ftp_ends.specs.Decoder.{Decoder}
+use Rattle.ftp_decoder.specs.Decoder.{Decoder}
 use Rattle.ftp_decoder.specs.Taking.{decoder_at, settled, EndsShort, Stops, StopsBy, HasNoRoom, HasNoRoomBy}
 use Rattle.ftp_decoder.specs.declared.heard.Heard.{Heard}
 use Rattle.ftp_decoder.specs.declared.heard.Heard.TheVariants.{More, Faulty, Over, NoMemory}

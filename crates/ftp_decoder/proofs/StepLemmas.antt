@@ -14,8 +14,8 @@ use Rattle.ftp_mode.specs.declared.deframer.Deframer.{Deframer}
 use Rattle.ftp_mode.specs.declared.step.Step.{Step}
 use Rattle.ftp_mode.specs.declared.step.Part.{Part}
 use Rattle.ftp_mode.specs.declared.step.Part.TheVariants.{Need, Data, EndRecord, EndFile, Marker}
-use Rattle.ftp_ends.specs.Decoder.{Decoder, read_on, octet_says, decoded_octet, decoded, fault_in, fault_of}
-use Rattle.ftp_ends.proofs.DecoderLemmas.{decodes, file_signs-append}
+use Rattle.ftp_decoder.specs.Decoder.{Decoder, read_on, octet_says, decoded_octet, decoded, fault_in, fault_of}
+use Rattle.ftp_decoder.proofs.DecoderLemmas.{decodes, file_signs-append}
 use Rattle.ftp_decoder.specs.Hearing.{HasNoMarker, Marks, EndsBy, Hears}
 use Rattle.ftp_decoder.specs.Taking.{decoder_at, settled, EndsShort, StopsBy}
 use Rattle.ftp_decoder.specs.declared.intake.Intake.{Intake}

@@ -1,7 +1,7 @@
 -- What was heard of the octets that a decoder took, octet by octet.
 use Rattle.std.specs.Prelude.{◌≡◌, ℕ, ◌<◌, ◌≤◌, List, [], ◌∷◌, length, Option, Some, None}
 use Rattle.ftp_framer.specs.Said.{Said, says, marker}
-use Rattle.ftp_ends.specs.Decoder.{Decoder, read_on, octet_says, decoded_octet, fault_of}
+use Rattle.ftp_decoder.specs.Decoder.{Decoder, read_on, octet_says, decoded_octet, fault_of}
 use Rattle.ftp_decoder.specs.declared.heard.Heard.{Heard}
 use Rattle.ftp_decoder.specs.declared.heard.Heard.TheVariants.{More, Faulty, Over, NoMemory}
 

@@ -1,2 +1,3 @@
+pub mod Decoder
 pub mod Hearing
 pub mod Taking

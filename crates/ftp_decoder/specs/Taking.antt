@@ -7,7 +7,7 @@ use Rattle.ftp_repr.specs.Received.{receiver_form, taking, lent_octets, comes_wi
 use Rattle.ftp_repr.specs.declared.item.Lent.{Lent}
 use Rattle.ftp_framer.specs.Said.{file_signs}
 use Rattle.ftp_mode.specs.Deframing.{reading, owed}
-use Rattle.ftp_ends.specs.Decoder.{Decoder}
+use Rattle.ftp_decoder.specs.Decoder.{Decoder}
 use Rattle.ftp_decoder.specs.declared.heard.Heard.{Heard}
 use Rattle.ftp_decoder.specs.declared.heard.Heard.TheVariants.{More, Faulty, Over, NoMemory}
 use Rattle.ftp_decoder.specs.declared.intake.Stopped.{Stopped}

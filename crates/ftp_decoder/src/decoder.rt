@@ -1,5 +1,5 @@
 ghost use Rattle.std.specs.Prelude.{◌≡◌, ◌+◌, ◌<◌, ◌≤◌, length, take, OnErr, OnOk};
-ghost use Rattle.ftp_ends.specs.Decoder.{no_octets, is_whole, ended};
+ghost use Rattle.ftp_decoder.specs.Decoder.{no_octets, is_whole, ended};
 ghost use Rattle.ftp_decoder.specs.Hearing.{Hears, TellsNothing};
 
 use crate::heard::Taken;

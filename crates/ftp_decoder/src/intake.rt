@@ -5,7 +5,7 @@ ghost use Rattle.ftp_repr.specs.Received.{lent_octets};
 ghost use Rattle.ftp_framer.specs.Said.{file_signs};
 ghost use Rattle.ftp_mode.specs.Deframing.{part_said, owed, reading, last_marker};
 ghost use Rattle.ftp_decoder.specs.Hearing.{Hears, TellsNothing};
-ghost use Rattle.ftp_ends.specs.Decoder.{no_octets};
+ghost use Rattle.ftp_decoder.specs.Decoder.{no_octets};
 
 use crate::heard::{Heard, Taken};
 use crate::sink::Sink;

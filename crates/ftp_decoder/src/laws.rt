@@ -1,11 +1,20 @@
-//! What callers need of what was heard.
+//! What the decoder settles, and what callers need of what was heard: functions that do nothing, whose contracts are laws.
 
 ghost use Rattle.std.specs.Prelude.{◌≡◌, ◌++◌, ℕ, List, None};
 ghost use Rattle.ftp_mode.specs.declared.fault.FrameFault.{FrameFault};
 ghost use Rattle.ftp_mode.specs.Reading.{failed};
-ghost use Rattle.ftp_ends.specs.Decoder.{Decoder, decoded};
+ghost use Rattle.ftp_decoder.specs.Decoder.{Decoder, decoded, DecodesWhatIsSettled, WireGivesFile, MarkedWireGivesFile, FrontGivesFront, MarkedFrontGivesFront};
 ghost use Rattle.ftp_decoder.specs.Hearing.{AreQuiet, Hears};
 ghost use Rattle.ftp_decoder.specs.declared.heard.Heard.TheVariants.{More};
+
+/// A decoder has settled what the wire settles that came, and the one text of a file, ended, gives the file.
+pub fn decoder()
+    ensures settled { DecodesWhatIsSettled }
+    ensures whole { WireGivesFile }
+    ensures marked { MarkedWireGivesFile }
+    ensures front { FrontGivesFront }
+    ensures marked_front { MarkedFrontGivesFront }
+{}
 
 /// Where nothing was told, every octet was quiet, and the decoder is the one behind them all. Quiet rows join.
 pub fn quiet()

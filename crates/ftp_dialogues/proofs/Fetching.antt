@@ -12,7 +12,7 @@ use Rattle.ftp_command.proofs.CarriedLemmas.{carried}
 use Rattle.ftp_endpoint.specs.Written.{IsTypedHost, IsV4}
 use Rattle.ftp_endpoint.specs.declared.host.Host.{Host}
 use Rattle.ftp_endpoint.specs.declared.host.Host.TheVariants.{V4, V6}
-use Rattle.ftp_ends.specs.Decoder.{decoder_of, no_octets}
+use Rattle.ftp_decoder.specs.Decoder.{decoder_of, no_octets}
 use Rattle.ftp_ends.specs.Reply.{reply_octets}
 use Rattle.ftp_ends.specs.Link.{same_host, is_v6}
 use Rattle.ftp_operation.specs.Answer.{Said, Foreign, Refused, Unopened}

@@ -1,7 +1,7 @@
 -- On a client under a download, a reply, an octet of the link and its end can come in either order, as far as each is possible: the same
 -- comes of both. So what the client holds is a function of the replies that came, the octets that came and how the link stands.
 use Rattle.std.specs.Prelude.{◌≡◌, ℕ, false, List, Option}
-use Rattle.ftp_ends.specs.Decoder.{Decoder}
+use Rattle.ftp_decoder.specs.Decoder.{Decoder}
 use Rattle.ftp_operation.specs.declared.op.How.{How}
 use Rattle.ftp_operation.specs.declared.op.Op.{Op}
 use Rattle.ftp_operation.specs.declared.op.Op.TheVariants as Ops

@@ -6,7 +6,7 @@ use Rattle.ftp_command.specs.declared.command.Command.{Command}
 use Rattle.ftp_command.specs.declared.command.Command.TheVariants as Commands
 use Rattle.ftp_endpoint.specs.Written.{IsTypedHost}
 use Rattle.ftp_endpoint.specs.declared.host.Host.{Host}
-use Rattle.ftp_ends.specs.Decoder.{no_octets, decoder_of}
+use Rattle.ftp_decoder.specs.Decoder.{no_octets, decoder_of}
 use Rattle.ftp_ends.specs.Reply.{Reply, reply_of}
 use Rattle.ftp_operation.specs.declared.op.How.{How}
 use Rattle.ftp_operation.specs.declared.op.Op.{Op}

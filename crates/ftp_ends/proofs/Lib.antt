@@ -1,4 +1,2 @@
 pub mod Counts
-pub mod DecoderLemmas
 pub mod LineInFlight
-pub mod WireLemmas

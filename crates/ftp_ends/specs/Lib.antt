@@ -1,5 +1,4 @@
 pub mod Ear
-pub mod Decoder
 pub mod Link
 pub mod Reply
 pub mod RowWords

@@ -1,15 +1,5 @@
-//! What holds of lines in flight and of the decoder: functions that do nothing, whose contracts are laws.
+//! What holds of lines in flight: a function that does nothing, whose contract is a law.
 ghost use Rattle.ftp_ends.specs.Ear.{EarDropsAnswer, EarHearsEachLine};
-ghost use Rattle.ftp_ends.specs.Decoder.{DecodesWhatIsSettled, WireGivesFile, MarkedWireGivesFile, FrontGivesFront, MarkedFrontGivesFront};
-
-/// A decoder has settled what the wire settles that came, and the one text of a file, ended, gives the file.
-pub fn decoder()
-    ensures settled { DecodesWhatIsSettled }
-    ensures whole { WireGivesFile }
-    ensures marked { MarkedWireGivesFile }
-    ensures front { FrontGivesFront }
-    ensures marked_front { MarkedFrontGivesFront }
-{}
 
 /// A line that was written is heard as itself wherever it is cut, and an answer to a Telnet octet is dropped.
 pub fn in_flight()

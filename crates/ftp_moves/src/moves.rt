@@ -1,6 +1,6 @@
 // What a transfer does, however it holds what came and what is still to be given.
 ghost use Rattle.std.specs.Prelude.{◌≡◌, ◌≤◌, ◌<◌, ◌^◌, IfOk, OnErr, drop, false, length, take, true};
-ghost use Rattle.ftp_ends.specs.Decoder.{no_octets};
+ghost use Rattle.ftp_decoder.specs.Decoder.{no_octets};
 ghost use Rattle.ftp_server_machine.specs.Ask.{or_empty};
 ghost use Rattle.ftp_server_machine.specs.Listing.{entry_lines, list_lines, listing_wire, name_lines};
 ghost use Rattle.ftp_server_machine.specs.Machine.{at_break, at_end};

@@ -2,7 +2,7 @@
 use Rattle.std.proofs.Common.{◌≡◌, ℕ, List, [], ◌∷◌, Bool, true, false, Option, Some, None, refl, sym, ap, subst, ◌∙◌}
 use Rattle.std.proofs.lemmas.Bool.{cond_both}
 use Rattle.ftp_endpoint.specs.declared.host.Host.{Host}
-use Rattle.ftp_ends.specs.Decoder.{Decoder, fault_of, octet_says, read_on}
+use Rattle.ftp_decoder.specs.Decoder.{Decoder, fault_of, octet_says, read_on}
 use Rattle.ftp_ends.specs.Ear.{ear_out, ear_step}
 use Rattle.ftp_ends.specs.Link.{same_host}
 use Rattle.ftp_framer.specs.Said.{Said, says}

@@ -3,7 +3,7 @@ use Rattle.std.proofs.Common.{inl, inr, ℕ, List, [], ◌∷◌, ◌++◌, map,
 use Rattle.std.specs.List.{flat_map}
 use Rattle.std.proofs.lemmas.Bool.{cond_both}
 use Rattle.ftp_endpoint.specs.declared.host.Host.{Host}
-use Rattle.ftp_ends.specs.Decoder.{Decoder, fault_of, octet_says, read_on}
+use Rattle.ftp_decoder.specs.Decoder.{Decoder, fault_of, octet_says, read_on}
 use Rattle.ftp_ends.specs.Ear.{Ear, Unfinished, ear_out, ear_step, line_out, unit_says, within_out}
 use Rattle.ftp_ends.specs.Link.{same_host}
 use Rattle.ftp_framer.specs.Said.{Said, says, marker}

@@ -5,7 +5,7 @@ use Rattle.std.proofs.lemmas.Bool.{and_parts, cond_both, leb-true, ltb-true, not
 use Rattle.ftp_command.proofs.CarriedLemmas.{decimal_fits}
 use Rattle.ftp_command.specs.declared.command.Command.{Command}
 use Rattle.ftp_command.specs.declared.fault.CommandFault.TheVariants as Faults
-use Rattle.ftp_ends.specs.Decoder.{read_on}
+use Rattle.ftp_decoder.specs.Decoder.{read_on}
 use Rattle.ftp_ends.specs.Ear.{Ear, Unfinished, ear_out, ear_step, ended_text, line_out, unit_says, within_out}
 use Rattle.ftp_ends.specs.Reply.{reply_octets}
 use Rattle.ftp_framer.specs.Block.{count_of, ends_of, has}

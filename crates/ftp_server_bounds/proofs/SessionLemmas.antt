@@ -9,7 +9,7 @@ use Rattle.ftp_command.specs.declared.command.Command.TheVariants as command
 use Rattle.ftp_command.specs.declared.command.Passive.{Passive}
 use Rattle.ftp_command.specs.declared.command.Passive.TheVariants.{Any, Ipv4, Ipv6, Only}
 use Rattle.ftp_endpoint.specs.declared.endpoint.Endpoint.{Endpoint}
-use Rattle.ftp_ends.specs.Decoder.{Decoder, no_octets, broken, ended, is_whole}
+use Rattle.ftp_decoder.specs.Decoder.{Decoder, no_octets, broken, ended, is_whole}
 use Rattle.ftp_ends.specs.Link.{is_v6}
 use Rattle.ftp_path.specs.Path.{Names}
 use Rattle.ftp_operation.specs.declared.op.Op.{Op}

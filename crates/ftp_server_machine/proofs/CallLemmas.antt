@@ -8,7 +8,7 @@ use Rattle.ftp_endpoint.specs.declared.endpoint.Endpoint.{Endpoint}
 use Rattle.ftp_endpoint.specs.declared.host.Host.{Host}
 use Rattle.ftp_endpoint.specs.declared.host.Host.TheVariants.{V4, V6}
 use Rattle.ftp_endpoint.specs.Written.{IsTypedHost, six_of}
-use Rattle.ftp_ends.specs.Decoder.{Decoder, broken, ended, is_whole}
+use Rattle.ftp_decoder.specs.Decoder.{Decoder, broken, ended, is_whole}
 use Rattle.ftp_ends.specs.Ear.{Ear, Unfinished, ear_out, ear_step, ended_text, line_out, unit_says, within_out}
 use Rattle.ftp_ends.specs.Link.{same_host}
 use Rattle.ftp_ends.specs.Reply.{reply_octets}

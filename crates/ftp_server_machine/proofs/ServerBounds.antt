@@ -9,7 +9,7 @@ use Rattle.ftp_server_machine.specs.Failing.{LineFails, WaitingFails, Late, Inst
 use Rattle.ftp_server_machine.specs.Machine.{given_out, completed, obeyed, waited, later, is_idle, turned, concluded, faulted, Ending, is_over, put_in, installs, at_break, at_end}
 use Rattle.ftp_server_machine.specs.View.{Session, Transfer, View}
 use Rattle.ftp_path.specs.Path.{Names}
-use Rattle.ftp_ends.specs.Decoder.{Decoder, broken, ended, is_whole}
+use Rattle.ftp_decoder.specs.Decoder.{Decoder, broken, ended, is_whole}
 use Rattle.ftp_server_machine.specs.declared.reply.Text.{Text}
 use Rattle.ftp_server_machine.specs.declared.reply.Text.TheVariants as Texts
 use Rattle.ftp_server_machine.specs.Bounds.{lines_left, stages_left, to_begin, Lowers, ServerLowers}

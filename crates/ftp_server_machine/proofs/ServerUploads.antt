@@ -10,7 +10,7 @@ use Rattle.ftp_path.specs.Path.{resolved, fits, text_of, Names}
 use Rattle.ftp_tree.specs.Tree.{Table, File, node_at, octets_at, octets_or_none, room_refusal, room_at, installed, under}
 use Rattle.ftp_representation.specs.declared.representation.Structure.TheVariants as Structures
 use Rattle.ftp_representation.specs.Representation.{defaults}
-use Rattle.ftp_ends.specs.Decoder.{Decoder, no_octets, decoder_of, ended}
+use Rattle.ftp_decoder.specs.Decoder.{Decoder, no_octets, decoder_of, ended}
 use Rattle.ftp_ends.specs.Ear.{quiet}
 use Rattle.ftp_server_machine.specs.View.{Footing, Session, Transfer, View, all_facts, seen, with_seen}
 use Rattle.ftp_server_machine.specs.Replies.{reply_octets, reply_of, fixed_reply}

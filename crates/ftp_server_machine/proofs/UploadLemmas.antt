@@ -13,7 +13,7 @@ use Rattle.ftp_framer.specs.declared.descriptor.TheConstants.{END_OF_RECORD, END
 use Rattle.ftp_mode.specs.Reading.{Place, plain, outside, escaped, at_head, at_high, at_low, inside, marking, ended as passed, Reading as Reads, going, failed, place_out, read_out}
 use Rattle.ftp_mode.specs.declared.fault.FrameFault.{FrameFault}
 use Rattle.ftp_reply.specs.Reply.{last_line}
-use Rattle.ftp_ends.specs.Decoder.{Decoder, with_sign, read_on, octet_says, fault_of}
+use Rattle.ftp_decoder.specs.Decoder.{Decoder, with_sign, read_on, octet_says, fault_of}
 use Rattle.ftp_ends.specs.Reply.{reply_octets}
 use Rattle.ftp_path.specs.Path.{Names}
 use Rattle.ftp_server_machine.specs.Calls.{connection_of, grown, with_connection, takes_said, takes_all, takes_octet, takes_data, receives_octet, is_upload}

@@ -8,7 +8,7 @@ use Rattle.ftp_mode.specs.declared.fault.FrameFault.{FrameFault}
 use Rattle.ftp_path.specs.Path.{Names}
 use Rattle.ftp_tree.specs.Tree.{Table}
 use Rattle.ftp_ends.specs.Ear.{quiet}
-use Rattle.ftp_ends.specs.Decoder.{Decoder, with_sign, with_said, read_on, octet_says, fault_of}
+use Rattle.ftp_decoder.specs.Decoder.{Decoder, with_sign, with_said, read_on, octet_says, fault_of}
 use Rattle.ftp_ends.specs.Link.{same_host}
 use Rattle.ftp_server_machine.specs.View.{Accounts, Footing, Transfer, Session, View, first_session}
 use Rattle.ftp_server_machine.specs.Replies.{Turn, fixed_reply, reply_octets, mark_reply}

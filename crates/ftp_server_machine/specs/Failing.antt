@@ -7,7 +7,7 @@ use Rattle.ftp_command.specs.declared.command.Command.{Command}
 use Rattle.ftp_command.specs.declared.command.Command.TheVariants as command
 use Rattle.ftp_command.specs.declared.fault.CommandFault.TheVariants as Faults
 use Rattle.ftp_framer.specs.Said.{Said}
-use Rattle.ftp_ends.specs.Decoder.{read_on, octet_says}
+use Rattle.ftp_decoder.specs.Decoder.{read_on, octet_says}
 use Rattle.ftp_ends.specs.Ear.{ear_step, ear_out}
 use Rattle.ftp_server_machine.specs.View.{Transfer, Session, View, line_limit}
 use Rattle.ftp_server_machine.specs.Endpoint.{forgotten, disconnected}

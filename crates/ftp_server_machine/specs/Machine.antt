@@ -9,7 +9,7 @@ use Rattle.ftp_command.specs.declared.command.Command.TheVariants as command
 use Rattle.ftp_path.specs.Path.{Names}
 use Rattle.ftp_tree.specs.Tree.{octets_or_none, octets_refusal, installed}
 use Rattle.ftp_ends.specs.Ear.{ear_step, ear_out}
-use Rattle.ftp_ends.specs.Decoder.{Decoder, is_whole, ended, broken}
+use Rattle.ftp_decoder.specs.Decoder.{Decoder, is_whole, ended, broken}
 use Rattle.ftp_server_machine.specs.View.{Session, Transfer, View, line_limit, seen, with_seen}
 use Rattle.ftp_server_machine.specs.Replies.{Turn, fixed_reply, reply_octets, said_octets}
 use Rattle.ftp_server_machine.specs.Endpoint.{forgotten}

@@ -11,7 +11,7 @@ use Rattle.ftp_operation.specs.declared.op.Op.TheVariants as Ops
 use Rattle.ftp_framer.specs.Block.{marked_text}
 use Rattle.ftp_framer.specs.Wire.{wire}
 use Rattle.ftp_representation.specs.Representation.{form_of, has_markers}
-use Rattle.ftp_ends.specs.Decoder.{no_octets}
+use Rattle.ftp_decoder.specs.Decoder.{no_octets}
 use Rattle.ftp_server_machine.specs.View.{Session, Transfer, direct_of, how_in_force, seen}
 use Rattle.ftp_server_machine.specs.Replies.{Turn, tells}
 use Rattle.ftp_server_machine.specs.Endpoint.{forgotten}

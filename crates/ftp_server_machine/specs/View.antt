@@ -10,7 +10,7 @@ use Rattle.ftp_operation.specs.Account.{Account}
 use Rattle.ftp_operation.specs.declared.op.How.{How}
 use Rattle.ftp_representation.specs.Representation.{defaults}
 use Rattle.ftp_ends.specs.Ear.{Ear}
-use Rattle.ftp_ends.specs.Decoder.{Decoder}
+use Rattle.ftp_decoder.specs.Decoder.{Decoder}
 use Rattle.ftp_representation.specs.declared.representation.Representation.{Representation}
 use Rattle.ftp_server_machine.specs.declared.heard.Heard.{Heard}
 use Rattle.ftp_server_machine.specs.declared.session.Access.{Access}

@@ -4,7 +4,7 @@ use Rattle.std.specs.Prelude.{if◌then◌else◌}
 use Rattle.std.specs.Option.{is_some}
 use Rattle.std.proofs.lemmas.Bool.{and_parts, cond_both, not-true}
 use Rattle.ftp_endpoint.specs.declared.host.Host.{Host}
-use Rattle.ftp_ends.specs.Decoder.{Decoder, broken, ended, is_whole, with_sign, read_on, octet_says, fault_of}
+use Rattle.ftp_decoder.specs.Decoder.{Decoder, broken, ended, is_whole, with_sign, read_on, octet_says, fault_of}
 use Rattle.ftp_ends.specs.Link.{same_host}
 use Rattle.ftp_framer.specs.Said.{Said, says, marker}
 use Rattle.ftp_mode.specs.declared.fault.FrameFault.{FrameFault}

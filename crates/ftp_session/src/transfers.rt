@@ -3,7 +3,7 @@ ghost use Rattle.std.specs.Prelude.{◌≡◌, ◌<◌, ◌≤◌, ◌^◌, fals
 ghost use Rattle.ftp_command.specs.Line.{IfGiven};
 ghost use Rattle.ftp_direct.specs.Direct.{refused_room};
 ghost use Rattle.ftp_direct.specs.Refusal.{listing_refusal, name_refusal};
-ghost use Rattle.ftp_ends.specs.Decoder.{no_octets};
+ghost use Rattle.ftp_decoder.specs.Decoder.{no_octets};
 ghost use Rattle.ftp_path.specs.Path.{IsPathText, fits};
 ghost use Rattle.ftp_server_machine.specs.Endpoint.{forgotten};
 ghost use Rattle.ftp_server_machine.specs.Replies.{tells};

@@ -3,7 +3,7 @@ use Rattle.std.proofs.Common.{◌≡◌, ℕ, Bool, true, false, sym, subst}
 use Rattle.std.specs.Prelude.{if◌then◌else◌, Result}
 use Rattle.ftp_path.specs.Path.{Names}
 use Rattle.ftp_tree.specs.Tree.{Table}
-use Rattle.ftp_ends.specs.Decoder.{Decoder, is_whole, ended}
+use Rattle.ftp_decoder.specs.Decoder.{Decoder, is_whole, ended}
 use Rattle.ftp_server_machine.specs.View.{Session}
 use Rattle.ftp_server_machine.specs.Machine.{at_end, at_break, installs}
 use Rattle.ftp_server_machine.specs.declared.reply.Text.{Text}

@@ -10,7 +10,7 @@ use Rattle.ftp_framer.specs.Block.{has, count_of, ends_of}
 use Rattle.ftp_framer.specs.declared.descriptor.TheConstants.{END_OF_FILE, END_OF_RECORD, RESTART_MARKER}
 use Rattle.ftp_framer.specs.declared.escape.TheConstants.{ESCAPE, RECORD_CODE, FILE_CODE, BOTH_CODE}
 use Rattle.ftp_mode.specs.Reading.{Reading, going, failed, plain, outside, escaped, at_head, at_high, at_low, inside, marking, ended, read_out}
-use Rattle.ftp_ends.specs.Decoder.{Decoder, decoded_octet}
+use Rattle.ftp_decoder.specs.Decoder.{Decoder, decoded_octet}
 use Rattle.ftp_decoder.specs.Hearing.{Hears}
 use Rattle.ftp_decoder.specs.declared.heard.Heard.{Heard}
 

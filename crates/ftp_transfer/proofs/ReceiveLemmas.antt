@@ -7,7 +7,7 @@ use Rattle.ftp_framer.specs.Said.{Said, says, marker}
 use Rattle.ftp_mode.specs.declared.fault.FrameFault.{FrameFault}
 use Rattle.ftp_path.specs.Path.{Names}
 use Rattle.ftp_tree.specs.Tree.{Table, octets_refusal}
-use Rattle.ftp_ends.specs.Decoder.{Decoder, with_sign, with_all, read_on, octet_says, decoded_octet, fault_of}
+use Rattle.ftp_decoder.specs.Decoder.{Decoder, with_sign, with_all, read_on, octet_says, decoded_octet, fault_of}
 use Rattle.ftp_decoder.specs.Hearing.{HasNoMarker, Marks, EndsBy, Hears}
 use Rattle.ftp_decoder.specs.declared.heard.Heard.{Heard}
 use Rattle.ftp_decoder.specs.declared.heard.Heard.TheVariants as Heards

@@ -1,7 +1,7 @@
 // An upload: the octets of its data connection are settled into a file, apart from the tree until it ends (RFC 959, section 3.4).
 ghost use Rattle.std.specs.Prelude.{◌≡◌, ◌≤◌, ◌<◌, ◌+◌, ◌^◌, ℕ, Some, false, length, take, if◌then◌else◌};
 ghost use Rattle.std.specs.Option.{IfSome};
-ghost use Rattle.ftp_ends.specs.Decoder.{no_octets};
+ghost use Rattle.ftp_decoder.specs.Decoder.{no_octets};
 ghost use Rattle.ftp_moves.specs.Moves.{Comes, Ends};
 ghost use Rattle.ftp_server_machine.specs.Machine.{at_break, at_end, installs};
 ghost use Rattle.ftp_server_machine.specs.View.{Session};

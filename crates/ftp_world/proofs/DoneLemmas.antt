@@ -8,7 +8,7 @@ use Rattle.std.specs.Prelude.{◌==◌, ◌-◌, ◌&&◌, not, min, nat_le, if�
 use Rattle.std.proofs.Math.Seq.{take-length, drop-append_seam}
 use Rattle.std.proofs.lemmas.Bool.{and_parts, leb-true}
 use Rattle.std.proofs.lemmas.List.{length-take}
-use Rattle.ftp_ends.specs.Decoder.{image_blocks}
+use Rattle.ftp_decoder.specs.Decoder.{image_blocks}
 use Rattle.ftp_machine.specs.Machine.{IsFront}
 use Rattle.ftp_mode.specs.Laws.{settled_content}
 use Rattle.ftp_mode.proofs.LawLemmas.{front_again, front_marked}

@@ -14,7 +14,7 @@ use Rattle.ftp_framer.specs.Said.{Said as WireSaid, says, marker}
 use Rattle.ftp_machine.specs.Machine.{IsFront}
 use Rattle.ftp_path.specs.Path.{Names}
 use Rattle.ftp_tree.specs.Tree.{installed, octets_refusal}
-use Rattle.ftp_ends.specs.Decoder.{Decoder, no_octets, octet_says, decoded_octet}
+use Rattle.ftp_decoder.specs.Decoder.{Decoder, no_octets, octet_says, decoded_octet}
 use Rattle.ftp_representation.specs.Representation.{form_of, has_markers}
 use Rattle.ftp_client_machine.specs.Octets.{written, upload_text, last_mark}
 use Rattle.ftp_client_machine.specs.Plan.{settings_of, listing_settings, how_of}

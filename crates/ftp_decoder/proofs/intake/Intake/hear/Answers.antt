@@ -2,7 +2,7 @@ use Rattle.std.proofs.Common.{◌≡◌, ◌+◌, ◌<◌, ◌++◌, ℕ, List, 
 use Rattle.std.proofs.Math.Seq.{take-add}
 use Rattle.std.proofs.lemmas.List.{length-take-le}
 use Rattle.ftp_mode.specs.Deframing.{last_marker}
-use Rattle.ftp_ends.specs.Decoder.{Decoder, decoded}
+use Rattle.ftp_decoder.specs.Decoder.{Decoder, decoded}
 use Rattle.ftp_decoder.specs.Hearing.{AreQuiet, Hears, TellsNothing}
 use Rattle.ftp_decoder.specs.Taking.{decoder_at}
 use Rattle.ftp_decoder.specs.declared.heard.Heard.{Heard}

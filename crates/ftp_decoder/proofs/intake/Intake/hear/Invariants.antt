@@ -1,6 +1,6 @@
 use Rattle.std.proofs.Common.{◌≡◌, ◌+◌, ◌-◌, ◌≤◌, [], length, take}
 use Rattle.ftp_mode.specs.Deframing.{owed}
-use Rattle.ftp_ends.specs.Decoder.{decoded}
+use Rattle.ftp_decoder.specs.Decoder.{decoded}
 use Rattle.ftp_decoder.specs.Hearing.{AreQuiet}
 use Rattle.ftp_decoder.specs.Taking.{decoder_at}
 use Rattle.ftp_decoder.proofs.intake.Intake.hear.Given as goal

@@ -3,8 +3,8 @@ use Rattle.ftp_repr.specs.Items.{signs}
 use Rattle.ftp_framer.specs.Said.{file_signs}
 use Rattle.ftp_mode.specs.Reading.{Reading}
 use Rattle.ftp_mode.specs.Deframing.{owed, reading, last_marker, part_said}
-use Rattle.ftp_ends.specs.Decoder.{Decoder}
-use Rattle.ftp_ends.proofs.DecoderLemmas.{file_signs-append}
+use Rattle.ftp_decoder.specs.Decoder.{Decoder}
+use Rattle.ftp_decoder.proofs.DecoderLemmas.{file_signs-append}
 use Rattle.ftp_decoder.specs.Taking.{decoder_at, settled}
 use Rattle.ftp_decoder.proofs.SettleLemmas.{settled-append, settled_front, settled_more, ends_stop}
 use Rattle.ftp_decoder.proofs.intake.Intake.settle_ends.Goals as goal

@@ -6,7 +6,7 @@ use Rattle.ftp_framer.specs.Said.{Said, file_signs}
 use Rattle.ftp_mode.specs.Reading.{Reading, IsGoing, reader}
 use Rattle.ftp_mode.specs.Deframing.{owed, reading, last_marker, part_said}
 use Rattle.ftp_mode.specs.declared.step.Part.TheVariants as Parts
-use Rattle.ftp_ends.specs.Decoder.{decoded}
+use Rattle.ftp_decoder.specs.Decoder.{decoded}
 use Rattle.ftp_decoder.specs.Hearing.{HasNoMarker, Hears}
 use Rattle.ftp_decoder.specs.Taking.{decoder_at, settled, Stops}
 use Rattle.ftp_decoder.proofs.StepLemmas.{tells, fault_hears, stop_hears, step_last, step_some, part_signs, part_plain, front_within, ends_of, whole_step, marks, right_none, signs_len, owed_unmarked, unmarked_take, unmarked_last, content_by}

@@ -21,9 +21,9 @@ use Rattle.ftp_representation.specs.declared.representation.Mode.TheVariants.{St
 use Rattle.ftp_mode.proofs.LawLemmas.{reads_wire, marked_reads}
 use Rattle.ftp_mode.proofs.ExactLemmas.{reads_to}
 use Rattle.ftp_mode.proofs.TextLemmas.{file-row_said}
-use Rattle.ftp_ends.specs.Decoder.{no_octets, is_ended_in, decoder_of, image_blocks, GivesFile, WireGivesFile, MarkedWireGivesFile}
+use Rattle.ftp_decoder.specs.Decoder.{no_octets, is_ended_in, decoder_of, image_blocks, GivesFile, WireGivesFile, MarkedWireGivesFile}
 use Rattle.ftp_representation.specs.declared.representation.Representation.{Representation}
-use Rattle.ftp_ends.proofs.DecoderLemmas.{Decodes, decodes, file_signs-append}
+use Rattle.ftp_decoder.proofs.DecoderLemmas.{Decodes, decodes, file_signs-append}
 
 -- a reader that is complete is one at which the file may end
 whole_reading : (r : Reading) → is_complete r → IsTrue (is_ended_in r)

@@ -10,7 +10,7 @@ use Rattle.ftp_repr.proofs.ContentLemmas.{gives-receiving}
 use Rattle.ftp_framer.specs.Said.{Said, says, marker, file_signs}
 use Rattle.ftp_mode.specs.Reading.{Reading, reader, start, read_step}
 use Rattle.ftp_mode.proofs.LawLemmas.{front_again, front_marked}
-use Rattle.ftp_ends.specs.Decoder.{Decoder, no_octets, with_sign, with_said, with_all, read_on, octet_says, decoded_octet, decoded, image_blocks, DecodesWhatIsSettled, FrontGivesFront, MarkedFrontGivesFront}
+use Rattle.ftp_decoder.specs.Decoder.{Decoder, no_octets, with_sign, with_said, with_all, read_on, octet_says, decoded_octet, decoded, image_blocks, DecodesWhatIsSettled, FrontGivesFront, MarkedFrontGivesFront}
 
 -- what a wire says, signs of the file and markers, is the file's signs taken in order
 record Takes (d e : Decoder) (said : List Said) : Type 0 where

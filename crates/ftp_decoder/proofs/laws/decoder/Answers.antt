@@ -1,6 +1,6 @@
-use Rattle.ftp_ends.proofs.DecoderLemmas.{what_is_settled, front_gives, marked_front_gives}
-use Rattle.ftp_ends.proofs.WireLemmas.{wire_gives_file, marked_wire_gives_file}
-use Rattle.ftp_ends.proofs.laws.decoder.Goals as goal
+use Rattle.ftp_decoder.proofs.DecoderLemmas.{what_is_settled, front_gives, marked_front_gives}
+use Rattle.ftp_decoder.proofs.WireLemmas.{wire_gives_file, marked_wire_gives_file}
+use Rattle.ftp_decoder.proofs.laws.decoder.Goals as goal
 
 pub returns-clause-settled : goal.returns-clause-settled
 returns-clause-settled c = what_is_settled
