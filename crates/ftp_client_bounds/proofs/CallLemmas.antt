@@ -1,18 +1,13 @@
 -- What each call leaves fit: a lemma for each definition of `Calls` of `ftp_client_machine`.
-use Rattle.std.proofs.Common.{◌≡◌, ℕ, ◌+◌, ◌*◌, ◌≤◌, ◌<◌, ◌⊎◌, inl, inr, List, [], ◌∷◌, ◌++◌, Bool, true, false, Option, Some, None, refl, sym, ap, subst, ◌∙◌, arith, append-nil, length, length-append, true≢false}
-use Rattle.std.specs.Prelude.{drop, flat_map, nat_le, if◌then◌else◌, ◌==◌}
+use Rattle.std.proofs.Common.{◌≡◌, ℕ, ◌+◌, ◌*◌, ◌≤◌, ◌<◌, inl, inr, List, [], ◌∷◌, ◌++◌, Bool, true, false, Option, Some, None, refl, sym, ap, subst, ◌∙◌, arith, length, length-append, true≢false}
+use Rattle.std.specs.Prelude.{drop, nat_le, if◌then◌else◌, ◌==◌}
 use Rattle.std.proofs.lemmas.Bool.{and_parts, cond_both, leb-true}
 use Rattle.std.proofs.lemmas.List.{length-drop}
 use Rattle.std.proofs.lemmas.List.Sums.{sum_by-cons}
 use Rattle.ftp_endpoint.specs.declared.host.Host.{Host}
-use Rattle.ftp_ends.specs.Ear.{Ear, Unfinished, ear_out, ear_step, ended_text, line_out, unit_says, within_out}
+use Rattle.ftp_ends.specs.Ear.{ear_out, ear_step}
 use Rattle.ftp_ends.specs.Link.{same_host}
-use Rattle.ftp_nvt.proofs.CutLemmas.{decided as is_so}
-use Rattle.ftp_nvt.proofs.FoldLemmas.{ends as units}
 use Rattle.ftp_nvt.specs.Lines.{NvtEvent, line, too_long, owed}
-use Rattle.ftp_nvt.specs.Telnet.{TelnetUnit, command, data_octet, option, subnegotiation}
-use Rattle.ftp_nvt.specs.declared.line.Stage.{Stage}
-use Rattle.ftp_nvt.specs.declared.line.Stage.TheVariants as Lined
 use Rattle.ftp_operation.specs.Answer.{BadOperation, Unopened}
 use Rattle.ftp_operation.specs.Operation.{can_be_sent}
 use Rattle.ftp_operation.specs.declared.op.Op.{Op}
@@ -36,7 +31,8 @@ use Rattle.ftp_client_machine.specs.declared.client.Step.{Step}
 use Rattle.ftp_client_machine.specs.declared.client.Step.TheVariants as Steps
 use Rattle.ftp_client_bounds.specs.Fit.{IsCalmAt, IsDialling, IsFit, IsListening, IsSendable, IsSendableRun, IsSound, IsSoundView, IsTied, IsTypedPort, commands_next, next_of_idle}
 use Rattle.ftp_client_bounds.proofs.DialogueLemmas.{IsReady, aborts_fits, answered_fits, calm_of, carries_fits, connected_sound, doing_past, finishes_fits, fit_ready, next_le, ready_fit, strange_fits, tells_fits, transfer_past, transfer_loose}
-use Rattle.ftp_client_bounds.proofs.ReadLemmas.{ear_short}
+use Rattle.ftp_ends.proofs.EventLemmas.{IsSmallEvent, out_one}
+use Rattle.ftp_ends.proofs.ReadLemmas.{ear_short}
 use Rattle.ftp_client_bounds.proofs.SentLemmas.{IsLoose, IsPast, begins_fits, calm_past, goes_fits, loose_by, loose_for, tied_by}
 
 -- ---- start and report
@@ -156,11 +152,6 @@ line_fits (GoesOn gathered) v small r = ready_fit (record v { gathered = gathere
 line_fits (Says code texts) v small r = answered_fits code texts (record v { gathered = Between }) (gathered_ready Between v (omega arith) r)
 line_fits (Faulty fault) v small r = strange_fits v r
 
-abbrev IsSmallEvent : NvtEvent → Type 0
-IsSmallEvent (line text) = Unit {0}
-IsSmallEvent too_long = Unit {0}
-IsSmallEvent (owed answer) = length answer ≤ 3
-
 event_fits : (event : NvtEvent) (v : View) → IsSmallEvent event → length v.owed ≤ 1024 → IsReady v → IsFit (event_taken event v)
 event_fits (line text) v small few r = line_fits (line_heard v.gathered text) v (heard_small v.gathered text) r
 event_fits too_long v small few r = strange_fits v r
@@ -172,62 +163,20 @@ event_fits (owed answer) v small few r = record {
   room = omega (arith, length-append v.owed answer, small, few, next_le v.standing v.job);
 }
 
--- an octet says one thing at most
-abbrev SaysOne : List NvtEvent → Type 0
-SaysOne events = (events ≡ []) ⊎ ((event : NvtEvent) × (events ≡ event ∷ []) × IsSmallEvent event)
-
-within_one : (u : Unfinished) (c : ℕ) → SaysOne (within_out reply_limit u c)
-within_one u c = by (u.count == reply_limit) (c == 10)
-  where
-    by : (full ends : Bool) → SaysOne (if full then too_long ∷ [] else (if ends then line (ended_text u.stage u.text) ∷ [] else []))
-    by true ends = inr (too_long, refl, tt)
-    by false true = inr (line (ended_text u.stage u.text), refl, tt)
-    by false false = inl refl
-
-line_one : (stage : Stage) (u : Unfinished) (c : ℕ) → SaysOne (line_out reply_limit stage u c)
-line_one Lined.Start u c = within_one u c
-line_one Lined.Inside u c = within_one u c
-line_one Lined.AfterReturn u c = within_one u c
-line_one Lined.Past u c = inl refl
-
-with_none : (events : List NvtEvent) → SaysOne events → SaysOne (events ++ [])
-with_none events one = subst SaysOne (sym (append-nil events)) one
-
-unit_one : (u : Unfinished) (unit : TelnetUnit) → SaysOne (unit_says reply_limit u unit)
-unit_one u (data_octet c) = with_none (line_out reply_limit u.stage u c ++ []) (with_none (line_out reply_limit u.stage u c) (line_one u.stage u c))
-unit_one u (option verb c) =
-    elim (is_so (verb == 253)) [
-      | inl e ↦ rw e (inr (owed (255 ∷ 252 ∷ c ∷ []), refl, omega arith))
-      | inr e ↦ rw e (elim (is_so (verb == 251)) [
-        | inl f ↦ rw f (inr (owed (255 ∷ 254 ∷ c ∷ []), refl, omega arith))
-        | inr f ↦ rw f (inl refl)
-      ])
-    ]
-unit_one u subnegotiation = inl refl
-unit_one u (command c) = inl refl
-
-out_one : (e : Ear) (c : ℕ) → SaysOne (ear_out reply_limit e c)
-out_one e c =
-    let P : List TelnetUnit → Type 0 = λ us. SaysOne (flat_map (unit_says reply_limit e.line) us) in
-    elim (units e.place c) [
-      | inl f ↦ subst P (sym f) (inl refl)
-      | inr f ↦ subst P (sym f.1) (with_none (unit_says reply_limit e.line f.0) (unit_one e.line f.0))
-    ]
-
 pub hears_fits : (v : View) (octet : ℕ) → may_hear v ≡ true → IsFit v → IsFit (hears_octet v octet)
 hears_fits v octet may k =
     let few = leb-true (length v.owed) 1024 (and_parts (is_sound v.standing) (nat_le (length v.owed) 1024) may).1 in
     let s = k.sound in
     let w : View = record v { ear = ear_step reply_limit v.ear octet } in
     let r : IsReady w = record {
-      sound = record { user_fits = s.user_fits; pass_fits = s.pass_fits; host = s.host; sendable = s.sendable; port = s.port; reading = ear_short v.ear octet s.reading; reply = s.reply };
+      sound = record { user_fits = s.user_fits; pass_fits = s.pass_fits; host = s.host; sendable = s.sendable; port = s.port; reading = ear_short reply_limit v.ear octet s.reading; reply = s.reply };
       sendable = k.sendable;
       calm = k.calm;
       tied = k.tied;
       room = omega (arith, few);
     } in
     let P : List NvtEvent → Type 0 = λ events. IsFit (events_taken events w) in
-    elim (out_one v.ear octet) as (λ _. P (ear_out reply_limit v.ear octet)) [
+    elim (out_one reply_limit v.ear octet) as (λ _. P (ear_out reply_limit v.ear octet)) [
       | inl e ↦ subst P (sym e) (ready_fit w r)
       | inr e ↦ subst P (sym e.1) (event_fits e.0 w e.2 few r)
     ]

@@ -12,6 +12,7 @@ use Rattle.ftp_operation.specs.declared.op.Op.{Op}
 use Rattle.ftp_reply.specs.Lines.{Text, joined}
 use Rattle.ftp_reply.specs.Values.{extended_value, mark_value, passive_value}
 use Rattle.ftp_client_machine.proofs.SentLemmas.{logins_have_lines}
+use Rattle.ftp_client_machine.specs.Calls.{reply_limit}
 use Rattle.ftp_client_machine.specs.Dialogue.{abort_answered, aborts_once_enough, answer_in, answered, answers_by, answers_job, awaited, awaits_reply, before_opening, behind_opening, carries_on, closes, closes_once_given, closes_once_given_by, dials, endpoint_named, enters_with, finishes, finishes_by, finishes_read, goes_on, greeted, has_begun, intermediate, is_given, is_to_abort, is_unsent, job_answered, judged, judged_reply, login_ends, marked_flow, next_job, next_with, noted, passive_named, pass_answered, port_named, refused, sends_abort, set_accepted, stand_answered, step_answered, step_done, transfer_answered, transfer_opened, unless_open, user_answered, with_reply}
 use Rattle.ftp_client_machine.specs.Octets.{has_enough}
 use Rattle.ftp_client_machine.specs.Plan.{asked_settings, is_extended, next_step, settings_behind}
@@ -33,7 +34,7 @@ use Rattle.ftp_client_machine.specs.declared.client.Step.{Step}
 use Rattle.ftp_client_machine.specs.declared.client.Step.TheVariants as Steps
 use Rattle.ftp_client_bounds.specs.Fit.{IsCalm, IsCalmAt, IsFit, IsSendable, IsSound, IsSoundView, IsTied, IsTypedPort, commands_next, next_of_idle, next_of_transfer}
 use Rattle.ftp_client_bounds.proofs.AnswerLemmas.{CanBeSentIf, IsSmallAnswer, IsSmallIf, answer_small, answered_small, next_sent, run_on, unsent_small}
-use Rattle.ftp_client_bounds.proofs.ReadLemmas.{none_short}
+use Rattle.ftp_ends.proofs.ReadLemmas.{none_short}
 use Rattle.ftp_client_bounds.proofs.SentLemmas.{IsLoose, IsPast, begins_fits, calm_past, goes_fits, has_line, loose_by, loose_for, sends_fits, tied_by}
 
 -- a client that may send a command at once
@@ -135,7 +136,7 @@ failed_sendable answer (Told other) = tt
 -- a failure leaves nothing to be sent
 failure_fits : (failure : Failure) (v : View) → IsSoundView v → IsFit (fails_by Stands.Greeting failure v)
 failure_fits failure v k = record {
-  sound = record { user_fits = k.user_fits; pass_fits = k.pass_fits; host = k.host; sendable = tt; port = tt; reading = none_short; reply = omega arith };
+  sound = record { user_fits = k.user_fits; pass_fits = k.pass_fits; host = k.host; sendable = tt; port = tt; reading = none_short reply_limit; reply = omega arith };
   sendable = failed_sendable (failure_said failure) v.job;
   calm = tt;
   tied = tt;

@@ -1,4 +1,3 @@
-pub mod ReadLemmas
 pub mod SentLemmas
 pub mod AnswerLemmas
 pub mod DialogueLemmas

@@ -6,7 +6,7 @@ use Rattle.ftp_operation.specs.Operation.{can_be_sent}
 use Rattle.ftp_operation.specs.declared.op.Op.{Op}
 use Rattle.ftp_operation.specs.declared.op.Op.TheVariants as Ops
 use Rattle.ftp_path.specs.Path.{is_path_text}
-use Rattle.ftp_client_machine.specs.Calls.{begun, control_end, hears_octet, is_busy, is_sound, may_hear, may_receive, receives_octet, starts, uploads}
+use Rattle.ftp_client_machine.specs.Calls.{begun, control_end, hears_octet, is_busy, is_sound, may_hear, may_receive, receives_octet, reply_limit, starts, uploads}
 use Rattle.ftp_client_machine.specs.Failing.{begun_short, opened_short, over_short, port_short, short, starts_short, uploads_short}
 use Rattle.ftp_client_machine.specs.Held.{Call, Start, BeginUpload, Hear, DataHear, ControlOut, DataOut, Listening, DataOpened, Report, ControlEnd, ListenRefused, DataRefused, DataEnd, DataFault, DataClosed, Failing, ClientHoldsLittle, AreTypedCalls, IsTypedCall, called, called_all, failed_call}
 use Rattle.ftp_client_machine.specs.Tries.{OverBreaks, Run, counts_as_file, first_try, run_of, whole_put}
@@ -19,7 +19,7 @@ use Rattle.ftp_client_bounds.specs.Fit.{IsFit, IsSendableRun}
 use Rattle.ftp_client_bounds.specs.Laws.{CallsStayFit, FitHoldsLittle, StartIsFit}
 use Rattle.ftp_client_bounds.proofs.CallLemmas.{begun_fits, broke_fits, closed_fits, connected_fits, control_fits, ended_fits, gives_fits, hears_fits, idle_of, listened_fits, opened_fits, receives_fits, refused_fits, refused_port_fits, reports_fits, unless_fits, waits_fits}
 use Rattle.ftp_client_bounds.proofs.DialogueLemmas.{fails_fits}
-use Rattle.ftp_client_bounds.proofs.ReadLemmas.{none_short}
+use Rattle.ftp_ends.proofs.ReadLemmas.{none_short}
 
 -- ---- start
 
@@ -118,7 +118,7 @@ calls_stay_fit (Failing call) v typed k = failed_fits call v typed k
 
 pub start_is_fit : StartIsFit
 start_is_fit user pass here peer named worded typed = record {
-  sound = record { user_fits = named; pass_fits = worded; host = typed; sendable = tt; port = tt; reading = none_short; reply = omega arith };
+  sound = record { user_fits = named; pass_fits = worded; host = typed; sendable = tt; port = tt; reading = none_short reply_limit; reply = omega arith };
   sendable = tt;
   calm = tt;
   tied = tt;

@@ -4,7 +4,7 @@ use Rattle.std.specs.Prelude.{ℕ, ◌+◌, ◌*◌, ◌<◌, ◌≤◌, List, l
 use Rattle.ftp_endpoint.specs.declared.host.Host.{Host}
 use Rattle.ftp_endpoint.specs.Written.{IsTypedHost}
 use Rattle.ftp_ends.specs.Ear.{Ear}
-use Rattle.ftp_nvt.specs.Fold.{Unfinished}
+use Rattle.ftp_ends.specs.Limits.{IsShortLine}
 use Rattle.ftp_operation.specs.Account.{is_user, is_password}
 use Rattle.ftp_operation.specs.Operation.{can_be_sent}
 use Rattle.ftp_path.specs.Path.{is_path_text}
@@ -24,11 +24,6 @@ use Rattle.ftp_client_machine.specs.declared.client.Standing.TheVariants as Stan
 use Rattle.ftp_client_machine.specs.declared.client.Step.TheVariants as Steps
 
 -- ---- the parts
-
--- a line that is being read: its text is no longer than its octets so far, and these keep the limit
-pub record IsShortLine (u : Unfinished) : Type 0 where
-  pub text : length u.text ≤ u.count
-  pub count : u.count ≤ reply_limit
 
 -- the operation under way, or that waits, can be sent
 abbrev pub IsSendable : Job → Type 0
@@ -83,7 +78,7 @@ pub record IsSound (user pass : List ℕ) (here : Host) (run : Option Run) (conn
   pub host : IsTypedHost here
   pub sendable : IsSendableRun run
   pub port : IsTypedPort connection
-  pub reading : IsShortLine ear.line
+  pub reading : IsShortLine reply_limit ear.line
   pub reply : gathered_len gathered ≤ 8192
 
 -- of a view

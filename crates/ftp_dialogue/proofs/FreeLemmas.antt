@@ -22,7 +22,7 @@ use Rattle.ftp_server_machine.specs.declared.session.Way.TheVariants as Ways
 use Rattle.ftp_server.specs.Busy.{is_opening}
 use Rattle.ftp_dialogue.specs.Dialogue.{does, runs, said, served, serves}
 use Rattle.ftp_dialogue.specs.Free.{IsFree, is_at_rest, is_unopened}
-use Rattle.ftp_dialogue.proofs.EventLemmas.{SaysOne, out_one}
+use Rattle.ftp_ends.proofs.EventLemmas.{SaysOne, out_one}
 use Rattle.ftp_dialogue.proofs.UnopenedLemmas.{Leads, Rests, Servable, calm, leads_decided}
 
 -- ---- the line that waits
@@ -199,7 +199,7 @@ events_reach read events v (inr one) rests waits silent =
 pub octet_reaches : (read : Reading) (v : View) (octet : ℕ) → IsFree v → runs v ≡ true → Reached (hears_octet read v octet)
 unfolding hears_octet
 octet_reaches read v octet free is =
-    events_reach read (ear_out line_limit v.ear octet) (record v { ear = ear_step line_limit v.ear octet }) (out_one v.ear octet)
+    events_reach read (ear_out line_limit v.ear octet) (record v { ear = ear_step line_limit v.ear octet }) (out_one line_limit v.ear octet)
     (free.rests is) free.waiting free.owed
 
 -- ---- what is owed is said

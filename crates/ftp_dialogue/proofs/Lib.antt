@@ -1,6 +1,5 @@
 pub mod AnswerLemmas
 pub mod Conversing
-pub mod EventLemmas
 pub mod FreeLemmas
 pub mod OctetLemmas
 pub mod OnceLemmas

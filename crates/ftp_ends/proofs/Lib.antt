@@ -1,2 +1,4 @@
 pub mod Counts
+pub mod EventLemmas
 pub mod LineInFlight
+pub mod ReadLemmas

@@ -14,8 +14,8 @@ use Rattle.ftp_nvt.specs.declared.event.Event.TheVariants.{Line}
 use Rattle.ftp_nvt.proofs.ReaderLemmas.{reader_is_ear}
 use Rattle.ftp_server_machine.specs.View.{line_limit}
 use Rattle.ftp_server_machine.specs.declared.heard.Heard.TheVariants.{Bad, Asks}
-use Rattle.ftp_server_bounds.specs.Small.{IsShortLine}
-use Rattle.ftp_server_bounds.proofs.ReadLemmas.{AreShortEvents, ear_says, ear_short, none_short}
+use Rattle.ftp_ends.specs.Limits.{IsShortLine}
+use Rattle.ftp_ends.proofs.ReadLemmas.{AreShortEvents, ear_says, ear_short, none_short}
 use Rattle.ftp_server_bounds.proofs.SaidLemmas.{heard_short}
 use Rattle.ftp_server.specs.Busy.{MayWait}
 use Rattle.ftp_server.specs.Hearing.{HasHeardSome}
@@ -25,14 +25,14 @@ within_once : (n m : ℕ) → IsProp (n ≤ m)
 within_once n m = hlevel props
 
 -- behind any octets
-behind_short : (octets : List ℕ) (e : Ear) → IsShortLine e.line → IsShortLine (after (ear line_limit) e octets).line
+behind_short : (octets : List ℕ) (e : Ear) → IsShortLine line_limit e.line → IsShortLine line_limit (after (ear line_limit) e octets).line
 behind_short [] e short = short
-behind_short (c ∷ octets) e short = behind_short octets (ear_step line_limit e c) (ear_short e c short)
+behind_short (c ∷ octets) e short = behind_short octets (ear_step line_limit e c) (ear_short line_limit e c short)
 
-reader_short : {A : Type 0} (reader : Reader A) → limit_of reader ≡ line_limit → HasHeardSome reader → IsShortLine (ear_of reader).line
+reader_short : {A : Type 0} (reader : Reader A) → limit_of reader ≡ line_limit → HasHeardSome reader → IsShortLine line_limit (ear_of reader).line
 reader_short reader same (octets, was) =
     let is : ear_of reader ≡ after (ear line_limit) quiet octets = subst (λ l. ear_of reader ≡ after (ear l) quiet octets) same (reader_is_ear reader octets was) in
-    subst (λ e. IsShortLine e.line) (sym is) (behind_short octets quiet none_short)
+    subst (λ e. IsShortLine line_limit e.line) (sym is) (behind_short octets quiet (none_short line_limit))
 
 -- the line that is being read
 pub unfinished_short : {A : Type 0} (reader : Reader A) → limit_of reader ≡ line_limit → ∥ HasHeardSome reader ∥₁ → length (ear_of reader).line.text ≤ line_limit
@@ -44,8 +44,8 @@ pub ended_short : {A : Type 0} (reader : Reader A) (octet : ℕ) (event : Event)
     → event_list event text ≡ ear_out line_limit (ear_of reader) octet → event ≡ Line → length text ≤ line_limit
 ended_short reader octet event text same was out is =
     ∥∥₁_elim was (within_once _ _) (λ some.
-    (subst (λ e. AreShortEvents (event_list e text)) is
-    (subst AreShortEvents (sym out) (ear_says (ear_of reader) octet (reader_short reader same some)))).0)
+    (subst (λ e. AreShortEvents line_limit (event_list e text)) is
+    (subst (AreShortEvents line_limit) (sym out) (ear_says line_limit (ear_of reader) octet (reader_short reader same some)))).0)
 
 -- what a line within the limit says may wait
 pub command_waits : (text : List ℕ) (command : Command (List ℕ)) → length text ≤ line_limit → Says text command → MayWait (Some (Asks command))

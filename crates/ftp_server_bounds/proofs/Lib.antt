@@ -1,4 +1,3 @@
-pub mod ReadLemmas
 pub mod SaidLemmas
 pub mod FileLemmas
 pub mod SessionLemmas

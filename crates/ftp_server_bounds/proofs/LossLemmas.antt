@@ -1,24 +1,19 @@
 -- What is left where memory was refused or the device failed is small too.
-use Rattle.std.proofs.Common.{◌≡◌, ℕ, ◌+◌, ◌*◌, ◌≤◌, ◌<◌, ◌^◌, ◌⊎◌, inl, inr, List, [], ◌∷◌, ◌++◌, Bool, true, false, not, ◌&&◌, Option, Some, None, refl, sym, ap, subst, ◌∙◌, arith, append-nil, length, length-append}
-use Rattle.std.specs.Prelude.{codes, decimal, flat_map, nat_lt, if◌then◌else◌, ◌==◌}
+use Rattle.std.proofs.Common.{◌≡◌, ℕ, ◌+◌, ◌*◌, ◌≤◌, ◌<◌, ◌^◌, inl, inr, List, [], ◌∷◌, ◌++◌, Bool, true, false, not, ◌&&◌, Option, Some, None, refl, sym, ap, subst, ◌∙◌, arith, length, length-append}
+use Rattle.std.specs.Prelude.{codes, decimal, nat_lt, if◌then◌else◌, ◌==◌}
 use Rattle.std.proofs.lemmas.Bool.{and_parts, cond_both, leb-true, ltb-true, not-true}
 use Rattle.ftp_command.proofs.CarriedLemmas.{decimal_fits}
 use Rattle.ftp_command.specs.declared.command.Command.{Command}
 use Rattle.ftp_command.specs.declared.fault.CommandFault.TheVariants as Faults
 use Rattle.ftp_decoder.specs.Decoder.{read_on}
-use Rattle.ftp_ends.specs.Ear.{Ear, Unfinished, ear_out, ear_step, ended_text, line_out, unit_says, within_out}
+use Rattle.ftp_ends.specs.Ear.{ear_out, ear_step}
 use Rattle.ftp_ends.specs.Reply.{reply_octets}
 use Rattle.ftp_framer.specs.Block.{count_of, ends_of, has}
 use Rattle.ftp_framer.specs.Said.{Said, marker, says}
 use Rattle.ftp_framer.specs.Stream.{code_said}
 use Rattle.ftp_framer.specs.declared.descriptor.TheConstants.{END_OF_FILE, END_OF_RECORD, RESTART_MARKER}
 use Rattle.ftp_mode.specs.Reading.{Place, plain, outside, escaped, at_head, at_high, at_low, inside, marking, ended as passed, Reading as Reads, going, failed, place_out, read_out}
-use Rattle.ftp_nvt.proofs.CutLemmas.{decided as is_so}
-use Rattle.ftp_nvt.proofs.FoldLemmas.{ends as units}
 use Rattle.ftp_nvt.specs.Lines.{NvtEvent, line, too_long, owed}
-use Rattle.ftp_nvt.specs.Telnet.{TelnetUnit, command, data_octet, option, subnegotiation}
-use Rattle.ftp_nvt.specs.declared.line.Stage.{Stage}
-use Rattle.ftp_nvt.specs.declared.line.Stage.TheVariants as Lined
 use Rattle.ftp_reply.specs.Reply.{last_line}
 use Rattle.ftp_repr.specs.Signs.{end_file, end_record}
 use Rattle.ftp_representation.specs.Marker.{is_marker_octet}
@@ -44,7 +39,8 @@ use Rattle.ftp_server_machine.proofs.CallLemmas.{busy_owed, later_keeps, replied
 use Rattle.ftp_server_machine.proofs.RepliesWritten.{lines_short}
 use Rattle.ftp_server_machine.proofs.TurnLemmas.{connection_keeps, forgotten_keeps, pending_keeps, read_can_be_heard}
 use Rattle.ftp_server_bounds.specs.Small.{IsShort, IsShortConnection, IsSmall}
-use Rattle.ftp_server_bounds.proofs.ReadLemmas.{IsShortEvent, AreShortEvents, ear_says, ear_short}
+use Rattle.ftp_ends.proofs.EventLemmas.{out_one}
+use Rattle.ftp_ends.proofs.ReadLemmas.{IsShortEvent, AreShortEvents, ear_says, ear_short}
 use Rattle.ftp_server_bounds.proofs.SaidLemmas.{heard_short}
 use Rattle.ftp_server_bounds.proofs.SessionLemmas.{disconnected_short, forgets_short}
 use Rattle.ftp_server_bounds.proofs.ViewLemmas.{all_short, forgets_with, later_short, moves_short, replied_short, said_short}
@@ -353,53 +349,11 @@ line_heard heard v w (as_ever is) done said short few k = subst IsSmall (sym is)
 line_heard heard v w (not_read lost) done said short few k = reading_fails heard v w lost k
 line_heard heard v w (not_done lost) done said short few k = acting_fails (is_abort heard v) heard v w lost said short few k
 
-event_heard : (read : Reading) (event : NvtEvent) (v w : View) → IsReading read → EventIsHeard read event v w → IsSmall (heard_event read event v) → IsShortEvent event → length v.owed ≤ 4096 → IsSmall v → IsSmall w
+event_heard : (read : Reading) (event : NvtEvent) (v w : View) → IsReading read → EventIsHeard read event v w → IsSmall (heard_event read event v) → IsShortEvent line_limit event → length v.owed ≤ 4096 → IsSmall v → IsSmall w
 event_heard read (line text) v w reading is done short few k =
     line_heard (read text) v w is done (read_can_be_heard text (read text) (reading text)) (heard_short text (read text) short (reading text)) few k
 event_heard read too_long v w reading is done short few k = line_heard TooLong v w is done tt (omega arith) few k
 event_heard read (owed answer) v w reading is done short few k = subst IsSmall (sym is) done
-
--- an octet says one thing at most
-abbrev SaysOne : List NvtEvent → Type 0
-SaysOne events = (events ≡ []) ⊎ ((event : NvtEvent) × (events ≡ event ∷ []))
-
-within_one : (u : Unfinished) (c : ℕ) → SaysOne (within_out line_limit u c)
-within_one u c = by (u.count == line_limit) (c == 10)
-  where
-    by : (full ends : Bool) → SaysOne (if full then too_long ∷ [] else (if ends then line (ended_text u.stage u.text) ∷ [] else []))
-    by true ends = inr (too_long, refl)
-    by false true = inr (line (ended_text u.stage u.text), refl)
-    by false false = inl refl
-
-line_one : (stage : Stage) (u : Unfinished) (c : ℕ) → SaysOne (line_out line_limit stage u c)
-line_one Lined.Start u c = within_one u c
-line_one Lined.Inside u c = within_one u c
-line_one Lined.AfterReturn u c = within_one u c
-line_one Lined.Past u c = inl refl
-
-with_none : (events : List NvtEvent) → SaysOne events → SaysOne (events ++ [])
-with_none events one = subst SaysOne (sym (append-nil events)) one
-
-unit_one : (u : Unfinished) (unit : TelnetUnit) → SaysOne (unit_says line_limit u unit)
-unit_one u (data_octet c) = with_none (line_out line_limit u.stage u c ++ []) (with_none (line_out line_limit u.stage u c) (line_one u.stage u c))
-unit_one u (option verb c) =
-    elim (is_so (verb == 253)) [
-      | inl e ↦ rw e (inr (owed (255 ∷ 252 ∷ c ∷ []), refl))
-      | inr e ↦ rw e (elim (is_so (verb == 251)) [
-        | inl f ↦ rw f (inr (owed (255 ∷ 254 ∷ c ∷ []), refl))
-        | inr f ↦ rw f (inl refl)
-      ])
-    ]
-unit_one u subnegotiation = inl refl
-unit_one u (command c) = inl refl
-
-pub out_one : (e : Ear) (c : ℕ) → SaysOne (ear_out line_limit e c)
-out_one e c =
-    let P : List TelnetUnit → Type 0 = λ us. SaysOne (flat_map (unit_says line_limit e.line) us) in
-    elim (units e.place c) [
-      | inl f ↦ subst P (sym f) (inl refl)
-      | inr f ↦ subst P (sym f.1) (with_none (unit_says line_limit e.line f.0) (unit_one e.line f.0))
-    ]
 
 pub heard_small : (read : Reading) (v w : View) (octet : ℕ) → IsReading read → may_hear v ≡ true → OctetIsHeard read v octet w → IsSmall v → IsSmall w
 unfolding hears_octet
@@ -408,10 +362,10 @@ heard_small read v w octet reading may is k =
     let u : View = record v { ear = ear_step line_limit v.ear octet } in
     let small : IsSmall u = record {
       keeps = record { accounts = k.keeps.accounts; host = k.keeps.host; session = k.keeps.session; waiting = k.keeps.waiting; owed = k.keeps.owed };
-      short = record { session = k.short.session; reading = ear_short v.ear octet k.short.reading; waiting = k.short.waiting };
+      short = record { session = k.short.session; reading = ear_short line_limit v.ear octet k.short.reading; waiting = k.short.waiting };
     } in
-    let P : List NvtEvent → Type 0 = λ events. IsSmall (heard_events read events u) → AreShortEvents events → EventsAreHeard read events u w → IsSmall w in
-    (elim (out_one v.ear octet) as (λ _. P (ear_out line_limit v.ear octet)) [
+    let P : List NvtEvent → Type 0 = λ events. IsSmall (heard_events read events u) → AreShortEvents line_limit events → EventsAreHeard read events u w → IsSmall w in
+    (elim (out_one line_limit v.ear octet) as (λ _. P (ear_out line_limit v.ear octet)) [
       | inl e ↦ subst P (sym e) (λ done short heard. subst IsSmall (sym heard) small)
       | inr e ↦ subst P (sym e.1) (λ done short heard. subst IsSmall (sym heard.2) (event_heard read e.0 u heard.0 reading heard.1 done short.0 few small))
-    ]) (hears_small read v octet reading may k) (ear_says v.ear octet k.short.reading) is
+    ]) (hears_small read v octet reading may k) (ear_says line_limit v.ear octet k.short.reading) is

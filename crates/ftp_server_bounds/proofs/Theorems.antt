@@ -6,7 +6,7 @@ use Rattle.ftp_server_machine.specs.Held.{AreTypedCues, HoldsLittle}
 use Rattle.ftp_server_machine.specs.Kept.{CanTell}
 use Rattle.ftp_server_machine.specs.Machine.{Reading, IsReading, hears, hears_octet, may_hear}
 use Rattle.ftp_server_machine.specs.Play.{Cue, Clock, Hear, ControlOut, ControlEnd, Listening, DataOpened, DataHear, DataOut, ListenRefused, DataRefused, DataEnd, DataFault, DataClosed, AsksWants, call, left_by, most_given, most_heard, most_received}
-use Rattle.ftp_server_machine.specs.View.{Transfer, View}
+use Rattle.ftp_server_machine.specs.View.{Transfer, View, line_limit}
 use Rattle.ftp_server_machine.specs.declared.session.DataConnection.{DataConnection}
 use Rattle.ftp_server_machine.specs.declared.session.DataConnection.TheVariants as Data
 use Rattle.ftp_server_machine.specs.declared.session.Transfer.TheVariants as Transfers
@@ -15,7 +15,7 @@ use Rattle.ftp_server_machine.proofs.HeldLemmas.{keeps_little}
 use Rattle.ftp_server_machine.proofs.UploadLemmas.{upload_octet_keeps}
 use Rattle.ftp_server_bounds.specs.Laws.{CallsStaySmall, SmallHoldsLittle, StartIsSmall}
 use Rattle.ftp_server_bounds.specs.Small.{IsShortConnection, IsSmall}
-use Rattle.ftp_server_bounds.proofs.ReadLemmas.{none_short}
+use Rattle.ftp_ends.proofs.ReadLemmas.{none_short}
 use Rattle.ftp_server_bounds.proofs.ViewLemmas.{break_step_short, clock_short, close_short, control_end_short, control_short, end_step_short, given_short, hears_short, later_short, listening_short, no_port_short, opened_short, receives_short, refused_short}
 
 -- ---- octets
@@ -87,7 +87,7 @@ calls_stay_small read AsksWants v reading typed k = k
 pub start_is_small : StartIsSmall
 start_is_small table accounts here peer within typed files = record {
   keeps = start_keeps table accounts here peer within typed;
-  short = record { session = record { files = files; connection = tt }; reading = none_short; waiting = omega arith };
+  short = record { session = record { files = files; connection = tt }; reading = none_short line_limit; waiting = omega arith };
 }
 
 pub small_holds_little : SmallHoldsLittle

@@ -28,7 +28,7 @@ use Rattle.ftp_server_machine.specs.declared.session.DataConnection.TheVariants 
 use Rattle.ftp_server_machine.specs.declared.session.Transfer.TheVariants as Transfers
 use Rattle.ftp_server_bounds.specs.Small.{IsShortConnection, IsShortSession, IsShort}
 use Rattle.ftp_server_bounds.proofs.FileLemmas.{not_over}
-use Rattle.ftp_server_bounds.proofs.ReadLemmas.{AreShortEvents, IsShortEvent, ear_says, ear_short}
+use Rattle.ftp_ends.proofs.ReadLemmas.{AreShortEvents, IsShortEvent, ear_says, ear_short}
 use Rattle.ftp_server_bounds.proofs.SaidLemmas.{heard_short}
 use Rattle.ftp_server_bounds.proofs.SessionLemmas.{break_short, connected_short, decided_short, disconnected_short, end_short, forgotten_short}
 
@@ -238,20 +238,20 @@ line_short heard v few k =
     cond_both (is_abort heard v) (aborted v) (later waits) IsShort (λ is. aborted_short v k)
     (λ is. later_short waits (record { session = k.session; reading = k.reading; waiting = few }))
 
-event_short : (read : Reading) (event : NvtEvent) (v : View) → IsReading read → IsShortEvent event → IsShort v → IsShort (heard_event read event v)
+event_short : (read : Reading) (event : NvtEvent) (v : View) → IsReading read → IsShortEvent line_limit event → IsShort v → IsShort (heard_event read event v)
 event_short read (line text) v reading short k = line_short (read text) v (heard_short text (read text) short (reading text)) k
 event_short read too_long v reading short k = line_short TooLong v (omega arith) k
 event_short read (owed answer) v reading short k = record { session = k.session; reading = k.reading; waiting = k.waiting }
 
-events_short : (read : Reading) (events : List NvtEvent) (v : View) → IsReading read → AreShortEvents events → IsShort v → IsShort (heard_events read events v)
+events_short : (read : Reading) (events : List NvtEvent) (v : View) → IsReading read → AreShortEvents line_limit events → IsShort v → IsShort (heard_events read events v)
 events_short read [] v reading short k = k
 events_short read (event ∷ events) v reading short k = events_short read events (heard_event read event v) reading short.1 (event_short read event v reading short.0 k)
 
 pub hears_short : (read : Reading) (v : View) (octet : ℕ) → IsReading read → IsShort v → IsShort (hears_octet read v octet)
 unfolding hears_octet
 hears_short read v octet reading k =
-    events_short read (ear_out line_limit v.ear octet) (record v { ear = ear_step line_limit v.ear octet }) reading (ear_says v.ear octet k.reading)
-    (record { session = k.session; reading = ear_short v.ear octet k.reading; waiting = k.waiting })
+    events_short read (ear_out line_limit v.ear octet) (record v { ear = ear_step line_limit v.ear octet }) reading (ear_says line_limit v.ear octet k.reading)
+    (record { session = k.session; reading = ear_short line_limit v.ear octet k.reading; waiting = k.waiting })
 
 -- ---- the steps of the other calls
 

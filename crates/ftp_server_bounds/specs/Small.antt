@@ -1,7 +1,7 @@
 -- What stays small in a server, beside the limits that it keeps (`Kept` of `ftp_server_machine`): the line that is being read, the line that
 -- waits, the files of its map, and an upload with the octets before it (own choices of the limits).
 use Rattle.std.specs.Prelude.{◌+◌, ◌≤◌, length}
-use Rattle.ftp_nvt.specs.Fold.{Unfinished}
+use Rattle.ftp_ends.specs.Limits.{IsShortLine}
 use Rattle.ftp_tree.specs.Tree.{file_limit}
 use Rattle.ftp_server_machine.specs.Held.{HasShortFiles, waiting_len}
 use Rattle.ftp_server_machine.specs.Kept.{ServerKeeps}
@@ -9,11 +9,6 @@ use Rattle.ftp_server_machine.specs.View.{Session, Transfer, View, line_limit}
 use Rattle.ftp_server_machine.specs.declared.session.DataConnection.{DataConnection}
 use Rattle.ftp_server_machine.specs.declared.session.DataConnection.TheVariants as Data
 use Rattle.ftp_server_machine.specs.declared.session.Transfer.TheVariants as Transfers
-
--- a line that is being read: its text is no longer than its octets so far, and these keep the limit
-pub record IsShortLine (u : Unfinished) : Type 0 where
-  pub text : length u.text ≤ u.count
-  pub count : u.count ≤ line_limit
 
 -- an upload: the octets before it and those that came are within the limit of a file
 abbrev pub IsShortTransfer : Transfer → Type 0
@@ -40,7 +35,7 @@ pub record IsShortSession (s : Session) : Type 0 where
 -- of a view: its session, the line that is being read, and the line that waits, which is at most twice as long as it is written
 pub record IsShort (v : View) : Type 0 where
   pub session : IsShortSession v.session
-  pub reading : IsShortLine v.ear.line
+  pub reading : IsShortLine line_limit v.ear.line
   pub waiting : waiting_len v.waiting ≤ line_limit + line_limit
 
 -- a server that stays small: it keeps its limits too

@@ -1,14 +1,10 @@
 -- Octets of both connections, heard and taken by a server at a root: as many, with the same outcome.
-use Rattle.std.proofs.Common.{◌≡◌, ℕ, suc, ◌⊎◌, inl, inr, Bool, true, false, not, List, [], ◌∷◌, ◌++◌, Option, Some, None, refl, sym, ap, subst, ◌∙◌, append-nil, take, true≢false}
-use Rattle.std.specs.Prelude.{flat_map, if◌then◌else◌, ◌==◌}
+use Rattle.std.proofs.Common.{◌≡◌, ℕ, suc, inl, inr, Bool, true, false, not, List, [], ◌∷◌, Option, Some, None, refl, sym, ap, subst, ◌∙◌, take, true≢false}
+use Rattle.std.specs.Prelude.{if◌then◌else◌}
 use Rattle.std.proofs.lemmas.Bool.{and_parts, not-true}
-use Rattle.ftp_ends.specs.Ear.{Ear, Unfinished, ear_out, ear_step, ended_text, line_out, unit_says, within_out}
-use Rattle.ftp_nvt.proofs.CutLemmas.{decided as is_so}
-use Rattle.ftp_nvt.proofs.FoldLemmas.{ends as units}
+use Rattle.ftp_ends.specs.Ear.{ear_out, ear_step}
+use Rattle.ftp_ends.proofs.EventLemmas.{out_one}
 use Rattle.ftp_nvt.specs.Lines.{NvtEvent, line, too_long, owed}
-use Rattle.ftp_nvt.specs.Telnet.{TelnetUnit, data_octet, option, subnegotiation, command}
-use Rattle.ftp_nvt.specs.declared.line.Stage.{Stage}
-use Rattle.ftp_nvt.specs.declared.line.Stage.TheVariants as Lined
 use Rattle.ftp_path.specs.Path.{Names}
 use Rattle.ftp_server_machine.specs.Act.{decided}
 use Rattle.ftp_server_machine.specs.Calls.{connection_of, is_upload, may_receive, receives, receives_octet, takes_data}
@@ -22,49 +18,6 @@ use Rattle.ftp_server_machine.specs.declared.session.DataConnection.{DataConnect
 use Rattle.ftp_server_machine.specs.declared.session.DataConnection.TheVariants as Data
 use Rattle.ftp_server_roots.proofs.TurnLemmas.{Begins, IsHeld, decided_begins}
 use Rattle.ftp_server_roots.proofs.ViewLemmas.{ViewAt, abort_at, acts_at, calm_of, given_out_in, known_by, receives_at, stays, waits_at}
-
--- ---- an octet says one thing at most
-
-abbrev SaysOne : List NvtEvent → Type 0
-SaysOne events = (events ≡ []) ⊎ ((event : NvtEvent) × (events ≡ event ∷ []))
-
-within_one : (u : Unfinished) (c : ℕ) → SaysOne (within_out line_limit u c)
-within_one u c = by (u.count == line_limit) (c == 10)
-  where
-    by : (full ends : Bool) → SaysOne (if full then too_long ∷ [] else (if ends then line (ended_text u.stage u.text) ∷ [] else []))
-    by true ends = inr (too_long, refl)
-    by false true = inr (line (ended_text u.stage u.text), refl)
-    by false false = inl refl
-
-line_one : (stage : Stage) (u : Unfinished) (c : ℕ) → SaysOne (line_out line_limit stage u c)
-line_one Lined.Start u c = within_one u c
-line_one Lined.Inside u c = within_one u c
-line_one Lined.AfterReturn u c = within_one u c
-line_one Lined.Past u c = inl refl
-
-with_none : (events : List NvtEvent) → SaysOne events → SaysOne (events ++ [])
-with_none events one = subst SaysOne (sym (append-nil events)) one
-
-unit_one : (u : Unfinished) (unit : TelnetUnit) → SaysOne (unit_says line_limit u unit)
-unit_one u (data_octet c) = with_none (line_out line_limit u.stage u c ++ []) (with_none (line_out line_limit u.stage u c) (line_one u.stage u c))
-unit_one u (option verb c) =
-    elim (is_so (verb == 253)) [
-      | inl e ↦ rw e (inr (owed (255 ∷ 252 ∷ c ∷ []), refl))
-      | inr e ↦ rw e (elim (is_so (verb == 251)) [
-        | inl f ↦ rw f (inr (owed (255 ∷ 254 ∷ c ∷ []), refl))
-        | inr f ↦ rw f (inl refl)
-      ])
-    ]
-unit_one u subnegotiation = inl refl
-unit_one u (command c) = inl refl
-
-out_one : (e : Ear) (c : ℕ) → SaysOne (ear_out line_limit e c)
-out_one e c =
-    let P : List TelnetUnit → Type 0 = λ us. SaysOne (flat_map (unit_says line_limit e.line) us) in
-    elim (units e.place c) [
-      | inl f ↦ subst P (sym f) (inl refl)
-      | inr f ↦ subst P (sym f.1) (with_none (unit_says line_limit e.line f.0) (unit_one e.line f.0))
-    ]
 
 -- ---- control octets
 
@@ -88,7 +41,7 @@ unfolding hears_octet
 hears_at read octet root v before held known =
     let w : View = record v { ear = ear_step line_limit v.ear octet } in
     let P : List NvtEvent → Type 0 = λ events. IsAt root (heard_events read events w) → ViewAt root v (heard_events read events w) (heard_events read events (at_root root w)) in
-    (elim (out_one v.ear octet) as (λ _. P (ear_out line_limit v.ear octet)) [
+    (elim (out_one line_limit v.ear octet) as (λ _. P (ear_out line_limit v.ear octet)) [
       | inl e ↦ subst P (sym e) (λ known. record { same = refl; apart = λ path out. refl; held = held })
       | inr e ↦ subst P (sym e.1) (λ known. let done = event_at read e.0 root w before held known in record { same = done.same; apart = done.apart; held = done.held })
     ]) known
