@@ -2,7 +2,7 @@
 use Rattle.std.proofs.Common.{◌≡◌, ℕ, Bool, true, false, List, [], ◌∷◌, Option, Some, None, refl, ap, sym, subst, ◌∙◌, if◌then◌else◌}
 use Rattle.ftp_path.specs.Path.{Names}
 use Rattle.ftp_tree.specs.Tree.{Table, under, with_part}
-use Rattle.ftp_tree.proofs.PartLemmas.{as-part, part-back, part-comes, part-stays, part-taken, part_whole, under_all}
+use Rattle.ftp_tree.proofs.PartLemmas.{part-back, part-taken, part_whole, under_all, put_again}
 use Rattle.ftp_operation.specs.declared.op.Op.{Op}
 use Rattle.ftp_operation.specs.declared.op.Op.TheVariants as Ops
 use Rattle.ftp_operation.specs.Answer.{Said, BadOperation}
@@ -11,12 +11,6 @@ use Rattle.ftp_direct.specs.declared.refusal.Refusal.{Refusal}
 use Rattle.ftp_direct.specs.declared.refusal.Refusal.TheVariants.{NotLoggedIn}
 use Rattle.ftp_direct.specs.Direct.{State, answer, answers, chosen, done, first_refusal, refusal, standing}
 use Rattle.ftp_direct.specs.Laws.{PartsAreApart}
-
--- a part put twice is the last
-put_again : (table : Table) (root : Names) (one other : Table) → with_part (with_part table root one) root other ≡ with_part table root other
-put_again table root one other =
-    sym (as-part table root other (with_part (with_part table root one) root other) (part-comes (with_part table root one) root other)
-    (λ path out. part-stays (with_part table root one) root other path out ∙ part-stays table root one path out))
 
 -- one operation is refused alike
 refused_alike : (table : Table) (root cwd : Names) (known : Bool) (op : Op (List ℕ))

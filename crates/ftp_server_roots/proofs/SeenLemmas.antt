@@ -5,7 +5,7 @@ use Rattle.ftp_path.proofs.KeyLemmas.{within-parts, within-append}
 use Rattle.ftp_path.specs.Path.{Names, is_within}
 use Rattle.ftp_tree.proofs.BranchLemmas.{empty-at}
 use Rattle.ftp_tree.proofs.LawLemmas.{under-stands}
-use Rattle.ftp_tree.proofs.PartLemmas.{as-part, part-comes, part-stays, part-taken}
+use Rattle.ftp_tree.proofs.PartLemmas.{part-comes, part-stays, part-taken, put_again}
 use Rattle.ftp_tree.specs.Tree.{Table, node_at, under, with_part}
 use Rattle.ftp_direct.specs.Direct.{refusal}
 use Rattle.ftp_operation.specs.declared.op.Op.{Op}
@@ -16,12 +16,6 @@ use Rattle.ftp_server_machine.specs.View.{Session, direct_of, seen}
 -- a session whose map is only what stands at and below a root
 abbrev pub at : Names → Session → Session
 at root s = record s { table = only_at root s.table }
-
--- a part put twice is the last
-put_again : (table : Table) (root : Names) (one other : Table) → with_part (with_part table root one) root other ≡ with_part table root other
-put_again table root one other =
-    sym (as-part table root other (with_part (with_part table root one) root other) (part-comes (with_part table root one) root other)
-    (λ path out. part-stays (with_part table root one) root other path out ∙ part-stays table root one path out))
 
 -- the session sees the same part
 pub seen_at : (s : Session) → seen (at s.root s) ≡ seen s

@@ -114,6 +114,12 @@ as-part table root part new comes stays =
       | false ↦ λ out. part-stays table root part path out ∙ sym (stays path out)
     ] refl)
 
+-- a part put twice is the last
+pub put_again : (table : Table) (root : Names) (one other : Table) → with_part (with_part table root one) root other ≡ with_part table root other
+put_again table root one other =
+    sym (as-part table root other (with_part (with_part table root one) root other) (part-comes (with_part table root one) root other)
+    (λ path out. part-stays (with_part table root one) root other path out ∙ part-stays table root one path out))
+
 within-all : (path : Names) → is_within [] path ≡ true
 within-all path = within-append [] path
 

@@ -12,7 +12,7 @@ use Rattle.ftp_tree.proofs.KeepLaws.{at-insert, at-remove, is-dir, IsTree-insert
 use Rattle.ftp_tree.proofs.LawLemmas.{children-stand, false-where, same, target-parts, under-stands}
 use Rattle.ftp_tree.proofs.LeafLemmas.{IsLeaf, Keeps, absent-dir, itself, longer, loose-from, none-absent, parent-none, put-leaf, removed-at, take-leaf}
 use Rattle.ftp_tree.proofs.MoveLemmas.{moved-at, moved-so, movable, place-stands, still}
-use Rattle.ftp_tree.proofs.PartLemmas.{as-part, part-back, part-comes, part-stays, part-taken, same-nodes}
+use Rattle.ftp_tree.proofs.PartLemmas.{part-back, part-stays, part-taken, same-nodes, put_again}
 use Rattle.ftp_tree.proofs.TableLemmas.{both-none, not-held, not-some}
 use Rattle.ftp_tree.proofs.UnderLemmas.{insert-under, remove-under}
 
@@ -57,11 +57,6 @@ put-same table path node there = same-nodes _ _ (λ other. at-insert table path 
           | true ↦ λ equal. sym there ∙ ap (node_at table) (sym (same other path equal))
           | false ↦ λ other_path. refl
         ] refl
-
-put_again : (table : Table) (root : Names) (one other : Table) → with_part (with_part table root one) root other ≡ with_part table root other
-put_again table root one other =
-    sym (as-part table root other (with_part (with_part table root one) root other) (part-comes (with_part table root one) root other)
-    (λ path out. part-stays (with_part table root one) root other path out ∙ part-stays table root one path out))
 
 -- ---- where a place is had
 
