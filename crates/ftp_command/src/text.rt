@@ -34,14 +34,6 @@ impl<A: Allocator> Text<A> {
         Text { octets }
     }
 
-    /// The vector that holds the octets.
-    pub fn into_vec(self) -> Vec<u8, A>
-        ensures { result.items ≡ self }
-    {
-        let Text { octets } = self;
-        octets
-    }
-
     /// The octets, lent.
     pub fn octets(&self) -> &[u8]
         ensures { result.now ≡ self.now }

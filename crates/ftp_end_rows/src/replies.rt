@@ -49,12 +49,10 @@ enum Said {
     Extended(u16),
     Features(Facts),
     Chosen(Facts),
-    /// The line of a directory.
-    Entry,
     /// A file of three octets with its facts.
     File,
-    /// A directory of which the size alone is told.
-    Dir,
+    /// A directory, with these of its facts.
+    Dir(Facts),
 }
 
 /// What is said, and how it goes out.
@@ -86,14 +84,14 @@ const REPLIES: &[(Said, &[u8])] = &[
         b"200 MLST OPTS Type;Size;Modify;Perm;\r\n",
     ),
     (
-        Said::Entry,
+        Said::Dir(ALL),
         b"250-Listing\r\n Type=dir;Perm=cdeflmp; /d\r\n250 End\r\n",
     ),
     (
         Said::File,
         b"250-Listing\r\n Type=file;Size=3;Modify=19700101001640;Perm=adfrw; /f\r\n250 End\r\n",
     ),
-    (Said::Dir, b"250-Listing\r\n  /d\r\n250 End\r\n"),
+    (Said::Dir(SIZE_ALONE), b"250-Listing\r\n  /d\r\n250 End\r\n"),
 ];
 
 /// Says it, where nothing is owed; `path` is where a path is told.
@@ -114,7 +112,6 @@ fn say(output: &mut Output<Global>, path: &Path<Global>, said: &Said)
         Said::Extended(port) => output.put_extended(*port),
         Said::Features(facts) => output.put_features(*facts),
         Said::Chosen(facts) => output.put_chosen(*facts),
-        Said::Entry => output.put_entry(b"Type=dir;Perm=cdeflmp; /d"),
         Said::File => output.put_listed(
             ALL,
             b"file",
@@ -123,7 +120,7 @@ fn say(output: &mut Output<Global>, path: &Path<Global>, said: &Said)
             b"adfrw",
             b"/f",
         ),
-        Said::Dir => output.put_listed(SIZE_ALONE, b"dir", None, None, b"cdeflmp", b"/d"),
+        Said::Dir(facts) => output.put_listed(*facts, b"dir", None, None, b"cdeflmp", b"/d"),
     }
 }
 

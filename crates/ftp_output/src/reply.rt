@@ -110,16 +110,6 @@ impl<A: Allocator> Output<A> {
         self.put(b"\r\n");
     }
 
-    /// Owes the reply to MLST, whose entry stands in this line (RFC 3659, section 7.2).
-    pub fn put_entry(&mut self, line: &[u8])
-        requires { length self.old + 2 * length line.now + FIXED_LIMIT ≤ OUTPUT_ROOM }
-        ensures { self.new ≡ self.old ++ reply_octets (record { code = 250; lines = codes "Listing" ∷ (32 ∷ line.now) ∷ codes "End" ∷ [] }) }
-    {
-        self.put(b"250-Listing\r\n ");
-        self.put_text(line);
-        self.put(b"\r\n250 End\r\n");
-    }
-
     /// Owes the reply to FEAT, with `*` behind each fact in force (RFC 2389, section 3.2; RFC 3659, section 7.8).
     pub fn put_features(&mut self, facts: Facts)
         requires { length self.old + FREE_ROOM ≤ OUTPUT_ROOM }
