@@ -1,12 +1,11 @@
 // One line of an accounts file.
-ghost use Rattle.std.specs.Prelude.{◌≡◌, ◌++◌, ◌∷◌, [], IfOk, IfSome, IfNone, IsTrue};
+ghost use Rattle.std.specs.Prelude.{◌≡◌, [], IfOk, IsTrue};
 ghost use Rattle.std.specs.List.{list_all};
-ghost use Rattle.ftp_facts.specs.Fact.{Lacks};
 ghost use Rattle.ftp_path.specs.Path.{IsPathText, is_rooted, resolved};
 ghost use Rattle.ftp_accounts.specs.Line.{Says, is_blank, is_comment, is_silent, needed};
 
 use crate::fault::LineFault;
-use ftp_facts::Text;
+use ftp_facts::{Text, cut_at};
 use ftp_login::{is_password, is_user};
 use ftp_operation::Account;
 use ftp_path::{Path, PathFault, is_path_text};
@@ -61,17 +60,6 @@ pub(crate) fn account_of<A: Allocator + Copy>(
         Ok(account) => Ok(account),
         Err(AllocError) => Err(LineFault::Memory),
     }
-}
-
-/// What stands before the first such octet, and what follows it.
-pub(crate) fn cut_at(octets: &[u8], octet: u8) -> Option<(&[u8], &[u8])>
-    ensures some { IfSome result (λ parts. octets.now ≡ parts.0.now ++ octet ∷ parts.1.now) }
-    ensures first { IfSome result (λ parts. Lacks parts.0.now octet) }
-    ensures none { IfNone result (Lacks octets.now octet) }
-{
-    let place = octets.iter().position(|each| *each == octet)?;
-    let (front, back) = octets.split_at(place);
-    Some((front, &back[1..]))
 }
 
 /// The path from `/` that a text names.

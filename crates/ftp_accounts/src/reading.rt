@@ -4,8 +4,8 @@ ghost use Rattle.ftp_operation.specs.Account.{accounts_refusal};
 ghost use Rattle.ftp_accounts.specs.Lines.{Adds, SaysAll, without_cr};
 
 use crate::fault::{AccountsFileFault, LineFault};
-use crate::line::{account_of, cut_at, is_silent};
-use ftp_facts::Text;
+use crate::line::{account_of, is_silent};
+use ftp_facts::{Text, cut_at};
 use ftp_operation::{Account, Accounts, RefusedAccounts};
 use ftp_path::Path;
 use std::alloc::Allocator;

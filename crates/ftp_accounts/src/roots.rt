@@ -1,7 +1,8 @@
 // The roots of the accounts that a text says.
 use crate::fault::AccountsFileFault;
-use crate::line::{account_of, cut_at, is_silent};
+use crate::line::{account_of, is_silent};
 use crate::reading::without_cr;
+use ftp_facts::cut_at;
 use ftp_path::Path;
 use std::alloc::Allocator;
 

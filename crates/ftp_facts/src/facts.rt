@@ -1,10 +1,11 @@
 //! The facts of a line, one after another.
-ghost use Rattle.std.specs.Prelude.{◌≡◌, ℕ, List, ◌∷◌, ◌++◌, IfSome, IfNone, IfOk, IfErr};
+ghost use Rattle.std.specs.Prelude.{◌≡◌, ℕ, List, IfSome, IfNone, IfOk, IfErr};
 ghost use Rattle.std.specs.Option.{option_copied};
-ghost use Rattle.ftp_facts.specs.Fact.{Fact, Lacks, AreFacts, BeginsWithFact, HasValue};
+ghost use Rattle.ftp_facts.specs.Fact.{Fact, AreFacts, BeginsWithFact, HasValue};
 ghost use Rattle.ftp_facts.specs.Fact as spec;
 
 use crate::FactFault;
+use crate::cutting::cut_at;
 
 /// The value of the first fact of that name, whose letters have no case. Octets that are no facts are `BadFact`.
 pub fn value_of<'a>(facts: &'a [u8], name: &[u8]) -> Result<Option<&'a [u8]>, FactFault>
@@ -31,20 +32,9 @@ fn split_fact(facts: &[u8]) -> Option<(&[u8], &[u8], &[u8])>
     ensures some { IfSome result (λ parts. BeginsWithFact facts.now parts.0.now parts.1.now parts.2.now) }
     ensures none { IfNone result ((name value rest : List ℕ) → ¬ (BeginsWithFact facts.now name value rest)) }
 {
-    let (fact, rest) = split_at_octet(facts, b';')?;
-    let (name, value) = split_at_octet(fact, b'=')?;
+    let (fact, rest) = cut_at(facts, b';')?;
+    let (name, value) = cut_at(fact, b'=')?;
     Some((name, value, rest))
-}
-
-/// What stands before the first such octet, and what follows it.
-pub fn split_at_octet(octets: &[u8], octet: u8) -> Option<(&[u8], &[u8])>
-    ensures some { IfSome result (λ parts. octets.now ≡ parts.0.now ++ octet ∷ parts.1.now) }
-    ensures first { IfSome result (λ parts. Lacks parts.0.now octet) }
-    ensures none { IfNone result (Lacks octets.now octet) }
-{
-    let place = octets.iter().position(|each| *each == octet)?;
-    let (front, back) = octets.split_at(place);
-    Some((front, &back[1..]))
 }
 
 /// Whether the two words are the same but for case.

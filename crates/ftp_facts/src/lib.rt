@@ -3,6 +3,7 @@
 #![tactic(auto)]
 
 mod civil;
+mod cutting;
 mod digits;
 mod entry;
 mod facts;
@@ -13,6 +14,7 @@ mod reading;
 mod text;
 mod writing;
 
+pub use cutting::cut_at;
 pub use entry::{Entry, Kind};
 pub use fault::FactFault;
 pub use moment::{Moment, moment_of_text, moment_text};

@@ -8,7 +8,8 @@ ghost use Rattle.ftp_facts.specs.Listed.{fact_value, kind_word};
 ghost use Rattle.ftp_facts.specs.Entry.{CanBeKept, HasParts, NoParts, Refuses, SaysEntry, SaysListed, listed_in, listed_of, word_of};
 ghost use Rattle.ftp_facts.specs.declared.entry.Kind.TheVariants.{Other};
 
-use crate::facts::{is_word, split_at_octet, value_of};
+use crate::cutting::cut_at;
+use crate::facts::{is_word, value_of};
 use crate::{Entry, FactFault, Kind, Moment, Text, moment_of_text};
 use ftp_endpoint::number;
 use ftp_path::is_path_text;
@@ -76,7 +77,7 @@ fn parts_of(line: &[u8]) -> Result<Parts<'_>, FactFault>
         (option_copied parts.size) (option_copied parts.modify) (option_copied parts.perm)) }
     ensures silent { IfErr result (NoParts line.now) }
 {
-    let Some((facts, name)) = split_at_octet(line, b' ') else {
+    let Some((facts, name)) = cut_at(line, b' ') else {
         return Err(FactFault::NoSpace);
     };
     Ok(Parts {

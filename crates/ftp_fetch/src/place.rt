@@ -1,6 +1,7 @@
 // Which file of which server is meant, and who asks.
 use ftp_asking::{Server, User};
 use ftp_endpoint::port;
+use ftp_facts::cut_at;
 use ftp_operation::How;
 
 /// The port of a control connection where none is written (RFC 959, section 5.2).
@@ -90,12 +91,4 @@ fn port_behind(text: &[u8]) -> Option<u16> {
         [b':', digits @ ..] => port(digits),
         _ => None,
     }
-}
-
-/// What stands before the first such octet and behind it.
-fn cut_at(octets: &[u8], octet: u8) -> Option<(&[u8], &[u8])> {
-    let place = octets.iter().position(|other| *other == octet)?;
-    let (front, rest) = octets.split_at(place);
-    let (_, behind) = rest.split_at(1);
-    Some((front, behind))
 }

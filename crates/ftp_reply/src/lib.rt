@@ -4,7 +4,6 @@
 
 mod endpoint;
 mod fault;
-mod first;
 pub mod laws;
 mod lines;
 mod number;

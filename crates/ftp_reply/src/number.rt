@@ -10,10 +10,9 @@ ghost use Rattle.ftp_reply.specs.Values.{SaysMark, mark_value};
 ghost use Rattle.ftp_reply.specs.Values as values;
 
 use crate::fault::ReplyFault;
-use crate::first::cut_at;
 use crate::reply::Reply;
 use ftp_endpoint::number;
-use ftp_facts::{Moment, moment_of_text};
+use ftp_facts::{Moment, cut_at, moment_of_text};
 use ftp_representation::{MARKER_LIMIT, is_marker_octet};
 use std::alloc::Allocator;
 
@@ -64,7 +63,7 @@ fn mark_in(text: &[u8]) -> Option<u64>
     let Some(rest) = behind_mark(text) else {
         return None;
     };
-    let Some((theirs, behind)) = cut_at(b' ', rest) else {
+    let Some((theirs, behind)) = cut_at(rest, b' ') else {
         return None;
     };
     if !is_marker(theirs) {

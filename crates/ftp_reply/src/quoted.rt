@@ -4,9 +4,9 @@ ghost use Rattle.ftp_reply.specs.Lines.{joined};
 ghost use Rattle.ftp_reply.specs.Values.{Closes, IsFront, path_value};
 
 use crate::fault::ReplyFault;
-use crate::first::cut_at;
 use crate::reply::Reply;
 use arrayvec::ArrayVec;
+use ftp_facts::cut_at;
 use ftp_path::is_path_text;
 use std::alloc::Allocator;
 
@@ -46,7 +46,7 @@ pub fn quoted_of<A: Allocator, B: Allocator>(
 fn path_text_in(text: &[u8]) -> Option<ArrayVec<u8, 900>>
     ensures { option_map (λ path. path.items) result ≡ path_value text.now }
 {
-    let Some((_, inside)) = cut_at(b'"', text) else {
+    let Some((_, inside)) = cut_at(text, b'"') else {
         return None;
     };
     let Some(path) = path_in(inside) else {
