@@ -3,11 +3,13 @@
 
 mod fault;
 mod file;
+mod known;
 mod line;
 mod reading;
 mod roots;
 
 pub use fault::{AccountsFileFault, LineFault};
 pub use file::{load_accounts, load_roots};
+pub use known::two_accounts;
 pub use reading::read_accounts;
 pub use roots::read_roots;

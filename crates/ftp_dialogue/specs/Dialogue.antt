@@ -4,13 +4,13 @@ use Rattle.std.specs.Prelude.{ℕ, ◌==◌, ◌&&◌, ◌||◌, ◌++◌, Bool,
 use Rattle.ftp_endpoint.specs.declared.host.Host.{Host}
 use Rattle.ftp_endpoint.specs.declared.host.Host.TheVariants.{V4}
 use Rattle.ftp_tree.specs.Tree.{root_alone}
+use Rattle.ftp_accounts.specs.Known.{two_accounts}
 use Rattle.ftp_ends.specs.declared.link.Wants.{Wants}
 use Rattle.ftp_ends.specs.declared.link.Wants.TheVariants as Want
 use Rattle.ftp_server_machine.specs.View.{View}
 use Rattle.ftp_server_machine.specs.Machine.{Reading, hears_octet, is_running}
 use Rattle.ftp_server_machine.specs.Calls.{data_closed, data_refused, gives_control, listening, start, wants}
 use Rattle.ftp_server.specs.Busy.{is_opening}
-use Rattle.ftp_dialogue.specs.Accounts.{two_accounts}
 
 -- ---- what is wanted of the data connection
 

@@ -1,4 +1,3 @@
-pub mod Accounts
 pub mod Converses
 pub mod Dialogue
 pub mod Exchange

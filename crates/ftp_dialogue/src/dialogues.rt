@@ -6,8 +6,8 @@ ghost use Rattle.ftp_server.specs.Server.{view_of};
 ghost use Rattle.ftp_dialogue.specs.Converses.{BreaksOff, Converses, Ends, most_of};
 ghost use Rattle.ftp_dialogue.specs.Dialogue.{begun};
 
-use crate::accounts::two_accounts;
 use crate::answers::Answers;
+use ftp_accounts::two_accounts;
 use ftp_carried::Carried;
 use ftp_endpoint::Host;
 use ftp_pieces::{Failed, PIECE_LIMIT, TURNS};

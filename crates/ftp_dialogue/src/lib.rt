@@ -2,12 +2,10 @@
 //! (RFC 959, sections 4.1, 4.2 and 5.4).
 #![tactic(auto)]
 
-mod accounts;
 mod answers;
 mod dialogues;
 pub mod laws;
 mod refusal;
 mod serving;
 
-pub use accounts::two_accounts;
 pub use dialogues::dialogue;

@@ -1,9 +1,9 @@
 // The ends themselves: a server over an empty tree in memory, and a client.
 use crate::side::HERE;
+use ftp_accounts::two_accounts;
 use ftp_carried::Carried;
 use ftp_carrying::Carrying;
 use ftp_client::Client;
-use ftp_dialogue::two_accounts;
 use ftp_operation::Login;
 use ftp_server::Server;
 use ftp_tree::MemTree;

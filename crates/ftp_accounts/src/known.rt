@@ -1,6 +1,6 @@
-// Who may log in (RFC 959, section 4.1.1).
+// Who may log in where no file of accounts is given (RFC 959, section 4.1.1).
 ghost use Rattle.std.specs.Prelude.{◌≡◌, IfOk};
-ghost use Rattle.ftp_dialogue.specs.Accounts.{anonymous, guest, two_accounts};
+ghost use Rattle.ftp_accounts.specs.Known.{anonymous, guest, two_accounts};
 
 use ftp_facts::Text;
 use ftp_operation::{Account, Accounts};
