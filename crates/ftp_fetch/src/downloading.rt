@@ -1,9 +1,10 @@
 // A download, which goes on where it was cut: where its data connection broke, and where the server says that all is sent and not all came.
 use crate::came::Came;
-use crate::trying::{MOST_TRIES, ended_of, is_counted, size_request, there_of};
+use crate::trying::{ended_of, is_counted, size_request, there_of};
 use ftp_asking::{Asks, Plays, Request, Stop};
 use ftp_facts::Text;
 use ftp_operation::{Answer, How, Op};
+use ftp_plan::MOST_TRIES;
 use ftp_tool_steps::{Arrival, Ended, Size, Step, There, arrived, follows_download};
 use std::alloc::{AllocError, Global};
 use std::io::Eprint;
@@ -16,7 +17,7 @@ pub struct Downloading<'a, R> {
     /// What came so far over the control connection of now.
     came: Came,
     /// How many tries may still begin, over all control connections.
-    left: u32,
+    left: u64,
     size: Size,
 }
 

@@ -6,9 +6,6 @@ use ftp_representation::{Kind, Structure};
 use ftp_tool_steps::{Ended, There};
 use std::alloc::{AllocError, Global};
 
-/// The most tries of a transfer, over all its control connections (own choice).
-pub(crate) const MOST_TRIES: u32 = 16;
-
 /// The code of a reply that there is no such file (RFC 959, section 4.2.2).
 pub(crate) const NO_FILE: u16 = 550;
 

@@ -2,10 +2,11 @@
 use crate::file::{Content, read_from};
 use crate::place::Asked;
 use crate::telling::{DONE, REFUSED, tell};
-use crate::trying::{MOST_TRIES, NO_FILE, ended_of, is_counted, size_request, there_of};
+use crate::trying::{NO_FILE, ended_of, is_counted, size_request, there_of};
 use ftp_asking::{Asks, Noticed, Plays, Request, Stage, Stop, ask, at};
 use ftp_facts::Text;
 use ftp_operation::{Answer, How, Op};
+use ftp_plan::MOST_TRIES;
 use ftp_tool_steps::{Ended, Step, There, Transfer, follows};
 use std::alloc::{AllocError, Global};
 use std::env::Env;

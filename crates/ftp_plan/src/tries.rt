@@ -14,7 +14,7 @@ use ftp_representation::{Kind, Representation, Structure};
 use std::alloc::{AllocError, Allocator};
 use std::mem;
 
-/// The most Put and PutFrom of a run (own choice).
+/// The most tries of a transfer: of an upload over breaks the most Put and PutFrom (own choice).
 pub const MOST_TRIES: u64 = 16;
 
 /// An upload over breaks that is under way.

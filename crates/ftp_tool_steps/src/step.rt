@@ -34,7 +34,7 @@ pub struct Transfer {
     /// How many octets the file has.
     pub total: u64,
     /// How many tries may still begin.
-    pub left: u32,
+    pub left: u64,
     /// What stood where the file goes to before the first try, and may stand there still: `Nothing` once it is known not to.
     pub older: There,
 }
@@ -150,7 +150,7 @@ fn behind_octets(transfer: Transfer, count: u64) -> Step
 ///
 /// A download is done only where what came has the size that the server told last. It goes on behind what came only while that size is the one of
 /// before, and else begins anew.
-pub fn follows_download(told: u64, left: u32, ended: Ended, came: u64, behind: There) -> Step
+pub fn follows_download(told: u64, left: u64, ended: Ended, came: u64, behind: There) -> Step
     ensures { result ≡ follows_download told left ended came behind }
 {
     if is_lost(behind) && left != 0 {
@@ -160,7 +160,7 @@ pub fn follows_download(told: u64, left: u32, ended: Ended, came: u64, behind: T
 }
 
 /// A download as a transfer to this end.
-fn arriving(told: u64, left: u32, behind: There) -> Transfer
+fn arriving(told: u64, left: u64, behind: There) -> Transfer
     ensures { result ≡ arriving told left behind }
 {
     match behind {
