@@ -7,10 +7,9 @@ use crate::reading::read_accounts;
 use crate::roots::read_roots;
 use ftp_operation::Accounts;
 use ftp_path::Path;
+use ftp_tool_private::{NotPrivate, read_private};
 use std::alloc::Global;
-use std::fs::{File, Files, OpenFile};
-use std::io::Read;
-use std::os::unix::fs::PermissionsExt;
+use std::fs::Files;
 
 /// The most octets of a file of accounts (own choice).
 const FILE_LIMIT: u64 = 1_048_576;
@@ -22,7 +21,7 @@ pub fn load_accounts<R: Files + AllocGlobal>(
 ) -> Result<Accounts<Global>, AccountsFileFault>
     ensures allowed { IfOk result (λ accounts. accounts_refusal accounts ≡ None) }
 {
-    let text = read_private(files, file)?;
+    let text = text_of(files, file)?;
     read_accounts(files.alloc(), text.as_slice())
 }
 
@@ -31,39 +30,19 @@ pub fn load_roots<R: Files + AllocGlobal>(
     files: &R,
     file: &str,
 ) -> Result<Vec<Path<Global>, Global>, AccountsFileFault> {
-    let text = read_private(files, file)?;
+    let text = text_of(files, file)?;
     read_roots(files.alloc(), text.as_slice())
 }
 
 /// The octets of a file that its owner alone may use.
-fn read_private<R: Files + AllocGlobal>(
+fn text_of<R: Files + AllocGlobal>(
     files: &R,
     file: &str,
 ) -> Result<Vec<u8, Global>, AccountsFileFault> {
-    let mut opened = match File::open(files, file) {
-        Ok(opened) => opened,
-        Err(error) => return Err(AccountsFileFault::System(error)),
-    };
-    check_private(&opened)?;
-    let mut octets = Vec::new(files.alloc());
-    match opened.read_to_end(&mut octets) {
-        Ok(_) => Ok(octets),
-        Err(error) => Err(AccountsFileFault::System(error)),
+    match read_private(files, file, FILE_LIMIT) {
+        Ok(text) => Ok(text),
+        Err(NotPrivate::Kind) => Err(AccountsFileFault::Kind),
+        Err(NotPrivate::Shared(mode)) => Err(AccountsFileFault::Shared(mode)),
+        Err(NotPrivate::System(error)) => Err(AccountsFileFault::System(error)),
     }
-}
-
-/// Fails where what is open is no file of a sensible size, or is not its owner's alone.
-fn check_private<F: OpenFile>(opened: &F) -> Result<(), AccountsFileFault> {
-    let found = match opened.metadata() {
-        Ok(found) => found,
-        Err(error) => return Err(AccountsFileFault::System(error)),
-    };
-    if !found.is_file() || found.len() > FILE_LIMIT {
-        return Err(AccountsFileFault::Kind);
-    }
-    let mode = found.permissions().mode() & 0o777;
-    if mode & 0o077 != 0 {
-        return Err(AccountsFileFault::Shared(mode));
-    }
-    Ok(())
 }

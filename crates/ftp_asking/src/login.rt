@@ -1,11 +1,11 @@
 // Who asks: a user name, and the password, which is never a word of a command line.
 use ftp_facts::Text;
 use ftp_operation::Login;
+use ftp_tool_private::{NotPrivate, read_private};
 use std::alloc::Global;
 use std::env::{Env, VarError};
-use std::fs::{File, Files, OpenFile};
-use std::io::{Error, ErrorKind, Read};
-use std::os::unix::fs::PermissionsExt;
+use std::fs::Files;
+use std::io::{Error, ErrorKind};
 use std::{env, io};
 
 /// Who asks.
@@ -69,29 +69,18 @@ fn password_around<R: Env + AllocGlobal>(rt: &R) -> io::Result<Text<Global>> {
 
 /// The password that a file has: its octets up to the end of its first line.
 fn password_in<R: Files + AllocGlobal>(rt: &R, file: &str) -> io::Result<Text<Global>> {
-    let mut opened = File::open(rt, file)?;
-    check_private(&opened)?;
-    let mut octets = Vec::new(rt.alloc());
-    let _count = opened.read_to_end(&mut octets)?;
-    Ok(Text::copy_of(rt.alloc(), first_line(octets.as_slice()))?)
-}
-
-/// Fails where what is open is no file of a sensible size, or is not its owner's alone.
-fn check_private<F: OpenFile>(opened: &F) -> io::Result<()> {
-    let found = opened.metadata()?;
-    if !found.is_file() || found.len() > FILE_LIMIT {
-        return Err(Error::new(
+    match read_private(rt, file, FILE_LIMIT) {
+        Ok(octets) => Ok(Text::copy_of(rt.alloc(), first_line(octets.as_slice()))?),
+        Err(NotPrivate::Kind) => Err(Error::new(
             ErrorKind::InvalidInput,
             "a file of at most 1,024 octets is wanted for the password",
-        ));
-    }
-    if found.permissions().mode() & 0o077 != 0 {
-        return Err(Error::new(
+        )),
+        Err(NotPrivate::Shared(_)) => Err(Error::new(
             ErrorKind::PermissionDenied,
             "others may use the file of the password: its owner alone may",
-        ));
+        )),
+        Err(NotPrivate::System(error)) => Err(error),
     }
-    Ok(())
 }
 
 /// All before the first CR or LF.
