@@ -1,4 +1,5 @@
 // Why a program stops before it has an answer of the server.
+use ftp_tool_status::Status;
 use std::io;
 use std::io::{Eprint, Error, ErrorKind};
 
@@ -51,17 +52,17 @@ impl Stop {
         self.stage
     }
 
-    /// Tells why on standard error, and gives the exit status: 2 for a bad login, and else 3.
-    pub fn tell<R: Eprint>(&self, rt: &R) -> io::Result<u8> {
+    /// Tells why on standard error, and gives the exit status: that of bad words for a bad login, and else that of a failure.
+    pub fn tell<R: Eprint>(&self, rt: &R) -> io::Result<Status> {
         let (what, status) = match self.stage {
-            Stage::Login => ("no login", 2),
-            Stage::Asking => ("nothing is asked", 3),
-            Stage::Connection => ("no connection", 3),
-            Stage::Talking => ("the control connection ended", 3),
-            Stage::Reading => ("the file is not read", 3),
-            Stage::Writing => ("the file is not written", 3),
-            Stage::Script => ("the script is not read", 3),
-            Stage::Report => ("no report", 3),
+            Stage::Login => ("no login", Status::BadWords),
+            Stage::Asking => ("nothing is asked", Status::Failed),
+            Stage::Connection => ("no connection", Status::Failed),
+            Stage::Talking => ("the control connection ended", Status::Failed),
+            Stage::Reading => ("the file is not read", Status::Failed),
+            Stage::Writing => ("the file is not written", Status::Failed),
+            Stage::Script => ("the script is not read", Status::Failed),
+            Stage::Report => ("no report", Status::Failed),
         };
         eprintln!(rt; "error: {what}: {}", self.error)?;
         Ok(status)

@@ -4,11 +4,12 @@ use crate::downloading::Downloading;
 use crate::file::{write_over, write_part};
 use crate::place::Asked;
 use crate::single::{Wish, ask_for};
-use crate::telling::{DONE, FAILED, REFUSED, tell};
+use crate::telling::tell;
 use ftp_asking::{Noticed, Stage, Stop, ask, at};
 use ftp_facts::Moment;
 use ftp_operation::{Answer, How};
 use ftp_representation::{Mode, Structure};
+use ftp_tool_status::Status;
 use ftp_tool_steps::Arrival;
 use std::alloc::Global;
 use std::env::Env;
@@ -35,7 +36,7 @@ enum Known {
     /// The server's moment of it, if the server tells one.
     Moment(Option<Moment>),
     /// That there is no use in asking for it: the status, which is told.
-    Useless(u8),
+    Useless(Status),
 }
 
 /// Asks for the file, and leaves it at this end; for its moment first, where that is wanted, so that a file which changes in between looks too old
@@ -45,7 +46,7 @@ pub(crate) fn get<R>(
     asked: &Asked<'_>,
     download: Download<'_>,
     noticed: &mut Noticed,
-) -> Result<u8, Stop>
+) -> Result<Status, Stop>
 where
     R: Net<Listener = TcpListener, Stream = TcpStream> + Files + Env + Eprint + Clock + AllocGlobal,
 {
@@ -65,7 +66,7 @@ fn get_at<R>(
     download: Download<'_>,
     moment: Option<Moment>,
     noticed: &mut Noticed,
-) -> Result<u8, Stop>
+) -> Result<Status, Stop>
 where
     R: Net<Listener = TcpListener, Stream = TcpStream> + Files + Env + Eprint + Clock + AllocGlobal,
 {
@@ -120,7 +121,7 @@ fn save<R: Files + Eprint + AllocGlobal>(
     download: Download<'_>,
     moment: Option<Moment>,
     downloading: &Downloading<'_, R>,
-) -> io::Result<u8> {
+) -> io::Result<Status> {
     let came = downloading.came();
     match downloading.arrived() {
         Arrival::Whole => write(rt, download.file, came, moment),
@@ -135,7 +136,7 @@ fn save<R: Files + Eprint + AllocGlobal>(
             eprintln!(rt;
                 "error: {count} octets came of a file that has {total}, as the server says"
             )?;
-            keep_part(rt, download, came, REFUSED)
+            keep_part(rt, download, came, Status::Refused)
         }
     }
 }
@@ -159,9 +160,9 @@ fn write<R: Files + Eprint + AllocGlobal>(
     file: &str,
     came: &Came,
     moment: Option<Moment>,
-) -> io::Result<u8> {
+) -> io::Result<Status> {
     match at(Stage::Writing, write_over(rt, file, came.pieces(), moment)) {
-        Ok(()) => Ok(DONE),
+        Ok(()) => Ok(Status::Done),
         Err(stop) => stop.tell(rt),
     }
 }
@@ -173,12 +174,12 @@ fn save_part<R: Files + Eprint + AllocGlobal>(
     answer: &Answer<Global>,
     came: &Came,
     noticed: &Noticed,
-) -> io::Result<u8> {
+) -> io::Result<Status> {
     let status = match answer {
         Answer::Broken { got: _, mark: _ } => {
             let count = came.count();
             eprintln!(rt; "error: the data connection broke behind {count} octets")?;
-            REFUSED
+            Status::Refused
         }
         _ => tell(rt, answer, noticed)?,
     };
@@ -190,8 +191,8 @@ fn keep_part<R: Files + Eprint + AllocGlobal>(
     rt: &R,
     download: Download<'_>,
     came: &Came,
-    status: u8,
-) -> io::Result<u8> {
+    status: Status,
+) -> io::Result<Status> {
     if !download.keep || came.count() == 0 {
         return Ok(status);
     }
@@ -202,7 +203,7 @@ fn keep_part<R: Files + Eprint + AllocGlobal>(
         }
         Err(error) => {
             eprintln!(rt; "error: the octets that came are not kept: {error}")?;
-            Ok(FAILED)
+            Ok(Status::Failed)
         }
     }
 }

@@ -3,10 +3,11 @@ use crate::download::{Download, get};
 use crate::listing::{Listing, listing_of};
 use crate::place::Asked;
 use crate::single::{Wish, ask_for};
-use crate::telling::{DONE, tell};
+use crate::telling::tell;
 use crate::uploading::put;
 use ftp_asking::{Noticed, Stage, Stop, at};
 use ftp_operation::Answer;
+use ftp_tool_status::Status;
 use std::alloc::Global;
 use std::env::Env;
 use std::fs::Files;
@@ -34,7 +35,7 @@ pub enum Task<'a> {
 
 /// Does a task, and gives the exit status: 0; 1 where it was refused or broke; 2 for a bad login or path; 3 where a connection or a device failed, or
 /// memory was refused. All but 0 are told on standard error.
-pub fn fetch<R>(rt: &R, asked: &Asked<'_>, task: Task<'_>) -> io::Result<u8>
+pub fn fetch<R>(rt: &R, asked: &Asked<'_>, task: Task<'_>) -> io::Result<Status>
 where
     R: Net<Listener = TcpListener, Stream = TcpStream>
         + Files
@@ -57,7 +58,7 @@ where
 }
 
 /// Lists a directory on standard output.
-fn list<R>(rt: &R, asked: &Asked<'_>, noticed: &mut Noticed) -> Result<u8, Stop>
+fn list<R>(rt: &R, asked: &Asked<'_>, noticed: &mut Noticed) -> Result<Status, Stop>
 where
     R: Net<Listener = TcpListener, Stream = TcpStream>
         + Files
@@ -85,7 +86,7 @@ where
 }
 
 /// Writes a listing to standard output, or tells why there is none.
-fn show<R>(rt: &R, path: &str, answer: &Answer<Global>, noticed: &Noticed) -> io::Result<u8>
+fn show<R>(rt: &R, path: &str, answer: &Answer<Global>, noticed: &Noticed) -> io::Result<Status>
 where
     R: Print + Eprint + AllocGlobal,
 {
@@ -96,7 +97,7 @@ where
 }
 
 /// Writes a listing to standard output, and tells how much of it is left out.
-fn write<R: Print + Eprint>(rt: &R, listing: Listing) -> io::Result<u8> {
+fn write<R: Print + Eprint>(rt: &R, listing: Listing) -> io::Result<Status> {
     io::writer(rt).write_all(listing.lines.as_slice())?;
     if listing.left_out > 0 {
         let _told = eprintln!(rt;
@@ -104,5 +105,5 @@ fn write<R: Print + Eprint>(rt: &R, listing: Listing) -> io::Result<u8> {
             listing.left_out
         );
     }
-    Ok(DONE)
+    Ok(Status::Done)
 }

@@ -1,17 +1,14 @@
 // A script of operations over one control connection: each is done and reported before the next begins.
-use crate::telling::{DONE, FAILED, REFUSED};
 use ftp_asking::{Asks, Noticed, Plays, Request, Server, Stage, Stop, at, converse};
 use ftp_facts::Text;
 use ftp_operation::Answer;
 use ftp_script::{Order, Script, ScriptFault, report_of, script_of};
+use ftp_tool_status::Status;
 use std::alloc::Global;
 use std::io;
 use std::io::{Eprint, Read, Write};
 use std::net::{Net, TcpListener, TcpStream};
 use std::time::Clock;
-
-/// A line of the script fits no form.
-const BAD_SCRIPT: u8 = 2;
 
 /// The orders of a script.
 type Orders = Vec<Order<Text<Global>>, Global>;
@@ -19,7 +16,7 @@ type Orders = Vec<Order<Text<Global>>, Global>;
 /// Does the script of standard input over one control connection to a server, and writes a report of each of its orders to standard output once it
 /// is done. Gives the exit status: 0; 1 where an order was refused or broke; 2 for a line that fits no form, and then nothing is sent; 3 where the
 /// control connection or a device failed, or memory was refused for the script or a report. What keeps it from a report is told on standard error.
-pub fn run<R>(rt: &R, host: &str, port: u16) -> io::Result<u8>
+pub fn run<R>(rt: &R, host: &str, port: u16) -> io::Result<Status>
 where
     R: Net<Listener = TcpListener, Stream = TcpStream>
         + Input
@@ -35,7 +32,7 @@ where
 }
 
 /// Reads the script, and does it.
-fn read_and_do<R>(rt: &R, host: &str, port: u16) -> Result<u8, Stop>
+fn read_and_do<R>(rt: &R, host: &str, port: u16) -> Result<Status, Stop>
 where
     R: Net<Listener = TcpListener, Stream = TcpStream>
         + Input
@@ -59,21 +56,21 @@ fn text_of<R: Input + AllocGlobal>(rt: &R) -> io::Result<Vec<u8, Global>> {
 }
 
 /// Tells why a text is no script.
-fn tell_fault<R: Eprint>(rt: &R, fault: ScriptFault) -> io::Result<u8> {
+fn tell_fault<R: Eprint>(rt: &R, fault: ScriptFault) -> io::Result<Status> {
     match fault {
         ScriptFault::Line(number) => {
             eprintln!(rt; "error: line {number} fits no form")?;
-            Ok(BAD_SCRIPT)
+            Ok(Status::BadWords)
         }
         ScriptFault::Memory => {
             eprintln!(rt; "error: out of memory")?;
-            Ok(FAILED)
+            Ok(Status::Failed)
         }
     }
 }
 
 /// Does a script over a control connection.
-fn do_script<R>(rt: &R, host: &str, port: u16, script: Script<Global>) -> Result<u8, Stop>
+fn do_script<R>(rt: &R, host: &str, port: u16, script: Script<Global>) -> Result<Status, Stop>
 where
     R: Net<Listener = TcpListener, Stream = TcpStream> + Print + Eprint + Clock + AllocGlobal,
 {
@@ -103,30 +100,30 @@ impl<'a, R> Drop for All<'a, R> {
     }
 }
 
-impl<'a, R: Print + AllocGlobal> Plays<Result<u8, Stop>> for All<'a, R> {
-    fn play<S: Asks>(&mut self, seat: &mut S) -> Result<u8, Stop> {
+impl<'a, R: Print + AllocGlobal> Plays<Result<Status, Stop>> for All<'a, R> {
+    fn play<S: Asks>(&mut self, seat: &mut S) -> Result<Status, Stop> {
         match self.orders.take() {
             Some(orders) => at(Stage::Report, do_all(self.rt, orders, seat)),
-            None => Ok(DONE),
+            None => Ok(Status::Done),
         }
     }
 }
 
 /// Does orders, one after another, and gives the worst of their statuses.
-fn do_all<R, S>(rt: &R, orders: Orders, seat: &mut S) -> io::Result<u8>
+fn do_all<R, S>(rt: &R, orders: Orders, seat: &mut S) -> io::Result<Status>
 where
     R: Print + AllocGlobal,
     S: Asks,
 {
-    let mut worst = DONE;
+    let mut worst = Status::Done;
     for order in orders {
-        worst = worst.max(do_one(rt, order, seat)?);
+        worst = worst.worse(do_one(rt, order, seat)?);
     }
     Ok(worst)
 }
 
 /// Does an order, writes its report, and gives its status.
-fn do_one<R, S>(rt: &R, order: Order<Text<Global>>, seat: &mut S) -> io::Result<u8>
+fn do_one<R, S>(rt: &R, order: Order<Text<Global>>, seat: &mut S) -> io::Result<Status>
 where
     R: Print + AllocGlobal,
     S: Asks,
@@ -144,17 +141,17 @@ fn request_of(order: Order<Text<Global>>) -> Request {
 }
 
 /// Writes the report of an answer, and gives its status.
-fn report<R: Print + AllocGlobal>(rt: &R, answer: &Answer<Global>) -> io::Result<u8> {
+fn report<R: Print + AllocGlobal>(rt: &R, answer: &Answer<Global>) -> io::Result<Status> {
     let text = report_of(rt.alloc(), answer)?;
     io::writer(rt).write_all(text.as_slice())?;
     Ok(status_of(answer))
 }
 
-fn status_of(answer: &Answer<Global>) -> u8 {
+fn status_of(answer: &Answer<Global>) -> Status {
     match answer {
-        Answer::Lost => FAILED,
-        Answer::Refused(_) | Answer::BadOperation | Answer::Broken { got: _, mark: _ } => REFUSED,
-        Answer::Unopened | Answer::Foreign | Answer::Strange | Answer::Memory => REFUSED,
-        _ => DONE,
+        Answer::Lost => Status::Failed,
+        Answer::Refused(_) | Answer::BadOperation | Answer::Broken { got: _, mark: _ } => Status::Refused,
+        Answer::Unopened | Answer::Foreign | Answer::Strange | Answer::Memory => Status::Refused,
+        _ => Status::Done,
     }
 }

@@ -1,28 +1,17 @@
 // What an answer that is none of those wished for tells, in a sentence and an exit status.
 use ftp_asking::Noticed;
 use ftp_operation::Answer;
+use ftp_tool_status::Status;
 use std::alloc::Global;
 use std::io;
 use std::io::Eprint;
-
-/// All that was asked for is done.
-pub(crate) const DONE: u8 = 0;
-
-/// Refused, or broken off.
-pub(crate) const REFUSED: u8 = 1;
-
-/// A path that can't be sent.
-const BAD_WORDS: u8 = 2;
-
-/// The control connection or a device failed, or memory was refused.
-pub(crate) const FAILED: u8 = 3;
 
 /// Tells on standard error why an operation was not done, and gives the exit status.
 pub(crate) fn tell<R: Eprint>(
     rt: &R,
     answer: &Answer<Global>,
     noticed: &Noticed,
-) -> io::Result<u8> {
+) -> io::Result<Status> {
     match answer {
         Answer::Refused(code) => {
             eprintln!(rt; "error: the server refuses it: {}", noticed.refusal(*code))?
@@ -53,11 +42,11 @@ fn sentence(answer: &Answer<Global>) -> &'static str {
     }
 }
 
-fn status(answer: &Answer<Global>) -> u8 {
+fn status(answer: &Answer<Global>) -> Status {
     match answer {
-        Answer::BadOperation => BAD_WORDS,
-        Answer::Refused(_) | Answer::Broken { got: _, mark: _ } => REFUSED,
-        Answer::Unopened | Answer::Foreign | Answer::Strange => REFUSED,
-        _ => FAILED,
+        Answer::BadOperation => Status::BadWords,
+        Answer::Refused(_) | Answer::Broken { got: _, mark: _ } => Status::Refused,
+        Answer::Unopened | Answer::Foreign | Answer::Strange => Status::Refused,
+        _ => Status::Failed,
     }
 }

@@ -1,12 +1,13 @@
 // An upload, which goes on where the server has it: over breaks, and where a 226 came and not all is there.
 use crate::file::{Content, read_from};
 use crate::place::Asked;
-use crate::telling::{DONE, REFUSED, tell};
+use crate::telling::tell;
 use crate::trying::{NO_FILE, ended_of, is_counted, size_request, there_of};
 use ftp_asking::{Asks, Noticed, Plays, Request, Stage, Stop, ask, at};
 use ftp_facts::Text;
 use ftp_operation::{Answer, How, Op};
 use ftp_plan::MOST_TRIES;
+use ftp_tool_status::Status;
 use ftp_tool_steps::{Ended, Step, There, Transfer, follows};
 use std::alloc::{AllocError, Global};
 use std::env::Env;
@@ -56,7 +57,7 @@ pub(crate) fn put<R>(
     asked: &Asked<'_>,
     file: &str,
     noticed: &mut Noticed,
-) -> Result<u8, Stop>
+) -> Result<Status, Stop>
 where
     R: Net<Listener = TcpListener, Stream = TcpStream> + Files + Env + Eprint + Clock + AllocGlobal,
 {
@@ -206,7 +207,7 @@ impl<'a, R: Files + Eprint + AllocGlobal> Uploading<'a, R> {
     }
 
     /// Tells how many tries the upload took, or why it is not done, and gives the exit status.
-    pub fn finish(&self, answer: &Answer<Global>, noticed: &Noticed) -> io::Result<u8> {
+    pub fn finish(&self, answer: &Answer<Global>, noticed: &Noticed) -> io::Result<Status> {
         match (answer, self.wrong) {
             (Answer::Done, None) => self.tell_tries(noticed.opened()),
             (Answer::Done, Some(Wrong::Octets(count))) => self.tell_wrong(count),
@@ -216,29 +217,29 @@ impl<'a, R: Files + Eprint + AllocGlobal> Uploading<'a, R> {
     }
 
     /// Tells how many tries the upload took, where it was more than one: each has a data connection of its own.
-    fn tell_tries(&self, tries: u32) -> io::Result<u8> {
+    fn tell_tries(&self, tries: u32) -> io::Result<Status> {
         if tries > 1 {
             eprintln!(self.rt; "note: the upload took {tries} tries")?;
         }
-        Ok(DONE)
+        Ok(Status::Done)
     }
 
     /// Tells that the server has not what it says that it has.
-    fn tell_wrong(&self, count: u64) -> io::Result<u8> {
+    fn tell_wrong(&self, count: u64) -> io::Result<Status> {
         let total = self.upload.total;
         eprintln!(self.rt;
             "error: the server says that it is done, and has {count} octets of a file that has {total}"
         )?;
-        Ok(REFUSED)
+        Ok(Status::Refused)
     }
 
     /// Tells that the server says that it is done, and then that there is no such file.
-    fn tell_missing(&self, noticed: &Noticed) -> io::Result<u8> {
+    fn tell_missing(&self, noticed: &Noticed) -> io::Result<Status> {
         eprintln!(self.rt;
             "error: the server says that it is done, and tells no size of it: {}",
             noticed.refusal(NO_FILE)
         )?;
-        Ok(REFUSED)
+        Ok(Status::Refused)
     }
 }
 

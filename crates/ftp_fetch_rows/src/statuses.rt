@@ -4,6 +4,7 @@ use ftp_fetch::{Asked, Download, Place, Task, fetch, run};
 use ftp_operation::How;
 use ftp_paper::Paper;
 use ftp_representation::{Kind, Mode, Representation, Structure};
+use ftp_tool_status::Status;
 use std::env::Env;
 use std::fs::Files;
 use std::io::{Eprint, Print};
@@ -92,9 +93,9 @@ where
     Ok(())
 }
 
-fn put(paper: &mut Paper, what: &str, status: u8) {
+fn put(paper: &mut Paper, what: &str, status: Status) {
     paper.put(what.as_bytes());
     paper.put(b": ");
-    paper.number(u64::from(status));
+    paper.number(u64::from(status.number()));
     paper.line(b"");
 }

@@ -237,7 +237,9 @@ fn put<R: Files + Eprint + AllocGlobal>(
     let answer = played(rt, paper, row, &mut uploading);
     paper.put(b"; ");
     match answer {
-        Ok(answer) => paper.number(u64::from(uploading.finish(&answer, &Noticed::new())?)),
+        Ok(answer) => paper.number(u64::from(
+            uploading.finish(&answer, &Noticed::new())?.number(),
+        )),
         Err(_) => paper.put(b"stopped"),
     }
     paper.line(b"");

@@ -9,31 +9,20 @@ use ftp_facts::Text;
 use ftp_operation::Login;
 use ftp_script::{Order, Script, ScriptFault, script_of};
 use ftp_server_machine::Far;
+use ftp_tool_status::Status;
 use ftp_tree::MemTree;
 use std::alloc::Global;
 use std::io;
 use std::io::{Eprint, Error, ErrorKind, Read, Write};
 use std::net::{Net, TcpListener, TcpStream};
 
-/// Each order was answered as wanted.
-const DONE: u8 = 0;
-
-/// An order was refused, or failed.
-const REFUSED: u8 = 1;
-
-/// A line of the script fits no form.
-const FAULTY: u8 = 2;
-
-/// A device or a socket failed, or memory was refused.
-const FAILED: u8 = 3;
-
 /// Plays the script that standard input has, and writes the report of each order to standard output; gives the exit status.
 ///
 /// The client's end is `ftp_client`, and the server's is `ftp_server` over an empty tree, where `guest` with the password `secret` and `anonymous`
 /// without one may log in; what goes between them goes over loopback sockets. The first order has the first second of the year 2000, each other
-/// the next one. 0: done. 1: done, and an order was refused or failed. 2: a line of the script fits no form, and nothing was done. 3: a read, a
-/// write or a socket failed, or memory was refused. 2 and 3 are told on standard error.
-pub fn play<R>(rt: &R) -> io::Result<u8>
+/// the next one. `Done`: each order was answered as wanted. `Refused`: an order was refused or failed. `BadWords`: a line of the script fits no form,
+/// and nothing was done. `Failed`: a read, a write or a socket failed, or memory was refused. The last two are told on standard error.
+pub fn play<R>(rt: &R) -> io::Result<Status>
 where
     R: Net<Listener = TcpListener, Stream = TcpStream> + Input + Print + Eprint + AllocGlobal,
 {
@@ -41,13 +30,13 @@ where
         Ok(status) => Ok(status),
         Err(error) => {
             eprintln!(rt; "error: {error}")?;
-            Ok(FAILED)
+            Ok(Status::Failed)
         }
     }
 }
 
 /// Reads the script, and plays it.
-fn played<R>(rt: &R) -> io::Result<u8>
+fn played<R>(rt: &R) -> io::Result<Status>
 where
     R: Net<Listener = TcpListener, Stream = TcpStream> + Input + Print + Eprint + AllocGlobal,
 {
@@ -57,14 +46,14 @@ where
         Ok(script) => play_script(rt, script),
         Err(ScriptFault::Line(number)) => {
             eprintln!(rt; "error: line {number} fits no form")?;
-            Ok(FAULTY)
+            Ok(Status::BadWords)
         }
         Err(ScriptFault::Memory) => Err(Error::from(ErrorKind::OutOfMemory)),
     }
 }
 
 /// Plays a script with a server of its own.
-fn play_script<R>(rt: &R, script: Script<Global>) -> io::Result<u8>
+fn play_script<R>(rt: &R, script: Script<Global>) -> io::Result<Status>
 where
     R: Net<Listener = TcpListener, Stream = TcpStream> + Print + AllocGlobal,
 {
@@ -81,7 +70,7 @@ fn play_at<R, S>(
     server: S,
     login: Login<Global>,
     orders: Vec<Order<Text<Global>>>,
-) -> io::Result<u8>
+) -> io::Result<Status>
 where
     R: Net<Listener = TcpListener, Stream = TcpStream> + Print + AllocGlobal,
     S: Far<Global, MemTree<Global>>,
@@ -98,7 +87,7 @@ fn play_between<R, N, S>(
     client: N,
     server: S,
     orders: Vec<Order<Text<Global>>>,
-) -> io::Result<u8>
+) -> io::Result<Status>
 where
     R: Net<Listener = TcpListener, Stream = TcpStream> + Print + AllocGlobal,
     N: Near<Global>,
@@ -106,8 +95,8 @@ where
 {
     let mut pair = Pair::new(rt, ClientEnd::new(client), ServerEnd::new(server))?;
     if obey(rt, &mut pair, orders, &mut io::writer(rt))? {
-        Ok(DONE)
+        Ok(Status::Done)
     } else {
-        Ok(REFUSED)
+        Ok(Status::Refused)
     }
 }

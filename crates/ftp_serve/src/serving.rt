@@ -5,6 +5,7 @@ use crate::users::{roots_of, users_of};
 use ftp_folder::{Reasons, open};
 use ftp_operation::Accounts;
 use ftp_pieces::TURNS;
+use ftp_tool_status::Status;
 use ftp_tree::Tree;
 use std::alloc::Global;
 use std::fs::Files;
@@ -12,15 +13,6 @@ use std::io;
 use std::io::{Eprint, Print};
 use std::net::{IpAddr, Net, SocketAddr, TcpListener, TcpStream};
 use std::time::Clock;
-
-/// A program that did all that it was asked for.
-const DONE: u8 = 0;
-
-/// What is asked for is not served.
-const NOT_SERVED: u8 = 2;
-
-/// A connection, the folder or the file of accounts failed, or memory was refused.
-const FAILED: u8 = 3;
 
 /// How many control connections are served.
 #[derive(Clone, Copy, Debug, PartialEq, Eq)]
@@ -61,9 +53,9 @@ impl<'a> Serving<'a> {
     }
 }
 
-/// Serves a folder, and gives the exit status: 0; 2 where the address is none of the loopback and no file of accounts is given; or 3 where the
-/// folder, the file of accounts, the port or a session failed.
-pub fn serve<R>(rt: &R, job: Serving<'_>) -> io::Result<u8>
+/// Serves a folder, and gives the exit status: done; bad words where the address is none of the loopback and no file of accounts is given; or failed
+/// where the folder, the file of accounts, the port or a session failed.
+pub fn serve<R>(rt: &R, job: Serving<'_>) -> io::Result<Status>
 where
     R: Net<Listener = TcpListener, Stream = TcpStream>
         + Files
@@ -76,10 +68,10 @@ where
         eprintln!(rt;
             "error: without a file of accounts only an address of the loopback is listened at"
         )?;
-        return Ok(NOT_SERVED);
+        return Ok(Status::BadWords);
     }
     if users_told(rt, job.accounts).is_none() {
-        return Ok(FAILED);
+        return Ok(Status::Failed);
     }
     serve_dir(rt, job)
 }
@@ -99,7 +91,7 @@ where
 }
 
 /// Loads the folder and serves it.
-fn serve_dir<R>(rt: &R, job: Serving<'_>) -> io::Result<u8>
+fn serve_dir<R>(rt: &R, job: Serving<'_>) -> io::Result<Status>
 where
     R: Net<Listener = TcpListener, Stream = TcpStream>
         + Files
@@ -112,7 +104,7 @@ where
         Ok(roots) => roots,
         Err(fault) => {
             eprintln!(rt; "error: accounts: {fault}")?;
-            return Ok(FAILED);
+            return Ok(Status::Failed);
         }
     };
     let reasons = Reasons::new();
@@ -120,13 +112,13 @@ where
         Ok(tree) => serve_tree(rt, tree, job, &reasons),
         Err(fault) => {
             eprintln!(rt; "error: {fault}")?;
-            Ok(FAILED)
+            Ok(Status::Failed)
         }
     }
 }
 
 /// Listens at the port and serves a tree.
-fn serve_tree<R, T>(rt: &R, tree: T, job: Serving<'_>, reasons: &Reasons) -> io::Result<u8>
+fn serve_tree<R, T>(rt: &R, tree: T, job: Serving<'_>, reasons: &Reasons) -> io::Result<Status>
 where
     R: Net<Listener = TcpListener, Stream = TcpStream>
         + Files
@@ -138,7 +130,7 @@ where
 {
     match listener_at(rt, job)? {
         Some(listener) => Ok(serve_at(rt, &listener, tree, job, reasons)),
-        None => Ok(FAILED),
+        None => Ok(Status::Failed),
     }
 }
 
@@ -159,25 +151,25 @@ where
     }
 }
 
-/// Serves control connections one after another; a session that failed counts, and makes the status 3.
+/// Serves control connections one after another; a session that failed counts, and makes the status a failure.
 fn serve_at<R, T>(
     rt: &R,
     listener: &TcpListener,
     tree: T,
     job: Serving<'_>,
     reasons: &Reasons,
-) -> u8
+) -> Status
 where
     R: Net<Listener = TcpListener, Stream = TcpStream> + Files + Clock + Eprint + AllocGlobal,
     T: Tree<Global>,
 {
     let mut tree = tree;
-    let mut status = DONE;
+    let mut status = Status::Done;
     for _ in 0..job.sessions.turns() {
         let (back, went) = next_session(rt, listener, tree, job, reasons);
         tree = back;
         if !went {
-            status = FAILED;
+            status = Status::Failed;
         }
     }
     status

@@ -84,7 +84,7 @@ where
         + AllocGlobal,
 {
     let status = serve(rt, job)?;
-    println!(rt; "{name}: {status}")
+    println!(rt; "{name}: {}", status.number())
 }
 
 /// Writes why a folder is refused; of a long place its length alone.

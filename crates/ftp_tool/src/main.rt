@@ -13,6 +13,7 @@ mod words;
 use anyhow::Result;
 use clap::{ArgMatches, Error};
 use command_line::command;
+use ftp_tool_status::Status;
 use std::alloc::Global;
 use std::env;
 use std::env::Env;
@@ -23,14 +24,8 @@ use std::process::ExitCode;
 use std::time::Clock;
 use task::perform;
 
-/// A bad command line.
-const BAD_COMMAND_LINE: u8 = 2;
-
-/// A device or connection that failed, or no memory.
-const FAILED: u8 = 3;
-
 fn main(rt: HostRuntime) -> ExitCode {
-    ExitCode::from(run(&rt, &mut rt.stderr()).unwrap_or(FAILED))
+    ExitCode::from(run(&rt, &mut rt.stderr()).unwrap_or(Status::Failed.number()))
 }
 
 /// Does what the command line asks for, and tells the faults of a wire to `faults`.
@@ -82,7 +77,7 @@ where
 {
     match words.subcommand() {
         Some(("serve", words)) => serve(rt, words),
-        Some(("loop", _)) => Ok(ftp_loop::play(rt)?),
+        Some(("loop", _)) => Ok(ftp_loop::play(rt)?.number()),
         Some(("run", words)) => run_script(rt, words),
         Some((name, words)) if fetching::is_one(name) => {
             fetch(rt, name, words, faults.is_terminal())
@@ -120,7 +115,7 @@ where
         + Net<Listener = TcpListener, Stream = TcpStream>,
 {
     match serving::serving_of(words) {
-        Some(job) => Ok(ftp_serve::serve(rt, job)?),
+        Some(job) => Ok(ftp_serve::serve(rt, job)?.number()),
         None => bad_words(rt),
     }
 }
@@ -136,7 +131,7 @@ where
         + Net<Listener = TcpListener, Stream = TcpStream>,
 {
     match running::server_of(words) {
-        Some((host, port)) => Ok(ftp_fetch::run(rt, host, port)?),
+        Some((host, port)) => Ok(ftp_fetch::run(rt, host, port)?.number()),
         None => bad_words(rt),
     }
 }
@@ -156,7 +151,7 @@ where
         return bad_words(rt);
     };
     match fetching::fetch_task_of(name, words, &asked) {
-        Some(task) => Ok(ftp_fetch::fetch(rt, &asked, task)?),
+        Some(task) => Ok(ftp_fetch::fetch(rt, &asked, task)?.number()),
         None => bad_words(rt),
     }
 }
@@ -166,5 +161,5 @@ fn bad_words<R: Eprint>(rt: &R) -> Result<u8> {
     eprintln!(rt;
         "error: a number is decimal digits, at most 4294967295; a port is at most 65535, and of a server not 0; types are A and I, structures F and R, modes S and B; an address is in numbers; a place is HOST:PORT/PATH"
     )?;
-    Ok(BAD_COMMAND_LINE)
+    Ok(Status::BadWords.number())
 }

@@ -1,0 +1,6 @@
+//! The exit statuses of the programs (own choice). No IO.
+#![tactic(auto)]
+
+mod status;
+
+pub use status::Status;
