@@ -1,5 +1,4 @@
 pub mod AskLemmas
-pub mod LineLemmas
 pub mod RefusedLemmas
 pub mod SessionLemmas
 pub mod ConcludeLemmas
