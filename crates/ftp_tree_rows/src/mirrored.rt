@@ -5,8 +5,9 @@ use crate::paper::Paper;
 use crate::reading::show_places;
 use crate::run::{places_of, play_line};
 use crate::step::{Line, line_of};
-use crate::words::{cut, heading};
+use crate::words::heading;
 use ftp_mirror::Mirror;
+use ftp_paper::cut;
 use ftp_tree::MemTree;
 use std::alloc::{Allocator, Global};
 

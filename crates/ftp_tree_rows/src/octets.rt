@@ -1,5 +1,6 @@
 // Octets as a script writes them.
-use crate::words::{BETWEEN, cut};
+use crate::words::BETWEEN;
+use ftp_paper::cut;
 use std::alloc::Global;
 
 /// The octets of a line, in which `\r`, `\n`, `\0`, `\s` (a space), `\\` and `\x` with two hexadecimal digits in capitals are one octet each and

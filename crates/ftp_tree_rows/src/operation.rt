@@ -5,10 +5,11 @@ use crate::paper::Paper;
 use crate::request::{operation, request_of};
 use crate::said::show_answer;
 use crate::verb::verb_of;
-use crate::words::{cut, split};
+use crate::words::split;
 use ftp_direct::direct;
 use ftp_facts::{Moment, Text};
 use ftp_operation::{Accounts, Answer, Op};
+use ftp_paper::cut;
 use ftp_tree::Tree;
 use std::alloc::{AllocError, Allocator, Global};
 

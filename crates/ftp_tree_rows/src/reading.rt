@@ -3,7 +3,7 @@ use crate::octets::number;
 use crate::paper::Paper;
 use crate::paths::place;
 use crate::step::{Line, Step};
-use crate::words::cut;
+use ftp_paper::cut;
 use ftp_path::Path;
 use ftp_tree::{NodeKind, Tree, TreeFault};
 use std::alloc::{Allocator, Global};

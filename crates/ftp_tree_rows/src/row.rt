@@ -3,7 +3,8 @@ use crate::mirrored::play_mirrored;
 use crate::octets::number;
 use crate::paper::Paper;
 use crate::run::play_tree;
-use crate::words::{cut, cut_before, heading};
+use crate::words::{cut_before, heading};
+use ftp_paper::cut;
 use ftp_refusing::Refusing;
 use std::alloc::Global;
 

@@ -8,7 +8,8 @@ use crate::paper::Paper;
 use crate::paths::{place, show_path, show_text};
 use crate::reading::{show_places, show_reading};
 use crate::step::{Line, Step, line_of};
-use crate::words::{cut, cut_before, heading};
+use crate::words::{cut_before, heading};
+use ftp_paper::cut;
 use ftp_tree::{Tree, TreeFault};
 use std::alloc::{Allocator, Global};
 

@@ -1,5 +1,6 @@
 // The words that a line of paths, of trees and of logins begins with.
-use crate::words::{BETWEEN, cut, split};
+use crate::words::{BETWEEN, split};
+use ftp_paper::cut;
 
 /// What a line asks for.
 #[derive(Clone, Copy)]

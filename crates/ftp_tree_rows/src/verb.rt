@@ -1,4 +1,5 @@
 // The words that an operation's line begins with.
+use ftp_paper::found;
 
 /// An operation, without its texts.
 #[derive(Clone, Copy)]
@@ -45,10 +46,5 @@ const VERBS: &[(&'static [u8], Verb)] = &[
 
 /// What a word says; another word than these asks where one is.
 pub fn verb_of(word: &[u8]) -> Verb {
-    for row in VERBS {
-        if row.0 == word {
-            return row.1;
-        }
-    }
-    Verb::Where
+    found(VERBS, word, Verb::Where)
 }
