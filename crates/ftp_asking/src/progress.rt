@@ -1,6 +1,6 @@
 // How far a transfer is, on standard error.
 use crate::seat::Opens;
-use ftp_drive::{Accepted, For, Ports, Ready, Spoken};
+use ftp_control::{Accepted, For, Ports, Ready, Spoken};
 use ftp_endpoint::Endpoint;
 use ftp_sockets::{Link, SocketPorts};
 use std::io;

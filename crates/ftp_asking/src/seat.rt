@@ -3,7 +3,7 @@
 use crate::request::{Request, begin};
 use ftp_client_drive::{Control, drive_client};
 use ftp_client_machine::Near;
-use ftp_drive::Ports;
+use ftp_control::Ports;
 use ftp_operation::Answer;
 use std::alloc::Global;
 use std::io::{Read, Write};

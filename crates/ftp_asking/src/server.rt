@@ -1,19 +1,9 @@
 // A control connection to a server: how it is opened, and how it ends.
-use ftp_sockets::{keep_alive, say_goodbye};
+use ftp_sockets::{GOODBYE_MILLIS, keep_alive, say_goodbye};
 use std::io;
 use std::io::Write;
 use std::net::{Net, TcpListener, TcpStream};
 use std::time::Duration;
-
-/// After so many seconds without an octet the first probe of a silent server goes, then each so many, and so often.
-const IDLE_SECONDS: i32 = 120;
-
-const PROBE_SECONDS: i32 = 30;
-
-const PROBES: i32 = 4;
-
-/// How long a server is waited for behind all that was asked, in milliseconds.
-pub(crate) const GOODBYE_MILLIS: u16 = 500;
 
 /// Which server is asked.
 #[derive(Clone, Copy)]
@@ -32,7 +22,7 @@ where
 {
     let stream = TcpStream::connect(rt, (server.host, server.port))?;
     stream.set_nodelay(true)?;
-    keep_alive(&stream, IDLE_SECONDS, PROBE_SECONDS, PROBES)?;
+    keep_alive(&stream)?;
     Ok(stream)
 }
 

@@ -4,9 +4,9 @@ use Rattle.std.specs.Prelude.{IsErr, true, false}
 use Rattle.std.proofs.KnownBytes.{Keeps-refl}
 use Rattle.std.specs.Io.KnownBytes.{Consumes, IsAtEnd, Keeps}
 use Rattle.ftp_operation.specs.declared.answer.Answer.{Answer}
-use Rattle.ftp_pieces.proofs.Fronts.{AppendsFront-none}
-use Rattle.ftp_pieces.specs.Beginning.{AppendsFront}
-use Rattle.ftp_pieces.specs.declared.pieces.Failed.{Failed}
+use Rattle.ftp_control.proofs.Fronts.{AppendsFront-none}
+use Rattle.ftp_control.specs.Beginning.{AppendsFront}
+use Rattle.ftp_control.specs.declared.pieces.Failed.{Failed}
 use Rattle.ftp_client_machine.specs.Calls.{gives_control}
 use Rattle.ftp_client_machine.specs.Failing.{Holds}
 use Rattle.ftp_client_drive.specs.Deeds.{Read, Ended, Gives, IsCut, Stand}

@@ -5,8 +5,8 @@ use Rattle.std.specs.declared.result.Result.TheVariants.{Ok, Err}
 use Rattle.std.specs.Io.KnownBytes.{Appends, Consumes, Keeps}
 use Rattle.ftp_operation.specs.Answer.{Said, Lost, said_of}
 use Rattle.ftp_operation.specs.declared.answer.Answer.{Answer}
-use Rattle.ftp_pieces.specs.Beginning.{AppendsFront}
-use Rattle.ftp_pieces.specs.declared.pieces.Failed.{Failed}
+use Rattle.ftp_control.specs.Beginning.{AppendsFront}
+use Rattle.ftp_control.specs.declared.pieces.Failed.{Failed}
 use Rattle.ftp_client_machine.specs.Calls.{is_sound}
 use Rattle.ftp_client_machine.specs.Failing.{Client}
 use Rattle.ftp_client_machine.specs.View.{Job, Idle, Waiting, Doing, Transferring, Told}

@@ -5,8 +5,7 @@ ghost use Rattle.ftp_client_drive.specs.Beside.{beside};
 ghost use Rattle.ftp_client_drive.specs.Driving.{Flushes, Goes, GoesSettled};
 
 use ftp_client_machine::Near;
-use ftp_control::Control;
-use ftp_pieces::{Failed, TURNS};
+use ftp_control::{Control, Failed, TURNS};
 use std::alloc::Allocator;
 use std::io::{Read, Write};
 

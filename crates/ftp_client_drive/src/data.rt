@@ -3,12 +3,9 @@ ghost use Rattle.std.specs.Prelude.{◌≤◌, IfOk, length};
 ghost use Rattle.ftp_client_drive.specs.Driving.{Quietly};
 
 use ftp_client_machine::Near;
-use ftp_drive::{For, Ports, Ready};
+use ftp_control::{DATA_PIECE, For, Ports, Ready};
 use std::alloc::Allocator;
 use std::io::{Error, ErrorKind, Read, Write};
-
-/// The most octets that go over a data connection in one call.
-const DATA_PIECE: usize = 262_144;
 
 /// Why a read or a write of a data connection moved no octet.
 #[derive(Clone, Copy, Debug, PartialEq, Eq)]

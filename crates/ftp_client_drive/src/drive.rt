@@ -10,12 +10,10 @@ ghost use Rattle.ftp_client_drive.specs.Deeds.{Called, Closed};
 use crate::control::{flush, hear, read};
 use crate::data::{Data, Halt, is_spoken_first};
 use ftp_client_machine::Near;
-use ftp_control::Control;
-use ftp_drive::{Accepted, Ports};
+use ftp_control::{Accepted, Control, Failed, Ports, TURNS};
 use ftp_endpoint::Endpoint;
 use ftp_ends::Wants;
 use ftp_operation::Answer;
-use ftp_pieces::{Failed, TURNS};
 use std::alloc::Allocator;
 use std::io::{Read, Write};
 

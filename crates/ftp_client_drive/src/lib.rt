@@ -1,5 +1,5 @@
 //! A client between its connections: the control connection as a reader and a writer, and data connections by the trait `Ports` of
-//! `ftp_drive` (RFC 959, section 2.3). No IO of its own.
+//! `ftp_control` (RFC 959, section 2.3). No IO of its own.
 #![tactic(auto)]
 
 mod control;

@@ -1,1 +1,2 @@
 pub mod Unheard
+pub mod Beginning

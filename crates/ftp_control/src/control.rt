@@ -1,9 +1,9 @@
 // A control connection: what was read of it and is not heard yet, and what is written to it.
 ghost use Rattle.std.specs.Prelude.{◌≡◌, ◌≤◌, ◌<◌, IsTrue, IfOk, OnOk, OnErr, false, [], drop, length};
 ghost use Rattle.std.specs.Io.KnownBytes.{Appends, Consumes, IsAtEnd, Keeps};
-ghost use Rattle.ftp_pieces.specs.Beginning.{AppendsFront};
+ghost use Rattle.ftp_control.specs.Beginning.{AppendsFront};
 
-use ftp_pieces::Failed;
+use crate::pieces::Failed;
 use std::io::{Read, Write};
 
 /// The most octets that one read of a control connection asks for.
@@ -78,7 +78,7 @@ impl<R: Read + Drop, W: Write + Drop> Control<R, W> {
     {
         self.at = 0;
         self.end = 0;
-        let count = ftp_pieces::get(&mut self.reader, &mut self.piece)?;
+        let count = crate::pieces::get(&mut self.reader, &mut self.piece)?;
         self.end = count;
         Ok(count)
     }
@@ -90,6 +90,6 @@ impl<R: Read + Drop, W: Write + Drop> Control<R, W> {
         ensures left { left_of R.remaining self.new ≡ left_of R.remaining self.old }
         ensures unheard { unheard_of self.new ≡ unheard_of self.old }
     {
-        ftp_pieces::put(&mut self.writer, octets)
+        crate::pieces::put(&mut self.writer, octets)
     }
 }

@@ -1,6 +1,11 @@
-//! A control connection as a reader and a writer, with what was read of it and is not heard yet (RFC 959, section 2.3). No IO of its own.
+//! What stands between an end and its connections (RFC 959, section 2.3): a control connection as a reader and a writer, with what was read of
+//! it and is not heard yet; data connections and a clock by traits; one read, and all of a text written. No IO of its own.
 #![tactic(auto)]
 
 mod control;
+mod pieces;
+mod ports;
 
 pub use control::Control;
+pub use pieces::{Failed, PIECE_LIMIT, TURNS, get, put};
+pub use ports::{Accepted, DATA_PIECE, For, Ports, Ready, Spoken, Watch};

@@ -1,7 +1,7 @@
 -- One octet and one piece, as calls make them.
 use Rattle.std.proofs.Common.{◌≡◌, ℕ, ◌≤◌, zero, suc, Bool, true, Option, List, [], ◌∷◌, ◌++◌, length, take, Result, Ok, Err, OnOk, OnErr, refl, sym, ap, subst, ◌∙◌, arith, append-nil}
-use Rattle.ftp_pieces.proofs.Fronts.{AppendsFront-none}
-use Rattle.ftp_pieces.specs.Beginning.{AppendsFront}
+use Rattle.ftp_control.proofs.Fronts.{AppendsFront-none}
+use Rattle.ftp_control.specs.Beginning.{AppendsFront}
 use Rattle.ftp_server_machine.proofs.LinesDecided.{reading_exists}
 use Rattle.ftp_server_machine.specs.Machine.{IsReading, Reading, hears_octet}
 use Rattle.ftp_server_machine.specs.View.{View}

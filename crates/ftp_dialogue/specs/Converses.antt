@@ -3,8 +3,8 @@ use Rattle.std.specs.Prelude.{◌≡◌, ℕ, ◌≤◌, ◌==◌, ◌++◌, ◌
 use Rattle.std.specs.declared.result.Result.{Result}
 use Rattle.std.specs.declared.result.Result.TheVariants.{Ok, Err}
 use Rattle.std.specs.Io.KnownBytes.{Appends, Consumes, IsAtEnd, Keeps}
-use Rattle.ftp_pieces.specs.Beginning.{AppendsFront}
-use Rattle.ftp_pieces.specs.declared.pieces.Failed.{Failed}
+use Rattle.ftp_control.specs.Beginning.{AppendsFront}
+use Rattle.ftp_control.specs.declared.pieces.Failed.{Failed}
 use Rattle.ftp_server_machine.specs.Machine.{IsReading, Reading}
 use Rattle.ftp_dialogue.specs.Dialogue.{is_over, status_of, transcript}
 

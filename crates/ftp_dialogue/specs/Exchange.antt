@@ -1,6 +1,6 @@
 -- A piece, and the answers to it.
 use Rattle.std.specs.Prelude.{◌≡◌, ℕ, ◌++◌, Bool, List, Option}
-use Rattle.ftp_pieces.specs.Beginning.{AppendsFront}
+use Rattle.ftp_control.specs.Beginning.{AppendsFront}
 use Rattle.ftp_server_machine.specs.Machine.{IsReading, Reading}
 use Rattle.ftp_server_machine.specs.View.{View}
 use Rattle.ftp_dialogue.specs.Dialogue.{talk_of, talks}

@@ -9,7 +9,7 @@ ghost use Rattle.ftp_dialogue.specs.Free.{IsFree};
 
 use crate::refusal::is_refusal;
 use crate::serving::{give, serve, take};
-use ftp_pieces::Failed;
+use ftp_control::Failed;
 use ftp_server::Server;
 use ftp_session::Moves;
 use ftp_tree::Tree;
@@ -53,7 +53,7 @@ impl<A: Allocator + Copy> Answers<A> {
     {
         self.text.clear();
         self.hear(server, piece)?;
-        ftp_pieces::put(writer, self.text.as_slice())
+        ftp_control::put(writer, self.text.as_slice())
     }
 
     /// Hears a piece, and puts the answers to it behind those before.

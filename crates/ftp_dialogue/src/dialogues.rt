@@ -9,8 +9,8 @@ ghost use Rattle.ftp_dialogue.specs.Dialogue.{begun};
 use crate::answers::Answers;
 use ftp_accounts::two_accounts;
 use ftp_carried::Carried;
+use ftp_control::{Failed, PIECE_LIMIT, TURNS};
 use ftp_endpoint::Host;
-use ftp_pieces::{Failed, PIECE_LIMIT, TURNS};
 use ftp_server::Server;
 use ftp_session::Moves;
 use ftp_tree::{MemTree, Tree};
@@ -101,11 +101,11 @@ where
 {
     let mut answers = Answers::new(alloc);
     answers.tell(server)?;
-    ftp_pieces::put(writer, answers.text.as_slice())?;
+    ftp_control::put(writer, answers.text.as_slice())?;
     let mut buffer = [0u8; PIECE_LIMIT];
     for _ in 0..TURNS {
         let (room, _) = buffer.split_at_mut(most);
-        let count = ftp_pieces::get(reader, room)?;
+        let count = ftp_control::get(reader, room)?;
         if count == 0 {
             return Ok(answers.refused);
         }

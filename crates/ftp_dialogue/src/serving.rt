@@ -4,8 +4,8 @@ ghost use Rattle.ftp_server_machine.specs.Machine.{IsReading, Reading, hears_oct
 ghost use Rattle.ftp_server.specs.Server.{view_of};
 ghost use Rattle.ftp_dialogue.specs.Dialogue.{said, served, serves};
 
+use ftp_control::Failed;
 use ftp_ends::Wants;
-use ftp_pieces::Failed;
 use ftp_server::Server;
 use ftp_session::Moves;
 use ftp_tree::Tree;

@@ -5,9 +5,9 @@ use Rattle.std.proofs.Math.Seq.{take-take, drop-drop}
 use Rattle.std.proofs.lemmas.List.{take-append-drop}
 use Rattle.std.proofs.KnownBytes.{Keeps-refl}
 use Rattle.std.specs.Io.KnownBytes.{Consumes, IsAtEnd, Keeps}
-use Rattle.ftp_pieces.proofs.Fronts.{AppendsFront-none}
-use Rattle.ftp_pieces.specs.Beginning.{AppendsFront}
-use Rattle.ftp_pieces.specs.declared.pieces.Failed.{Failed}
+use Rattle.ftp_control.proofs.Fronts.{AppendsFront-none}
+use Rattle.ftp_control.specs.Beginning.{AppendsFront}
+use Rattle.ftp_control.specs.declared.pieces.Failed.{Failed}
 use Rattle.ftp_server_machine.specs.Calls.{control_step}
 use Rattle.ftp_server_machine.specs.Far.{Acts}
 use Rattle.ftp_drive.specs.declared.drive.Life.{Life}

@@ -2,7 +2,7 @@
 use Rattle.std.proofs.Common.{List, [], ◌∷◌, ◌++◌, refl, sym, ap, subst, inl}
 use Rattle.std.proofs.KnownBytes.{Appends-nil, Keeps-refl}
 use Rattle.std.specs.Io.KnownBytes.{Appends}
-use Rattle.ftp_pieces.proofs.Fronts.{AppendsFront-none}
+use Rattle.ftp_control.proofs.Fronts.{AppendsFront-none}
 use Rattle.ftp_server_machine.specs.Far.{Server}
 use Rattle.ftp_drive.specs.Deeds.{Call, Called, Deed, Said, Other, Done, Led, Stand, OwesNothing}
 use Rattle.ftp_drive.specs.Driving.{Breaks, Fails, Leads, Quietly, Settles}

@@ -2,7 +2,7 @@
 use Rattle.std.proofs.Common.{◌≡◌, ◌∙◌, List, [], ◌∷◌, ◌++◌, sym, ap, subst, append_assoc, append-nil}
 use Rattle.std.proofs.KnownBytes.{Appends-nil, Appends-trans, Consumes-nil, Consumes-trans, Consumes-kept}
 use Rattle.std.specs.Io.KnownBytes.{Appends, Consumes}
-use Rattle.ftp_pieces.proofs.Fronts.{Appends-then-front}
+use Rattle.ftp_control.proofs.Fronts.{Appends-then-front}
 use Rattle.ftp_ends.specs.declared.link.Wants.TheVariants.{CloseAll}
 use Rattle.ftp_server_machine.specs.Calls.{wants}
 use Rattle.ftp_server_machine.specs.Far.{Server}

@@ -4,7 +4,7 @@ use Rattle.std.specs.Prelude.{IsErr, true, false}
 use Rattle.std.proofs.Math.ListN.{drop_of_length-le}
 use Rattle.std.proofs.Math.Nat.{min-le_left}
 use Rattle.std.proofs.lemmas.List.{length-take}
-use Rattle.ftp_pieces.specs.declared.pieces.Failed.{Failed}
+use Rattle.ftp_control.specs.declared.pieces.Failed.{Failed}
 use Rattle.ftp_server_machine.specs.Calls.{control_step}
 use Rattle.ftp_server_machine.specs.Far.{Acts, Server}
 use Rattle.ftp_drive.specs.Deeds.{Call, Called, Other, Stand, with_server}

@@ -4,8 +4,8 @@ use Rattle.std.specs.declared.result.Result.{Result}
 use Rattle.std.specs.declared.result.Result.TheVariants.{Ok, Err}
 use Rattle.std.specs.Io.KnownBytes.{Appends, Consumes, Keeps}
 use Rattle.ftp_ends.specs.declared.link.Wants.TheVariants.{CloseAll}
-use Rattle.ftp_pieces.specs.Beginning.{AppendsFront}
-use Rattle.ftp_pieces.specs.declared.pieces.Failed.{Failed}
+use Rattle.ftp_control.specs.Beginning.{AppendsFront}
+use Rattle.ftp_control.specs.declared.pieces.Failed.{Failed}
 use Rattle.ftp_server_machine.specs.Calls.{wants}
 use Rattle.ftp_server_machine.specs.Far.{Server}
 use Rattle.ftp_drive.specs.declared.drive.Life.{Life}

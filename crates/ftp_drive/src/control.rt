@@ -2,7 +2,7 @@
 ghost use Rattle.std.specs.Prelude.{◌≡◌, ◌≤◌, ◌<◌, IsTrue, IfOk, OnErr, false, []};
 ghost use Rattle.std.specs.Io.KnownBytes.{Consumes, IsAtEnd, Keeps};
 
-use ftp_pieces::{Failed, TURNS};
+use ftp_control::{Failed, TURNS};
 use ftp_server_machine::Far;
 use ftp_tree::Tree;
 use std::alloc::Allocator;
@@ -58,7 +58,7 @@ impl<R: Read + Drop, W: Write + Drop> Control<R, W> {
         ensures unheard { OnErr result (unheard_of self.new ≡ unheard_of self.old) }
         ensures writer { self.new.writer ≡ self.old.writer }
     {
-        let count = ftp_pieces::get(&mut self.reader, &mut self.piece)?;
+        let count = ftp_control::get(&mut self.reader, &mut self.piece)?;
         self.at = 0;
         self.end = count;
         Ok(count)
@@ -96,7 +96,7 @@ impl<R: Read + Drop, W: Write + Drop> Control<R, W> {
                 return Ok(());
             }
             let (octets, _) = room.split_at(count);
-            ftp_pieces::put(&mut self.writer, octets)?;
+            ftp_control::put(&mut self.writer, octets)?;
         }
         Err(Failed)
     }

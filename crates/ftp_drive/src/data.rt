@@ -5,16 +5,12 @@ ghost use Rattle.ftp_drive.specs.Beside.{beside};
 ghost use Rattle.ftp_drive.specs.Driving.{Goes, Quietly};
 
 use crate::control::Control;
-use crate::ports::{For, Ports, Ready, Spoken, Watch};
+use ftp_control::{DATA_PIECE, Failed, For, Ports, Ready, Spoken, TURNS, Watch};
 use ftp_ends::Wants;
-use ftp_pieces::{Failed, TURNS};
 use ftp_server_machine::Far;
 use ftp_tree::Tree;
 use std::alloc::Allocator;
 use std::io::{ErrorKind, Read, Write};
-
-/// The most octets that go over a data connection in one call.
-const DATA_PIECE: usize = 262_144;
 
 /// The most octets of a download that are taken at once: few, since an ABOR is heard between two pieces alone, and the system mostly has room
 /// for so many where it tells of any.
@@ -129,7 +125,7 @@ impl<S: Read + Write + Drop> DataConnection<S> {
         let Some(stream) = &mut self.stream else {
             return Came::Break;
         };
-        match ftp_pieces::get(stream, &mut self.room) {
+        match ftp_control::get(stream, &mut self.room) {
             Ok(0) => Came::End,
             Ok(count) => Came::Octets(count),
             Err(Failed) => Came::Break,
@@ -179,7 +175,7 @@ impl<S: Read + Write + Drop> DataConnection<S> {
 fn write_all<S: Write>(stream: &mut S, octets: &[u8]) -> Result<usize, Failed>
     ensures { IfOk result (λ count. count ≤ length octets.now) }
 {
-    ftp_pieces::put(stream, octets)?;
+    ftp_control::put(stream, octets)?;
     Ok(octets.len())
 }
 

@@ -5,10 +5,9 @@ ghost use Rattle.ftp_drive.specs.Driving.{Drives, EndsOver, Goes, GoesSettled, Q
 
 use crate::control::Control;
 use crate::data::{Came, DataConnection, Ending, end, fault, hand, send, wait_at};
-use crate::ports::{Accepted, Ports, Ready, Spoken, Watch};
+use ftp_control::{Accepted, Failed, Ports, Ready, Spoken, TURNS, Watch};
 use ftp_endpoint::Endpoint;
 use ftp_ends::Wants;
-use ftp_pieces::{Failed, TURNS};
 use ftp_server_machine::Far;
 use ftp_tree::Tree;
 use std::alloc::Allocator;

@@ -1,6 +1,6 @@
 // Connections of this process with itself, over the loopback.
 use crate::socket::Socket;
-use ftp_pieces::TURNS;
+use ftp_control::TURNS;
 use std::io;
 use std::io::{Error, ErrorKind};
 use std::net::{Net, SocketAddr, TcpListener, TcpStream};

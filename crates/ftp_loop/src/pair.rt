@@ -2,7 +2,7 @@
 use crate::end::End;
 use crate::joining::{bound, joined};
 use crate::side::{Side, part, serve, speak, transfer};
-use ftp_pieces::TURNS;
+use ftp_control::TURNS;
 use std::io;
 use std::io::{Error, ErrorKind};
 use std::net::{Net, TcpListener, TcpStream};

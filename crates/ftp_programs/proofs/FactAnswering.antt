@@ -8,12 +8,12 @@ use Rattle.std.proofs.KnownBytes.{Appends-trans}
 use Rattle.std.proofs.lemmas.List.Elements.{All-append, All-nil}
 use Rattle.std.proofs.lemmas.List.Splits.{slice_split_none, slice_split_at, length-slice_split}
 use Rattle.std.proofs.Math.Seq.{take-append-add}
-use Rattle.ftp_pieces.proofs.Fronts.{Appends-then-front, Appends-whole}
-use Rattle.ftp_pieces.specs.Beginning.{AppendsFront}
+use Rattle.ftp_control.proofs.Fronts.{Appends-then-front, Appends-whole}
+use Rattle.ftp_control.specs.Beginning.{AppendsFront}
 use Rattle.ftp_programs.specs.FactLines.{line_feed, AnswersAll, AnswersFront}
 use Rattle.ftp_programs.specs.FactHearing.{LacksFeed, Told, StandsAfter, HearsAfter, BitesAfter, EndsAfter}
 use Rattle.ftp_programs.specs.declared.fact_lines.FactLines.{FactLines}
-use Rattle.ftp_pieces.specs.declared.pieces.Failed.{Failed}
+use Rattle.ftp_control.specs.declared.pieces.Failed.{Failed}
 
 -- LINES
 

@@ -7,7 +7,7 @@ use Rattle.std.proofs.KnownBytes.{Consumes-trans, Consumes-kept}
 use Rattle.ftp_programs.specs.FactLines.{AnswersFront, TellsFront, TellsTo}
 use Rattle.ftp_programs.specs.FactHearing.{Told, StandsAfter}
 use Rattle.ftp_programs.specs.declared.fact_lines.FactLines.{FactLines}
-use Rattle.ftp_pieces.specs.declared.pieces.Failed.{Failed}
+use Rattle.ftp_control.specs.declared.pieces.Failed.{Failed}
 use Rattle.ftp_programs.proofs.FactAnswering.{stands_front}
 
 -- some octets were read, and their ended lines are answered

@@ -24,8 +24,8 @@ use Rattle.ftp_framer.specs.Wire.{wire}
 use Rattle.ftp_framer.specs.Framing.{still_to_write, owed_octets, writing}
 use Rattle.ftp_framer.specs.Writing.{writer, blank, with_marks}
 use Rattle.ftp_framer.proofs.LawLemmas.{writes_wire, writes_marked}
-use Rattle.ftp_pieces.proofs.Fronts.{Appends-front, AppendsFront-more, Appends-then-front}
-use Rattle.ftp_pieces.specs.Beginning.{AppendsFront}
+use Rattle.ftp_control.proofs.Fronts.{Appends-front, AppendsFront-more, Appends-then-front}
+use Rattle.ftp_control.specs.Beginning.{AppendsFront}
 use Rattle.ftp_programs.specs.Frame.{Frames, FramesFront, frame_text}
 use Rattle.ftp_programs.specs.Sending.{made_octets, still_to_give, Puts, Gives}
 use Rattle.ftp_representation.specs.declared.representation.Representation.{Representation}

@@ -12,15 +12,15 @@ use Rattle.ftp_framer.specs.Said.{Said, file_signs}
 use Rattle.ftp_mode.specs.Reading.{reader, start}
 use Rattle.ftp_mode.specs.Deframing.{reading, owed}
 use Rattle.ftp_mode.specs.Laws.{settled_content, ended_content}
-use Rattle.ftp_pieces.proofs.Fronts.{Appends-front, Appends-then-front}
+use Rattle.ftp_control.proofs.Fronts.{Appends-front, Appends-then-front}
 use Rattle.ftp_programs.proofs.Hearing.{file-append}
 use Rattle.ftp_programs.proofs.WireEnding.{settles_of, reads_of, stops_of}
-use Rattle.ftp_pieces.specs.Beginning.{AppendsFront}
+use Rattle.ftp_control.specs.Beginning.{AppendsFront}
 use Rattle.ftp_representation.specs.Representation.{form_of}
 use Rattle.ftp_programs.specs.Receiving.{said_by, StandsAfter, FaultyAfter, WholeAfter, HearsAfter}
 use Rattle.ftp_programs.specs.WireReading.{ReadsFile, ReadsFault, ReadsFront, ReadsTo}
 use Rattle.ftp_representation.specs.declared.representation.Representation.{Representation}
-use Rattle.ftp_pieces.specs.declared.pieces.Failed.{Failed}
+use Rattle.ftp_control.specs.declared.pieces.Failed.{Failed}
 use Rattle.ftp_programs.specs.declared.receiving.Heard.{Heard}
 use Rattle.ftp_programs.specs.declared.receiving.Heard.TheVariants.{More, Whole, Faulty}
 use Rattle.ftp_programs.specs.declared.receiving.Receiving.{Receiving}

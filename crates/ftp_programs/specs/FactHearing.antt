@@ -6,7 +6,7 @@ use Rattle.std.specs.declared.result.Result.TheVariants.{Ok, Err}
 use Rattle.std.specs.Io.KnownBytes.{Appends}
 use Rattle.ftp_programs.specs.FactLines.{line_feed, AnswersAll, AnswersFront}
 use Rattle.ftp_programs.specs.declared.fact_lines.FactLines.{FactLines}
-use Rattle.ftp_pieces.specs.declared.pieces.Failed.{Failed}
+use Rattle.ftp_control.specs.declared.pieces.Failed.{Failed}
 
 -- no LF is in these octets
 abbrev pub LacksFeed : List ℕ → Type 0

@@ -11,8 +11,8 @@ use Rattle.ftp_facts.specs.Fault.{fault_text}
 use Rattle.ftp_facts.specs.declared.entry.Entry.{Entry}
 use Rattle.ftp_facts.specs.declared.fault.FactFault.{FactFault}
 use Rattle.ftp_facts.specs.declared.fault.FactFault.TheVariants.{Memory}
-use Rattle.ftp_pieces.specs.Beginning.{AppendsFront}
-use Rattle.ftp_pieces.specs.declared.pieces.Failed.{Failed}
+use Rattle.ftp_control.specs.Beginning.{AppendsFront}
+use Rattle.ftp_control.specs.declared.pieces.Failed.{Failed}
 
 -- THE ANSWERS
 

@@ -5,7 +5,7 @@ use Rattle.ftp_representation.specs.Representation.{form_of, has_markers}
 use Rattle.ftp_representation.specs.declared.representation.Representation.{Representation}
 use Rattle.ftp_framer.specs.Block.{marked_text}
 use Rattle.ftp_framer.specs.Wire.{wire}
-use Rattle.ftp_pieces.specs.Beginning.{AppendsFront}
+use Rattle.ftp_control.specs.Beginning.{AppendsFront}
 
 -- the one text of a file, with own markers from its start where they are asked for
 abbrev pub frame_text : Representation → Bool → List ℕ → List ℕ

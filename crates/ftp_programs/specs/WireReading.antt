@@ -12,10 +12,10 @@ use Rattle.ftp_mode.specs.Units.{Reads}
 use Rattle.ftp_mode.specs.Fault.{IsFault}
 use Rattle.ftp_mode.specs.FaultText.{fault_text}
 use Rattle.ftp_mode.specs.Front.{Front}
-use Rattle.ftp_pieces.specs.Beginning.{AppendsFront}
+use Rattle.ftp_control.specs.Beginning.{AppendsFront}
 use Rattle.ftp_representation.specs.Representation.{form_of}
 use Rattle.ftp_representation.specs.declared.representation.Representation.{Representation}
-use Rattle.ftp_pieces.specs.declared.pieces.Failed.{Failed}
+use Rattle.ftp_control.specs.declared.pieces.Failed.{Failed}
 
 -- a wire that has ended reads as this file
 abbrev pub ReadsAs : Representation → List ℕ → List ℕ → Type 0

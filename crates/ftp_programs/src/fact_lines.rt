@@ -4,8 +4,8 @@ ghost use Rattle.std.specs.Str.Lines.{lines, strip_carriage_return};
 ghost use Rattle.ftp_programs.specs.FactLines.{Answers, AnswersAll, TellsAll, TellsFront, TellsTo, line_feed};
 ghost use Rattle.ftp_programs.specs.FactHearing.{LacksFeed, Told};
 
+use ftp_control::{Failed, PIECE_LIMIT, TURNS};
 use ftp_facts::{FactFault, read_entry, write_entry};
-use ftp_pieces::{Failed, PIECE_LIMIT, TURNS};
 use memchr::memchr;
 use std::alloc::Allocator;
 use std::io::{Read, Write};
@@ -139,7 +139,7 @@ where
     let mut buffer = [0u8; PIECE_LIMIT];
     for _ in 0..TURNS {
         let (room, _) = buffer.split_at_mut(PIECE_LIMIT);
-        let count = ftp_pieces::get(reader, room)?;
+        let count = ftp_control::get(reader, room)?;
         if count == 0 {
             return kept.end(writer);
         }
@@ -157,7 +157,7 @@ where
     ensures { Told A (line.now ∷ []) (W.contents writer.old) (W.contents writer.new) result }
 {
     let answer = answer_line(alloc, line)?;
-    ftp_pieces::put(writer, answer.text.as_slice())?;
+    ftp_control::put(writer, answer.text.as_slice())?;
     Ok(answer.faulty)
 }
 

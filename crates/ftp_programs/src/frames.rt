@@ -8,7 +8,7 @@ ghost use Rattle.ftp_machine.specs.Machine.{gives};
 ghost use Rattle.ftp_repr.specs.Signs.{signs_of};
 ghost use Rattle.ftp_framer.specs.Framing.{owed_octets, writing};
 ghost use Rattle.ftp_framer.specs.Writing.{writer};
-ghost use Rattle.ftp_pieces.specs.Beginning.{AppendsFront};
+ghost use Rattle.ftp_control.specs.Beginning.{AppendsFront};
 ghost use Rattle.ftp_programs.specs.Direction.{Goes, GoesFront};
 ghost use Rattle.ftp_programs.specs.Writes.{Writes};
 ghost use Rattle.ftp_programs.specs.declared.frames.Direction.TheVariants.{ToWire, ToFile};
@@ -16,8 +16,8 @@ ghost use Rattle.ftp_programs.specs.Frame.{Frames, FramesFront, frame_text};
 ghost use Rattle.ftp_representation.specs.Representation.{form_of};
 
 use crate::receiving::to_file;
+use ftp_control::{Failed, PIECE_LIMIT, TURNS};
 use ftp_mode::{Framer, Written};
-use ftp_pieces::{Failed, PIECE_LIMIT, TURNS};
 use ftp_repr::{Item, Sender};
 use ftp_representation::Representation;
 use std::alloc::Allocator;
@@ -144,7 +144,7 @@ impl<A: Allocator> Sending<A> {
         ensures framer { self.new.framer ≡ self.old.framer }
     {
         let (made, _) = self.room.as_slice().split_at(self.made);
-        ftp_pieces::put(writer, made)?;
+        ftp_control::put(writer, made)?;
         self.made = 0;
         Ok(())
     }
@@ -245,7 +245,7 @@ where
     let mut buffer = [0u8; PIECE_LIMIT];
     for _turn in 0..TURNS {
         let (room, _) = buffer.split_at_mut(PIECE_LIMIT);
-        let count = ftp_pieces::get(reader, room)?;
+        let count = ftp_control::get(reader, room)?;
         if count == 0 {
             sending.end()?;
             sending.write(writer)?;

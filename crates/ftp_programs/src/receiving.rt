@@ -6,11 +6,11 @@ ghost use Rattle.ftp_repr.specs.Items.{signs, given_signs};
 ghost use Rattle.ftp_repr.specs.Received.{Receives};
 ghost use Rattle.ftp_framer.specs.Said.{file_signs};
 ghost use Rattle.ftp_mode.specs.Deframing.{part_said};
-ghost use Rattle.ftp_pieces.specs.Beginning.{AppendsFront};
+ghost use Rattle.ftp_control.specs.Beginning.{AppendsFront};
 ghost use Rattle.ftp_programs.specs.WireReading.{fault_line, ReadsTo, Tells, TellsFront};
 
+use ftp_control::{Failed, PIECE_LIMIT, TURNS};
 use ftp_mode::{Deframer, FrameFault, Part};
-use ftp_pieces::{Failed, PIECE_LIMIT, TURNS};
 use ftp_repr::{Item, Receiver};
 use ftp_representation::Representation;
 use std::alloc::{AllocError, Allocator};
@@ -117,7 +117,7 @@ impl<A: Allocator> Receiving<A> {
         ensures deframer { self.new.deframer ≡ self.old.deframer }
         ensures receiver { self.new.receiver ≡ self.old.receiver }
     {
-        ftp_pieces::put(writer, self.settled.as_slice())?;
+        ftp_control::put(writer, self.settled.as_slice())?;
         self.settled.clear();
         Ok(())
     }
@@ -185,7 +185,7 @@ where
     let mut buffer = [0u8; PIECE_LIMIT];
     for _turn in 0..TURNS {
         let (room, _) = buffer.split_at_mut(PIECE_LIMIT);
-        let count = ftp_pieces::get(reader, room)?;
+        let count = ftp_control::get(reader, room)?;
         let (octets, _) = room.split_at(count);
         let heard = receiving.next(octets)?;
         receiving.write(writer)?;
@@ -204,7 +204,7 @@ fn tell<A: Allocator, F: Write>(alloc: A, fault: FrameFault, faults: &mut F) -> 
     ensures front { AppendsFront (F.contents faults.old) (F.contents faults.new) (fault_line fault) }
 {
     match line_of(alloc, fault) {
-        Ok(line) => ftp_pieces::put(faults, line.as_bytes()),
+        Ok(line) => ftp_control::put(faults, line.as_bytes()),
         Err(_) => Err(Failed),
     }
 }

@@ -2,14 +2,16 @@
 use crate::heard::{CountedPorts, HeardReader, SaidWriter};
 use crate::journal::{Journal, Log};
 use ftp_carried::Carried;
+use ftp_control::Failed;
 use ftp_drive::{Control, drive_server};
 use ftp_endpoint::Host;
 use ftp_folder::Reasons;
 use ftp_operation::Accounts;
-use ftp_pieces::Failed;
 use ftp_server::{NotBegun, Server};
 use ftp_server_machine::Far;
-use ftp_sockets::{ControlReader, SocketPorts, SystemWatch, host_of, keep_alive, say_goodbye};
+use ftp_sockets::{
+    ControlReader, GOODBYE_MILLIS, SocketPorts, SystemWatch, host_of, keep_alive, say_goodbye,
+};
 use ftp_tree::Tree;
 use std::alloc::{AllocError, Global};
 use std::io;
@@ -17,20 +19,10 @@ use std::io::Eprint;
 use std::net::{Net, SocketAddr, TcpListener, TcpStream};
 use std::time::{Clock, Duration};
 
-/// After so many seconds without an octet the first probe of a silent client goes, then each so many, and so often.
-const IDLE_SECONDS: i32 = 120;
-
-const PROBE_SECONDS: i32 = 30;
-
-const PROBES: i32 = 4;
-
-/// How long a client is waited for behind the last reply, in milliseconds.
-const GOODBYE_MILLIS: u16 = 500;
-
 /// The host of a control connection that the client reached, and the client's address.
 fn ends_of(stream: &TcpStream) -> io::Result<(Host, SocketAddr)> {
     stream.set_nodelay(true)?;
-    keep_alive(stream, IDLE_SECONDS, PROBE_SECONDS, PROBES)?;
+    keep_alive(stream)?;
     Ok((host_of(stream.local_addr()?), stream.peer_addr()?))
 }
 

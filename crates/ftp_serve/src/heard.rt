@@ -1,6 +1,6 @@
 // The connections of a session, of which its journal is told.
 use crate::journal::{Fate, Journal};
-use ftp_drive::{Accepted, For, Ports, Ready, Spoken};
+use ftp_control::{Accepted, For, Ports, Ready, Spoken};
 use ftp_endpoint::Endpoint;
 use ftp_sockets::{ControlReader, Link, SocketPorts};
 use std::io;

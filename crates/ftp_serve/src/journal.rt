@@ -2,7 +2,7 @@
 use crate::line::Line;
 use crate::talk::{Answered, Talk};
 use crate::telling::{Asked, Guest, Quoted, tells};
-use ftp_drive::Watch;
+use ftp_control::Watch;
 use ftp_facts::moment_text;
 use ftp_folder::Reasons;
 use ftp_sockets::SystemWatch;

@@ -2,9 +2,9 @@
 use crate::connection::session;
 use crate::journal::Log;
 use crate::users::{roots_of, users_of};
+use ftp_control::TURNS;
 use ftp_folder::{Reasons, open};
 use ftp_operation::Accounts;
-use ftp_pieces::TURNS;
 use ftp_tool_status::Status;
 use ftp_tree::Tree;
 use std::alloc::Global;

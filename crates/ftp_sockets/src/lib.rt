@@ -1,4 +1,4 @@
-//! Real connections for a server or a client: `Ports` of `ftp_drive` over sockets, the reader of a control connection, and the system's clock.
+//! Real connections for a server or a client: `Ports` of `ftp_control` over sockets, the reader of a control connection, and the system's clock.
 //! One thread waits for the control connection and a data connection together (RFC 959, section 2.3).
 #![tactic(auto)]
 
@@ -13,7 +13,7 @@ mod watch;
 pub use control::{ControlReader, say_goodbye};
 pub use host::host_of;
 pub use link::Link;
-pub use options::keep_alive;
+pub use options::{GOODBYE_MILLIS, keep_alive};
 pub use ports::SocketPorts;
 pub use wait::pause;
 pub use watch::SystemWatch;

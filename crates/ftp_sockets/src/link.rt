@@ -1,8 +1,7 @@
 // A data connection that does not outlast its control connection.
 use crate::options::drop_connection;
 use crate::wait::{Heeds, Woke, has_room, wait};
-use ftp_drive::{For, Ready};
-use ftp_pieces::TURNS;
+use ftp_control::{For, Ready, TURNS};
 use std::io;
 use std::io::{Error, ErrorKind, Read, Write};
 use std::net::{Shutdown, TcpStream};

@@ -6,6 +6,18 @@ use std::io;
 use std::io::Error;
 use std::os::fd::AsRawFd;
 
+/// How many seconds of a silent connection pass before its peer is probed, in seconds.
+const IDLE_SECONDS: i32 = 120;
+
+/// How long an answer to a probe is waited for before the next one, in seconds.
+const PROBE_SECONDS: i32 = 30;
+
+/// How many probes go without an answer before the connection has ended.
+const PROBES: i32 = 4;
+
+/// How long a peer is waited for behind the last reply, in milliseconds.
+pub const GOODBYE_MILLIS: u16 = 500;
+
 /// The length of an address that names no family, `AF_UNSPEC`.
 const NO_ADDRESS: u32 = 16;
 
@@ -27,14 +39,14 @@ fn value(number: i32) -> [u8; 16] {
     value
 }
 
-/// A peer that vanished is noticed: the first probe goes after so many idle seconds, then one each `between`, and after `times` of them
-/// without an answer the connection has ended.
-pub fn keep_alive<S: AsRawFd>(stream: &S, idle: i32, between: i32, times: i32) -> io::Result<()> {
+/// A peer that vanished is noticed: the first probe goes after 120 idle seconds, then one each 30, and after 4 of them without an answer the
+/// connection has ended.
+pub fn keep_alive<S: AsRawFd>(stream: &S) -> io::Result<()> {
     let (fd, socket, tcp) = (stream.as_raw_fd(), c::SOL_SOCKET, c::IPPROTO_TCP);
     check(unsafe { c::setsockopt(fd, socket, c::SO_KEEPALIVE, &value(1), 4) })?;
-    check(unsafe { c::setsockopt(fd, tcp, c::TCP_KEEPIDLE, &value(idle), 4) })?;
-    check(unsafe { c::setsockopt(fd, tcp, c::TCP_KEEPINTVL, &value(between), 4) })?;
-    check(unsafe { c::setsockopt(fd, tcp, c::TCP_KEEPCNT, &value(times), 4) })
+    check(unsafe { c::setsockopt(fd, tcp, c::TCP_KEEPIDLE, &value(IDLE_SECONDS), 4) })?;
+    check(unsafe { c::setsockopt(fd, tcp, c::TCP_KEEPINTVL, &value(PROBE_SECONDS), 4) })?;
+    check(unsafe { c::setsockopt(fd, tcp, c::TCP_KEEPCNT, &value(PROBES), 4) })
 }
 
 /// Drops a connection: its peer finds a reset, and what was not sent is lost. Linux does that where a connected socket is connected to no

@@ -2,9 +2,8 @@
 use crate::host::{addr_of, host_of};
 use crate::link::Link;
 use crate::wait::{Heeds, Woke, look_at, wait};
-use ftp_drive::{Accepted, For, Ports, Ready, Spoken};
+use ftp_control::{Accepted, For, Ports, Ready, Spoken, TURNS};
 use ftp_endpoint::Endpoint;
-use ftp_pieces::TURNS;
 use std::io;
 use std::io::ErrorKind;
 use std::net::{IpAddr, Net, SocketAddr, TcpListener, TcpStream};

@@ -1,6 +1,5 @@
 // Waiting for the control connection and another socket together, or for nothing.
-use ftp_drive::{For, Spoken};
-use ftp_pieces::TURNS;
+use ftp_control::{For, Spoken, TURNS};
 use libc::net as c;
 use libc::types::pollfd;
 use std::os::fd::AsRawFd;

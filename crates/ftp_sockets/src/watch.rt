@@ -1,5 +1,5 @@
 // The system's clock.
-use ftp_drive::Watch;
+use ftp_control::Watch;
 use ftp_facts::Moment;
 use std::time::{Clock, SystemTime, UNIX_EPOCH};
 

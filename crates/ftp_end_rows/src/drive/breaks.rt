@@ -2,7 +2,7 @@
 use crate::drive::peer::PEER;
 use ftp_client_drive::{Control, drive_client};
 use ftp_client_machine::Near;
-use ftp_drive::{Accepted, For, Ports, Ready, Spoken};
+use ftp_control::{Accepted, For, Ports, Ready, Spoken};
 use ftp_endpoint::Endpoint;
 use ftp_facts::Text;
 use ftp_operation::{Answer, How};

@@ -1,6 +1,6 @@
 // A client's side of data connections that is the same each time: it opens each port, sends so many octets, has no room at first, and speaks at
 // a time of its choice.
-use ftp_drive::{Accepted, For, Ports, Ready, Spoken, Watch};
+use ftp_control::{Accepted, For, Ports, Ready, Spoken, Watch};
 use ftp_endpoint::{Endpoint, Host};
 use ftp_facts::Moment;
 use std::io;

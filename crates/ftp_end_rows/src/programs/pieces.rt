@@ -1,6 +1,6 @@
 // Octets written and read call by call, and readers and writers that fail.
+use ftp_control::{Failed, get, put};
 use ftp_paper::{FailingReader, FailingWriter, Paper};
-use ftp_pieces::{Failed, get, put};
 use std::alloc::Global;
 
 const TEXT: &[u8] = b"220 Ready\r\n";

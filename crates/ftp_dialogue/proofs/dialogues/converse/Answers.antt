@@ -1,7 +1,7 @@
 use Rattle.std.proofs.Common.{◌≡◌, ◌++◌, ◌||◌, ◌∙◌, inl, ap, rules, subst, sym, take}
 use Rattle.std.specs.Io.KnownBytes.{Appends, Consumes}
 use Rattle.std.proofs.KnownBytes.{Keeps-refl}
-use Rattle.ftp_pieces.specs.Beginning.{AppendsFront}
+use Rattle.ftp_control.specs.Beginning.{AppendsFront}
 use Rattle.ftp_server.specs.Server.{view_of}
 use Rattle.ftp_dialogue.proofs.Conversing.{begins, breaks_between, breaks_in, ends_at_end, ends_failed, ends_over, follows_on, greeting}
 use Rattle.ftp_dialogue.specs.Dialogue.{is_refusal}

@@ -1,6 +1,6 @@
 use Rattle.std.proofs.Common.{[], ◌∷◌, subst}
 use Rattle.ftp_programs.proofs.FactAnswering.{front-one, told_failed}
-use Rattle.ftp_pieces.specs.Beginning.{AppendsFront}
+use Rattle.ftp_control.specs.Beginning.{AppendsFront}
 use Rattle.ftp_programs.proofs.fact_lines.tell.Goals as goal
 
 pub returns-in_err-put : goal.returns-in_err-put

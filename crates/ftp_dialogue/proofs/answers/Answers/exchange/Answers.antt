@@ -1,5 +1,5 @@
 use Rattle.std.proofs.Common.{subst}
-use Rattle.ftp_pieces.specs.Beginning.{AppendsFront}
+use Rattle.ftp_control.specs.Beginning.{AppendsFront}
 use Rattle.ftp_server.specs.Server.{view_of}
 use Rattle.ftp_dialogue.proofs.AnswerLemmas.{answered_by, breaks_written, on_done, on_failed, unwritten}
 use Rattle.ftp_dialogue.proofs.answers.Answers.exchange.Goals as goal

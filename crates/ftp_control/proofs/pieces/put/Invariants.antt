@@ -1,6 +1,6 @@
 use Rattle.std.proofs.Common.{◌≤◌, length, take}
 use Rattle.std.specs.Io.KnownBytes.{Appends}
-use Rattle.ftp_pieces.proofs.pieces.put.Given as goal
+use Rattle.ftp_control.proofs.pieces.put.Given as goal
 
 abbrev pub invariant-loop : goal.invariant-loop
 invariant-loop g l =

@@ -1,7 +1,7 @@
 // Reading and writing piece by piece, so that a failure leaves a beginning.
 ghost use Rattle.std.specs.Prelude.{◌≡◌, ◌≤◌, ◌<◌, ℕ, OnOk, OnErr, IfOk, length, take};
 ghost use Rattle.std.specs.Io.KnownBytes.{Appends, Consumes, IsAtEnd, Keeps};
-ghost use Rattle.ftp_pieces.specs.Beginning.{AppendsFront};
+ghost use Rattle.ftp_control.specs.Beginning.{AppendsFront};
 
 use std::io::{ErrorKind, Read, Write};
 

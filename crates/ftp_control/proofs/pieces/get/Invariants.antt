@@ -1,5 +1,5 @@
 use Rattle.std.specs.Io.KnownBytes.{Keeps}
-use Rattle.ftp_pieces.proofs.pieces.get.Given as goal
+use Rattle.ftp_control.proofs.pieces.get.Given as goal
 
 abbrev pub invariant-loop : goal.invariant-loop
 invariant-loop g l =

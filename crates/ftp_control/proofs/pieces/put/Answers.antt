@@ -2,7 +2,7 @@ use Rattle.std.proofs.Common.{rules, sym, subst, take, drop}
 use Rattle.std.proofs.Math.Seq.{take-add}
 use Rattle.std.proofs.KnownBytes.{Appends-trans}
 use Rattle.std.specs.Io.KnownBytes.{Appends}
-use Rattle.ftp_pieces.proofs.pieces.put.Goals as goal
+use Rattle.ftp_control.proofs.pieces.put.Goals as goal
 
 pub loop-preserved : goal.loop-preserved
 loop-preserved g c =

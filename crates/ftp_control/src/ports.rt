@@ -3,6 +3,9 @@ use ftp_endpoint::{Endpoint, Host};
 use ftp_facts::Moment;
 use std::io::{Read, Write};
 
+/// The most octets that an end asks one read or one write of a data connection for.
+pub const DATA_PIECE: usize = 262_144;
+
 /// How the waiting for a data connection ended.
 #[derive(Drop)]
 pub enum Accepted<S: Drop> {
