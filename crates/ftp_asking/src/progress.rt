@@ -1,6 +1,6 @@
 // How far a transfer is, on standard error.
 use crate::seat::Opens;
-use ftp_control::{Accepted, For, Ports, Ready, Spoken};
+use ftp_control::{Accepted, For, Ports, Ready, Spoken, Whole};
 use ftp_endpoint::Endpoint;
 use ftp_sockets::{Link, SocketPorts};
 use std::io;
@@ -97,9 +97,9 @@ where
         self.ports.spoken()
     }
 
-    fn close(&mut self, stream: Option<MeteredLink<'a, R>>) {
+    fn close(&mut self, stream: Option<Whole<MeteredLink<'a, R>>>) {
         self.ports.close(match stream {
-            Some(metered) => Some(metered.ended()),
+            Some(whole) => Some(whole.map(|metered| metered.ended())),
             None => None,
         });
     }

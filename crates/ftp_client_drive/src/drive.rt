@@ -8,9 +8,9 @@ ghost use Rattle.ftp_client_drive.specs.Driving.{Answers, Drives, Goes, GoesSett
 ghost use Rattle.ftp_client_drive.specs.Deeds.{Called, Closed};
 
 use crate::control::{flush, hear, read};
-use crate::data::{Data, Halt, is_spoken_first};
+use crate::data::{Data, is_spoken_first};
 use ftp_client_machine::Near;
-use ftp_control::{Accepted, Control, Failed, Ports, TURNS};
+use ftp_control::{Accepted, Control, Failed, Halt, Ports, TURNS};
 use ftp_endpoint::Endpoint;
 use ftp_ends::Wants;
 use ftp_operation::Answer;
@@ -38,12 +38,15 @@ where
     let mut data = Data::new();
     match turns(client, control, ports, &mut data) {
         Ok(answer) => {
-            close(client, ports, &mut data);
+            data.finish(ports);
+            client.data_closed();
             Some(answer)
         }
         Err(Failed) => {
             client.control_end();
-            close(client, ports, &mut data);
+            data.connection.cut();
+            data.finish(ports);
+            client.data_closed();
             client.report()
         }
     }
@@ -57,7 +60,7 @@ where
     P: Ports,
     ensures { Called Closed (N.client client.old) (N.client client.new) }
 {
-    ports.close(data.stream.take());
+    data.connection.close(ports);
     client.data_closed();
 }
 
@@ -105,7 +108,7 @@ where
     if control.has_unheard() {
         return hear(client, control);
     }
-    if data.has_unwritten() {
+    if data.connection.has_unwritten() {
         return send(client, control, ports, data);
     }
     serve(client, control, ports, data)
@@ -175,7 +178,7 @@ where
 {
     match ports.connect(endpoint) {
         Some(open) => {
-            data.stream = Some(open);
+            data.connection.begin(ports, open);
             client.data_opened(endpoint.host);
         }
         None => client.data_refused(),
@@ -200,7 +203,7 @@ where
 {
     match ports.accept(true) {
         Accepted::Came(open, host) => {
-            data.stream = Some(open);
+            data.connection.begin(ports, open);
             client.data_opened(host);
             Ok(())
         }
@@ -232,8 +235,8 @@ where
         Ok(()) | Err(Halt::Again) => Ok(()),
         Err(Halt::Spoken) => read(client, control),
         Err(Halt::Broken) => {
-            data.drop_unwritten();
-            ports.close(data.stream.take());
+            data.connection.cut();
+            data.connection.close(ports);
             client.data_fault();
             Ok(())
         }
@@ -262,7 +265,7 @@ where
     }
     match data.read() {
         Ok([]) => {
-            ports.close(data.stream.take());
+            data.connection.close(ports);
             client.data_end();
             Ok(())
         }
@@ -270,7 +273,8 @@ where
         Err(Halt::Again) => Ok(()),
         Err(Halt::Spoken) => read(client, control),
         Err(Halt::Broken) => {
-            ports.close(data.stream.take());
+            data.connection.cut();
+            data.connection.close(ports);
             client.data_fault();
             Ok(())
         }

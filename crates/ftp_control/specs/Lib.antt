@@ -1,2 +1,4 @@
 pub mod Unheard
 pub mod Beginning
+pub mod Whole
+pub mod Carrying

@@ -3,9 +3,13 @@
 #![tactic(auto)]
 
 mod control;
+mod data;
 mod pieces;
 mod ports;
+mod whole;
 
 pub use control::Control;
+pub use data::{DataConnection, Halt};
 pub use pieces::{Failed, PIECE_LIMIT, TURNS, get, put};
 pub use ports::{Accepted, DATA_PIECE, For, Ports, Ready, Spoken, Watch};
+pub use whole::{Rest, Whole};

@@ -1,4 +1,5 @@
 // What opens and closes data connections, and what tells the time.
+use crate::whole::Whole;
 use ftp_endpoint::{Endpoint, Host};
 use ftp_facts::Moment;
 use std::io::{Read, Write};
@@ -7,8 +8,7 @@ use std::io::{Read, Write};
 pub const DATA_PIECE: usize = 262_144;
 
 /// How the waiting for a data connection ended.
-#[derive(Drop)]
-pub enum Accepted<S: Drop> {
+pub enum Accepted<S> {
     /// It came, from this host.
     Came(S, Host),
     /// The control connection has octets, or ended; the waiting may go on later.
@@ -47,10 +47,11 @@ pub enum Spoken {
     Ended,
 }
 
-/// What opens data connections (RFC 959, section 3.2). Each call may fail; none of them may wait past the end of the control connection.
+/// What opens and closes data connections (RFC 959, section 3.2). Each call may fail; none of them may wait past the end of the control connection.
 pub trait Ports {
-    /// An open data connection. Its read ends as failed where the control connection ended; its write may go on for a while then.
-    type Stream: Read + Write + Drop;
+    /// An open data connection. Its read ends as failed where the control connection ended; its write may go on for a while then. It can't be
+    /// let go: each one goes back by `close` or by `reset`.
+    type Stream: Read + Write;
 
     /// Listens at a port of its choice for one data connection.
     fn listen(&mut self) -> Option<u16>;
@@ -69,9 +70,9 @@ pub trait Ports {
     fn spoken(&mut self) -> Spoken;
 
     /// Closes a data connection and the port that is listened at, if there are any: the peer finds the end behind all that was written.
-    fn close(&mut self, stream: Option<Self::Stream>);
+    fn close(&mut self, stream: Option<Whole<Self::Stream>>);
 
-    /// Closes a data connection on which not all was written: the peer finds a reset, and never an end.
+    /// Closes a data connection, whole or not: the peer finds a reset, and never an end.
     fn reset(&mut self, stream: Self::Stream);
 }
 

@@ -1,4 +1,3 @@
 pub mod Deeds
 pub mod Driving
 pub mod Beside
-pub mod Ending

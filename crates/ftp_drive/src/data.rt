@@ -5,16 +5,14 @@ ghost use Rattle.ftp_drive.specs.Beside.{beside};
 ghost use Rattle.ftp_drive.specs.Driving.{Goes, Quietly};
 
 use crate::control::Control;
-use ftp_control::{DATA_PIECE, Failed, For, Ports, Ready, Spoken, TURNS, Watch};
+use ftp_control::{
+    DATA_PIECE, DataConnection, Failed, For, Halt, Ports, Ready, Rest, Spoken, Watch,
+};
 use ftp_ends::Wants;
 use ftp_server_machine::Far;
 use ftp_tree::Tree;
 use std::alloc::Allocator;
-use std::io::{ErrorKind, Read, Write};
-
-/// The most octets of a download that are taken at once: few, since an ABOR is heard between two pieces alone, and the system mostly has room
-/// for so many where it tells of any.
-const SENT_PIECE: usize = 32_768;
+use std::io::{Read, Write};
 
 /// What a data connection has.
 #[derive(Clone, Copy, Debug, PartialEq, Eq)]
@@ -23,60 +21,25 @@ pub(crate) enum Came {
     Room,
     /// So many octets, which were read.
     Octets(usize),
+    /// Nothing yet.
+    Nothing,
     End,
     Break,
 }
 
-/// Whether octets of a download are still to be taken from the server.
-#[derive(Clone, Copy, Debug, PartialEq, Eq)]
-pub(crate) enum Rest {
-    /// None: all were taken, or there is no download.
-    Nothing,
-    More,
-}
-
-/// How a data connection is closed.
-#[derive(Clone, Copy, Debug, PartialEq, Eq)]
-pub(crate) enum Ending {
-    /// By an end, behind all octets that were to go.
-    Clean,
-    /// By a reset, since octets that were to go did not.
-    Reset,
-}
-
-/// A data connection, if there is one, and the octets of a download that were taken from the server and not written yet.
-#[derive(Drop)]
-pub(crate) struct DataConnection<S: Read + Write + Drop> {
-    stream: Option<S>,
+/// A data connection, if there is one, and room for its octets.
+pub(crate) struct Data<S> {
+    pub(crate) connection: DataConnection<S>,
     room: [u8; DATA_PIECE],
-    at: usize,
-    end: usize,
-    rest: Rest,
-    ghost order: { at ≤ end },
-    ghost within: { end ≤ 262144 },
 }
 
-impl<S: Read + Write + Drop> DataConnection<S> {
-    ghost use Rattle.ftp_drive.specs.Ending.{EndsBy, IsWhole};
-
+impl<S: Read + Write> Data<S> {
     /// No data connection.
-    pub(crate) fn new() -> DataConnection<S> {
-        DataConnection {
-            stream: None,
+    pub(crate) fn new() -> Data<S> {
+        Data {
+            connection: DataConnection::new(),
             room: [0; DATA_PIECE],
-            at: 0,
-            end: 0,
-            rest: Rest::Nothing,
         }
-    }
-
-    /// It is open now.
-    pub(crate) fn begin(&mut self, stream: S)
-        ensures { IsWhole self.new.at self.new.end self.new.rest }
-    {
-        self.stream = Some(stream);
-        self.at = self.end;
-        self.rest = Rest::Nothing;
     }
 
     /// Notes whether the server has more octets of a download.
@@ -85,36 +48,9 @@ impl<S: Read + Write + Drop> DataConnection<S> {
         A: Allocator,
         T: Tree<A>,
         F: Far<A, T>,
-        ensures { (self.new.rest ≡ Rest.Nothing) → wants (F.server server.now).view ≢ Wants.Send }
+        ensures { (self.new.connection.rest ≡ Rest.Nothing) → wants (F.server server.now).view ≢ Wants.Send }
     {
-        self.rest = rest_of(server);
-    }
-
-    /// How it is to be closed now.
-    pub(crate) fn ending(&self) -> Ending
-        ensures { EndsBy result self.now.at self.now.end self.now.rest }
-    {
-        if self.at == self.end && self.rest == Rest::Nothing {
-            Ending::Clean
-        } else {
-            Ending::Reset
-        }
-    }
-
-    /// The stream, which is to be closed by an end: nothing that was to go is left.
-    pub(crate) fn take_whole(&mut self) -> Option<S>
-        requires { IsWhole self.old.at self.old.end self.old.rest }
-    {
-        self.stream.take()
-    }
-
-    /// The stream, which is to be closed by a reset; what is left is dropped.
-    pub(crate) fn take_cut(&mut self) -> Option<S>
-        ensures { IsWhole self.new.at self.new.end self.new.rest }
-    {
-        self.at = self.end;
-        self.rest = Rest::Nothing;
-        self.stream.take()
+        self.connection.note(rest_of(server));
     }
 
     /// What it has: octets that are read now, or room where the server wants to send.
@@ -122,14 +58,21 @@ impl<S: Read + Write + Drop> DataConnection<S> {
         if wants == Wants::Send {
             return Came::Room;
         }
-        let Some(stream) = &mut self.stream else {
-            return Came::Break;
-        };
-        match ftp_control::get(stream, &mut self.room) {
+        match self.connection.read(&mut self.room) {
             Ok(0) => Came::End,
             Ok(count) => Came::Octets(count),
-            Err(Failed) => Came::Break,
+            Err(Halt::Again | Halt::Spoken) => Came::Nothing,
+            Err(Halt::Broken) => Came::Break,
         }
+    }
+
+    /// Closes it for good.
+    pub(crate) fn finish<P: Ports<Stream = S>>(self, ports: &mut P) {
+        let Data {
+            connection,
+            room: _,
+        } = self;
+        connection.finish(ports);
     }
 
     /// The front of the room, so many octets.
@@ -145,54 +88,24 @@ impl<S: Read + Write + Drop> DataConnection<S> {
         F: Far<A, T>,
         ensures { Quietly (F.server server.old) (F.server server.new) }
     {
-        if self.at == self.end {
-            let (front, _) = self.room.split_at_mut(SENT_PIECE);
+        if !self.connection.has_unwritten() {
+            let (front, _) = self.room.split_at_mut(self.connection.piece());
             let count = fill(server, front);
-            self.at = 0;
-            self.end = count;
+            self.connection.took(count);
         }
     }
 
     /// Writes octets that are not written yet: what one write takes, or all where no others come.
     fn write(&mut self) -> Result<(), Failed>
-        ensures { self.new.rest ≡ self.old.rest }
+        ensures { self.new.connection.rest ≡ self.old.connection.rest }
     {
-        let Some(stream) = &mut self.stream else {
-            return Err(Failed);
-        };
-        let (front, _) = self.room.split_at(self.end);
-        let (_, unwritten) = front.split_at(self.at);
-        let count = match self.rest {
-            Rest::Nothing => write_all(stream, unwritten)?,
-            Rest::More => write_some(stream, unwritten)?,
-        };
-        self.at += count;
-        Ok(())
-    }
-}
-
-/// Writes all octets; gives how many they are.
-fn write_all<S: Write>(stream: &mut S, octets: &[u8]) -> Result<usize, Failed>
-    ensures { IfOk result (λ count. count ≤ length octets.now) }
-{
-    ftp_control::put(stream, octets)?;
-    Ok(octets.len())
-}
-
-/// One write: how many octets it took, none where it was interrupted or would wait.
-fn write_some<S: Write>(stream: &mut S, octets: &[u8]) -> Result<usize, Failed>
-    ensures { IfOk result (λ count. count ≤ length octets.now) }
-{
-    if octets.is_empty() {
-        return Ok(0);
-    }
-    match stream.write(octets) {
-        Ok(0) => Err(Failed),
-        Ok(count) => Ok(count),
-        Err(error) => match error.kind() {
-            ErrorKind::Interrupted | ErrorKind::WouldBlock => Ok(0),
-            _ => Err(Failed),
-        },
+        if self.connection.rest() == Rest::Nothing {
+            return self.connection.write_all(&self.room);
+        }
+        match self.connection.write(&self.room) {
+            Ok(()) | Err(Halt::Again | Halt::Spoken) => Ok(()),
+            Err(Halt::Broken) => Err(Failed),
+        }
     }
 }
 
@@ -200,7 +113,7 @@ fn write_some<S: Write>(stream: &mut S, octets: &[u8]) -> Result<usize, Failed>
 pub(crate) fn wait_at<A, T, F, P>(
     server: &F,
     ports: &mut P,
-    connection: &mut DataConnection<P::Stream>,
+    data: &mut Data<P::Stream>,
     hears: bool,
 ) -> Ready
 where
@@ -213,10 +126,7 @@ where
         Wants::Send => For::Room,
         _ => For::Octets,
     };
-    match &mut connection.stream {
-        Some(stream) => ports.wait(stream, what, hears),
-        None => Ready::Lost,
-    }
+    data.connection.wait(ports, what, hears)
 }
 
 /// The data connection ended now, and the control connection, which was looked at behind that, has not.
@@ -296,21 +206,18 @@ where
 }
 
 /// Writes octets of a download, once. With the last octet of it the server owes its reply, so all is written before that.
-pub(crate) fn send<A, T, F, S>(
-    server: &mut F,
-    connection: &mut DataConnection<S>,
-) -> Result<(), Failed>
+pub(crate) fn send<A, T, F, S>(server: &mut F, data: &mut Data<S>) -> Result<(), Failed>
 where
     A: Allocator,
     T: Tree<A>,
     F: Far<A, T>,
-    S: Read + Write + Drop,
+    S: Read + Write,
     ensures quiet { Quietly (F.server server.old) (F.server server.new) }
-    ensures rest { (connection.new.rest ≡ Rest.Nothing) → wants (F.server server.new).view ≢ Wants.Send }
+    ensures rest { («data».new.connection.rest ≡ Rest.Nothing) → wants (F.server server.new).view ≢ Wants.Send }
 {
-    connection.fill(server);
-    connection.note(server);
-    connection.write()
+    data.fill(server);
+    data.note(server);
+    data.write()
 }
 
 /// Whether the server has more octets of a download.

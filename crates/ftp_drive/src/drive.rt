@@ -4,7 +4,7 @@ ghost use Rattle.ftp_drive.specs.Beside.{beside};
 ghost use Rattle.ftp_drive.specs.Driving.{Drives, EndsOver, Goes, GoesSettled, Quietly, Turns};
 
 use crate::control::Control;
-use crate::data::{Came, DataConnection, Ending, end, fault, hand, send, wait_at};
+use crate::data::{Came, Data, end, fault, hand, send, wait_at};
 use ftp_control::{Accepted, Failed, Ports, Ready, Spoken, TURNS, Watch};
 use ftp_endpoint::Endpoint;
 use ftp_ends::Wants;
@@ -41,16 +41,16 @@ where
     C: Watch,
     ensures { Drives (beside R.remaining W.contents (F.server server.old) control.old) (beside R.remaining W.contents (F.server server.new) control.new) result }
 {
-    let mut connection = DataConnection::new();
-    match turns(server, control, ports, watch, &mut connection) {
+    let mut data = Data::new();
+    match turns(server, control, ports, watch, &mut data) {
         Ok(()) => {
-            close(ports, &mut connection);
+            data.finish(ports);
             Ok(())
         }
         Err(Failed) => {
-            connection.note(server);
+            data.note(server);
             server.control_end();
-            close(ports, &mut connection);
+            data.finish(ports);
             Err(Failed)
         }
     }
@@ -62,7 +62,7 @@ fn turns<A, T, F, R, W, P, C>(
     control: &mut Control<R, W>,
     ports: &mut P,
     watch: &mut C,
-    connection: &mut DataConnection<P::Stream>,
+    data: &mut Data<P::Stream>,
 ) -> Result<(), Failed>
 where
     A: Allocator,
@@ -76,7 +76,7 @@ where
 {
     server.clock(watch.moment());
     for _ in 0..TURNS {
-        match turn(server, control, ports, watch, connection)? {
+        match turn(server, control, ports, watch, data)? {
             Life::GoesOn => {}
             Life::Over => return Ok(()),
         }
@@ -90,7 +90,7 @@ fn turn<A, T, F, R, W, P, C>(
     control: &mut Control<R, W>,
     ports: &mut P,
     watch: &mut C,
-    connection: &mut DataConnection<P::Stream>,
+    data: &mut Data<P::Stream>,
 ) -> Result<Life, Failed>
 where
     A: Allocator,
@@ -106,7 +106,7 @@ where
     if let Wants::CloseAll = server.wants() {
         return Ok(Life::Over);
     }
-    act(server, control, ports, watch, connection)?;
+    act(server, control, ports, watch, data)?;
     Ok(Life::GoesOn)
 }
 
@@ -116,7 +116,7 @@ fn act<A, T, F, R, W, P, C>(
     control: &mut Control<R, W>,
     ports: &mut P,
     watch: &mut C,
-    connection: &mut DataConnection<P::Stream>,
+    data: &mut Data<P::Stream>,
 ) -> Result<(), Failed>
 where
     A: Allocator,
@@ -130,18 +130,18 @@ where
 {
     match server.wants() {
         Wants::Nothing => attend(server, control, watch),
-        Wants::Accept => accept(server, control, ports, watch, connection),
-        Wants::Receive | Wants::Send => carry(server, control, ports, watch, connection),
+        Wants::Accept => accept(server, control, ports, watch, data),
+        Wants::Receive | Wants::Send => carry(server, control, ports, watch, data),
         Wants::Listen => {
             listen(server, ports);
             Ok(())
         }
         Wants::Connect(endpoint) => {
-            connect(server, ports, connection, endpoint);
+            connect(server, ports, data, endpoint);
             Ok(())
         }
         Wants::CloseData => {
-            close(ports, connection);
+            data.connection.close(ports);
             server.data_closed();
             Ok(())
         }
@@ -156,7 +156,7 @@ fn carry<A, T, F, R, W, P, C>(
     control: &mut Control<R, W>,
     ports: &mut P,
     watch: &mut C,
-    connection: &mut DataConnection<P::Stream>,
+    data: &mut Data<P::Stream>,
 ) -> Result<(), Failed>
 where
     A: Allocator,
@@ -168,14 +168,14 @@ where
     C: Watch,
     ensures { GoesSettled (beside R.remaining W.contents (F.server server.old) control.old) (beside R.remaining W.contents (F.server server.new) control.new) result }
 {
-    connection.note(server);
+    data.note(server);
     if !control.has_unheard() {
-        return carry_hearing(server, control, ports, watch, connection);
+        return carry_hearing(server, control, ports, watch, data);
     }
     if control.hear_one(server) {
         return Ok(());
     }
-    carry_alone(server, control, ports, watch, connection)
+    carry_alone(server, control, ports, watch, data)
 }
 
 /// Reads the control connection where it has octets, or where the data connection waits or is over and the control connection ended; and else
@@ -185,7 +185,7 @@ fn carry_hearing<A, T, F, R, W, P, C>(
     control: &mut Control<R, W>,
     ports: &mut P,
     watch: &mut C,
-    connection: &mut DataConnection<P::Stream>,
+    data: &mut Data<P::Stream>,
 ) -> Result<(), Failed>
 where
     A: Allocator,
@@ -198,15 +198,15 @@ where
     requires { control.old.end ≤ control.old.at }
     ensures { GoesSettled (beside R.remaining W.contents (F.server server.old) control.old) (beside R.remaining W.contents (F.server server.new) control.new) result }
 {
-    match wait_at(server, ports, connection, true) {
+    match wait_at(server, ports, data, true) {
         Ready::Control => read(server, control, watch),
         Ready::Data => {
-            let came = connection.come(server.wants());
+            let came = data.come(server.wants());
             let spoken = spoken_behind(ports, came);
             if spoken != Spoken::Nothing {
                 return read(server, control, watch);
             }
-            carry_came(server, control, ports, watch, connection, came, spoken)
+            carry_came(server, control, ports, watch, data, came, spoken)
         }
         Ready::Lost => Err(Failed),
     }
@@ -219,7 +219,7 @@ fn carry_alone<A, T, F, R, W, P, C>(
     control: &mut Control<R, W>,
     ports: &mut P,
     watch: &mut C,
-    connection: &mut DataConnection<P::Stream>,
+    data: &mut Data<P::Stream>,
 ) -> Result<(), Failed>
 where
     A: Allocator,
@@ -231,14 +231,14 @@ where
     C: Watch,
     ensures { Goes (beside R.remaining W.contents (F.server server.old) control.old) (beside R.remaining W.contents (F.server server.new) control.new) result }
 {
-    match wait_at(server, ports, connection, false) {
+    match wait_at(server, ports, data, false) {
         Ready::Data => {
-            let came = connection.come(server.wants());
+            let came = data.come(server.wants());
             let spoken = spoken_behind(ports, came);
             if spoken == Spoken::Ended {
                 return Err(Failed);
             }
-            carry_came(server, control, ports, watch, connection, came, spoken)
+            carry_came(server, control, ports, watch, data, came, spoken)
         }
         Ready::Control | Ready::Lost => Err(Failed),
     }
@@ -249,7 +249,7 @@ where
 fn spoken_behind<P: Ports>(ports: &mut P, came: Came) -> Spoken {
     match came {
         Came::End | Came::Break => ports.spoken(),
-        Came::Room | Came::Octets(_) => Spoken::Nothing,
+        Came::Room | Came::Octets(_) | Came::Nothing => Spoken::Nothing,
     }
 }
 
@@ -260,7 +260,7 @@ fn carry_came<A, T, F, R, W, P, C>(
     control: &mut Control<R, W>,
     ports: &mut P,
     watch: &mut C,
-    connection: &mut DataConnection<P::Stream>,
+    data: &mut Data<P::Stream>,
     came: Came,
     spoken: Spoken,
 ) -> Result<(), Failed>
@@ -276,19 +276,20 @@ where
     ensures { Goes (beside R.remaining W.contents (F.server server.old) control.old) (beside R.remaining W.contents (F.server server.new) control.new) result }
 {
     match came {
-        Came::Octets(count) => hand(server, control, connection.front(count)),
+        Came::Octets(count) => hand(server, control, data.front(count)),
+        Came::Nothing => Ok(()),
         Came::Room => {
-            send_once(server, ports, watch, connection);
+            send_once(server, ports, watch, data);
             Ok(())
         }
         Came::End => {
             end(server, watch, spoken);
-            close(ports, connection);
+            data.connection.close(ports);
             Ok(())
         }
         Came::Break => {
             fault(server, watch);
-            close(ports, connection);
+            data.connection.close(ports);
             Ok(())
         }
     }
@@ -299,7 +300,7 @@ fn send_once<A, T, F, P, C>(
     server: &mut F,
     ports: &mut P,
     watch: &mut C,
-    connection: &mut DataConnection<P::Stream>,
+    data: &mut Data<P::Stream>,
 )
 where
     A: Allocator,
@@ -309,19 +310,14 @@ where
     C: Watch,
     ensures { Quietly (F.server server.old) (F.server server.new) }
 {
-    match send(server, connection) {
+    match send(server, data) {
         Ok(()) => {}
-        Err(Failed) => lose(server, ports, watch, connection),
+        Err(Failed) => lose(server, ports, watch, data),
     }
 }
 
 /// The data connection is lost: the server is told, and it is closed.
-fn lose<A, T, F, P, C>(
-    server: &mut F,
-    ports: &mut P,
-    watch: &mut C,
-    connection: &mut DataConnection<P::Stream>,
-)
+fn lose<A, T, F, P, C>(server: &mut F, ports: &mut P, watch: &mut C, data: &mut Data<P::Stream>)
 where
     A: Allocator,
     T: Tree<A>,
@@ -331,19 +327,7 @@ where
     ensures { Quietly (F.server server.old) (F.server server.new) }
 {
     fault(server, watch);
-    close(ports, connection);
-}
-
-/// Closes a data connection and a port: by an end only where all that was to go is written, and else by a reset.
-fn close<P: Ports>(ports: &mut P, connection: &mut DataConnection<P::Stream>) {
-    match connection.ending() {
-        Ending::Clean => ports.close(connection.take_whole()),
-        Ending::Reset => {
-            if let Some(stream) = connection.take_cut() {
-                ports.reset(stream);
-            }
-        }
-    }
+    data.connection.close(ports);
 }
 
 /// Hears the next octet of the control connection, which is read where all before were heard.
@@ -401,7 +385,7 @@ fn accept<A, T, F, R, W, P, C>(
     control: &mut Control<R, W>,
     ports: &mut P,
     watch: &mut C,
-    connection: &mut DataConnection<P::Stream>,
+    data: &mut Data<P::Stream>,
 ) -> Result<(), Failed>
 where
     A: Allocator,
@@ -414,12 +398,12 @@ where
     ensures { GoesSettled (beside R.remaining W.contents (F.server server.old) control.old) (beside R.remaining W.contents (F.server server.new) control.new) result }
 {
     if !control.has_unheard() {
-        return wait(server, control, ports, watch, connection);
+        return wait(server, control, ports, watch, data);
     }
     if control.hear_one(server) {
         return Ok(());
     }
-    wait_alone(server, ports, connection);
+    wait_alone(server, ports, data);
     Ok(())
 }
 
@@ -429,7 +413,7 @@ fn wait<A, T, F, R, W, P, C>(
     control: &mut Control<R, W>,
     ports: &mut P,
     watch: &mut C,
-    connection: &mut DataConnection<P::Stream>,
+    data: &mut Data<P::Stream>,
 ) -> Result<(), Failed>
 where
     A: Allocator,
@@ -444,7 +428,7 @@ where
 {
     match ports.accept(true) {
         Accepted::Came(open, host) => {
-            connection.begin(open);
+            data.connection.begin(ports, open);
             server.data_opened(host);
             Ok(())
         }
@@ -457,7 +441,7 @@ where
 }
 
 /// Waits for the data connection alone.
-fn wait_alone<A, T, F, P>(server: &mut F, ports: &mut P, connection: &mut DataConnection<P::Stream>)
+fn wait_alone<A, T, F, P>(server: &mut F, ports: &mut P, data: &mut Data<P::Stream>)
 where
     A: Allocator,
     T: Tree<A>,
@@ -467,7 +451,7 @@ where
 {
     match ports.accept(false) {
         Accepted::Came(open, host) => {
-            connection.begin(open);
+            data.connection.begin(ports, open);
             server.data_opened(host);
         }
         Accepted::Spoken | Accepted::Refused => server.data_refused(),
@@ -493,7 +477,7 @@ where
 fn connect<A, T, F, P>(
     server: &mut F,
     ports: &mut P,
-    connection: &mut DataConnection<P::Stream>,
+    data: &mut Data<P::Stream>,
     endpoint: Endpoint,
 )
 where
@@ -505,7 +489,7 @@ where
 {
     match ports.connect(endpoint) {
         Some(open) => {
-            connection.begin(open);
+            data.connection.begin(ports, open);
             server.data_opened(endpoint.host);
         }
         None => server.data_refused(),

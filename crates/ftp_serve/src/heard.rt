@@ -1,6 +1,6 @@
 // The connections of a session, of which its journal is told.
 use crate::journal::{Fate, Journal};
-use ftp_control::{Accepted, For, Ports, Ready, Spoken};
+use ftp_control::{Accepted, For, Ports, Ready, Spoken, Whole};
 use ftp_endpoint::Endpoint;
 use ftp_sockets::{ControlReader, Link, SocketPorts};
 use std::io;
@@ -127,11 +127,11 @@ impl<'a, R: Net<Listener = TcpListener, Stream = TcpStream> + Clock + Eprint> Po
         self.inner.spoken()
     }
 
-    fn close(&mut self, stream: Option<CountedLink<'a, R>>) {
+    fn close(&mut self, stream: Option<Whole<CountedLink<'a, R>>>) {
         match stream {
-            Some(link) => {
+            Some(whole) => {
                 self.journal.close(Fate::Ended);
-                self.inner.close(Some(link.inner));
+                self.inner.close(Some(whole.map(|counted| counted.inner)));
             }
             None => self.inner.close(None),
         }

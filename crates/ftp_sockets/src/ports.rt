@@ -2,7 +2,7 @@
 use crate::host::{addr_of, host_of};
 use crate::link::Link;
 use crate::wait::{Heeds, Woke, look_at, wait};
-use ftp_control::{Accepted, For, Ports, Ready, Spoken, TURNS};
+use ftp_control::{Accepted, For, Ports, Ready, Spoken, TURNS, Whole};
 use ftp_endpoint::Endpoint;
 use std::io;
 use std::io::ErrorKind;
@@ -164,12 +164,13 @@ impl<'a, R: Net<Listener = TcpListener, Stream = TcpStream>> Ports for SocketPor
         look_at(self.control)
     }
 
-    fn close(&mut self, stream: Option<Link<'a>>) {
-        let Some(link) = stream else {
+    fn close(&mut self, stream: Option<Whole<Link<'a>>>) {
+        let Some(whole) = stream else {
             self.listener = None;
             return;
         };
         self.finish(0);
+        let link = whole.into_stream();
         if link.end().is_ok() {
             self.leaving = Some(link);
         }

@@ -2,7 +2,7 @@
 use crate::drive::peer::PEER;
 use ftp_client_drive::{Control, drive_client};
 use ftp_client_machine::Near;
-use ftp_control::{Accepted, For, Ports, Ready, Spoken};
+use ftp_control::{Accepted, For, Ports, Ready, Spoken, Whole};
 use ftp_endpoint::Endpoint;
 use ftp_facts::Text;
 use ftp_operation::{Answer, How};
@@ -106,14 +106,15 @@ impl Ports for Breaking {
         Spoken::Nothing
     }
 
-    fn close(&mut self, stream: Option<Link>) {
-        if let Some(link) = stream {
-            self.taken.put(link.taken.get(..link.end).unwrap_or(b""));
+    fn close(&mut self, stream: Option<Whole<Link>>) {
+        if let Some(whole) = stream {
+            self.reset(whole.into_stream());
         }
     }
 
     fn reset(&mut self, stream: Link) {
-        self.close(Some(stream));
+        self.taken
+            .put(stream.taken.get(..stream.end).unwrap_or(b""));
     }
 }
 

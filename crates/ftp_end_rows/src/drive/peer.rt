@@ -1,6 +1,6 @@
 // A client's side of data connections that is the same each time: it opens each port, sends so many octets, has no room at first, and speaks at
 // a time of its choice.
-use ftp_control::{Accepted, For, Ports, Ready, Spoken, Watch};
+use ftp_control::{Accepted, For, Ports, Ready, Spoken, Watch, Whole};
 use ftp_endpoint::{Endpoint, Host};
 use ftp_facts::Moment;
 use std::io;
@@ -52,6 +52,8 @@ pub(crate) struct Client {
     full: u32,
     /// How many octets came over data connections that are closed.
     taken: u64,
+    /// How many data connections were reset.
+    resets: u32,
 }
 
 impl Client {
@@ -61,7 +63,13 @@ impl Client {
             silent,
             full,
             taken: 0,
+            resets: 0,
         }
+    }
+
+    /// How many data connections were reset.
+    pub(crate) fn resets(&self) -> u32 {
+        self.resets
     }
 
     /// How many octets came over data connections that are closed.
@@ -108,14 +116,15 @@ impl Ports for Client {
         Spoken::Nothing
     }
 
-    fn close(&mut self, stream: Option<Link>) {
-        if let Some(link) = stream {
-            self.taken = self.taken.wrapping_add(link.taken);
+    fn close(&mut self, stream: Option<Whole<Link>>) {
+        if let Some(whole) = stream {
+            self.taken = self.taken.wrapping_add(whole.into_stream().taken);
         }
     }
 
     fn reset(&mut self, stream: Link) {
-        self.close(Some(stream));
+        self.taken = self.taken.wrapping_add(stream.taken);
+        self.resets = self.resets.wrapping_add(1);
     }
 }
 

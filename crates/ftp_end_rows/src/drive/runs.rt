@@ -62,6 +62,8 @@ struct Run<'a> {
     full: u32,
     /// How many octets the client is sent over data connections.
     taken: u64,
+    /// How many data connections are reset.
+    resets: u32,
 }
 
 /// The run whose calls move few octets.
@@ -76,6 +78,7 @@ fn short() -> Run<'static> {
         silent: NEVER,
         full: 0,
         taken: 0,
+        resets: 0,
     }
 }
 
@@ -102,9 +105,14 @@ fn drives<S: Far<Global, MemTree<Global>>>(
     let mut client = Client::new(run.sends, run.silent, run.full);
     let ended = drive_server(&mut server, &mut control, &mut client, &mut Still {});
     match ended {
-        Ok(()) => !breaks && writer.taken() == run.owed && client.taken() == run.taken,
+        Ok(()) => !breaks && writer.taken() == run.owed && came(&client, run),
         Err(_) => breaks && run.owed.starts_with(writer.taken()),
     }
+}
+
+/// Whether the client was sent what a run says, and found as many resets.
+fn came(client: &Client, run: Run<'_>) -> bool {
+    client.taken() == run.taken && client.resets() == run.resets
 }
 
 /// The pieces of a run.
@@ -153,7 +161,8 @@ const SENT: usize = 800_000;
 /// How many octets two pieces of a download have, of 32,768 octets each.
 const TWO_PIECES: u64 = 65_536;
 
-/// Whether a run goes so in which a file is sent, and behind two pieces of its download the client says the next octet of this.
+/// Whether a run goes so in which a file is sent, and behind two pieces of its download the client says the next octet of this. A download that
+/// is cut is reset.
 fn speaks(alloc: Global, said: &'static [u8], owed: &'static [u8], taken: u64) -> bool {
     let mut run = short();
     run.said = said;
@@ -162,6 +171,7 @@ fn speaks(alloc: Global, said: &'static [u8], owed: &'static [u8], taken: u64) -
     run.sends = SENT;
     run.silent = 7;
     run.taken = taken;
+    run.resets = if taken < SENT as u64 { 1 } else { 0 };
     ends(alloc, run, false)
 }
 
@@ -246,6 +256,7 @@ fn waits(alloc: Global) -> bool {
             silent: 7,
             full: FULL,
             taken: SENT as u64,
+            resets: 0,
         };
         if !ends(alloc, run, false) {
             return false;

@@ -1,0 +1,23 @@
+-- What a write takes off the octets that are on their way over a data connection.
+use Rattle.std.proofs.Common.{◌≡◌, ◌∙◌, ◌≤◌, ℕ, ◌+◌, List, [], ◌++◌, length, take, drop, Option, sym, ap, arith}
+use Rattle.std.proofs.lemmas.List.{append-nil, drop-drop, drop_all, length-take-le, take-append-drop}
+use Rattle.std.specs.Io.KnownBytes.{Appends}
+use Rattle.ftp_control.specs.Carrying.{Sends}
+
+-- so many were written, and the others still are on their way
+pub sends_some : (old new : Option (List ℕ)) (at end n : ℕ) (room back : List ℕ) → back ≡ drop at (take end room) → Appends old new (take n back)
+    → Sends old new (drop at (take end room)) (drop (at + n) (take end room))
+sends_some old new at end n room back is wrote = (
+  take n back,
+  sym is ∙ sym (take-append-drop n back) ∙ ap (λ l. take n back ++ l) (ap (drop n) is ∙ drop-drop n at (take end room)),
+  wrote,
+)
+
+-- all were written
+pub sends_all : (old new : Option (List ℕ)) (at end : ℕ) (room back : List ℕ) → end ≤ length room → back ≡ drop at (take end room) → Appends old new back
+    → Sends old new (drop at (take end room)) (drop end (take end room))
+sends_all old new at end room back fits is wrote = (
+  back,
+  sym is ∙ sym (append-nil back) ∙ ap (λ l. back ++ l) (sym (drop_all end (take end room) (let e = length-take-le end room fits in omega (arith, e)))),
+  wrote,
+)

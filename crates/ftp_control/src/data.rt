@@ -1,0 +1,266 @@
+// A data connection: what stands of its stream, and which octets of a room are on their way over it.
+ghost use Rattle.std.specs.Prelude.{◌≡◌, ◌≤◌, ◌<◌, IsTrue, IfOk, OnOk, OnErr, false, length, take};
+ghost use Rattle.std.specs.Io.KnownBytes.{Appends, Consumes, IsAtEnd, Keeps};
+ghost use Rattle.ftp_control.specs.Whole.{IsCut, IsWhole};
+
+use crate::pieces::{Failed, put};
+use crate::ports::{DATA_PIECE, For, Ports, Ready};
+use crate::whole::{Rest, whole_of};
+use std::io::{Error, ErrorKind, Read, Write};
+
+/// The fewest octets of a download that are taken at once, unless it ends before.
+const LEAST_PIECE: usize = 32_768;
+
+/// What part of the octets that went so far is taken at once.
+const PART: usize = 8;
+
+/// Why a read or a write of a data connection moved no octet.
+#[derive(Clone, Copy, Debug, PartialEq, Eq)]
+pub enum Halt {
+    /// It was interrupted.
+    Again,
+    /// It would wait, and the control connection has octets, or ended.
+    Spoken,
+    /// The data connection broke, or there is none.
+    Broken,
+}
+
+/// A data connection, if there is one, and which octets of a room are on their way over it: those that were taken from this end and are not
+/// written yet. The room is the caller's.
+pub struct DataConnection<S> {
+    stream: Option<S>,
+    at: usize,
+    end: usize,
+    rest: Rest,
+    /// How many octets went over it.
+    went: usize,
+    ghost order: { at ≤ end },
+    ghost within: { end ≤ 262144 },
+}
+
+impl<S: Read + Write> DataConnection<S> {
+    ghost use Rattle.ftp_control.specs.Carrying.{Sends, carried_of, left_of, on_their_way};
+
+    /// No data connection.
+    pub fn new() -> DataConnection<S>
+        ensures { IsWhole result.at result.end result.rest }
+    {
+        DataConnection {
+            stream: None,
+            at: 0,
+            end: 0,
+            rest: Rest::Nothing,
+            went: 0,
+        }
+    }
+
+    /// It is open now; one that stood before is reset.
+    pub fn begin<P: Ports<Stream = S>>(&mut self, ports: &mut P, stream: S)
+        ensures { IsWhole self.new.at self.new.end self.new.rest }
+    {
+        self.at = self.end;
+        self.rest = Rest::Nothing;
+        self.went = 0;
+        if let Some(before) = self.stream.replace(stream) {
+            ports.reset(before);
+        }
+    }
+
+    /// Whether this end has more octets for it.
+    pub fn note(&mut self, rest: Rest)
+        ensures noted { self.new.rest ≡ rest }
+        ensures at { self.new.at ≡ self.old.at }
+        ensures end { self.new.end ≡ self.old.end }
+    {
+        self.rest = rest;
+    }
+
+    /// Whether this end had more octets for it, when that was noted last.
+    pub fn rest(&self) -> Rest
+        ensures { result ≡ self.now.rest }
+    {
+        self.rest
+    }
+
+    /// Whether octets were taken that are not written yet.
+    pub fn has_unwritten(&self) -> bool
+        ensures some { IsTrue result → self.now.at < self.now.end }
+        ensures none { result ≡ false → self.now.at ≡ self.now.end }
+    {
+        self.at < self.end
+    }
+
+    /// How many octets are to be taken at once: an eighth of those that went so far, within 32,768 and 262,144. So the last octets, behind which
+    /// nothing is heard until they are written, are few beside what the system took already, and it mostly has room for them.
+    pub fn piece(&self) -> usize
+        ensures least { 32768 ≤ result }
+        ensures most { result ≤ 262144 }
+    {
+        (self.went / PART).clamp(LEAST_PIECE, DATA_PIECE)
+    }
+
+    /// The first octets of the room, so many, were taken from this end, where all before were written.
+    pub fn took(&mut self, count: usize)
+        requires all { self.old.at ≡ self.old.end }
+        requires within { count ≤ 262144 }
+        ensures at { self.new.at ≡ 0 }
+        ensures end { self.new.end ≡ count }
+    {
+        self.at = 0;
+        self.end = count;
+    }
+
+    /// Drops the octets that are not written yet: nothing more of them goes, so it is cut.
+    pub fn cut(&mut self)
+        ensures rest { self.new.rest ≡ Rest.More }
+        ensures none { self.new.at ≡ self.new.end }
+    {
+        self.at = self.end;
+        self.rest = Rest::More;
+    }
+
+    /// The octets of the room that are on their way.
+    fn unwritten<'r>(&self, room: &'r [u8]) -> &'r [u8]
+        requires { self.now.end ≤ length room.now }
+        ensures { result.now ≡ on_their_way self.now room.now }
+    {
+        let (front, _) = room.split_at(self.end);
+        let (_, unwritten) = front.split_at(self.at);
+        unwritten
+    }
+
+    /// Writes octets of the room that are on their way, as many as one write takes.
+    pub fn write(&mut self, room: &[u8]) -> Result<(), Halt>
+        requires { self.old.end ≤ length room.now }
+        ensures ok { OnOk result (Sends (carried_of S.contents self.old) (carried_of S.contents self.new) (on_their_way self.old room.now) (on_their_way self.new room.now)) }
+        ensures err { OnErr result (Keeps (carried_of S.contents self.old) (carried_of S.contents self.new)) }
+        ensures same { OnErr result (on_their_way self.new room.now ≡ on_their_way self.old room.now) }
+        ensures rest { self.new.rest ≡ self.old.rest }
+    {
+        let unwritten = self.unwritten(room);
+        let Some(stream) = &mut self.stream else {
+            return Err(Halt::Broken);
+        };
+        let count = write_some(stream, unwritten)?;
+        self.at += count;
+        self.went = self.went.saturating_add(count);
+        Ok(())
+    }
+
+    /// Writes all octets of the room that are on their way, however long that waits.
+    pub fn write_all(&mut self, room: &[u8]) -> Result<(), Failed>
+        requires { self.old.end ≤ length room.now }
+        ensures ok { OnOk result (Sends (carried_of S.contents self.old) (carried_of S.contents self.new) (on_their_way self.old room.now) (on_their_way self.new room.now)) }
+        ensures all { OnOk result (self.new.at ≡ self.new.end) }
+        ensures rest { self.new.rest ≡ self.old.rest }
+    {
+        let unwritten = self.unwritten(room);
+        let Some(stream) = &mut self.stream else {
+            return Err(Failed);
+        };
+        put(stream, unwritten)?;
+        self.went = self.went.saturating_add(unwritten.len());
+        self.at = self.end;
+        Ok(())
+    }
+
+    /// Reads once; none is the end of the data connection.
+    pub fn read(&mut self, room: &mut [u8]) -> Result<usize, Halt>
+        ensures within { IfOk result (λ count. count ≤ length room.new) }
+        ensures ok { IfOk result (λ count. Consumes (left_of S.remaining self.old) (left_of S.remaining self.new) (take count room.new)) }
+        ensures end { IfOk result (λ count. count ≡ 0 → 0 < length room.new → IsAtEnd (left_of S.remaining self.new)) }
+        ensures err { OnErr result (Keeps (left_of S.remaining self.old) (left_of S.remaining self.new)) }
+        ensures rest { self.new.rest ≡ self.old.rest }
+    {
+        let Some(stream) = &mut self.stream else {
+            return Err(Halt::Broken);
+        };
+        read_some(stream, room)
+    }
+
+    /// Waits until octets can be read or written, or where `hears` until the control connection is to be served.
+    pub fn wait<P: Ports<Stream = S>>(&mut self, ports: &mut P, what: For, hears: bool) -> Ready
+        ensures rest { self.new.rest ≡ self.old.rest }
+    {
+        match &mut self.stream {
+            Some(stream) => ports.wait(stream, what, hears),
+            None => Ready::Lost,
+        }
+    }
+
+    /// Closes it, if it is open, and the port that is listened at: by an end where all that was to go is written, and else by a reset.
+    pub fn close<P: Ports<Stream = S>>(&mut self, ports: &mut P)
+        ensures { IsWhole self.new.at self.new.end self.new.rest }
+    {
+        let (at, end, rest) = (self.at, self.end, self.rest);
+        self.at = self.end;
+        self.rest = Rest::Nothing;
+        match self.stream.take() {
+            Some(stream) => close_by(ports, stream, at, end, rest),
+            None => ports.close(None),
+        }
+    }
+
+    /// Closes it for good.
+    pub fn finish<P: Ports<Stream = S>>(self, ports: &mut P) {
+        let DataConnection {
+            stream,
+            at,
+            end,
+            rest,
+            went: _,
+        } = self;
+        match stream {
+            Some(stream) => close_by(ports, stream, at, end, rest),
+            None => ports.close(None),
+        }
+    }
+}
+
+/// Closes a data connection of whose octets those up to `end` were taken and those up to `at` are written.
+fn close_by<P: Ports>(ports: &mut P, stream: P::Stream, at: usize, end: usize, rest: Rest)
+    requires { at ≤ end }
+{
+    match whole_of(stream, at, end, rest) {
+        Ok(whole) => ports.close(Some(whole)),
+        Err(cut) => ports.reset(cut),
+    }
+}
+
+/// One read: how many octets it gave.
+fn read_some<S: Read>(stream: &mut S, room: &mut [u8]) -> Result<usize, Halt>
+    ensures within { IfOk result (λ count. count ≤ length room.new) }
+    ensures ok { IfOk result (λ count. Consumes (S.remaining stream.old) (S.remaining stream.new) (take count room.new)) }
+    ensures end { IfOk result (λ count. count ≡ 0 → 0 < length room.new → IsAtEnd (S.remaining stream.new)) }
+    ensures err { OnErr result (Keeps (S.remaining stream.old) (S.remaining stream.new)) }
+{
+    match stream.read(room) {
+        Ok(count) => Ok(count),
+        Err(error) => Err(halt_of(&error)),
+    }
+}
+
+/// One write: how many octets it took, none only of none.
+fn write_some<S: Write>(stream: &mut S, octets: &[u8]) -> Result<usize, Halt>
+    ensures within { IfOk result (λ count. count ≤ length octets.now) }
+    ensures ok { IfOk result (λ count. Appends (S.contents stream.old) (S.contents stream.new) (take count octets.now)) }
+    ensures err { OnErr result (Keeps (S.contents stream.old) (S.contents stream.new)) }
+{
+    if octets.is_empty() {
+        return Ok(0);
+    }
+    match stream.write(octets) {
+        Ok(0) => Err(Halt::Broken),
+        Ok(count) => Ok(count),
+        Err(error) => Err(halt_of(&error)),
+    }
+}
+
+/// What an error of a data connection tells.
+fn halt_of(error: &Error) -> Halt {
+    match error.kind() {
+        ErrorKind::WouldBlock => Halt::Spoken,
+        ErrorKind::Interrupted => Halt::Again,
+        _ => Halt::Broken,
+    }
+}

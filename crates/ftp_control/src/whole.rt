@@ -1,0 +1,72 @@
+// A data connection that may be closed by an end.
+ghost use Rattle.std.specs.Prelude.{◌≡◌, ◌≤◌, OnErr};
+ghost use Rattle.ftp_control.specs.Whole.{IsCut, IsWhole};
+
+/// Whether octets are still to be taken from the end that sends over a data connection.
+#[derive(Clone, Copy, Debug, PartialEq, Eq)]
+pub enum Rest {
+    /// None: all were taken, or this end sends none.
+    Nothing,
+    More,
+}
+
+/// A stream over which all octets went that were taken from this end, and for which it has no more: its peer may take its end for the end of
+/// the file (RFC 959, section 3.4.1). Only this crate makes one.
+pub struct Whole<S> {
+    stream: S,
+    /// Up to where the octets that were taken last are written, and up to where they were taken.
+    at: usize,
+    end: usize,
+    rest: Rest,
+    ghost whole: { IsWhole at end rest },
+}
+
+impl<S> Whole<S> {
+    /// The stream, for whoever closes it by an end.
+    pub fn into_stream(self) -> S
+        ensures { result ≡ self.stream }
+    {
+        let Whole {
+            stream,
+            at: _,
+            end: _,
+            rest: _,
+        } = self;
+        stream
+    }
+
+    /// The same of what stands in a stream.
+    pub fn map<T, F: FnOnce(S) -> T>(self, inner: F) -> Whole<T>
+        requires { F.IsAlwaysCallable inner }
+    {
+        let Whole {
+            stream,
+            at,
+            end,
+            rest,
+        } = self;
+        Whole {
+            stream: inner(stream),
+            at,
+            end,
+            rest,
+        }
+    }
+}
+
+/// A stream as a whole one, where it is; else as it was.
+pub(crate) fn whole_of<S>(stream: S, at: usize, end: usize, rest: Rest) -> Result<Whole<S>, S>
+    requires { at ≤ end }
+    ensures { OnErr result (IsCut at end rest) }
+{
+    if at == end && rest == Rest::Nothing {
+        Ok(Whole {
+            stream,
+            at,
+            end,
+            rest,
+        })
+    } else {
+        Err(stream)
+    }
+}
