@@ -9,7 +9,6 @@ use Rattle.ftp_world.specs.Agreement.{Order, Single, Item, state_after, ItemHold
 use Rattle.ftp_world.specs.Outcome.{Whole}
 use Rattle.ftp_world.specs.World.{World, Mark}
 use Rattle.ftp_dialogues.specs.Dialogue.{Ends}
-use Rattle.ftp_dialogues.specs.Fetches.{fetch}
 use Rattle.ftp_dialogues.specs.Login.{AtFree, AtOperation}
 use Rattle.ftp_dialogues.specs.Stage.{rest}
 use Rattle.ftp_agreement.specs.Follows.{Told, IsFree, IsUnder, Phase, Follows}
@@ -95,12 +94,12 @@ fetching_agrees : (read : Reading) (from : State) (begun : List Order) (w : Worl
 unfolding marked_item
 fetching_agrees read from begun w on =
     let f = on.fetching in
-    let op : Op (List ℕ) = fetch f.offset f.text f.how in
+    let op : Op (List ℕ) = f.ask.op in
     let item : Item = marked_item op f.moment f.own in
     let p = parts read from begun w on in
     let holds : ItemHolds (state_after from f.told.items) (Single op f.moment) f.own None (length f.done) item = record {
       is_of = (refl, refl, refl);
-      holds = (record { can_be = tt; allowed = tt; few = few_links f.offset f.text f.how f.own p.few }, tt);
+      holds = (record { can_be = tt; allowed = tt; few = few_links f.ask f.is_ask.plan f.own p.few }, tt);
       marked = append-nil f.own;
     } in
     let fewer : length w.reports < length (f.done ++ Single op f.moment ∷ []) = omega (arith, f.told.all, length-more f.done (Single op f.moment)) in

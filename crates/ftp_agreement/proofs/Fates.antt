@@ -1,271 +1,110 @@
--- How a download fares: refused, whole, cut or not opened, as its client tells it.
-use Rattle.std.proofs.Common.{◌≡◌, ◌⊎◌, inl, inr, ℕ, ◌+◌, ◌-◌, ◌<◌, ◌≤◌, ◌^◌, Bool, true, false, List, [], ◌∷◌, length, take, drop, Option, Some, None, refl, sym, ap, subst, ◌∙◌, arith}
-use Rattle.std.specs.Prelude.{if◌then◌else◌, min}
+-- How what was asked for fares: refused, whole, cut or not opened, as its client tells it.
+use Rattle.std.proofs.Common.{◌≡◌, ◌⊎◌, inl, inr, ℕ, Bool, true, List, [], ◌∷◌, length, Option, Some, None, refl, sym, ap, subst, ◌∙◌, arith}
+use Rattle.std.specs.Prelude.{if◌then◌else◌}
 use Rattle.std.specs.List.{Contains}
-use Rattle.std.specs.Option.{option_or, unwrap_or}
-use Rattle.std.proofs.lemmas.Bool.{and_parts, ltb-true}
-use Rattle.std.proofs.lemmas.List.{length-drop, length-take}
-use Rattle.ftp_decoder.specs.Decoder.{decoder_of, ended, image_blocks, no_octets, GivesFile}
+use Rattle.std.specs.Option.{is_some}
+use Rattle.ftp_decoder.specs.Decoder.{decoder_of, no_octets}
 use Rattle.ftp_decoder.proofs.DecoderLemmas.{what_is_settled}
-use Rattle.ftp_decoder.proofs.WireLemmas.{wire_gives_file, marked_wire_gives_file}
-use Rattle.ftp_framer.specs.Block.{marked_text}
-use Rattle.ftp_framer.specs.Wire.{wire as written_wire}
-use Rattle.ftp_mode.specs.Laws.{settled_content}
 use Rattle.ftp_machine.specs.Machine.{IsFront}
-use Rattle.ftp_operation.specs.Answer.{Said, Octets, Refused, Unopened as NotOpened, Broken as BrokenOff}
-use Rattle.ftp_operation.specs.Operation.{can_be_sent, is_number, is_path_text}
-use Rattle.ftp_operation.specs.declared.op.How.{How}
+use Rattle.ftp_mode.specs.Laws.{settled_content}
+use Rattle.ftp_operation.specs.Answer.{Said, Refused, Unopened as NotOpened, Broken as BrokenOff}
 use Rattle.ftp_operation.specs.declared.op.Op.{Op}
-use Rattle.ftp_path.specs.Path.{IsPathText, Names}
-use Rattle.ftp_repr.specs.Skipping.{IsPlace}
-use Rattle.ftp_representation.specs.Representation.{form_of, has_markers}
-use Rattle.ftp_representation.specs.declared.representation.Kind.{Kind}
-use Rattle.ftp_representation.specs.declared.representation.Kind.TheVariants as Kinds
-use Rattle.ftp_representation.specs.declared.representation.Structure.{Structure}
-use Rattle.ftp_representation.specs.declared.representation.Structure.TheVariants as Structures
-use Rattle.ftp_representation.specs.declared.representation.Mode.{Mode}
-use Rattle.ftp_representation.specs.declared.representation.Mode.TheVariants as Modes
-use Rattle.ftp_representation.specs.declared.representation.Representation.{Representation}
-use Rattle.ftp_tree.specs.Tree.{Node, Dir, File, node_at, octets_at, octets_of, octets_or_none, of_node, total_limit}
+use Rattle.ftp_representation.specs.Representation.{form_of}
 use Rattle.ftp_direct.specs.declared.refusal.Refusal.{Refusal}
 use Rattle.ftp_direct.specs.declared.refusal.Refusal.TheVariants as Refusals
-use Rattle.ftp_direct.specs.Direct.{State, answer, done, file_of, first_refusal, named, or_refused, part, place_at, refusal, refused_file, refused_from, refused_there, size_in}
+use Rattle.ftp_direct.specs.Direct.{State, answer, first_refusal, refusal}
 use Rattle.ftp_direct.specs.Refusal.{code_of}
-use Rattle.ftp_direct.proofs.PlaceLemmas.{led}
-use Rattle.ftp_direct.proofs.SizeLemmas.{size_piece}
 use Rattle.ftp_client_machine.specs.Dialogue.{judged}
-use Rattle.ftp_client_machine.specs.Octets.{content_answer, cut_answer, written}
-use Rattle.ftp_client_machine.specs.View.{Receiving}
+use Rattle.ftp_client_machine.specs.Plan.{count_of}
+use Rattle.ftp_client_machine.specs.Octets.{broken_answer, content_answer, has_settled, settled_of}
+use Rattle.ftp_client_machine.specs.View.{Flow, Receiving}
 use Rattle.ftp_client_machine.specs.declared.client.Abort.TheVariants as Aborts
 use Rattle.ftp_client_machine.specs.declared.client.Ending.TheVariants as Endings
-use Rattle.ftp_server_machine.specs.Transfer.{misplaced}
-use Rattle.ftp_world.specs.Outcome.{Whole, Cut, Unopened, CanBeCut, HasLink, IsTaken, did, mark_in}
+use Rattle.ftp_world.specs.Outcome.{Whole, Cut, Unopened, CanBeCut, IsCutOf, cut_by, did, download_of, fetched, mark_in}
 use Rattle.ftp_world.specs.World.{Mark, Broken, Refused as RefusedLink, counted}
 use Rattle.ftp_dialogues.specs.Dialogue.{IsSound}
-use Rattle.ftp_dialogues.specs.Fetches.{fetch, place_in_file, why_not, fetched_wire}
+use Rattle.ftp_dialogues.specs.Fetches.{Ask, IsAsk}
 use Rattle.ftp_dialogues.proofs.Rows.{answer_known}
-use Rattle.ftp_agreement.specs.Stages.{Fared, IsPlaced}
+use Rattle.ftp_agreement.specs.Stages.{Fared}
 
--- ---- what can be sent
+-- what the client tells of a text that was cut
+abbrev pub cut_said : Ask → List ℕ → Said
+cut_said ask came = BrokenOff (decoder_of ask.settings came).content (mark_in (no_octets ask.settings) None came)
 
-pub fetch_text : (offset : Option ℕ) (text : List ℕ) (how : How) → can_be_sent (fetch offset text how) ≡ true → IsPathText text
-fetch_text None text how can = can
-fetch_text (Some at) text how can = (and_parts (is_path_text text) (is_number at) can).0
-
-pub fetch_few : (offset : Option ℕ) (text : List ℕ) (how : How) → can_be_sent (fetch offset text how) ≡ true → (at : ℕ) → offset ≡ Some at → at < 10 ^ 18
-fetch_few offset text how can at is = ltb-true at (10 ^ 18) (and_parts (is_path_text text) (is_number at) (subst (λ o. can_be_sent (fetch o text how) ≡ true) is can)).1
-
--- ---- representations with markers
-
-abbrev joined : Kind → Structure → Mode → Representation
-joined kind structure mode = record { kind = kind; structure = structure; mode = mode }
-
-only_marked : (kind : Kind) (structure : Structure) (mode : Mode) → has_markers (joined kind structure mode) ≡ true → joined kind structure mode ≡ image_blocks
-only_marked Kinds.Image Structures.File Modes.Block is = refl
-only_marked Kinds.Image Structures.File Modes.Stream is = absurd (cc)
-only_marked Kinds.Image Structures.Record Modes.Block is = absurd (cc)
-only_marked Kinds.Image Structures.Record Modes.Stream is = absurd (cc)
-only_marked Kinds.Ascii Structures.File Modes.Block is = absurd (cc)
-only_marked Kinds.Ascii Structures.File Modes.Stream is = absurd (cc)
-only_marked Kinds.Ascii Structures.Record Modes.Block is = absurd (cc)
-only_marked Kinds.Ascii Structures.Record Modes.Stream is = absurd (cc)
-
-marked_is : (r : Representation) → has_markers r ≡ true → r ≡ image_blocks
-marked_is r is = only_marked r.kind r.structure r.mode is
-
-or_none : (one : Option Refusal) → option_or one None ≡ one
-or_none None = refl
-or_none (Some why) = refl
-
-written_is : (b : Bool) (settings : Representation) (start : ℕ) (octets : List ℕ)
-    → written b settings start octets ≡ (if b then marked_text start octets else written_wire settings.mode (form_of settings) octets)
-written_is true settings start octets = refl
-written_is false settings start octets = refl
-
--- ---- files are short
-
-short-file : (state : State) (path : Names) → IsSound state → length (octets_or_none (part state) path) ≤ total_limit
-unfolding octets_at
-short-file state path sound = by_node (node_at (part state) path) refl
+pub judged_cut : (ask : Ask) → IsAsk ask → (code : ℕ) (came : List ℕ) → (code ≡ 226) ⊎ (code ≡ 426)
+    → judged Endings.Broken Aborts.Unsent code ask.op (Receiving (decoder_of ask.settings came) (mark_in (no_octets ask.settings) None came)) ≡ Some (cut_said ask came)
+judged_cut ask good code came either = elim either [
+  | inl is ↦ ap (λ code. judged Endings.Broken Aborts.Unsent code ask.op flow) is ∙ by_count
+  | inr is ↦ ap (λ code. judged Endings.Broken Aborts.Unsent code ask.op flow) is ∙ by_count
+]
   where
-    by_node : (node : Option Node) → node_at (part state) path ≡ node → length (unwrap_or (of_node octets_of node) []) ≤ total_limit
-    by_node None is = omega arith
-    by_node (Some Dir) is = omega arith
-    by_node (Some (File octets moment)) is = (sound.files path octets moment is).1
+    flow : Flow
+    flow = Receiving (decoder_of ask.settings came) (mark_in (no_octets ask.settings) None came)
 
-module _ (state : State) (offset : Option ℕ) (text : List ℕ) (how : How) where
+    by_count : (if has_settled (count_of ask.op) flow then content_answer ask.op (settled_of flow) else Some (broken_answer flow)) ≡ Some (cut_said ask came)
+    by_count = ap (λ count. if has_settled count flow then content_answer ask.op (settled_of flow) else Some (broken_answer flow)) good.plan.all
+
+module _ (state : State) (ask : Ask) (good : IsAsk ask) where
   abbrev op : Op (List ℕ)
-  op = fetch offset text how
+  op = ask.op
 
-  abbrev place : ℕ
-  place = unwrap_or (place_in_file state offset text how) 0
-
-  -- what is asked for
-  abbrev pub content : List ℕ
-  content = drop place (file_of state text)
-
-  -- ---- refusals
-
-  pub refusal_is : IsPlaced state offset text how offset → refusal state op ≡ why_not state offset text how
-  refusal_is placed = by_offset offset placed
-    where
-      by_offset : (offset : Option ℕ) → IsPlaced state offset text how offset → refusal state (fetch offset text how) ≡ why_not state offset text how
-      by_offset None placed = sym (or_none _)
-      by_offset (Some at) placed = ap (λ o. or_refused o (refused_from state text how at)) placed
+  -- ---- refused or whole
 
   -- an answer of the direct run that changes nothing
-  pub whole_fares : (own : List Mark) (said : Said) → ((moment : ℕ) → answer state op moment ≡ (said, state)) → Fared state offset text how own said
+  pub whole_fares : (own : List Mark) (said : Said) → ((moment : ℕ) → answer state op moment ≡ (said, state)) → Fared state ask own said
   whole_fares own said is = record { outcome = Whole; can_be = tt; allowed = λ index. tt; did_so = is }
 
-  pub refused_fares : (own : List Mark) (why : Refusal) → can_be_sent op ≡ true → state.known ≡ true → refusal state op ≡ Some why
-      → Fared state offset text how own (Refused (code_of why))
-  refused_fares own why can known is = whole_fares own (Refused (code_of why)) (λ moment. sym (answer_known state op moment (Some why) can known is))
+  pub refused_fares : (own : List Mark) (why : Refusal) → state.known ≡ true → refusal state op ≡ Some why → Fared state ask own (Refused (code_of why))
+  refused_fares own why known is = whole_fares own (Refused (code_of why)) (λ moment. sym (answer_known state op moment (Some why) good.answer.can known is))
 
-  done_is : (offset : Option ℕ) (moment : ℕ) → done state (fetch offset text how) moment ≡ (Octets (drop (unwrap_or (place_in_file state offset text how) 0) (file_of state text)), state)
-  done_is None moment = refl
-  done_is (Some at) moment = refl
+  pub said_fares : (own : List Mark) → state.known ≡ true → refusal state op ≡ None → Fared state ask own (ask.said state)
+  said_fares own known none =
+      whole_fares own (ask.said state) (λ moment. sym (answer_known state op moment None good.answer.can known none) ∙ good.answer.done_so state moment)
 
-  pub content_fares : (own : List Mark) → can_be_sent op ≡ true → state.known ≡ true → refusal state op ≡ None → Fared state offset text how own (Octets content)
-  content_fares own can known none =
-      whole_fares own (Octets content) (λ moment. sym (answer_known state op moment None can known none) ∙ done_is offset moment)
+  pub judged_whole : (came : List ℕ) (mark : Option ℕ) → IsSound state → state.known ≡ true → ask.why state ≡ None → came ≡ ask.wire state
+      → judged Endings.Clean Aborts.Unsent 226 op (Receiving (decoder_of ask.settings came) mark) ≡ Some (ask.said state)
+  judged_whole came mark sound known none is =
+      ap (λ w. judged Endings.Clean Aborts.Unsent 226 op (Receiving (decoder_of ask.settings w) mark)) is ∙ good.answer.whole state mark sound known none
 
-  -- ---- the place in the file
+  -- ---- cut
 
-  within_by : (found : Option ℕ) → ((at : ℕ) → found ≡ Some at → at ≤ length (file_of state text)) → unwrap_or found 0 ≤ length (file_of state text)
-  within_by None within = omega arith
-  within_by (Some at) within = within at refl
-
-  place_within : place ≤ length (file_of state text)
-  place_within = by_offset offset
-    where
-      by_offset : (offset : Option ℕ) → unwrap_or (place_in_file state offset text how) 0 ≤ length (file_of state text)
-      by_offset None = omega arith
-      by_offset (Some at) =
-          within_by (place_at state (named state text) how at) (λ place is. (led how.representation.kind (file_of state text) at place is).within)
-
-  few_octets : IsSound state → place + length content < 2 ^ 64
-  few_octets sound =
-      let short = short-file state (named state text) sound in
-      let long : length content ≡ length (file_of state text) - place = length-drop place (file_of state text) in
-      omega (arith, short, long, place_within)
-
-  -- ---- the whole text
-
-  wire_by : IsSound state → (b : Bool) → has_markers how.representation ≡ b
-      → GivesFile how.representation (if b then marked_text place content else written_wire how.representation.mode (form_of how.representation) content) content
-  wire_by sound true is =
-      let Gives : Representation → Type 0 = λ r. GivesFile r (marked_text place content) content in
-      subst Gives (sym (marked_is how.representation is)) (marked_wire_gives_file place content (few_octets sound))
-  wire_by sound false is = wire_gives_file how.representation content
-
-  pub wire_gives : IsSound state → GivesFile how.representation (fetched_wire state offset text how) content
-  wire_gives sound = wire_by sound (has_markers how.representation) refl
-
-  octets_answer : (offset : Option ℕ) (octets : List ℕ) → content_answer (fetch offset text how) octets ≡ Some (Octets octets)
-  octets_answer None octets = refl
-  octets_answer (Some at) octets = refl
-
-  pub judged_whole : (came : List ℕ) (mark : Option ℕ) → IsSound state → came ≡ fetched_wire state offset text how
-      → judged Endings.Clean Aborts.Unsent 226 op (Receiving (decoder_of how.representation came) mark) ≡ Some (Octets content)
-  judged_whole came mark sound is =
-      let gives = subst (λ w. GivesFile how.representation w content) (sym is) (wire_gives sound) in
-      ap (λ (b : Bool). if b then content_answer op (ended (decoder_of how.representation came)).content else cut_answer op (Receiving (decoder_of how.representation came) mark)) gives.whole
-      ∙ octets_answer offset (ended (decoder_of how.representation came)).content ∙ ap (λ octets. Some (Octets octets)) gives.content
-
-  -- ---- a text that was cut
-
-  -- what the client tells of it
-  abbrev pub cut_said : List ℕ → Said
-  cut_said came = BrokenOff (decoder_of how.representation came).content (mark_in (no_octets how.representation) None came)
-
-  pub judged_cut : (code : ℕ) (came : List ℕ) → (code ≡ 226) ⊎ (code ≡ 426)
-      → judged Endings.Broken Aborts.Unsent code op (Receiving (decoder_of how.representation came) (mark_in (no_octets how.representation) None came)) ≡ Some (cut_said came)
-  judged_cut code came (inl is) = ap (λ code. judged Endings.Broken Aborts.Unsent code op (Receiving (decoder_of how.representation came) (mark_in (no_octets how.representation) None came))) is ∙ by_offset offset
-    where
-      by_offset : (offset : Option ℕ)
-          → judged Endings.Broken Aborts.Unsent 226 (fetch offset text how) (Receiving (decoder_of how.representation came) (mark_in (no_octets how.representation) None came)) ≡ Some (cut_said came)
-      by_offset None = refl
-      by_offset (Some at) = refl
-  judged_cut code came (inr is) = ap (λ code. judged Endings.Broken Aborts.Unsent code op (Receiving (decoder_of how.representation came) (mark_in (no_octets how.representation) None came))) is ∙ by_offset offset
-    where
-      by_offset : (offset : Option ℕ)
-          → judged Endings.Broken Aborts.Unsent 426 (fetch offset text how) (Receiving (decoder_of how.representation came) (mark_in (no_octets how.representation) None came)) ≡ Some (cut_said came)
-      by_offset None = refl
-      by_offset (Some at) = refl
-
-  -- in a representation with markers an offset counts the octets of the file
-  marked_place : (at found : ℕ) → has_markers how.representation ≡ true → place_at state (named state text) how at ≡ Some found → found ≡ at
-  marked_place at found marked is =
-      let kind : how.representation.kind ≡ Kinds.Image = ap (λ r. r.kind) (marked_is how.representation marked) in
-      let lies : IsPlace how.representation.kind (file_of state text) at found = led how.representation.kind (file_of state text) at found is in
-      let counted : size_in how.representation.kind (take found (file_of state text)) ≡ at = sym (size_piece how.representation.kind (take found (file_of state text))) ∙ lies.goes in
-      let long : length (take found (file_of state text)) ≡ at = ap (λ k. size_in k (take found (file_of state text))) (sym kind) ∙ counted in
-      let short : length (take found (file_of state text)) ≡ min found (length (file_of state text)) = length-take found (file_of state text) in
-      omega (arith, long, short, lies.within)
-
-  start_is : (offset : Option ℕ) → why_not state offset text how ≡ None → has_markers how.representation ≡ true → unwrap_or (place_in_file state offset text how) 0 ≡ unwrap_or offset 0
-  start_is None none marked = refl
-  start_is (Some at) none marked = by_place (place_at state (named state text) how at) refl
-    where
-      by_place : (found : Option ℕ) → place_at state (named state text) how at ≡ found → unwrap_or (place_at state (named state text) how at) 0 ≡ at
-      by_place None missing = absurd (nowhere (refused_file state text) (ap (λ o. or_refused (refused_file state text) (refused_there (misplaced o))) (sym missing) ∙ none))
-        where
-          nowhere : (one : Option Refusal) → or_refused one (Some Refusals.Unavailable) ≡ None → ⊥
-          nowhere None is = absurd (cc)
-          nowhere (Some why) is = absurd (cc)
-      by_place (Some found) is = ap (λ o. unwrap_or o 0) is ∙ marked_place at found marked is
-
-  -- the text of the outcome is the one that the server sends
-  text_by : why_not state offset text how ≡ None → (b : Bool) → has_markers how.representation ≡ b
-      → written b how.representation (unwrap_or offset 0) content ≡ (if b then marked_text place content else written_wire how.representation.mode (form_of how.representation) content)
-  text_by none true is = ap (λ start. marked_text start content) (sym (start_is offset none is))
-  text_by none false is = refl
-
-  text_is : why_not state offset text how ≡ None → written (has_markers how.representation) how.representation (unwrap_or offset 0) content ≡ fetched_wire state offset text how
-  text_is none = text_by none (has_markers how.representation) refl
-
-  can_be_cut : (came : List ℕ) → can_be_sent op ≡ true → state.known ≡ true → refusal state op ≡ None → why_not state offset text how ≡ None
-      → IsFront came (fetched_wire state offset text how) → CanBeCut state op came
-  can_be_cut came can known none taken front =
-      let whole : IsFront came (written (has_markers how.representation) how.representation (unwrap_or offset 0) content) = subst (IsFront came) (sym (text_is taken)) front in
+  can_be_cut : (came : List ℕ) → state.known ≡ true → refusal state op ≡ None → ask.why state ≡ None → IsFront came (ask.wire state) → CanBeCut state op came
+  can_be_cut came known none taken front =
+      let t = good.answer.sent_so state taken in
       let first : first_refusal state op ≡ None = ap (λ (b : Bool). if b then refusal state op else Some Refusals.NotLoggedIn) known ∙ none in
-      by_offset offset (can, inl first) whole
-    where
-      by_offset : (offset : Option ℕ) → IsTaken state (fetch offset text how)
-          → IsFront came (written (has_markers how.representation) how.representation (unwrap_or offset 0) (drop (unwrap_or (place_in_file state offset text how) 0) (file_of state text)))
-          → CanBeCut state (fetch offset text how) came
-      by_offset None is whole = (is, (whole, tt))
-      by_offset (Some at) is whole = (is, (whole, tt))
+      let whole : IsCutOf None (Some (fetched ask.settings t.start t.octets)) state came = (subst (IsFront came) (sym t.text) front, tt) in (
+        (good.answer.can, inl first),
+        subst (λ up. IsCutOf up (download_of state op) state came) (sym (good.answer.no_upload state))
+            (subst (λ down. IsCutOf None down state came) (sym t.down) whole),
+      )
 
   among_one : (own : List Mark) (mark : Mark) → own ≡ mark ∷ [] → Contains own mark
   among_one own mark is = subst (λ l. Contains l mark) (sym is) (0, omega arith, refl)
 
-  pub cut_fares : (own : List Mark) (came : List ℕ) → can_be_sent op ≡ true → state.known ≡ true → refusal state op ≡ None → why_not state offset text how ≡ None
-      → IsFront came (fetched_wire state offset text how) → own ≡ Broken (counted (length came)) ∷ [] → Fared state offset text how own (cut_said came)
-  cut_fares own came can known none taken front marked = record {
-    outcome = Cut came;
-    can_be = can_be_cut came can known none taken front;
-    allowed = λ index. (tt, among_one own (Broken (counted (length came))) marked);
-    did_so = λ moment. by_offset offset moment;
-  }
+  cut_is : (came : List ℕ) (moment : ℕ) → ask.why state ≡ None → did (Cut came) state op moment ≡ (cut_said ask came, state)
+  cut_is came moment taken =
+      let t = good.answer.sent_so state taken in
+      ap (λ up. cut_by up (download_of state op) state moment came) (good.answer.no_upload state) ∙ ap (λ down. cut_by None down state moment came) t.down
+      ∙ ap (λ octets. (BrokenOff octets (mark_in (no_octets ask.settings) None came), state)) settled
     where
-      settled : settled_content how.representation.mode (form_of how.representation) came ≡ (decoder_of how.representation came).content
-      settled = sym (what_is_settled how.representation came)
+      settled : settled_content ask.settings.mode (form_of ask.settings) came ≡ (decoder_of ask.settings came).content
+      settled = sym (what_is_settled ask.settings came)
 
-      by_offset : (offset : Option ℕ) (moment : ℕ) → did (Cut came) state (fetch offset text how) moment ≡ (cut_said came, state)
-      by_offset None moment = ap (λ octets. (BrokenOff octets (mark_in (no_octets how.representation) None came), state)) settled
-      by_offset (Some at) moment = ap (λ octets. (BrokenOff octets (mark_in (no_octets how.representation) None came), state)) settled
+  pub cut_fares : (own : List Mark) (came : List ℕ) → state.known ≡ true → refusal state op ≡ None → ask.why state ≡ None → IsFront came (ask.wire state)
+      → own ≡ Broken (counted (length came)) ∷ [] → Fared state ask own (cut_said ask came)
+  cut_fares own came known none taken front marked = record {
+    outcome = Cut came;
+    can_be = can_be_cut came known none taken front;
+    allowed = λ index. (tt, among_one own (Broken (counted (length came))) marked);
+    did_so = λ moment. cut_is came moment taken;
+  }
 
   -- ---- not opened
 
-  has_link : (offset : Option ℕ) → HasLink (fetch offset text how)
-  has_link None = refl
-  has_link (Some at) = refl
-
-  pub refused_link_fares : (own : List Mark) → own ≡ RefusedLink ∷ [] → Fared state offset text how own NotOpened
+  pub refused_link_fares : (own : List Mark) → own ≡ RefusedLink ∷ [] → Fared state ask own NotOpened
   refused_link_fares own marked =
-      record { outcome = Unopened; can_be = has_link offset; allowed = λ index. (tt, inl (among_one own RefusedLink marked)); did_so = λ moment. refl }
+      record { outcome = Unopened; can_be = ap is_some good.plan.how_is; allowed = λ index. (tt, inl (among_one own RefusedLink marked)); did_so = λ moment. refl }
 
-  pub broken_link_fares : (own : List Mark) → own ≡ Broken 0 ∷ [] → Fared state offset text how own NotOpened
+  pub broken_link_fares : (own : List Mark) → own ≡ Broken 0 ∷ [] → Fared state ask own NotOpened
   broken_link_fares own marked =
-      record { outcome = Unopened; can_be = has_link offset; allowed = λ index. (tt, inr (among_one own (Broken 0) marked)); did_so = λ moment. refl }
+      record { outcome = Unopened; can_be = ap is_some good.plan.how_is; allowed = λ index. (tt, inr (among_one own (Broken 0) marked)); did_so = λ moment. refl }

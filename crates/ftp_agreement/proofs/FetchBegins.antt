@@ -1,7 +1,5 @@
 -- A download begins, of a login that is known.
-use Rattle.std.proofs.Common.{◌≡◌, ℕ, true, List, [], ◌∷◌, ◌++◌, Option, refl, sym, ap, ◌∙◌}
-use Rattle.ftp_operation.specs.Operation.{can_be_sent}
-use Rattle.ftp_operation.specs.declared.op.How.{How}
+use Rattle.std.proofs.Common.{◌≡◌, ℕ, true, List, [], ◌∷◌, ◌++◌, refl, sym, ap, ◌∙◌}
 use Rattle.ftp_operation.specs.declared.op.Op.{Op}
 use Rattle.ftp_direct.specs.Direct.{State}
 use Rattle.ftp_server_machine.specs.Machine.{Reading, IsReading}
@@ -10,7 +8,7 @@ use Rattle.ftp_world.specs.Events.{operation_begins}
 use Rattle.ftp_world.specs.Serving.{after_event}
 use Rattle.ftp_world.specs.World.{World}
 use Rattle.ftp_dialogues.specs.Dialogue.{Passes}
-use Rattle.ftp_dialogues.specs.Fetches.{IsPassive, PortIsAsked, fetch}
+use Rattle.ftp_dialogues.specs.Fetches.{Ask, IsAsk, IsPassive, PortIsAsked}
 use Rattle.ftp_dialogues.specs.Stage.{Way, Asking, Answering}
 use Rattle.ftp_dialogues.proofs.Fetching.{fetch_leads}
 use Rattle.ftp_agreement.specs.Cut.{Cut, world_at}
@@ -20,29 +18,27 @@ use Rattle.ftp_agreement.proofs.Begins.{begins_stands}
 use Rattle.ftp_agreement.proofs.FetchRuns.{fetch_after}
 use Rattle.ftp_agreement.proofs.FetchTurns.{arrives}
 
-pub begins_fetch : (read : Reading) (reads : IsReading read) (from : State) (begun : List Order) (offset : Option ℕ) (text : List ℕ) (how : How) (moment : ℕ) → IsPassive how
-    → (w : World) → can_be_sent (fetch offset text how) ≡ true → IsUnlinked w → IsLinked w → (f : IsFree from begun w) → f.now.known ≡ true
-    → Runs read from (begun ++ Single (fetch offset text how) moment ∷ []) (after_event (operation_begins (fetch offset text how) moment w))
-begins_fetch read reads from begun offset text how moment passive w can unlinked linked f known =
-    let op : Op (List ℕ) = fetch offset text how in
+pub begins_fetch : (read : Reading) (reads : IsReading read) (from : State) (begun : List Order) (ask : Ask) (moment : ℕ) → IsAsk ask → IsPassive ask.how
+    → (w : World) → IsUnlinked w → IsLinked w → (f : IsFree from begun w) → f.now.known ≡ true
+    → Runs read from (begun ++ Single ask.op moment ∷ []) (after_event (operation_begins ask.op moment w))
+begins_fetch read reads from begun ask moment good passive w unlinked linked f known =
+    let op : Op (List ℕ) = ask.op in
     let new : World = operation_begins op moment w in
-    let s = begins_stands read reads from begun op moment f.now (Passes f.now.table f.now.table) (PortIsAsked f.now op how.representation) w
-    (λ n g stands. fetch_leads read f.now offset text how reads known passive n g stands) can f.stands f.stands.here in
+    let s = begins_stands read reads from begun op moment f.now (Passes f.now.table f.now.table) (PortIsAsked f.now op ask.settings) w
+    (λ n g stands. fetch_leads read f.now ask reads good.plan known passive n g stands) good.answer.can f.stands f.stands.here in
     let same = fields s.base s.way s.cut in
     fetch_after read reads from (begun ++ Single op moment ∷ []) new (record {
       done = begun;
       marks = w.marks;
       own = [];
-      offset = offset;
-      text = text;
-      how = how;
+      ask = ask;
       moment = moment;
       begun_is = refl;
       marks_are = refl;
       now = f.now;
       sound = f.sound;
       known = known;
-      sent = can;
+      is_ask = good;
       passive = passive;
       told = f.told;
       linked = record { control = linked.control; cutoff = linked.cutoff };
@@ -52,7 +48,7 @@ begins_fetch read reads from begun offset text how moment passive w can unlinked
         cut = s.cut;
         is = s.is;
         fits = s.fits;
-        here = arrives read reads f.now offset text how can f.sound known passive [] s.way s.base (sym same.0 ∙ sym (ap (λ u. u.link) s.is) ∙ unlinked.link)
+        here = arrives read reads f.now ask good f.sound known passive [] s.way s.base (sym same.0 ∙ sym (ap (λ u. u.link) s.is) ∙ unlinked.link)
             (sym same.1 ∙ sym (ap (λ u. u.data_to_server) s.is) ∙ unlinked.to_server) (sym same.2 ∙ sym (ap (λ u. u.data_to_client) s.is) ∙ unlinked.to_client) refl s.here;
       };
     })

@@ -1,15 +1,17 @@
 -- Octets of the link that are given and taken lead a download from a stage to a stage.
-use Rattle.std.proofs.Common.{◌≡◌, inr, ℕ, ◌+◌, ◌≤◌, Bool, true, false, List, [], ◌∷◌, ◌++◌, length, take, drop, Option, Some, None, refl, sym, ap, subst, ◌∙◌, append-nil, append_assoc, arith, length-append}
-use Rattle.std.specs.Prelude.{min}
+use Rattle.std.proofs.Common.{◌≡◌, inr, ℕ, ◌+◌, ◌≤◌, Bool, true, false, List, [], ◌∷◌, ◌++◌, length, take, drop, Option, None, refl, sym, ap, subst, ◌∙◌, append-nil, append_assoc, arith, length-append}
+use Rattle.std.specs.Prelude.{min, if◌then◌else◌}
 use Rattle.std.proofs.Math.Seq.{take-nil}
 use Rattle.std.proofs.lemmas.List.{take-append-drop, length-take}
 use Rattle.ftp_decoder.specs.Decoder.{Decoder, decoded, decoded_octet, decoder_of, no_octets, octet_says}
 use Rattle.ftp_ends.specs.Reply.{Reply, reply_octets}
-use Rattle.ftp_operation.specs.declared.op.How.{How}
+use Rattle.ftp_operation.specs.declared.op.Op.{Op}
 use Rattle.ftp_representation.specs.declared.representation.Representation.{Representation}
 use Rattle.ftp_direct.specs.Direct.{State}
 use Rattle.ftp_client_machine.specs.Calls as near
-use Rattle.ftp_client_machine.specs.Octets.{last_mark}
+use Rattle.ftp_client_machine.specs.Dialogue.{sends_abort}
+use Rattle.ftp_client_machine.specs.Octets.{has_settled, last_mark}
+use Rattle.ftp_client_machine.specs.Plan.{count_of}
 use Rattle.ftp_client_machine.specs.View.{View as Near, Transferring, Receiving}
 use Rattle.ftp_client_machine.specs.declared.client.Abort.TheVariants as Aborts
 use Rattle.ftp_client_machine.specs.declared.client.DataConnection.TheVariants as NearData
@@ -21,13 +23,13 @@ use Rattle.ftp_server_machine.specs.declared.reply.ReplyKind.TheVariants as Kind
 use Rattle.ftp_server_machine.specs.declared.reply.Text.TheVariants as Texts
 use Rattle.ftp_server_machine.specs.declared.session.DataConnection.TheVariants as FarData
 use Rattle.ftp_server_machine.specs.declared.session.Pending.TheVariants as Pendings
-use Rattle.ftp_server_machine.specs.declared.session.Transfer.TheVariants as Transfers
 use Rattle.ftp_server_machine.proofs.RepliesWritten.{replies_are_written}
 use Rattle.ftp_world.specs.Events.{DataToClient, pulled, pushed}
 use Rattle.ftp_world.specs.Outcome.{mark_in}
 use Rattle.ftp_world.specs.World.{World, Mark, counted}
-use Rattle.ftp_dialogues.specs.Fetches.{fetch, fetching, busy, linked}
+use Rattle.ftp_dialogues.specs.Fetches.{Ask, HasPlan, fetching, busy, giving_of, linked}
 use Rattle.ftp_dialogues.specs.Stage.{still, Way, Asking, Answering}
+use Rattle.ftp_dialogues.proofs.Fetching.{giving_on, given_all}
 use Rattle.ftp_agreement.specs.Cut.{Cut, Fits, world_at, PlacedAt}
 use Rattle.ftp_agreement.specs.Stages.{Heard, NoReply, OneReply, BothReplies, heard_by, replied_of, Course, Giving, Given, Ended, Severed, Refusing, Unopened, replies_in, Stage, Carries, Holds, AtFetch}
 use Rattle.ftp_agreement.proofs.FetchLink.{Leads, hearing, near_acts, fits_more, far_linked}
@@ -42,31 +44,32 @@ mark-more : (d : Decoder) (mark : Option ℕ) (xs : List ℕ) (x : ℕ) → mark
 mark-more d mark [] x = refl
 mark-more d mark (y ∷ xs) x = mark-more (decoded_octet d y) (last_mark mark (octet_says d y)) xs x
 
-module _ (offset : Option ℕ) (text : List ℕ) (how : How) (settings : Representation) (n : Near) where
+module _ (op : Op (List ℕ)) (all : count_of op ≡ None) (settings : Representation) (n : Near) where
   abbrev receiving : Heard → List ℕ → Near
-  receiving heard came = busy (fetching (fetch offset text how) (replied_of heard) settings came) NearData.Open n
+  receiving heard came = busy (fetching op (replied_of heard) settings came) NearData.Open n
 
   -- the same, by what was made of the octets
   abbrev made_of : Heard → Decoder → Option ℕ → Near
-  made_of heard d mark = busy (Transferring (fetch offset text how) (record { replied = replied_of heard; abort = Aborts.Unsent; flow = Receiving d mark })) NearData.Open n
+  made_of heard d mark = busy (Transferring op (record { replied = replied_of heard; abort = Aborts.Unsent; flow = Receiving d mark })) NearData.Open n
 
   octet_made : (heard : Heard) (came : List ℕ) (octet : ℕ) → Leads (λ v. near.receives_octet v octet) (receiving heard came)
       (made_of heard (decoded_octet (decoder_of settings came) octet) (last_mark (mark_in (no_octets settings) None came) (octet_says (decoder_of settings came) octet)))
-  octet_made heard came octet = by_both offset heard
+  octet_made heard came octet ear gathered owed =
+      let d : Decoder = decoded_octet (decoder_of settings came) octet in
+      let mark : Option ℕ = last_mark (mark_in (no_octets settings) None came) (octet_says (decoder_of settings came) octet) in
+      -- whether an ABOR is sent depends on how many octets are asked for
+      let by_count : Heard → Option ℕ → Near = λ heard count.
+      let v : Near = hearing ear gathered owed (made_of heard d mark) in
+      if has_settled count (Receiving d mark) then sends_abort op (record { replied = replied_of heard; abort = Aborts.Unsent; flow = Receiving d mark }) v else v in
+      let Made : Heard → Type 0 = λ heard. near.receives_octet (hearing ear gathered owed (receiving heard came)) octet ≡ hearing ear gathered owed (made_of heard d mark) in
+      let begun : Made OneReply = ap (by_count OneReply) all in
+      let ended : Made BothReplies = ap (by_count BothReplies) all in
+      by_heard heard Made refl begun ended
     where
-      by_both : (offset : Option ℕ) (heard : Heard)
-          → Leads (λ v. near.receives_octet v octet) (busy (fetching (fetch offset text how) (replied_of heard) settings came) NearData.Open n)
-          (busy (Transferring (fetch offset text how) (record {
-            replied = replied_of heard;
-            abort = Aborts.Unsent;
-            flow = Receiving (decoded_octet (decoder_of settings came) octet) (last_mark (mark_in (no_octets settings) None came) (octet_says (decoder_of settings came) octet));
-          })) NearData.Open n)
-      by_both None NoReply ear gathered owed = refl
-      by_both None OneReply ear gathered owed = refl
-      by_both None BothReplies ear gathered owed = refl
-      by_both (Some at) NoReply ear gathered owed = refl
-      by_both (Some at) OneReply ear gathered owed = refl
-      by_both (Some at) BothReplies ear gathered owed = refl
+      by_heard : (heard : Heard) (P : Heard → Type 0) → P NoReply → P OneReply → P BothReplies → P heard
+      by_heard NoReply P none one both = none
+      by_heard OneReply P none one both = one
+      by_heard BothReplies P none one both = both
 
   octet_comes : (heard : Heard) (came : List ℕ) (octet : ℕ) → Leads (λ v. near.receives_octet v octet) (receiving heard came) (receiving heard (came ++ octet ∷ []))
   octet_comes heard came octet ear gathered owed =
@@ -88,28 +91,40 @@ flows other = false
 
 -- ---- what the server gives
 
-module _ (n : ℕ) (octet : ℕ) (more : List ℕ) (f : Far) (owed : List ℕ) (is : f.session ≡ linked (FarData.Transferring (Transfers.Download (octet ∷ more))) false Pendings.Nothing f.session) where
+pub given_of : (listed : Bool) (octets : List ℕ) → far.given_by (FarData.Transferring (giving_of listed octets)) ≡ octets
+given_of false octets = refl
+given_of true octets = refl
+
+module _ (listed : Bool) (n : ℕ) (octet : ℕ) (more : List ℕ) (f : Far) (owed : List ℕ)
+    (is : f.session ≡ linked (FarData.Transferring (giving_of listed (octet ∷ more))) false Pendings.Nothing f.session) where
   abbrev giving_far : Far
   giving_far = record (still f) { owed = owed }
 
   to_give_is : far.to_give giving_far ≡ octet ∷ more
-  to_give_is = ap (λ s. far.to_give (record (still (far_linked s f)) { owed = owed })) is
+  to_give_is = ap (λ s. far.to_give (record (still (far_linked s f)) { owed = owed })) is ∙ given_of listed (octet ∷ more)
 
   gives_by : (l : List ℕ) → drop n (octet ∷ more) ≡ l
       → far.gives_data n giving_far
-      ≡ later (given_out (FarData.Transferring (Transfers.Download l)) (record (still (far_linked (linked (FarData.Transferring (Transfers.Download l)) false Pendings.Nothing f.session) f)) { owed = owed }))
+      ≡ later (given_out (FarData.Transferring (giving_of listed l)) (record (still (far_linked (linked (FarData.Transferring (giving_of listed l)) false Pendings.Nothing f.session) f)) { owed = owed }))
   unfolding far.gives_data
   gives_by l left =
-      ap (λ s. far.gives_data n (record (still (far_linked s f)) { owed = owed })) is
-      ∙ ap (λ l. later (given_out (FarData.Transferring (Transfers.Download l)) (record (still (far_linked (linked (FarData.Transferring (Transfers.Download l)) false Pendings.Nothing f.session) f)) { owed = owed }))) left
+      ap (λ s. far.gives_data n (record (still (far_linked s f)) { owed = owed })) is ∙ by_kind listed
+      ∙ ap (λ l. later (given_out (FarData.Transferring (giving_of listed l)) (record (still (far_linked (linked (FarData.Transferring (giving_of listed l)) false Pendings.Nothing f.session) f)) { owed = owed }))) left
+    where
+      by_kind : (listed : Bool)
+          → far.gives_data n (record (still (far_linked (linked (FarData.Transferring (giving_of listed (octet ∷ more))) false Pendings.Nothing f.session) f)) { owed = owed })
+          ≡ later (given_out (FarData.Transferring (giving_of listed (drop n (octet ∷ more))))
+          (record (still (far_linked (linked (FarData.Transferring (giving_of listed (drop n (octet ∷ more)))) false Pendings.Nothing f.session) f)) { owed = owed }))
+      by_kind false = refl
+      by_kind true = refl
 
   gives_some : (next : ℕ) (later_on : List ℕ) → drop n (octet ∷ more) ≡ next ∷ later_on
-      → far.gives_data n giving_far ≡ record (still (far_linked (linked (FarData.Transferring (Transfers.Download (next ∷ later_on))) false Pendings.Nothing f.session) f)) { owed = owed }
-  gives_some next later_on left = gives_by (next ∷ later_on) left
+      → far.gives_data n giving_far ≡ record (still (far_linked (linked (FarData.Transferring (giving_of listed (next ∷ later_on))) false Pendings.Nothing f.session) f)) { owed = owed }
+  gives_some next later_on left = gives_by (next ∷ later_on) left ∙ ap later (giving_on listed next later_on _)
 
   gives_all : drop n (octet ∷ more) ≡ []
       → far.gives_data n giving_far ≡ record (still (far_linked (linked FarData.Free true Pendings.Nothing f.session) f)) { owed = owed ++ reply_octets (fixed_reply Texts.Complete) }
-  gives_all left = gives_by [] left
+  gives_all left = gives_by [] left ∙ ap later (given_all listed _)
 
 -- nothing is given
 no_pull : (n : ℕ) (w : World) → far.to_give w.far ≡ [] → far.gives_data n w.far ≡ w.far → pulled DataToClient w n ≡ w
@@ -141,9 +156,9 @@ goes_on : (n : ℕ) (came queue rest left wire : List ℕ) → drop n rest ≡ l
 goes_on n came queue rest left wire is all =
     ap (λ l. came ++ l) (append_assoc queue (take n rest) left ∙ ap (λ l. queue ++ (take n rest ++ l)) (sym is) ∙ ap (λ l. queue ++ l) (take-append-drop n rest)) ∙ all
 
-module _ (read : Reading) (state : State) (offset : Option ℕ) (text : List ℕ) (how : How) (own : List Mark) where
+module _ (read : Reading) (state : State) (ask : Ask) (plan : HasPlan ask) (own : List Mark) where
   abbrev Stands : Stage → Way → World → Type 0
-  Stands stage way b = Holds state offset text how own stage way b
+  Stands stage way b = Holds state ask own stage way b
 
   abbrev carry : Course → (came queue : List ℕ) → Stage
   carry course came queue = Carries (record { course = course; came = came; queue = queue })
@@ -171,7 +186,7 @@ module _ (read : Reading) (state : State) (offset : Option ℕ) (text : List ℕ
   giving_pulls n begun octet more came queue b c fits h = by_left (drop n (octet ∷ more)) refl
     where
       moves : b.data_to_client ++ take n (far.to_give (record (still b.far) { owed = c.owed })) ≡ queue ++ take n (octet ∷ more)
-      moves = λ i. h.to_client i ++ take n (to_give_is n octet more b.far c.owed h.session i)
+      moves = λ i. h.to_client i ++ take n (to_give_is ask.listed n octet more b.far c.owed h.session i)
 
       by_begun : (begun : Bool) → Fits (Answering (replies_in (Giving begun octet more))) c
           → Fits (Answering (replies_in (Given (heard_by begun) false))) (record c { owed = c.owed ++ reply_octets (fixed_reply Texts.Complete) })
@@ -180,10 +195,10 @@ module _ (read : Reading) (state : State) (offset : Option ℕ) (text : List ℕ
 
       by_left : (left : List ℕ) → drop n (octet ∷ more) ≡ left → Pulls n (replies_in (Giving begun octet more)) b c
       by_left (next ∷ later_on) left =
-          let f : Far = far_linked (linked (FarData.Transferring (Transfers.Download (next ∷ later_on))) false Pendings.Nothing b.far.session) b.far in
+          let f : Far = far_linked (linked (FarData.Transferring (giving_of ask.listed (next ∷ later_on))) false Pendings.Nothing b.far.session) b.far in
           let given : List ℕ = queue ++ take n (octet ∷ more) in
           placed _ (record b { far = f; data_to_client = given }) (Answering (replies_in (Giving begun next later_on))) c (Giving begun next later_on) came given refl
-          (λ i. record (world_at b (Answering (replies_in (Giving begun octet more))) c) { far = gives_some n octet more b.far c.owed h.session next later_on left i; data_to_client = moves i }) fits
+          (λ i. record (world_at b (Answering (replies_in (Giving begun octet more))) c) { far = gives_some ask.listed n octet more b.far c.owed h.session next later_on left i; data_to_client = moves i }) fits
           (record {
             near = h.near;
             session = refl;
@@ -201,7 +216,7 @@ module _ (read : Reading) (state : State) (offset : Option ℕ) (text : List ℕ
           let given : List ℕ = queue ++ take n (octet ∷ more) in
           placed _ (record b { far = f; data_to_client = given }) (Answering (replies_in (Given (heard_by begun) false))) (record c { owed = c.owed ++ reply_octets (fixed_reply Texts.Complete) })
           (Given (heard_by begun) false) came given refl
-          (λ i. record (world_at b (Answering (replies_in (Giving begun octet more))) c) { far = gives_all n octet more b.far c.owed h.session left i; data_to_client = moves i }) (by_begun begun fits)
+          (λ i. record (world_at b (Answering (replies_in (Giving begun octet more))) c) { far = gives_all ask.listed n octet more b.far c.owed h.session left i; data_to_client = moves i }) (by_begun begun fits)
           (record {
             near = h.near;
             session = refl;
@@ -237,17 +252,17 @@ module _ (read : Reading) (state : State) (offset : Option ℕ) (text : List ℕ
 
   -- by what the client holds of a course while octets come
   comes : (n : ℕ) (course : Course) (heard : Heard) (came queue : List ℕ) (b : World) (c : Cut) → flows course ≡ true → Fits (Answering (replies_in course)) c
-      → b.near ≡ receiving offset text how how.representation b.near heard came → b.data_to_client ≡ queue
+      → b.near ≡ receiving ask.op plan.all ask.settings b.near heard came → b.data_to_client ≡ queue
       → Stands (carry course (came ++ take n queue) (drop n queue)) (Answering (replies_in course))
-      (record b { near = receiving offset text how how.representation b.near heard (came ++ take n queue); data_to_client = drop n queue; came = counted (b.came + n) })
+      (record b { near = receiving ask.op plan.all ask.settings b.near heard (came ++ take n queue); data_to_client = drop n queue; came = counted (b.came + n) })
       → Pushes n (replies_in course) b c
   comes n course heard came queue b c flowing fits near_is queue_is holds =
-      let to : World = record b { near = receiving offset text how how.representation b.near heard (came ++ take n queue); data_to_client = drop n queue; came = counted (b.came + n) } in
+      let to : World = record b { near = receiving ask.op plan.all ask.settings b.near heard (came ++ take n queue); data_to_client = drop n queue; came = counted (b.came + n) } in
       let near : near.receives (world_at b (Answering (replies_in course)) c).near (take n b.data_to_client) ≡ (world_at to (Answering (replies_in course)) c).near =
       ap (λ l. near.receives (world_at b (Answering (replies_in course)) c).near (take n l)) queue_is
       ∙ near_acts (λ v. near.receives v (take n queue)) b to (Answering (replies_in course)) c fits
-      (subst (λ v. Leads (λ v. near.receives v (take n queue)) v (receiving offset text how how.representation b.near heard (came ++ take n queue))) (sym near_is)
-      (octets_come offset text how how.representation b.near heard came (take n queue))) in
+      (subst (λ v. Leads (λ v. near.receives v (take n queue)) v (receiving ask.op plan.all ask.settings b.near heard (came ++ take n queue))) (sym near_is)
+      (octets_come ask.op plan.all ask.settings b.near heard came (take n queue))) in
       placed _ to (Answering (replies_in course)) c course (came ++ take n queue) (drop n queue) flowing
       (λ i. record to {
         near = near i;
@@ -347,7 +362,7 @@ module _ (read : Reading) (state : State) (offset : Option ℕ) (text : List ℕ
       by_course (Refusing why gap) came queue flowing h few = absurd (cc)
       by_course Unopened came queue flowing h few = absurd (cc)
 
-  pub flow_is : (w : World) → PlacedAt AtFlow w → PlacedAt (λ way b. AtFetch state offset text how read own way b) w
+  pub flow_is : (w : World) → PlacedAt AtFlow w → PlacedAt (λ way b. AtFetch state ask read own way b) w
   flow_is w s = record {
     base = s.base;
     way = s.way;

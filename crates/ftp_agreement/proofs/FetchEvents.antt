@@ -9,15 +9,15 @@ use Rattle.ftp_ends.specs.Link.{same_host, is_connecting}
 use Rattle.ftp_ends.specs.Ear.{quiet}
 use Rattle.ftp_ends.specs.Reply.{Reply, reply_octets}
 use Rattle.ftp_direct.specs.declared.refusal.Refusal.{Refusal}
-use Rattle.ftp_operation.specs.Answer.{Said, Octets, Unopened as NotOpened}
-use Rattle.ftp_operation.specs.Operation.{can_be_sent}
-use Rattle.ftp_operation.specs.declared.op.How.{How}
+use Rattle.ftp_operation.specs.Answer.{Said, Unopened as NotOpened}
 use Rattle.ftp_operation.specs.declared.op.Op.{Op}
 use Rattle.ftp_direct.specs.Direct.{State}
 use Rattle.ftp_client_machine.specs.Calls as near
-use Rattle.ftp_client_machine.specs.View.{View as Near}
+use Rattle.ftp_client_machine.specs.Dialogue.{placed as placed_step, sends_if}
+use Rattle.ftp_client_machine.specs.Plan.{offset_of, restart_command, step_behind_opening}
+use Rattle.ftp_client_machine.specs.View.{View as Near, Doing}
 use Rattle.ftp_client_machine.specs.declared.client.DataConnection.TheVariants as NearData
-use Rattle.ftp_client_machine.specs.declared.client.Replied.TheVariants as Replies
+use Rattle.ftp_client_machine.specs.declared.client.Step.TheVariants as Steps
 use Rattle.ftp_server_machine.specs.Calls as far
 use Rattle.ftp_server_machine.specs.Machine.{Reading, completed, later}
 use Rattle.ftp_server_machine.specs.Replies.{fixed_reply}
@@ -31,13 +31,13 @@ use Rattle.ftp_world.specs.Events.{DataToClient, is_gone, is_closed_by_far, link
 use Rattle.ftp_world.specs.Outcome.{mark_in}
 use Rattle.ftp_world.specs.World.{World, Link, Gone, Opened, ClosedByFar, Mark, Broken, Refused, marked_last, with_mark, gone, counted}
 use Rattle.ftp_dialogues.specs.Dialogue.{IsSound}
-use Rattle.ftp_dialogues.specs.Fetches.{fetch, fetching, leaving, linked, opened_job, opened_command, offset_pending, busy}
+use Rattle.ftp_dialogues.specs.Fetches.{Ask, IsAsk, IsPlacedAt, leaving, linked, opened_job, opened_command, offset_pending, busy}
 use Rattle.ftp_dialogues.specs.Stage.{calm, still, Way, Asking, Answering, rest}
-use Rattle.ftp_dialogues.proofs.Fetching.{own_host}
+use Rattle.ftp_dialogues.proofs.Fetching.{own_host, own_sent}
 use Rattle.ftp_agreement.specs.Cut.{Cut, Flows as FlowsOf, Fits, world_at, PlacedAt}
 use Rattle.ftp_agreement.specs.Stages as Stages
-use Rattle.ftp_agreement.specs.Stages.{Sent, Granted, Denied, Heard, NoReply, OneReply, BothReplies, heard_by, Gap, Unclosed, Closed, Lost, Course, Giving, Given, Ended, Severed, Refusing, Unopened, replies_in, Carry, Restart, NoLink, PortAside, Stage, PortAsked, PortTold, Dials, Restarts, Retrieves, Carries, Answers, is_passing, Holds, AtFetch}
-use Rattle.ftp_agreement.proofs.Fates.{content, content_fares, judged_whole, judged_cut, cut_said, cut_fares, refused_link_fares, fetch_text, fetch_few}
+use Rattle.ftp_agreement.specs.Stages.{Sent, Granted, Denied, NoReply, OneReply, BothReplies, heard_by, Unclosed, Closed, Lost, Course, Giving, Given, Ended, Severed, Refusing, Unopened, replies_in, Restart, NoLink, PortAside, Stage, PortAsked, PortTold, Dials, Restarts, Retrieves, Carries, Answers, is_passing, Holds, AtFetch}
+use Rattle.ftp_agreement.proofs.Fates.{said_fares, judged_whole, judged_cut, cut_said, cut_fares, refused_link_fares}
 use Rattle.ftp_agreement.proofs.FetchLink.{Leads, FarLeads, near_acts, far_acts, both_act, fits_more, rest_breaks, near_ends, near_breaks, near_ends_all, near_breaks_all, far_linked, ready_breaks, giving_breaks}
 use Rattle.ftp_agreement.proofs.Keeps.{line_is_some, anew}
 use Rattle.ftp_agreement.proofs.Still.{no_octets as no_cut}
@@ -101,19 +101,19 @@ left_ends b way c n fits leads =
     ∙ both_act b to way c (near.data_end (world_at b way c).near) (world_at b way c).far
     (near_acts near.data_end b to way c fits leads) (far_acts (λ f. f) b to way c (λ ear owed. refl))
 
-module _ (read : Reading) (state : State) (offset : Option ℕ) (text : List ℕ) (how : How)
-    (can : can_be_sent (fetch offset text how) ≡ true) (sound : IsSound state) (known : state.known ≡ true) (own : List Mark) where
+module _ (read : Reading) (state : State) (ask : Ask)
+    (good : IsAsk ask) (sound : IsSound state) (known : state.known ≡ true) (own : List Mark) where
   abbrev At : List Mark → Way → World → Type 0
-  At own way b = AtFetch state offset text how read own way b
+  At own way b = AtFetch state ask read own way b
 
   abbrev Stands : List Mark → Stage → Way → World → Type 0
-  Stands own stage way b = Holds state offset text how own stage way b
+  Stands own stage way b = Holds state ask own stage way b
 
   abbrev op : Op (List ℕ)
-  op = fetch offset text how
+  op = ask.op
 
   abbrev near_at : Stage → Near → Near
-  near_at stage n = Stages.near_at state offset text how stage n
+  near_at stage n = Stages.near_at state ask stage n
 
   -- a world placed at a stage
   placed : (own : List Mark) (w b : World) (way : Way) (c : Cut) (stage : Stage) → w ≡ world_at b way c → Fits way c → Stands own stage way b → PlacedAt (At own) w
@@ -131,10 +131,10 @@ module _ (read : Reading) (state : State) (offset : Option ℕ) (text : List ℕ
   rest_broken : (at : ℕ) (restart : Restart) (way : Way) (b : World) (c : Cut) → Fits way c → Stands own (Restarts at restart true) way b → Breaks way b c
   rest_broken at restart way b c fits h =
       let n : Near = near_at (Restarts at restart false) b.near in
-      let f : Far = far_linked (linked FarData.Free false (Stages.pending_at state offset text how (Restarts at restart true)) b.far.session) b.far in
+      let f : Far = far_linked (linked FarData.Free false (Stages.pending_at state ask (Restarts at restart true)) b.far.session) b.far in
       placed (own ++ Broken b.came ∷ []) _ (behind_break n f b) way c (Restarts at restart false)
-      (opened_breaks b way c n f fits h.link (subst (λ v. Leads near.data_fault v n) (sym h.near) (rest_breaks at text how b.near))
-      (ready_breaks b.far (Stages.pending_at state offset text how (Restarts at restart true)) h.session)) fits
+      (opened_breaks b way c n f fits h.link (subst (λ v. Leads near.data_fault v n) (sym h.near) (rest_breaks ask.op b.near))
+      (ready_breaks b.far (Stages.pending_at state ask (Restarts at restart true)) h.session)) fits
       (record {
         near = refl;
         session = by_restart restart;
@@ -149,8 +149,8 @@ module _ (read : Reading) (state : State) (offset : Option ℕ) (text : List ℕ
       })
     where
       by_restart : (restart : Restart)
-          → linked FarData.Free false (Stages.pending_at state offset text how (Restarts at restart true)) b.far.session
-          ≡ linked FarData.Free false (Stages.pending_at state offset text how (Restarts at restart false)) b.far.session
+          → linked FarData.Free false (Stages.pending_at state ask (Restarts at restart true)) b.far.session
+          ≡ linked FarData.Free false (Stages.pending_at state ask (Restarts at restart false)) b.far.session
       by_restart Sent = refl
       by_restart Granted = refl
       by_restart (Denied why) = refl
@@ -158,10 +158,10 @@ module _ (read : Reading) (state : State) (offset : Option ℕ) (text : List ℕ
   retr_broken : (way : Way) (b : World) (c : Cut) → Fits way c → Stands own (Retrieves true) way b → Breaks way b c
   retr_broken way b c fits h =
       let n : Near = near_at (Retrieves false) b.near in
-      let f : Far = far_linked (linked FarData.Free false (offset_pending offset) b.far.session) b.far in
+      let f : Far = far_linked (linked FarData.Free false (offset_pending ask.offset) b.far.session) b.far in
       placed (own ++ Broken b.came ∷ []) _ (behind_break n f b) way c (Retrieves false)
-      (opened_breaks b way c n f fits h.link (subst (λ v. Leads near.data_fault v n) (sym h.near) (near_breaks offset text how how.representation [] b.near false))
-      (ready_breaks b.far (offset_pending offset) h.session)) fits
+      (opened_breaks b way c n f fits h.link (subst (λ v. Leads near.data_fault v n) (sym h.near) (near_breaks ask.op ask.settings [] b.near false))
+      (ready_breaks b.far (offset_pending ask.offset) h.session)) fits
       (record {
         near = refl;
         session = refl;
@@ -186,8 +186,8 @@ module _ (read : Reading) (state : State) (offset : Option ℕ) (text : List ℕ
       placed (own ++ Broken b.came ∷ []) _ (behind_break n f b) (Answering (replies_in (Severed begun))) (record c { owed = c.owed ++ reply_octets (fixed_reply Texts.Broken) })
       (carry (Severed begun) came [])
       (giving_break b (replies_in (Giving begun octet more)) (replies_in (Severed begun)) c n f fits h.link
-      (subst (λ v. Leads near.data_fault v n) (sym h.near) (near_breaks offset text how how.representation came b.near begun))
-      (giving_breaks b.far Pendings.Nothing octet more h.session quiet c.owed)) (by_begun begun fits)
+      (subst (λ v. Leads near.data_fault v n) (sym h.near) (near_breaks ask.op ask.settings came b.near begun))
+      (giving_breaks ask.listed b.far Pendings.Nothing octet more h.session quiet c.owed)) (by_begun begun fits)
       (record {
         near = refl;
         session = refl;
@@ -212,7 +212,7 @@ module _ (read : Reading) (state : State) (offset : Option ℕ) (text : List ℕ
   given_broken begun came queue way b c fits h same =
       let n : Near = near_at (carry (Ended begun false) came []) b.near in
       placed (own ++ Broken b.came ∷ []) _ (behind_break n b.far b) way c (carry (Ended begun false) came [])
-      (left_breaks b way c n fits h.link (subst (λ v. Leads near.data_fault v n) (sym h.near) (near_breaks offset text how how.representation came b.near begun))) fits
+      (left_breaks b way c n fits h.link (subst (λ v. Leads near.data_fault v n) (sym h.near) (near_breaks ask.op ask.settings came b.near begun))) fits
       (record {
         near = refl;
         session = h.session;
@@ -228,11 +228,11 @@ module _ (read : Reading) (state : State) (offset : Option ℕ) (text : List ℕ
 
   given_all_broken : (came queue : List ℕ) (way : Way) (b : World) (c : Cut) → Fits way c → Stands own (carry (Given BothReplies true) came queue) way b → Breaks way b c
   given_all_broken came queue way b c fits h =
-      let n : Near = near_at (Answers (cut_said state offset text how came) NoLink) b.near in
+      let n : Near = near_at (Answers (cut_said ask came) NoLink) b.near in
       let marked : own ++ Broken b.came ∷ [] ≡ Broken (counted (length came)) ∷ [] = broken_so b came h.marked h.came in
-      placed (own ++ Broken b.came ∷ []) _ (behind_break n b.far b) way c (Answers (cut_said state offset text how came) NoLink)
+      placed (own ++ Broken b.came ∷ []) _ (behind_break n b.far b) way c (Answers (cut_said ask came) NoLink)
       (left_breaks b way c n fits h.link (subst (λ v. Leads near.data_fault v n) (sym h.near)
-      (near_breaks_all offset text how how.representation came b.near (cut_said state offset text how came) (judged_cut state offset text how 226 came (inl refl))))) fits
+      (near_breaks_all ask.op ask.settings came b.near (cut_said ask came) (judged_cut ask good 226 came (inl refl))))) fits
       (record {
         near = refl;
         session = h.session;
@@ -243,14 +243,14 @@ module _ (read : Reading) (state : State) (offset : Option ℕ) (text : List ℕ
         came = tt;
         marked = subst (λ l. length l ≤ 1) (sym marked) (omega arith);
         way_is = h.way_is;
-        fine = cut_fares state offset text how (own ++ Broken b.came ∷ []) came can known h.fine.0.1 h.fine.0.0 (queue, h.fine.1) marked;
+        fine = cut_fares state ask good (own ++ Broken b.came ∷ []) came known h.fine.0.1 h.fine.0.0 (queue, h.fine.1) marked;
       })
 
   refusing_broken : (why : Refusal) (came queue : List ℕ) (way : Way) (b : World) (c : Cut) → Fits way c → Stands own (carry (Refusing why Closed) came queue) way b → Breaks way b c
   refusing_broken why came queue way b c fits h =
       let n : Near = near_at (carry (Refusing why (Lost false)) came []) b.near in
       placed (own ++ Broken b.came ∷ []) _ (behind_break n b.far b) way c (carry (Refusing why (Lost false)) came [])
-      (left_breaks b way c n fits h.link (subst (λ v. Leads near.data_fault v n) (sym h.near) (near_breaks offset text how how.representation came b.near false))) fits
+      (left_breaks b way c n fits h.link (subst (λ v. Leads near.data_fault v n) (sym h.near) (near_breaks ask.op ask.settings came b.near false))) fits
       (record {
         near = refl;
         session = h.session;
@@ -308,7 +308,7 @@ module _ (read : Reading) (state : State) (offset : Option ℕ) (text : List ℕ
   given_ended begun came queue way b c fits h same empty =
       let n : Near = near_at (carry (Ended begun true) came []) b.near in
       placed own _ (record b { near = n; link = Gone; data_to_server = []; data_to_client = [] }) way c (carry (Ended begun true) came [])
-      (left_ends b way c n fits (subst (λ v. Leads near.data_end v n) (sym h.near) (near_ends offset text how how.representation came b.near begun))) fits
+      (left_ends b way c n fits (subst (λ v. Leads near.data_end v n) (sym h.near) (near_ends ask.op ask.settings came b.near begun))) fits
       (record {
         near = refl;
         session = h.session;
@@ -324,12 +324,12 @@ module _ (read : Reading) (state : State) (offset : Option ℕ) (text : List ℕ
 
   given_all_ended : (came queue : List ℕ) (way : Way) (b : World) (c : Cut) → Fits way c → Stands own (carry (Given BothReplies true) came queue) way b → queue ≡ [] → EndsAt way b c
   given_all_ended came queue way b c fits h empty =
-      let said : Said = Octets (content state offset text how) in
+      let said : Said = ask.said state in
       let n : Near = near_at (Answers said NoLink) b.near in
       placed own _ (record b { near = n; link = Gone; data_to_server = []; data_to_client = [] }) way c (Answers said NoLink)
       (left_ends b way c n fits (subst (λ v. Leads near.data_end v n) (sym h.near)
-      (near_ends_all offset text how how.representation came b.near said
-      (judged_whole state offset text how came (mark_in (no_octets how.representation) None came) sound (all_came came queue _ empty h.fine.1))))) fits
+      (near_ends_all ask.op ask.settings came b.near said
+      (judged_whole state ask good came (mark_in (no_octets ask.settings) None came) sound known h.fine.0.0 (all_came came queue _ empty h.fine.1))))) fits
       (record {
         near = refl;
         session = h.session;
@@ -340,14 +340,14 @@ module _ (read : Reading) (state : State) (offset : Option ℕ) (text : List ℕ
         came = tt;
         marked = subst (λ l. length l ≤ 1) (sym h.marked) (omega arith);
         way_is = h.way_is;
-        fine = content_fares state offset text how own can known h.fine.0.1;
+        fine = said_fares state ask good own known h.fine.0.1;
       })
 
   refusing_ended : (why : Refusal) (came queue : List ℕ) (way : Way) (b : World) (c : Cut) → Fits way c → Stands own (carry (Refusing why Closed) came queue) way b → EndsAt way b c
   refusing_ended why came queue way b c fits h =
       let n : Near = near_at (carry (Refusing why (Lost true)) came []) b.near in
       placed own _ (record b { near = n; link = Gone; data_to_server = []; data_to_client = [] }) way c (carry (Refusing why (Lost true)) came [])
-      (left_ends b way c n fits (subst (λ v. Leads near.data_end v n) (sym h.near) (near_ends offset text how how.representation came b.near false))) fits
+      (left_ends b way c n fits (subst (λ v. Leads near.data_end v n) (sym h.near) (near_ends ask.op ask.settings came b.near false))) fits
       (record {
         near = refl;
         session = h.session;
@@ -394,17 +394,20 @@ module _ (read : Reading) (state : State) (offset : Option ℕ) (text : List ℕ
   module _ (port : ℕ) (w b : World) (way : Way) (c : Cut) (is : w ≡ world_at b rest no_cut) (h : Stands own (Dials port) way b) where
     -- the client behind the opening, and the line that it sends
     opened_near : Near
-    opened_near = busy (opened_job offset text how) NearData.Open b.near
+    opened_near = busy (opened_job ask.offset ask) NearData.Open b.near
 
-    opens_near : near.data_opened b.far.footing.here (calm b.near) ≡ record (calm opened_near) { owed = written_line (line_of (opened_command offset text)) }
+    opens_near : near.data_opened b.far.footing.here (calm b.near) ≡ record (calm opened_near) { owed = written_line (line_of (opened_command ask.offset ask)) }
     unfolding near.data_opened opened_near
-    opens_near = ap (λ v. near.data_opened b.far.footing.here (calm v)) h.near ∙ by_offset offset
+    opens_near =
+        let at : Near = calm (busy (Doing ask.op Steps.Connect) NearData.Open b.near) in
+        ap (λ v. near.data_opened b.far.footing.here (calm v)) h.near
+        ∙ ap (λ o. placed_step ask.op (step_behind_opening o) at) good.plan.offset_is ∙ by_offset ask.offset good.plan.offset_is
       where
-        by_offset : (offset : Option ℕ)
-            → near.data_opened b.far.footing.here (calm (Stages.near_at state offset text how (Dials port) b.near))
-            ≡ record (calm (busy (opened_job offset text how) NearData.Open b.near)) { owed = written_line (line_of (opened_command offset text)) }
-        by_offset None = refl
-        by_offset (Some at) = refl
+        by_offset : (offset : Option ℕ) → offset_of ask.op ≡ offset
+            → placed_step ask.op (step_behind_opening offset) (calm (busy (Doing ask.op Steps.Connect) NearData.Open b.near))
+            ≡ record (calm (busy (opened_job offset ask) NearData.Open b.near)) { owed = written_line (line_of (opened_command offset ask)) }
+        by_offset None is = own_sent ask good.plan (calm (busy (Doing ask.op Steps.Connect) NearData.Open b.near))
+        by_offset (Some at) is = ap (λ o. sends_if (restart_command o) (calm (busy (Doing ask.op Steps.Restart) NearData.Open b.near))) is
 
     opened_far : Far
     opened_far = far_linked (linked FarData.Ready false Pendings.Nothing b.far.session) b.far
@@ -421,7 +424,7 @@ module _ (read : Reading) (state : State) (offset : Option ℕ) (text : List ℕ
     opened_base : World
     opened_base = record b { near = opened_near; far = opened_far; link = Opened; came = 0 }
 
-    opened_is : link_opens w ≡ world_at opened_base (Asking (line_of (opened_command offset text))) (record { held = []; moving = []; owed = written_line (line_of (opened_command offset text)) })
+    opened_is : link_opens w ≡ world_at opened_base (Asking (line_of (opened_command ask.offset ask))) (record { held = []; moving = []; owed = written_line (line_of (opened_command ask.offset ask)) })
     unfolding opened_base
     opened_is =
         ap link_opens is
@@ -457,29 +460,29 @@ module _ (read : Reading) (state : State) (offset : Option ℕ) (text : List ℕ
       came = tt;
       marked = subst (λ l. length l ≤ 1) (sym (marked_so Refused h.marked)) (omega arith);
       way_is = refl;
-      fine = refused_link_fares state offset text how (own ++ Refused ∷ []) (marked_so Refused h.marked);
+      fine = refused_link_fares state ask good (own ++ Refused ∷ []) (marked_so Refused h.marked);
     })
 
-    opened_line : IsLine (line_of (opened_command offset text))
-    opened_line = by_offset offset refl
+    opened_line : IsLine (line_of (opened_command ask.offset ask))
+    opened_line = by_offset ask.offset refl
       where
-        by_offset : (o : Option ℕ) → offset ≡ o → IsLine (line_of (opened_command offset text))
-        by_offset None e = subst (λ o. IsLine (line_of (opened_command o text))) (sym e) (carried (Commands.Retr text) tt (fetch_text offset text how can))
-        by_offset (Some at) e = subst (λ o. IsLine (line_of (opened_command o text))) (sym e) (carried (Commands.Rest at) tt (fetch_few offset text how can at e))
+        by_offset : (o : Option ℕ) → ask.offset ≡ o → IsLine (line_of (opened_command o ask))
+        by_offset None e = carried ask.command good.row.typed good.row.stated
+        by_offset (Some at) e = carried (Commands.Rest at) tt (good.row.few at e)
 
-    opened_at : (stage : Stage) → Stands own stage (Asking (line_of (opened_command offset text))) opened_base → PlacedAt (At own) (link_opens w)
+    opened_at : (stage : Stage) → Stands own stage (Asking (line_of (opened_command ask.offset ask))) opened_base → PlacedAt (At own) (link_opens w)
     opened_at stage holds =
-        let line : List ℕ = written_line (line_of (opened_command offset text)) in
-        placed own (link_opens w) opened_base (Asking (line_of (opened_command offset text))) (record { held = []; moving = []; owed = line }) stage opened_is
-        (opened_line, subst (λ l. FlowsOf line [] l []) (append-nil line) (anew line [] (line_is_some (line_of (opened_command offset text))))) holds
+        let line : List ℕ = written_line (line_of (opened_command ask.offset ask)) in
+        placed own (link_opens w) opened_base (Asking (line_of (opened_command ask.offset ask))) (record { held = []; moving = []; owed = line }) stage opened_is
+        (opened_line, subst (λ l. FlowsOf line [] l []) (append-nil line) (anew line [] (line_is_some (line_of (opened_command ask.offset ask))))) holds
 
     pub opened_placed : PlacedAt (At own) (link_opens w)
     unfolding opened_base opened_near opened_far
-    opened_placed = by_offset offset refl
+    opened_placed = by_offset ask.offset refl
       where
-        by_offset : (o : Option ℕ) → offset ≡ o → PlacedAt (At own) (link_opens w)
+        by_offset : (o : Option ℕ) → ask.offset ≡ o → PlacedAt (At own) (link_opens w)
         by_offset None e = opened_at (Retrieves true) (record {
-          near = ap (λ job. busy job NearData.Open b.near) (retrieving offset e);
+          near = ap (λ o. busy (opened_job o ask) NearData.Open b.near) e;
           session = ap (λ o. linked FarData.Ready false o b.far.session) (sym (ap offset_pending e));
           steady = h.steady;
           link = refl;
@@ -487,15 +490,11 @@ module _ (read : Reading) (state : State) (offset : Option ℕ) (text : List ℕ
           to_client = h.to_client;
           came = refl;
           marked = h.marked;
-          way_is = ap (λ o. Asking (line_of (opened_command o text))) e;
-          fine = subst (Stages.IsPlaced state offset text how) (sym e) tt;
+          way_is = ap (λ o. Asking (line_of (opened_command o ask))) e;
+          fine = subst (IsPlacedAt ask.settings) (sym e) tt;
         })
-          where
-            retrieving : (o : Option ℕ) → o ≡ None → opened_job o text how ≡ fetching (fetch o text how) Replies.Nothing how.representation []
-            retrieving None is = refl
-            retrieving (Some at) is = absurd (cc)
         by_offset (Some at) e = opened_at (Restarts at Sent true) (record {
-          near = ap (λ o. busy (opened_job o text how) NearData.Open b.near) e;
+          near = ap (λ o. busy (opened_job o ask) NearData.Open b.near) e;
           session = refl;
           steady = h.steady;
           link = refl;
@@ -503,6 +502,6 @@ module _ (read : Reading) (state : State) (offset : Option ℕ) (text : List ℕ
           to_client = h.to_client;
           came = refl;
           marked = h.marked;
-          way_is = ap (λ o. Asking (line_of (opened_command o text))) e;
+          way_is = ap (λ o. Asking (line_of (opened_command o ask))) e;
           fine = (e, tt);
         })

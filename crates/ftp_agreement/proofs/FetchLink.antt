@@ -1,11 +1,11 @@
 -- The link of a download: it opens, is refused, ends or breaks, whatever is on its way over the control connection.
-use Rattle.std.proofs.Common.{◌≡◌, ℕ, Bool, true, false, List, [], ◌∷◌, ◌++◌, Option, Some, None, refl, sym, ap, subst, ◌∙◌, append-nil, append_assoc}
+use Rattle.std.proofs.Common.{◌≡◌, ℕ, Bool, true, false, List, [], ◌∷◌, ◌++◌, Some, None, refl, sym, ap, subst, ◌∙◌, append-nil, append_assoc}
 use Rattle.ftp_decoder.specs.Decoder.{decoder_of, no_octets}
 use Rattle.ftp_ends.specs.Ear.{Ear, quiet, ear}
 use Rattle.ftp_ends.specs.Reply.{IsWritten, Reply, reply_octets}
 use Rattle.ftp_machine.specs.Machine.{after}
 use Rattle.ftp_operation.specs.Answer.{Said}
-use Rattle.ftp_operation.specs.declared.op.How.{How}
+use Rattle.ftp_operation.specs.declared.op.Op.{Op}
 use Rattle.ftp_path.specs.Path.{Names}
 use Rattle.ftp_reply.specs.Reader.{Between, Gathered}
 use Rattle.ftp_representation.specs.declared.representation.Representation.{Representation}
@@ -24,10 +24,9 @@ use Rattle.ftp_server_machine.specs.View.{View as Far, Session, line_limit}
 use Rattle.ftp_server_machine.specs.declared.reply.Text.TheVariants as Texts
 use Rattle.ftp_server_machine.specs.declared.session.DataConnection.TheVariants as FarData
 use Rattle.ftp_server_machine.specs.declared.session.Pending.{Pending}
-use Rattle.ftp_server_machine.specs.declared.session.Transfer.TheVariants as Transfers
 use Rattle.ftp_world.specs.Outcome.{mark_in}
 use Rattle.ftp_world.specs.World.{World}
-use Rattle.ftp_dialogues.specs.Fetches.{fetch, busy, fetching, leaving, linked}
+use Rattle.ftp_dialogues.specs.Fetches.{busy, fetching, giving_of, leaving, linked}
 use Rattle.ftp_dialogues.specs.Stage.{calm, Way, Asking, Answering, row_octets, AreWritten}
 use Rattle.ftp_agreement.specs.Cut.{Cut, FlowsRow, Fits, coming, world_at}
 use Rattle.ftp_agreement.specs.Stages.{heard_by, replied_of}
@@ -105,39 +104,39 @@ fits_more rows reply c fine fits = (
 
 -- ---- the client's calls
 
-pub rest_breaks : (offset : ℕ) (text : List ℕ) (how : How) (n : Near)
-    → Leads near.data_fault (busy (Doing (fetch (Some offset) text how) Steps.Restart) NearData.Open n) (busy (Doing (fetch (Some offset) text how) Steps.Restart) (NearData.Over Endings.Broken) n)
+pub rest_breaks : (op : Op (List ℕ)) (n : Near)
+    → Leads near.data_fault (busy (Doing op Steps.Restart) NearData.Open n) (busy (Doing op Steps.Restart) (NearData.Over Endings.Broken) n)
 unfolding near.data_fault
-rest_breaks offset text how n ear gathered owed = refl
+rest_breaks op n ear gathered owed = refl
 
-module _ (offset : Option ℕ) (text : List ℕ) (how : How) (settings : Representation) (came : List ℕ) (n : Near) where
+module _ (op : Op (List ℕ)) (settings : Representation) (came : List ℕ) (n : Near) where
   abbrev open_at : Bool → Near
-  open_at begun = busy (fetching (fetch offset text how) (replied_of (heard_by begun)) settings came) NearData.Open n
+  open_at begun = busy (fetching op (replied_of (heard_by begun)) settings came) NearData.Open n
 
-  pub near_ends : (begun : Bool) → Leads near.data_end (open_at begun) (busy (fetching (fetch offset text how) (replied_of (heard_by begun)) settings came) (NearData.Over Endings.Clean) n)
+  pub near_ends : (begun : Bool) → Leads near.data_end (open_at begun) (busy (fetching op (replied_of (heard_by begun)) settings came) (NearData.Over Endings.Clean) n)
   unfolding near.data_end
   near_ends true ear gathered owed = refl
   near_ends false ear gathered owed = refl
 
-  pub near_breaks : (begun : Bool) → Leads near.data_fault (open_at begun) (busy (fetching (fetch offset text how) (replied_of (heard_by begun)) settings came) (NearData.Over Endings.Broken) n)
+  pub near_breaks : (begun : Bool) → Leads near.data_fault (open_at begun) (busy (fetching op (replied_of (heard_by begun)) settings came) (NearData.Over Endings.Broken) n)
   unfolding near.data_fault
   near_breaks true ear gathered owed = refl
   near_breaks false ear gathered owed = refl
 
   -- where the last reply was heard, the answer is told
   pub near_ends_all : (said : Said)
-      → judged Endings.Clean Aborts.Unsent 226 (fetch offset text how) (Receiving (decoder_of settings came) (mark_in (no_octets settings) None came)) ≡ Some said
-      → Leads near.data_end (busy (fetching (fetch offset text how) (Replies.Final 226) settings came) NearData.Open n) (leaving said false n)
+      → judged Endings.Clean Aborts.Unsent 226 op (Receiving (decoder_of settings came) (mark_in (no_octets settings) None came)) ≡ Some said
+      → Leads near.data_end (busy (fetching op (Replies.Final 226) settings came) NearData.Open n) (leaving said false n)
   unfolding near.data_end
   near_ends_all said is ear gathered owed =
-      ap (λ o. finishes_read o (hearing ear gathered owed (busy (fetching (fetch offset text how) (Replies.Final 226) settings came) (NearData.Over Endings.Clean) n))) is
+      ap (λ o. finishes_read o (hearing ear gathered owed (busy (fetching op (Replies.Final 226) settings came) (NearData.Over Endings.Clean) n))) is
 
   pub near_breaks_all : (said : Said)
-      → judged Endings.Broken Aborts.Unsent 226 (fetch offset text how) (Receiving (decoder_of settings came) (mark_in (no_octets settings) None came)) ≡ Some said
-      → Leads near.data_fault (busy (fetching (fetch offset text how) (Replies.Final 226) settings came) NearData.Open n) (leaving said false n)
+      → judged Endings.Broken Aborts.Unsent 226 op (Receiving (decoder_of settings came) (mark_in (no_octets settings) None came)) ≡ Some said
+      → Leads near.data_fault (busy (fetching op (Replies.Final 226) settings came) NearData.Open n) (leaving said false n)
   unfolding near.data_fault
   near_breaks_all said is ear gathered owed =
-      ap (λ o. finishes_read o (hearing ear gathered owed (busy (fetching (fetch offset text how) (Replies.Final 226) settings came) (NearData.Over Endings.Broken) n))) is
+      ap (λ o. finishes_read o (hearing ear gathered owed (busy (fetching op (Replies.Final 226) settings came) (NearData.Over Endings.Broken) n))) is
 
 -- ---- the server's calls
 
@@ -150,8 +149,10 @@ pub ready_breaks : (f : Far) (pending : Pending Names) → f.session ≡ linked 
 unfolding far.data_fault
 ready_breaks f pending is ear owed = ap (λ s. far.data_fault (listening ear owed (far_linked s f))) is
 
-pub giving_breaks : (f : Far) (pending : Pending Names) (octet : ℕ) (more : List ℕ) → f.session ≡ linked (FarData.Transferring (Transfers.Download (octet ∷ more))) false pending f.session
+pub giving_breaks : (listed : Bool) (f : Far) (pending : Pending Names) (octet : ℕ) (more : List ℕ)
+    → f.session ≡ linked (FarData.Transferring (giving_of listed (octet ∷ more))) false pending f.session
     → (ear : Ear) (owed : List ℕ)
     → far.data_fault (listening ear owed f) ≡ listening ear (owed ++ reply_octets (fixed_reply Texts.Broken)) (far_linked (linked FarData.Free false pending f.session) f)
 unfolding far.data_fault
-giving_breaks f pending octet more is ear owed = ap (λ s. far.data_fault (listening ear owed (far_linked s f))) is
+giving_breaks false f pending octet more is ear owed = ap (λ s. far.data_fault (listening ear owed (far_linked s f))) is
+giving_breaks true f pending octet more is ear owed = ap (λ s. far.data_fault (listening ear owed (far_linked s f))) is

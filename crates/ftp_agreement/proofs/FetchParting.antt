@@ -1,12 +1,11 @@
 -- The control connection ends while a download is under way, or before its link is closed: the operation is lost, and its link is closed.
-use Rattle.std.proofs.Common.{◌≡◌, ◌⊎◌, inl, inr, ℕ, suc, ◌+◌, ◌≤◌, Bool, true, false, ◌||◌, List, [], ◌∷◌, ◌++◌, length, Option, Some, None, refl, sym, ap, subst, ◌∙◌, append-nil, arith}
+use Rattle.std.proofs.Common.{◌≡◌, ◌⊎◌, inl, inr, ℕ, suc, ◌+◌, ◌≤◌, Bool, true, false, ◌||◌, List, [], ◌∷◌, ◌++◌, length, Some, None, refl, sym, ap, subst, ◌∙◌, append-nil, arith}
 use Rattle.ftp_operation.specs.Answer.{Said, Lost as LostSaid}
-use Rattle.ftp_operation.specs.declared.op.How.{How}
 use Rattle.ftp_operation.specs.declared.op.Op.{Op}
 use Rattle.ftp_path.specs.Path.{Names}
 use Rattle.ftp_direct.specs.Direct.{State}
 use Rattle.ftp_client_machine.specs.Calls as near
-use Rattle.ftp_client_machine.specs.Calls.{is_sound, report_of_job}
+use Rattle.ftp_client_machine.specs.Calls.{is_sound}
 use Rattle.ftp_client_machine.specs.View.{Job, Idle, Told as Answered, stands, failed_job}
 use Rattle.ftp_client_machine.specs.declared.client.DataConnection.{DataConnection as NearConnection}
 use Rattle.ftp_server_machine.specs.Calls as far
@@ -21,13 +20,13 @@ use Rattle.ftp_world.specs.Events.{ends_control}
 use Rattle.ftp_world.specs.Outcome.{Nothing, Lost as LostOff}
 use Rattle.ftp_world.specs.Serving.{after_event}
 use Rattle.ftp_world.specs.World.{World, Link, Gone, Opened, ClosedByNear, ClosedByFar, Mark}
-use Rattle.ftp_dialogues.specs.Fetches.{fetch, busy, linked}
+use Rattle.ftp_dialogues.specs.Fetches.{Ask, HasPlan, busy, linked}
 use Rattle.ftp_dialogues.specs.Stage.{Way, Asking, Answering}
 use Rattle.ftp_agreement.specs.Cut.{Cut, world_at, PlacedAt}
 use Rattle.ftp_agreement.specs.Follows.{Told, Follows}
 use Rattle.ftp_agreement.specs.Runs.{IsFetching, IsFetchingOn, IsTrailing}
 use Rattle.ftp_agreement.specs.Stages as Stages
-use Rattle.ftp_agreement.specs.Stages.{Course, Giving, Given, Ended, Severed, Refusing, Unopened, Unclosed, Closed, Lost, Carry, Stage, PortAsked, PortTold, Dials, Restarts, Retrieves, Carries, Answers, Holds, AtFetch, IsLasting}
+use Rattle.ftp_agreement.specs.Stages.{Course, Giving, Given, Ended, Severed, Refusing, Unopened, Unclosed, Closed, Lost, Stage, PortAsked, PortTold, Dials, Restarts, Retrieves, Carries, Answers, Holds, AtFetch, IsLasting}
 use Rattle.ftp_agreement.proofs.FetchServed.{near_form, far_form, leads_still, moves_on, lasting_busy, lasting_untold}
 use Rattle.ftp_agreement.proofs.FetchTold.{few_links, closed_is, closed_at, marks_at, reported}
 use Rattle.ftp_agreement.proofs.Items.{state_more, one_told}
@@ -93,15 +92,15 @@ parts_with w job connection near_is fails far pending far_is link queue link_is 
 lost_item : Op (List ℕ) → ℕ → List Mark → Item
 lost_item op moment own = record { moment = moment; first = record { op = op; outcome = LostOff Nothing; marks = own }; more = [] }
 
-told_lost : (from : State) (done : List Order) (marks : List (List Mark)) (cutoff : ℕ) (reports : List Said) (now : State) (offset : Option ℕ) (text : List ℕ) (how : How) (moment : ℕ) (own : List Mark)
+told_lost : (from : State) (done : List Order) (marks : List (List Mark)) (cutoff : ℕ) (reports : List Said) (now : State) (ask : Ask) (plan : HasPlan ask) (moment : ℕ) (own : List Mark)
     → Told from done marks (Some cutoff) reports now → suc (length done) ≡ cutoff → length own ≤ 1
-    → Told from (done ++ Single (fetch offset text how) moment ∷ []) (marks ++ own ∷ []) (Some cutoff) (reports ++ LostSaid ∷ []) now
+    → Told from (done ++ Single ask.op moment ∷ []) (marks ++ own ∷ []) (Some cutoff) (reports ++ LostSaid ∷ []) now
 unfolding lost_item
-told_lost from done marks cutoff reports now offset text how moment own t last few =
-    let op : Op (List ℕ) = fetch offset text how in
+told_lost from done marks cutoff reports now ask plan moment own t last few =
+    let op : Op (List ℕ) = ask.op in
     let holds : ItemHolds (state_after from t.items) (Single op moment) own (Some cutoff) (length done) (lost_item op moment own) = record {
       is_of = (refl, refl, refl);
-      holds = (record { can_be = tt; allowed = inl last; few = few_links offset text how own few }, tt);
+      holds = (record { can_be = tt; allowed = inl last; few = few_links ask plan own few }, tt);
       marked = append-nil own;
     } in
     record {
@@ -117,7 +116,7 @@ module _ (read : Reading) (from : State) (begun : List Order) (w : World) (on : 
   f = on.fetching
 
   abbrev At : Way → World → Type 0
-  At way b = AtFetch on.fetching.now on.fetching.offset on.fetching.text on.fetching.how read on.fetching.own way b
+  At way b = AtFetch on.fetching.now on.fetching.ask read on.fetching.own way b
 
   abbrev s : PlacedAt At w
   s = on.fetching.stands
@@ -127,11 +126,11 @@ module _ (read : Reading) (from : State) (begun : List Order) (w : World) (on : 
 
   fails : failed_job LostSaid w.near.job ≡ Answered LostSaid
   fails =
-      busy_lost w.near.job (lasting_busy read on.fetching.now on.fetching.offset on.fetching.text on.fetching.how on.fetching.own w s on.lasts)
-      (lasting_untold read on.fetching.now on.fetching.offset on.fetching.text on.fetching.how on.fetching.own w s on.lasts)
+      busy_lost w.near.job (lasting_busy read on.fetching.now on.fetching.ask on.fetching.is_ask.plan on.fetching.own w s on.lasts)
+      (lasting_untold read on.fetching.now on.fetching.ask on.fetching.is_ask.plan on.fetching.own w s on.lasts)
 
   abbrev Stood : Stage → Type 0
-  Stood stage = Holds on.fetching.now on.fetching.offset on.fetching.text on.fetching.how on.fetching.own stage s.way s.base
+  Stood stage = Holds on.fetching.now on.fetching.ask on.fetching.own stage s.way s.base
 
   -- the fields of the link are those of the base
   record Same : Type 0 where
@@ -196,10 +195,10 @@ module _ (read : Reading) (from : State) (begun : List Order) (w : World) (on : 
   carry_parts Unopened came queue h lasts =
       record { after = parts_as _ h _ _ h.near refl _ _ h.session _ _ h.link h.to_client h.fine.1; table = table_of _ h; few = one_few _ h.marked }
 
-  leads_parts : Stages.Leads on.fetching.now on.fetching.offset on.fetching.text on.fetching.how read on.fetching.own s.way s.base → Parts
+  leads_parts : Stages.Leads on.fetching.now on.fetching.ask read on.fetching.own s.way s.base → Parts
   leads_parts l =
-      let still = leads_still read on.fetching.now on.fetching.offset on.fetching.text on.fetching.how on.fetching.own s.base w s.way seen l in
-      let moves = moves_on read on.fetching.now on.fetching.offset on.fetching.text on.fetching.how on.fetching.own s.way s.base.near s.base.far l.on l.some in
+      let still = leads_still read on.fetching.now on.fetching.ask on.fetching.is_ask.plan on.fetching.own s.base w s.way seen l in
+      let moves = moves_on read on.fetching.now on.fetching.ask on.fetching.is_ask.plan on.fetching.own s.way s.base.near s.base.far l.on l.some in
       record {
         after = after_busy w still.0 (same.link ∙ l.link) fails
             ∙ (λ i. record (lost_link w) { link = (same.link ∙ l.link) i; data_to_server = (same.to_server ∙ l.to_server) i; data_to_client = (same.to_client ∙ l.to_client) i });
@@ -214,7 +213,7 @@ module _ (read : Reading) (from : State) (begun : List Order) (w : World) (on : 
   pub parts : Parts
   parts = by_here s.here on.lasts
     where
-      by_here : (here : At s.way s.base) → IsLasting on.fetching.now on.fetching.offset on.fetching.text on.fetching.how read on.fetching.own s.way s.base here → Parts
+      by_here : (here : At s.way s.base) → IsLasting on.fetching.now on.fetching.ask read on.fetching.own s.way s.base here → Parts
       by_here (inl l) lasts = leads_parts l
       by_here (inr (PortAsked closing, h)) lasts = absurd (cc)
       by_here (inr (PortTold port, h)) lasts = record { after = parts_as _ h _ _ h.near refl _ _ h.session _ _ h.link h.to_client refl; table = table_of _ h; few = none_few h.marked }
@@ -232,8 +231,8 @@ module _ (read : Reading) (from : State) (begun : List Order) (w : World) (on : 
       let many : length g.marks ≡ length g.done = marks_are_all from g.done g.marks None w.reports g.now g.told in
       let one : length w.marks ≡ suc (length g.done) = ap length g.marks_are ∙ length-more g.marks g.own ∙ ap suc many in
       let cut = told_cut from g.done g.marks (length w.marks) w.reports g.now (omega (arith, one)) g.told in
-      let lost = told_lost from g.done g.marks (length w.marks) w.reports g.now g.offset g.text g.how g.moment g.own cut (sym one) parts.few in
-      let all : length begun ≡ suc (length g.done) = ap length g.begun_is ∙ length-more g.done (Single (fetch g.offset g.text g.how) g.moment) in
+      let lost = told_lost from g.done g.marks (length w.marks) w.reports g.now g.ask g.is_ask.plan g.moment g.own cut (sym one) parts.few in
+      let all : length begun ≡ suc (length g.done) = ap length g.begun_is ∙ length-more g.done (Single g.ask.op g.moment) in
       subst (Follows read from begun) (sym parts.after) (record {
         unlinked = record { link = refl; to_server = refl; to_client = refl };
         untold = refl;
@@ -243,7 +242,7 @@ module _ (read : Reading) (from : State) (begun : List Order) (w : World) (on : 
           cut_is = refl;
           early = omega (arith, one, all);
           told = subst (λ done. Told from done w.marks (Some (length w.marks)) (w.reports ++ LostSaid ∷ []) g.now) (sym g.begun_is)
-              (subst (λ marks. Told from (g.done ++ Single (fetch g.offset g.text g.how) g.moment ∷ []) marks (Some (length w.marks)) (w.reports ++ LostSaid ∷ []) g.now) (sym g.marks_are) lost);
+              (subst (λ marks. Told from (g.done ++ Single g.ask.op g.moment ∷ []) marks (Some (length w.marks)) (w.reports ++ LostSaid ∷ []) g.now) (sym g.marks_are) lost);
           near = near_lost w.near;
           far = far_lost w.far;
           table = parts.table;

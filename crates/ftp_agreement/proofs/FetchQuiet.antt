@@ -22,6 +22,7 @@ use Rattle.ftp_agreement.specs.Cut.{Cut, world_at, PlacedAt}
 use Rattle.ftp_agreement.specs.Runs.{IsFetching, IsFetchingOn, Runs}
 use Rattle.ftp_agreement.specs.Stages as Stages
 use Rattle.ftp_agreement.specs.Stages.{Course, Giving, Given, Ended, Severed, Refusing, Unopened, Unclosed, Closed, Lost, NoReply, OneReply, BothReplies, Sent, Granted, Denied, Stage, PortAsked, PortTold, Dials, Restarts, Retrieves, Carries, Answers, Holds, AtFetch, IsLasting}
+use Rattle.ftp_agreement.proofs.FetchData.{given_of}
 use Rattle.ftp_agreement.proofs.FetchServed.{near_form, far_form, moves_on}
 use Rattle.ftp_agreement.proofs.FetchTold.{closed_is}
 use Rattle.ftp_agreement.proofs.Quiet.{can_move_first, can_take_now, follows_answered, follows_unblocked, never, quiet_at}
@@ -32,7 +33,7 @@ module _ (read : Reading) (from : State) (begun : List Order) (w : World) (on : 
   f = on.fetching
 
   abbrev At : Way → World → Type 0
-  At way b = AtFetch f.now f.offset f.text f.how read f.own way b
+  At way b = AtFetch f.now f.ask read f.own way b
 
   abbrev s : PlacedAt At w
   s = on.fetching.stands
@@ -41,7 +42,7 @@ module _ (read : Reading) (from : State) (begun : List Order) (w : World) (on : 
   seen = seen_placed At w s
 
   abbrev Stood : Stage → Type 0
-  Stood stage = Holds f.now f.offset f.text f.how f.own stage s.way s.base
+  Stood stage = Holds f.now f.ask f.own stage s.way s.base
 
   -- octets of the control connection are on their way
   moves : (stage : Stage) → Stood stage → is_sound s.base.near.standing ≡ true → s.way ≢ rest → ⊥
@@ -56,14 +57,14 @@ module _ (read : Reading) (from : State) (begun : List Order) (w : World) (on : 
   abbrev carry : Course → (came queue : List ℕ) → Stage
   carry course came queue = Carries (record { course = course; came = came; queue = queue })
 
-  link_is : (stage : Stage) → Stood stage → w.link ≡ Stages.link_at f.now f.offset f.text f.how stage
+  link_is : (stage : Stage) → Stood stage → w.link ≡ Stages.link_at f.now f.ask stage
   link_is stage h = ap (λ u. u.link) s.is ∙ by_way s.way s.cut ∙ h.link
     where
       by_way : (way : Way) (c : Cut) → (world_at s.base way c).link ≡ s.base.link
       by_way (Asking line) c = refl
       by_way (Answering rows) c = refl
 
-  queue_is : (stage : Stage) → Stood stage → w.data_to_client ≡ Stages.queue_at f.now f.offset f.text f.how stage
+  queue_is : (stage : Stage) → Stood stage → w.data_to_client ≡ Stages.queue_at f.now f.ask stage
   queue_is stage h = ap (λ u. u.data_to_client) s.is ∙ by_way s.way s.cut ∙ h.to_client
     where
       by_way : (way : Way) (c : Cut) → (world_at s.base way c).data_to_client ≡ s.base.data_to_client
@@ -85,7 +86,7 @@ module _ (read : Reading) (from : State) (begun : List Order) (w : World) (on : 
       receives = ap near.may_receive (near_form s.base w seen _ _ h.near)
 
       due : far.to_give w.far ≡ octet ∷ more
-      due = ap (λ v. far.given_by (far.connection_of v)) (far_form s.base w seen _ false _ h.session)
+      due = ap (λ v. far.given_by (far.connection_of v)) (far_form s.base w seen _ false _ h.session) ∙ given_of f.ask.listed (octet ∷ more)
 
       by_queue : (queue : List ℕ) → w.data_to_client ≡ queue → ⊥
       by_queue [] is =
@@ -132,9 +133,9 @@ module _ (read : Reading) (from : State) (begun : List Order) (w : World) (on : 
   carry_moves (Refusing why (Lost clean)) came queue h lasts = moves _ h (ap (λ v. is_sound v.standing) h.near) (rows_some _ _ h.way_is)
   carry_moves Unopened came queue h lasts = moves _ h (ap (λ v. is_sound v.standing) h.near) (rows_some _ _ h.way_is)
 
-  here_moves : (here : At s.way s.base) → IsLasting f.now f.offset f.text f.how read f.own s.way s.base here → ⊥
+  here_moves : (here : At s.way s.base) → IsLasting f.now f.ask read f.own s.way s.base here → ⊥
   here_moves (inl l) lasts =
-      let m = moves_on read f.now f.offset f.text f.how f.own s.way s.base.near s.base.far l.on l.some in
+      let m = moves_on read f.now f.ask f.is_ask.plan f.own s.way s.base.near s.base.far l.on l.some in
       quiet_at s.base s.way s.cut s.fits m.0.near.sound m.0.far.life l.some (subst IsStill s.is still)
   here_moves (inr (PortAsked closing, h)) lasts = absurd (cc)
   here_moves (inr (PortTold port, h)) lasts = moves _ h (ap (λ v. is_sound v.standing) h.near) (rows_some _ _ h.way_is)

@@ -34,25 +34,23 @@ module _ (read : Reading) (reads : IsReading read) (from : State) (begun : List 
   Fetching w = IsFetching read from begun w
 
   abbrev At : (w : World) → Fetching w → Way → World → Type 0
-  At w f way b = AtFetch f.now f.offset f.text f.how read f.own way b
+  At w f way b = AtFetch f.now f.ask read f.own way b
 
   -- with other marks of its link
   pub fetching_marked : (w new : World) (f : Fetching w) (own : List Mark) → new.marks ≡ f.marks ++ own ∷ [] → new.reports ≡ w.reports → new.control ≡ w.control → new.cutoff ≡ w.cutoff
-      → PlacedAt (λ way b. AtFetch f.now f.offset f.text f.how read own way b) new → Fetching new
+      → PlacedAt (λ way b. AtFetch f.now f.ask read own way b) new → Fetching new
   fetching_marked w new f own marks reports control cutoff stands = record {
     done = f.done;
     marks = f.marks;
     own = own;
-    offset = f.offset;
-    text = f.text;
-    how = f.how;
+    ask = f.ask;
     moment = f.moment;
     begun_is = f.begun_is;
     marks_are = marks;
     now = f.now;
     sound = f.sound;
     known = f.known;
-    sent = f.sent;
+    is_ask = f.is_ask;
     passive = f.passive;
     told = subst (λ reports. Told from f.done f.marks None reports f.now) (sym reports) f.told;
     linked = record { control = control ∙ f.linked.control; cutoff = cutoff ∙ f.linked.cutoff };
@@ -64,32 +62,32 @@ module _ (read : Reading) (reads : IsReading read) (from : State) (begun : List 
 
   -- ---- what is served behind an event
 
-  served_on : (w : World) (f : Fetching w) → Served read f.now f.offset f.text f.how f.own w (after_event w) → Runs read from begun (after_event w)
+  served_on : (w : World) (f : Fetching w) → Served read f.now f.ask f.is_ask.plan f.own w (after_event w) → Runs read from begun (after_event w)
   unfolding fetching_moved fetching_marked
   served_on w f s = inr (inl (record {
     fetching = fetching_moved w (after_event w) f (record { marks = s.marks; reports = s.reports; control = s.control; cutoff = s.cutoff }) s.placed;
     lasts = s.lasts;
   }))
 
-  lasts_on : (w : World) (f : Fetching w) → IsLasting f.now f.offset f.text f.how read f.own f.stands.way f.stands.base f.stands.here → Runs read from begun (after_event w)
+  lasts_on : (w : World) (f : Fetching w) → IsLasting f.now f.ask read f.own f.stands.way f.stands.base f.stands.here → Runs read from begun (after_event w)
   lasts_on w f lasts =
-      subst (Runs read from begun) (sym (lasting_stays read f.now f.offset f.text f.how f.own w f.stands lasts)) (inr (inl (record { fetching = f; lasts = lasts })))
+      subst (Runs read from begun) (sym (lasting_stays read f.now f.ask f.is_ask.plan f.own w f.stands lasts)) (inr (inl (record { fetching = f; lasts = lasts })))
 
   pub fetch_after : (w : World) → Fetching w → Runs read from begun (after_event w)
   fetch_after w f = by_here f.stands.here refl
     where
-      lasting : (here : At w f f.stands.way f.stands.base) → f.stands.here ≡ here → IsLasting f.now f.offset f.text f.how read f.own f.stands.way f.stands.base here → Runs read from begun (after_event w)
-      lasting here e lasts = lasts_on w f (subst (IsLasting f.now f.offset f.text f.how read f.own f.stands.way f.stands.base) (sym e) lasts)
+      lasting : (here : At w f f.stands.way f.stands.base) → f.stands.here ≡ here → IsLasting f.now f.ask read f.own f.stands.way f.stands.base here → Runs read from begun (after_event w)
+      lasting here e lasts = lasts_on w f (subst (IsLasting f.now f.ask read f.own f.stands.way f.stands.base) (sym e) lasts)
 
       by_course : (course : Course) (came queue : List ℕ)
-          → (h : Holds f.now f.offset f.text f.how f.own (Carries (record { course = course; came = came; queue = queue })) f.stands.way f.stands.base)
+          → (h : Holds f.now f.ask f.own (Carries (record { course = course; came = came; queue = queue })) f.stands.way f.stands.base)
           → f.stands.here ≡ inr (Carries (record { course = course; came = came; queue = queue }), h) → Runs read from begun (after_event w)
       by_course (Giving started octet more) came queue h e = lasting _ e refl
-      by_course (Given heard false) came queue h e = served_on w f (given_closes read f.now f.offset f.text f.how f.own heard came queue w f.stands h)
+      by_course (Given heard false) came queue h e = served_on w f (given_closes read f.now f.ask f.is_ask.plan f.own heard came queue w f.stands h)
       by_course (Given heard true) came queue h e = lasting _ e refl
       by_course (Ended started clean) came queue h e = lasting _ e refl
       by_course (Severed started) came queue h e = lasting _ e refl
-      by_course (Refusing why Unclosed) came queue h e = served_on w f (refusing_closes read f.now f.offset f.text f.how f.own why came queue w f.stands h)
+      by_course (Refusing why Unclosed) came queue h e = served_on w f (refusing_closes read f.now f.ask f.is_ask.plan f.own why came queue w f.stands h)
       by_course (Refusing why Closed) came queue h e = lasting _ e refl
       by_course (Refusing why (Lost clean)) came queue h e = lasting _ e refl
       by_course Unopened came queue h e = lasting _ e refl
@@ -97,7 +95,7 @@ module _ (read : Reading) (reads : IsReading read) (from : State) (begun : List 
       by_here : (here : At w f f.stands.way f.stands.base) → f.stands.here ≡ here → Runs read from begun (after_event w)
       by_here (inl l) e = lasting (inl l) e tt
       by_here (inr (PortAsked closing, h)) e =
-          served_on w f (port_asked_serves read f.now f.offset f.text f.how f.own closing w f.stands.base f.stands.way (rest_placed _ w f.stands h.way_is) h)
+          served_on w f (port_asked_serves read f.now f.ask f.is_ask.plan f.own closing w f.stands.base f.stands.way (rest_placed _ w f.stands h.way_is) h)
       by_here (inr (PortTold port, h)) e = lasting _ e refl
       by_here (inr (Dials port, h)) e = lasting _ e refl
       by_here (inr (Restarts at restart joined, h)) e = lasting _ e refl
@@ -108,7 +106,7 @@ module _ (read : Reading) (reads : IsReading read) (from : State) (begun : List 
   -- ---- octets of the control connection
 
   goes_of : (w : World) (f : Fetching w) → Goes read (At w f)
-  goes_of w f = fetch_goes read reads f.now f.offset f.text f.how f.sent f.sound f.known f.passive f.own
+  goes_of w f = fetch_goes read reads f.now f.ask f.is_ask f.sound f.known f.passive f.own
 
   no_change : (w : World) → IsKept w w
   no_change w = record { marks = refl; reports = refl; control = refl; cutoff = refl }
@@ -138,8 +136,8 @@ module _ (read : Reading) (reads : IsReading read) (from : State) (begun : List 
   filled_client (count ∷ counts) w f = filled_client counts (pulled ControlToClient w count) (pulled_client count w f)
 
   -- what is lent is of no matter
-  holds_taken : (w : World) (f : Fetching w) (octets : List ℕ) (stage : Stage) (way : Way) (b : World) → Holds f.now f.offset f.text f.how f.own stage way b
-      → Holds f.now f.offset f.text f.how f.own stage way (record b { taken = octets })
+  holds_taken : (w : World) (f : Fetching w) (octets : List ℕ) (stage : Stage) (way : Way) (b : World) → Holds f.now f.ask f.own stage way b
+      → Holds f.now f.ask f.own stage way (record b { taken = octets })
   holds_taken w f octets stage way b h = record {
     near = h.near;
     session = h.session;
@@ -170,8 +168,8 @@ module _ (read : Reading) (reads : IsReading read) (from : State) (begun : List 
         here = here_taken w f octets f.stands.way f.stands.base f.stands.here;
       })
 
-  lasts_taken : (octets : List ℕ) (w : World) (f : Fetching w) (here : At w f f.stands.way f.stands.base) → IsLasting f.now f.offset f.text f.how read f.own f.stands.way f.stands.base here
-      → IsLasting f.now f.offset f.text f.how read f.own f.stands.way (record f.stands.base { taken = octets }) (here_taken w f octets f.stands.way f.stands.base here)
+  lasts_taken : (octets : List ℕ) (w : World) (f : Fetching w) (here : At w f f.stands.way f.stands.base) → IsLasting f.now f.ask read f.own f.stands.way f.stands.base here
+      → IsLasting f.now f.ask read f.own f.stands.way (record f.stands.base { taken = octets }) (here_taken w f octets f.stands.way f.stands.base here)
   unfolding here_taken
   lasts_taken octets w f (inl l) lasts = lasts
   lasts_taken octets w f (inr (stage, h)) lasts = lasts
@@ -197,7 +195,7 @@ module _ (read : Reading) (reads : IsReading read) (from : State) (begun : List 
   -- ---- octets of the link
 
   abbrev Flowing : (w : World) → Fetching w → World → Type 0
-  Flowing w f new = PlacedAt (AtFlow read f.now f.offset f.text f.how f.own) new
+  Flowing w f new = PlacedAt (AtFlow read f.now f.ask f.is_ask.plan f.own) new
 
   -- a world whose octets have moved
   record Moved (w : World) (f : Fetching w) (new : World) : Type 0 where
@@ -206,7 +204,7 @@ module _ (read : Reading) (reads : IsReading read) (from : State) (begun : List 
 
   moved_pulls : (n : ℕ) (w : World) (f : Fetching w) (u : World) → Moved w f u → Moved w f (pulled DataToClient u n)
   moved_pulls n w f u m = record {
-    flowing = flow_pulls read f.now f.offset f.text f.how f.own n u m.flowing;
+    flowing = flow_pulls read f.now f.ask f.is_ask.plan f.own n u m.flowing;
     kept = record { marks = m.kept.marks; reports = m.kept.reports; control = m.kept.control; cutoff = m.kept.cutoff };
   }
 
@@ -238,12 +236,12 @@ module _ (read : Reading) (reads : IsReading read) (from : State) (begun : List 
 
   moved_pushes : (n : ℕ) (w : World) (f : Fetching w) (u : World) → n ≤ length u.data_to_client → Moved w f u → Moved w f (pushed read DataToClient n u)
   moved_pushes n w f u few m = record {
-    flowing = flow_pushes read f.now f.offset f.text f.how f.own n u few m.flowing;
+    flowing = flow_pushes read f.now f.ask f.is_ask.plan f.own n u few m.flowing;
     kept = record { marks = m.kept.marks; reports = m.kept.reports; control = m.kept.control; cutoff = m.kept.cutoff };
   }
 
   moved_is : (w : World) (f : Fetching w) (u : World) → Moved w f u → Fetching u
-  moved_is w f u m = fetching_moved w u f m.kept (flow_is read f.now f.offset f.text f.how f.own u m.flowing)
+  moved_is w f u m = fetching_moved w u f m.kept (flow_is read f.now f.ask f.is_ask.plan f.own u m.flowing)
 
   pub fetch_delivers_data : (none : Bool) (count : ℕ) (w new : World) (f : Fetching w) → Flowing w f w → DeliversBy none read DataToClient count w new → Runs read from begun new
   fetch_delivers_data true count w new f flowing m =
@@ -304,14 +302,14 @@ module _ (read : Reading) (reads : IsReading read) (from : State) (begun : List 
           left.marks ∙ ap (marked_last (Broken w.came)) f.marks_are ∙ marks_last (Broken w.came) f.marks f.own
           ∙ ap (λ came. f.marks ++ (f.own ++ Broken came ∷ []) ∷ []) (sym (base_came w f))
 
-      by_here : (here : At w f f.stands.way f.stands.base) → IsLasting f.now f.offset f.text f.how read f.own f.stands.way f.stands.base here → Runs read from begun (after_event (link_breaks w))
+      by_here : (here : At w f f.stands.way f.stands.base) → IsLasting f.now f.ask read f.own f.stands.way f.stands.base here → Runs read from begun (after_event (link_breaks w))
       by_here (inl l) lasts = absurd (let e : true ≡ false = sym (ap is_gone (sym (base_link w f) ∙ l.link)) ∙ some in cc)
       by_here (inr (stage, h)) lasts =
-          let breaks = stage_breaks read f.now f.offset f.text f.how f.sent f.sound f.known f.own stage f.stands.way f.stands.base f.stands.cut f.stands.fits h lasts
+          let breaks = stage_breaks read f.now f.ask f.is_ask f.sound f.known f.own stage f.stands.way f.stands.base f.stands.cut f.stands.fits h lasts
           (ap is_gone (base_link w f) ∙ some) in
           let own : List Mark = f.own ++ Broken f.stands.base.came ∷ [] in
           fetch_after (link_breaks w) (fetching_marked w (link_breaks w) f own marked left.reports left.control left.cutoff
-          (subst (λ u. PlacedAt (λ way b. AtFetch f.now f.offset f.text f.how read own way b) (link_breaks u)) (sym f.stands.is) breaks))
+          (subst (λ u. PlacedAt (λ way b. AtFetch f.now f.ask read own way b) (link_breaks u)) (sym f.stands.is) breaks))
 
   pub fetch_ends : (w : World) → IsFetchingOn read from begun w → is_closed_by_far w.link ≡ true → w.data_to_client ≡ [] → Runs read from begun (after_event (told DataToClient w))
   fetch_ends w on left empty = by_here f.stands.here on.lasts
@@ -319,10 +317,10 @@ module _ (read : Reading) (reads : IsReading read) (from : State) (begun : List 
       f : Fetching w
       f = on.fetching
 
-      by_here : (here : At w f f.stands.way f.stands.base) → IsLasting f.now f.offset f.text f.how read f.own f.stands.way f.stands.base here → Runs read from begun (after_event (told DataToClient w))
+      by_here : (here : At w f f.stands.way f.stands.base) → IsLasting f.now f.ask read f.own f.stands.way f.stands.base here → Runs read from begun (after_event (told DataToClient w))
       by_here (inl l) lasts = absurd (let e : false ≡ true = sym (ap is_closed_by_far (sym (base_link w f) ∙ l.link)) ∙ left in cc)
       by_here (inr (stage, h)) lasts =
-          let ends = stage_ends read f.now f.offset f.text f.how f.sent f.sound f.known f.own stage f.stands.way f.stands.base f.stands.cut f.stands.fits h
+          let ends = stage_ends read f.now f.ask f.is_ask f.sound f.known f.own stage f.stands.way f.stands.base f.stands.cut f.stands.fits h
           (ap is_closed_by_far (base_link w f) ∙ left) lasts (base_queue w f ∙ empty) in
           fetch_after (told DataToClient w) (fetching_moved w (told DataToClient w) f (record { marks = refl; reports = refl; control = refl; cutoff = refl })
           (subst (λ u. PlacedAt (At w f) (told DataToClient u)) (sym f.stands.is) ends))
@@ -339,20 +337,20 @@ module _ (read : Reading) (reads : IsReading read) (from : State) (begun : List 
   refuses_by w false = record { marks = refl; reports = refl; control = refl; cutoff = refl }
 
   pub fetch_opens : (w : World) → IsFetchingOn read from begun w → is_asked_for w ≡ true → Runs read from begun (after_event (link_opens w))
-  fetch_opens w on asks = by_dial (dials_or_none read f.now f.offset f.text f.how f.own w f.stands on.lasts)
+  fetch_opens w on asks = by_dial (dials_or_none read f.now f.ask f.is_ask.plan f.own w f.stands on.lasts)
     where
       f : Fetching w
       f = on.fetching
 
-      by_dial : ((port : ℕ) × Holds f.now f.offset f.text f.how f.own (Dials port) f.stands.way f.stands.base) ⊎ (is_asked_for w ≡ false) → Runs read from begun (after_event (link_opens w))
+      by_dial : ((port : ℕ) × Holds f.now f.ask f.own (Dials port) f.stands.way f.stands.base) ⊎ (is_asked_for w ≡ false) → Runs read from begun (after_event (link_opens w))
       by_dial (inl (port, h)) =
           let is = rest_placed _ w f.stands h.way_is in
           fetch_after (link_opens w) (fetching_moved w (link_opens w) f (record { marks = refl; reports = refl; control = refl; cutoff = refl })
-          (opened_placed read f.now f.offset f.text f.how f.sent f.sound f.known f.own port w f.stands.base f.stands.way f.stands.cut is h))
+          (opened_placed read f.now f.ask f.is_ask f.sound f.known f.own port w f.stands.base f.stands.way f.stands.cut is h))
       by_dial (inr none) = absurd (let e : true ≡ false = sym asks ∙ none in cc)
 
   pub fetch_refuses : (w : World) → IsFetchingOn read from begun w → is_asked_for w ≡ true → Runs read from begun (after_event (link_refused w))
-  fetch_refuses w on asks = by_dial (dials_or_none read f.now f.offset f.text f.how f.own w f.stands on.lasts)
+  fetch_refuses w on asks = by_dial (dials_or_none read f.now f.ask f.is_ask.plan f.own w f.stands on.lasts)
     where
       f : Fetching w
       f = on.fetching
@@ -360,10 +358,10 @@ module _ (read : Reading) (reads : IsReading read) (from : State) (begun : List 
       left : IsRefusal w (link_refused w)
       left = refuses_by w (is_connecting (near.wants w.near))
 
-      by_dial : ((port : ℕ) × Holds f.now f.offset f.text f.how f.own (Dials port) f.stands.way f.stands.base) ⊎ (is_asked_for w ≡ false) → Runs read from begun (after_event (link_refused w))
+      by_dial : ((port : ℕ) × Holds f.now f.ask f.own (Dials port) f.stands.way f.stands.base) ⊎ (is_asked_for w ≡ false) → Runs read from begun (after_event (link_refused w))
       by_dial (inl (port, h)) =
           let is = rest_placed _ w f.stands h.way_is in
           fetch_after (link_refused w) (fetching_marked w (link_refused w) f (f.own ++ Refused ∷ [])
           (left.marks ∙ ap (marked_last Refused) f.marks_are ∙ marks_last Refused f.marks f.own) left.reports left.control left.cutoff
-          (refused_placed read f.now f.offset f.text f.how f.sent f.sound f.known f.own port w f.stands.base f.stands.way f.stands.cut is h))
+          (refused_placed read f.now f.ask f.is_ask f.sound f.known f.own port w f.stands.base f.stands.way f.stands.cut is h))
       by_dial (inr none) = absurd (let e : true ≡ false = sym asks ∙ none in cc)

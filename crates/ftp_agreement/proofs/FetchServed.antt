@@ -1,12 +1,11 @@
 -- What a world does for its ends behind an event of a download: nothing, or a port is told, a link is closed, a report is taken.
-use Rattle.std.proofs.Common.{◌≡◌, ◌≢◌, ◌⊎◌, inl, inr, ℕ, zero, suc, ◌+◌, ◌<◌, ◌≤◌, Bool, true, false, ◌&&◌, ◌||◌, List, [], ◌∷◌, Option, None, refl, sym, ap, subst, ◌∙◌, arith}
+use Rattle.std.proofs.Common.{◌≡◌, ◌≢◌, ◌⊎◌, inl, inr, ℕ, zero, suc, ◌<◌, ◌≤◌, Bool, true, false, ◌&&◌, ◌||◌, List, [], ◌∷◌, None, refl, sym, ap, subst, ◌∙◌, arith}
 use Rattle.ftp_endpoint.specs.Written.{IsTypedHost, IsV4}
 use Rattle.ftp_endpoint.specs.declared.host.Host.{Host}
 use Rattle.ftp_endpoint.specs.declared.host.Host.TheVariants.{V4, V6}
 use Rattle.ftp_ends.specs.Link.{is_v6, is_wanted}
 use Rattle.ftp_ends.specs.declared.link.Wants.{Wants}
 use Rattle.ftp_ends.specs.Reply.{IsWritten, Reply, reply_octets}
-use Rattle.ftp_operation.specs.declared.op.How.{How}
 use Rattle.ftp_operation.specs.declared.op.Op.{Op}
 use Rattle.ftp_path.specs.Path.{Names}
 use Rattle.ftp_direct.specs.Direct.{State}
@@ -29,12 +28,12 @@ use Rattle.ftp_world.specs.Events.{is_asked_for, is_closed_by_near, is_gone}
 use Rattle.ftp_world.specs.Serving.{near_served, far_served, collected, collected_by, after_event}
 use Rattle.ftp_world.specs.World.{World, Link, Gone, Opened, ClosedByFar, Mark, next_listen, port_at}
 use Rattle.ftp_dialogues.specs.Dialogue.{Passes}
-use Rattle.ftp_dialogues.specs.Fetches.{fetch, busy, linked, port_reply, PortIsAsked, asked_of}
+use Rattle.ftp_dialogues.specs.Fetches.{Ask, HasPlan, busy, giving_of, linked, port_reply, PortIsAsked, asked_of}
 use Rattle.ftp_dialogues.specs.Login.{IsOnWay}
 use Rattle.ftp_dialogues.specs.Stage.{calm, still, Way, Asking, Answering, rest}
 use Rattle.ftp_agreement.specs.Cut.{Cut, Fits, world_at, PlacedAt}
 use Rattle.ftp_agreement.specs.Stages as Stages
-use Rattle.ftp_agreement.specs.Stages.{Course, Giving, Given, Ended, Severed, Refusing, Unopened, Unclosed, Closed, Lost, Heard, NoReply, OneReply, BothReplies, heard_by, replies_in, Carry, Sent, Granted, Denied, Restart, Leaving, NoLink, PortAside, LinkOpen, LinkLeft, LinkParting, is_to_close, far_leaves, far_parting, link_left, Stage, PortAsked, PortTold, Dials, Restarts, Retrieves, Carries, Answers, is_passing, Holds, AtFetch, IsLasting}
+use Rattle.ftp_agreement.specs.Stages.{Course, Giving, Given, Ended, Severed, Refusing, Unopened, Unclosed, Closed, Lost, Heard, NoReply, OneReply, BothReplies, replies_in, Stage, PortAsked, PortTold, Dials, Restarts, Retrieves, Carries, Answers, is_passing, Holds, AtFetch, IsLasting}
 use Rattle.ftp_agreement.proofs.Events.{and_false, still_data}
 use Rattle.ftp_agreement.proofs.FetchData.{AtFlow, flows}
 use Rattle.ftp_agreement.proofs.FetchLink.{far_linked, fits_more}
@@ -81,15 +80,22 @@ far_rests w connection closing pending is rests =
     let put : Session → World = λ s. record w { far = far_linked s w.far } in
     ap far_served (ap put is) ∙ rests ∙ ap put (sym is)
 
-module _ (read : Reading) (state : State) (offset : Option ℕ) (text : List ℕ) (how : How) (own : List Mark) where
+-- a server that gives wants nothing but that
+giving_rests : (listed : Bool) (octets : List ℕ) (pending : Pending Names) (w : World)
+    → far_served (record w { far = far_linked (linked (FarData.Transferring (giving_of listed octets)) false pending w.far.session) w.far })
+    ≡ record w { far = far_linked (linked (FarData.Transferring (giving_of listed octets)) false pending w.far.session) w.far }
+giving_rests false octets pending w = refl
+giving_rests true octets pending w = refl
+
+module _ (read : Reading) (state : State) (ask : Ask) (plan : HasPlan ask) (own : List Mark) where
   abbrev At : Way → World → Type 0
-  At way b = AtFetch state offset text how read own way b
+  At way b = AtFetch state ask read own way b
 
   abbrev Stands : Stage → Way → World → Type 0
-  Stands stage way b = Holds state offset text how own stage way b
+  Stands stage way b = Holds state ask own stage way b
 
   abbrev op : Op (List ℕ)
-  op = fetch offset text how
+  op = ask.op
 
   -- ---- the stages that last
 
@@ -109,7 +115,8 @@ module _ (read : Reading) (state : State) (offset : Option ℕ) (text : List ℕ
       → is_passing (Carries (record { course = course; came = came; queue = queue })) ≡ false → Rests w
   unfolding near.wants
   carry_rests (Giving begun octet more) came queue b w way seen h stays =
-      rests_as b w (Carries (record { course = Giving begun octet more; came = came; queue = queue })) way seen h _ _ h.near refl (λ w. refl) _ _ h.session (λ w. refl)
+      rests_as b w (Carries (record { course = Giving begun octet more; came = came; queue = queue })) way seen h _ _ h.near refl (λ w. refl) _ _ h.session
+      (λ w. giving_rests ask.listed (octet ∷ more) Pendings.Nothing w)
   carry_rests (Given heard true) came queue b w way seen h stays =
       rests_as b w (Carries (record { course = Given heard true; came = came; queue = queue })) way seen h _ _ h.near refl (λ w. refl) _ _ h.session (λ w. refl)
   carry_rests (Given heard false) came queue b w way seen h stays = absurd (cc)
@@ -140,7 +147,7 @@ module _ (read : Reading) (state : State) (offset : Option ℕ) (text : List ℕ
   -- ---- the login, the settings and the command for a port
 
   abbrev Goal : Near → Far → Type 0
-  Goal n f = PortIsAsked state op how.representation n f
+  Goal n f = PortIsAsked state op ask.settings n f
 
   pub moves_on : (way : Way) (n : Near) (f : Far) → IsOnWay read state op (Passes state.table state.table) Goal way n f → way ≢ rest
       → AreSet state.table state.table n f × (report_of_job n.job ≡ None)
@@ -151,22 +158,22 @@ module _ (read : Reading) (state : State) (offset : Option ℕ) (text : List ℕ
   moves_on (Answering (reply ∷ more)) n f (inr (suc left, leads)) some = (record { near = leads.0.near; far = leads.0.far; table = leads.0.table }, leads.0.untold)
   moves_on (Asking line) n f (inr (suc left, leads)) some = (record { near = leads.0.near; far = leads.0.far; table = leads.0.table }, leads.0.untold)
 
-  pub leads_still : (b w : World) (way : Way) → IsSeen b w → Stages.Leads state offset text how read own way b → IsStill w × (report_of w.near ≡ None)
+  pub leads_still : (b w : World) (way : Way) → IsSeen b w → Stages.Leads state ask read own way b → IsStill w × (report_of w.near ≡ None)
   leads_still b w way seen l =
       let m = moves_on way b.near b.far l.on l.some in
       (still_as b w seen m.0.near m.0.far, ap report_of_job seen.job ∙ m.1)
 
-  pub lasting_stays : (w : World) → (s : PlacedAt At w) → IsLasting state offset text how read own s.way s.base s.here → after_event w ≡ w
+  pub lasting_stays : (w : World) → (s : PlacedAt At w) → IsLasting state ask read own s.way s.base s.here → after_event w ≡ w
   lasting_stays w s lasts = by_here s.here lasts
     where
-      by_here : (here : At s.way s.base) → IsLasting state offset text how read own s.way s.base here → after_event w ≡ w
+      by_here : (here : At s.way s.base) → IsLasting state ask read own s.way s.base here → after_event w ≡ w
       by_here (inl l) lasts = let still = leads_still s.base w s.way (seen_placed At w s) l in after_as_is w still.0 still.1
       by_here (inr (stage, h)) lasts = after_rests w (stage_rests stage s.base w s.way (seen_placed At w s) h lasts)
 
-  pub lasting_untold : (w : World) → (s : PlacedAt At w) → IsLasting state offset text how read own s.way s.base s.here → report_of w.near ≡ None
+  pub lasting_untold : (w : World) → (s : PlacedAt At w) → IsLasting state ask read own s.way s.base s.here → report_of w.near ≡ None
   lasting_untold w s lasts = by_here s.here lasts
     where
-      by_here : (here : At s.way s.base) → IsLasting state offset text how read own s.way s.base here → report_of w.near ≡ None
+      by_here : (here : At s.way s.base) → IsLasting state ask read own s.way s.base here → report_of w.near ≡ None
       by_here (inl l) lasts = (leads_still s.base w s.way (seen_placed At w s) l).1
       by_here (inr (stage, h)) lasts = (stage_rests stage s.base w s.way (seen_placed At w s) h lasts).none
 
@@ -181,14 +188,14 @@ module _ (read : Reading) (state : State) (offset : Option ℕ) (text : List ℕ
   -- both ends where a port is asked for, and where it is told
   abbrev asked_world : Bool → Bool → World → World
   asked_world extended closing b = record (world_at b rest no_octets) {
-    near = calm (Stages.near_at state offset text how (PortAsked closing) b.near);
+    near = calm (Stages.near_at state ask (PortAsked closing) b.near);
     far = still (far_linked (linked (FarData.Asked (asked_of extended)) closing Pendings.Nothing b.far.session) b.far);
     link = Gone;
   }
 
   abbrev told_world : Bool → World → World
   told_world extended b = record (world_at b rest no_octets) {
-    near = calm (Stages.near_at state offset text how (PortTold (port_at b.listens)) b.near);
+    near = calm (Stages.near_at state ask (PortTold (port_at b.listens)) b.near);
     far = record (still (far_linked (linked FarData.Passive false Pendings.Nothing b.far.session) b.far)) { owed = reply_octets (port_reply extended b.far.footing.here (port_at b.listens)) };
     link = Gone;
     listens = next_listen b.listens;
@@ -212,7 +219,7 @@ module _ (read : Reading) (state : State) (offset : Option ℕ) (text : List ℕ
   -- behind what is served a stage lasts
   pub record Served (w new : World) : Type 0 where
     pub placed : PlacedAt At new
-    pub lasts : IsLasting state offset text how read own placed.way placed.base placed.here
+    pub lasts : IsLasting state ask read own placed.way placed.base placed.here
     pub marks : new.marks ≡ w.marks
     pub reports : new.reports ≡ w.reports
     pub control : new.control ≡ w.control
@@ -227,7 +234,7 @@ module _ (read : Reading) (state : State) (offset : Option ℕ) (text : List ℕ
       let asked : w ≡ asked_world extended closing b =
       is ∙ (λ i. record (world_at b rest no_octets) { near = calm (h.near i); far = still (far_linked (h.session i) b.far); link = h.link i }) in
       let f : Far = far_linked (linked FarData.Passive false Pendings.Nothing b.far.session) b.far in
-      let to : World = record b { near = Stages.near_at state offset text how (PortTold port) b.near; far = f; link = Gone; listens = next_listen b.listens } in
+      let to : World = record b { near = Stages.near_at state ask (PortTold port) b.near; far = f; link = Gone; listens = next_listen b.listens } in
       let v4 : extended ≡ false → IsV4 b.near.peer = λ plain. is_v4 b.near.peer (neither (asks_extended (how_of op)) (is_v6 b.near.peer) plain) in
       let written = port_reply_written b.far.session extended b.near.peer port v4 (subst IsTypedHost (sym h.steady.peer) h.steady.typed) small in
       let owes : Host → World = λ host. record (told_world extended b) { far = record (still f) { owed = reply_octets (port_reply extended host port) } } in
@@ -266,7 +273,7 @@ module _ (read : Reading) (state : State) (offset : Option ℕ) (text : List ℕ
   -- ---- the server closes the link
 
   abbrev Closes : Stage → Way → World → Type 0
-  Closes stage way b = (Stages.far_at state offset text how stage (is_extended b.near op) ≡ FarData.Free) × (Stages.closing_at state offset text how stage ≡ true)
+  Closes stage way b = (Stages.far_at state ask stage (is_extended b.near op) ≡ FarData.Free) × (Stages.closing_at state ask stage ≡ true)
 
   -- the world behind it
   abbrev closed_base : World → World
@@ -365,8 +372,8 @@ module _ (read : Reading) (state : State) (offset : Option ℕ) (text : List ℕ
   -- ---- what is due over the link
 
   -- octets of it are given or taken, or there are none
-  pub flows_or_none : (w : World) → (s : PlacedAt At w) → IsLasting state offset text how read own s.way s.base s.here
-      → PlacedAt (AtFlow read state offset text how own) w ⊎ ((far.to_give w.far ≡ []) × (w.data_to_client ≡ []))
+  pub flows_or_none : (w : World) → (s : PlacedAt At w) → IsLasting state ask read own s.way s.base s.here
+      → PlacedAt (AtFlow read state ask plan own) w ⊎ ((far.to_give w.far ≡ []) × (w.data_to_client ≡ []))
   flows_or_none w s lasts = by_here s.here lasts
     where
       seen : IsSeen s.base w
@@ -383,12 +390,12 @@ module _ (read : Reading) (state : State) (offset : Option ℕ) (text : List ℕ
           → (far.to_give w.far ≡ []) × (w.data_to_client ≡ [])
       none connection pending is gives empty = (ap (λ v. far.given_by (far.connection_of v)) (far_form s.base w seen connection false pending is) ∙ gives, queue_is ∙ empty)
 
-      flowing : (course : Course) (came queue : List ℕ) → flows course ≡ true → Stands (carry course came queue) s.way s.base → PlacedAt (AtFlow read state offset text how own) w
+      flowing : (course : Course) (came queue : List ℕ) → flows course ≡ true → Stands (carry course came queue) s.way s.base → PlacedAt (AtFlow read state ask plan own) w
       flowing course came queue is h =
           record { base = s.base; way = s.way; cut = s.cut; is = s.is; fits = s.fits; here = record { course = course; came = came; queue = queue; flows = is; holds = h } }
 
       by_course : (course : Course) (came queue : List ℕ) → Stands (carry course came queue) s.way s.base → is_passing (carry course came queue) ≡ false
-          → PlacedAt (AtFlow read state offset text how own) w ⊎ ((far.to_give w.far ≡ []) × (w.data_to_client ≡ []))
+          → PlacedAt (AtFlow read state ask plan own) w ⊎ ((far.to_give w.far ≡ []) × (w.data_to_client ≡ []))
       by_course (Giving begun octet more) came queue h lasts = inl (flowing (Giving begun octet more) came queue refl h)
       by_course (Given heard left) came queue h lasts = inl (flowing (Given heard left) came queue refl h)
       by_course (Ended begun true) came queue h lasts = inr (none _ _ h.session refl (h.to_client ∙ h.fine.2))
@@ -399,8 +406,8 @@ module _ (read : Reading) (state : State) (offset : Option ℕ) (text : List ℕ
       by_course (Refusing why (Lost clean)) came queue h lasts = inr (none _ _ h.session refl (h.to_client ∙ h.fine.1.1))
       by_course Unopened came queue h lasts = inr (none _ _ h.session refl (h.to_client ∙ h.fine.1))
 
-      by_here : (here : At s.way s.base) → IsLasting state offset text how read own s.way s.base here
-          → PlacedAt (AtFlow read state offset text how own) w ⊎ ((far.to_give w.far ≡ []) × (w.data_to_client ≡ []))
+      by_here : (here : At s.way s.base) → IsLasting state ask read own s.way s.base here
+          → PlacedAt (AtFlow read state ask plan own) w ⊎ ((far.to_give w.far ≡ []) × (w.data_to_client ≡ []))
       by_here (inl l) lasts = inr ((still_data w (leads_still s.base w s.way seen l).0).far_gives, queue_is ∙ l.to_client)
       by_here (inr (PortAsked closing, h)) lasts = absurd (cc)
       by_here (inr (PortTold port, h)) lasts = inr (none _ _ h.session refl h.to_client)
@@ -420,7 +427,7 @@ module _ (read : Reading) (state : State) (offset : Option ℕ) (text : List ℕ
   asks_none w job connection is none =
       ap (λ v. is_gone w.link && is_wanted (near.wants v) (far.wants w.far)) is ∙ ap (λ (b : Bool). is_gone w.link && b) (none (far.wants w.far)) ∙ and_false (is_gone w.link)
 
-  pub dials_or_none : (w : World) → (s : PlacedAt At w) → IsLasting state offset text how read own s.way s.base s.here
+  pub dials_or_none : (w : World) → (s : PlacedAt At w) → IsLasting state ask read own s.way s.base s.here
       → ((port : ℕ) × Stands (Dials port) s.way s.base) ⊎ (is_asked_for w ≡ false)
   unfolding near.wants
   dials_or_none w s lasts = by_here s.here lasts
@@ -439,7 +446,7 @@ module _ (read : Reading) (state : State) (offset : Option ℕ) (text : List ℕ
       by_course (Refusing why (Lost clean)) came queue h = asks_none w _ _ (near_form s.base w seen _ _ h.near) (λ far. refl)
       by_course Unopened came queue h = asks_none w _ _ (near_form s.base w seen _ _ h.near) (λ far. refl)
 
-      by_here : (here : At s.way s.base) → IsLasting state offset text how read own s.way s.base here → ((port : ℕ) × Stands (Dials port) s.way s.base) ⊎ (is_asked_for w ≡ false)
+      by_here : (here : At s.way s.base) → IsLasting state ask read own s.way s.base here → ((port : ℕ) × Stands (Dials port) s.way s.base) ⊎ (is_asked_for w ≡ false)
       by_here (inl l) lasts = inr ((still_data w (leads_still s.base w s.way seen l).0).asks)
       by_here (inr (PortAsked closing, h)) lasts = absurd (cc)
       by_here (inr (PortTold port, h)) lasts = inr (asks_none w _ _ (near_form s.base w seen _ _ h.near) (λ far. refl))
@@ -453,7 +460,7 @@ module _ (read : Reading) (state : State) (offset : Option ℕ) (text : List ℕ
 
   -- ---- the client is under way, and gives no octets
 
-  pub lasting_busy : (w : World) → (s : PlacedAt At w) → IsLasting state offset text how read own s.way s.base s.here → is_busy_job w.near.job ≡ true
+  pub lasting_busy : (w : World) → (s : PlacedAt At w) → IsLasting state ask read own s.way s.base s.here → is_busy_job w.near.job ≡ true
   lasting_busy w s lasts = by_here s.here lasts
     where
       seen : IsSeen s.base w
@@ -470,7 +477,7 @@ module _ (read : Reading) (state : State) (offset : Option ℕ) (text : List ℕ
       on_way (Answering (reply ∷ more)) n f (inr (suc left, leads)) some = leads.0.busy
       on_way (Asking line) n f (inr (suc left, leads)) some = leads.0.busy
 
-      by_here : (here : At s.way s.base) → IsLasting state offset text how read own s.way s.base here → is_busy_job w.near.job ≡ true
+      by_here : (here : At s.way s.base) → IsLasting state ask read own s.way s.base here → is_busy_job w.near.job ≡ true
       by_here (inl l) lasts = ap is_busy_job seen.job ∙ on_way s.way s.base.near s.base.far l.on l.some
       by_here (inr (PortAsked closing, h)) lasts = absurd (cc)
       by_here (inr (PortTold port, h)) lasts = busy_with _ _ h.near refl
@@ -486,7 +493,7 @@ module _ (read : Reading) (state : State) (offset : Option ℕ) (text : List ℕ
     pub queue : w.data_to_server ≡ []
     pub closed : is_closed_by_near w.link ≡ false
 
-  pub gives_none : (w : World) → (s : PlacedAt At w) → IsLasting state offset text how read own s.way s.base s.here → GivesNone w
+  pub gives_none : (w : World) → (s : PlacedAt At w) → IsLasting state ask read own s.way s.base s.here → GivesNone w
   gives_none w s lasts = by_here s.here lasts
     where
       seen : IsSeen s.base w
@@ -520,7 +527,7 @@ module _ (read : Reading) (state : State) (offset : Option ℕ) (text : List ℕ
       by_course (Refusing why (Lost clean)) came queue h = none_with _ _ h.near refl _ h.link refl h.to_server
       by_course Unopened came queue h = none_with _ _ h.near refl _ h.link refl h.to_server
 
-      by_here : (here : At s.way s.base) → IsLasting state offset text how read own s.way s.base here → GivesNone w
+      by_here : (here : At s.way s.base) → IsLasting state ask read own s.way s.base here → GivesNone w
       by_here (inl l) lasts = record {
         due = (still_data w (leads_still s.base w s.way seen l).0).near_gives;
         queue = ap (λ u. u.data_to_server) s.is ∙ (by_way s.way s.cut).1 ∙ l.to_server;

@@ -1,7 +1,8 @@
 -- A download is told, its link is closed, and its report is taken.
-use Rattle.std.proofs.Common.{◌≡◌, inl, inr, ℕ, ◌+◌, ◌≤◌, true, false, List, [], ◌∷◌, ◌++◌, length, Option, Some, None, refl, sym, ap, subst, ◌∙◌, append-nil, arith}
+use Rattle.std.proofs.Common.{◌≡◌, inl, inr, ℕ, ◌+◌, ◌≤◌, true, false, List, [], ◌∷◌, ◌++◌, length, None, refl, sym, ap, subst, ◌∙◌, append-nil, arith}
+use Rattle.std.specs.Prelude.{if◌then◌else◌}
+use Rattle.std.specs.Option.{is_some}
 use Rattle.ftp_operation.specs.Answer.{Said}
-use Rattle.ftp_operation.specs.declared.op.How.{How}
 use Rattle.ftp_operation.specs.declared.op.Op.{Op}
 use Rattle.ftp_representation.specs.declared.representation.Representation.{Representation}
 use Rattle.ftp_direct.specs.Direct.{State}
@@ -19,7 +20,7 @@ use Rattle.ftp_world.specs.Events.{DataToServer, link_breaks, told}
 use Rattle.ftp_world.specs.Serving.{after_event}
 use Rattle.ftp_world.specs.World.{World, Link, Gone, ClosedByNear, Mark, Broken, marked_last}
 use Rattle.ftp_dialogues.specs.Dialogue.{Stands, is_aside, resting}
-use Rattle.ftp_dialogues.specs.Fetches.{fetch, leaving, linked, kept, IsSteady}
+use Rattle.ftp_dialogues.specs.Fetches.{Ask, HasPlan, leaving, linked, kept, IsSteady}
 use Rattle.ftp_dialogues.specs.Stage.{calm, still, rest}
 use Rattle.ftp_agreement.specs.Cut.{world_at}
 use Rattle.ftp_agreement.specs.Follows.{Told, IsLinked, Follows}
@@ -35,32 +36,31 @@ use Rattle.ftp_agreement.proofs.Still.{rest_placed, no_octets}
 pub fared_item : Op (List ℕ) → ℕ → Outcome → List Mark → Item
 fared_item op moment outcome own = record { moment = moment; first = record { op = op; outcome = outcome; marks = own }; more = [] }
 
-pub few_links : (offset : Option ℕ) (text : List ℕ) (how : How) (own : List Mark) → length own ≤ 1 → length own ≤ links_of (fetch offset text how)
-few_links None text how own few = few
-few_links (Some at) text how own few = few
+pub few_links : (ask : Ask) → HasPlan ask → (own : List Mark) → length own ≤ 1 → length own ≤ links_of ask.op
+few_links ask plan own few = subst (λ how. length own ≤ (if is_some how then 1 else 0)) (sym plan.how_is) few
 
-pub fared_holds : (now : State) (offset : Option ℕ) (text : List ℕ) (how : How) (moment index : ℕ) (own : List Mark) (said : Said) (f : Fared now offset text how own said) → length own ≤ 1
-    → ItemHolds now (Single (fetch offset text how) moment) own None index (fared_item (fetch offset text how) moment f.outcome own)
+pub fared_holds : (now : State) (ask : Ask) (plan : HasPlan ask) (moment index : ℕ) (own : List Mark) (said : Said) (f : Fared now ask own said) → length own ≤ 1
+    → ItemHolds now (Single ask.op moment) own None index (fared_item ask.op moment f.outcome own)
 unfolding fared_item
-fared_holds now offset text how moment index own said f few = record {
+fared_holds now ask plan moment index own said f few = record {
   is_of = (refl, refl, refl);
-  holds = (record { can_be = f.can_be; allowed = f.allowed index; few = few_links offset text how own few }, tt);
+  holds = (record { can_be = f.can_be; allowed = f.allowed index; few = few_links ask plan own few }, tt);
   marked = append-nil own;
 }
 
-pub told_fared : (from : State) (done : List Order) (marks : List (List Mark)) (reports : List Said) (now : State) (offset : Option ℕ) (text : List ℕ) (how : How) (moment : ℕ) (own : List Mark) (said : Said)
-    → Told from done marks None reports now → Fared now offset text how own said → length own ≤ 1
-    → Told from (done ++ Single (fetch offset text how) moment ∷ []) (marks ++ own ∷ []) None (reports ++ said ∷ []) now
+pub told_fared : (from : State) (done : List Order) (marks : List (List Mark)) (reports : List Said) (now : State) (ask : Ask) (plan : HasPlan ask) (moment : ℕ) (own : List Mark) (said : Said)
+    → Told from done marks None reports now → Fared now ask own said → length own ≤ 1
+    → Told from (done ++ Single ask.op moment ∷ []) (marks ++ own ∷ []) None (reports ++ said ∷ []) now
 unfolding fared_item
-told_fared from done marks reports now offset text how moment own said t fares few =
-    let op : Op (List ℕ) = fetch offset text how in
-    let there : Fared (state_after from t.items) offset text how own said = subst (λ s. Fared s offset text how own said) t.now_is fares in
+told_fared from done marks reports now ask plan moment own said t fares few =
+    let op : Op (List ℕ) = ask.op in
+    let there : Fared (state_after from t.items) ask own said = subst (λ s. Fared s ask own said) t.now_is fares in
     let item : Item = fared_item op moment there.outcome own in
     record {
       items = t.items ++ item ∷ [];
       all = both_longer reports done said (Single op moment) t.all;
       hold = one_told reports from 0 (length done) done marks None t.items (Single op moment) own item said t.all t.hold (let e : length done ≡ 0 + length done = omega arith in e)
-          (fared_holds (state_after from t.items) offset text how moment (length done) own said there few) (tt, ap (λ d. d.0) (there.did_so moment));
+          (fared_holds (state_after from t.items) ask plan moment (length done) own said there few) (tt, ap (λ d. d.0) (there.did_so moment));
       now_is = t.now_is ∙ sym (state_more from t.items item ∙ ap (λ d. d.1) (there.did_so moment));
     }
 
@@ -121,7 +121,7 @@ module _ (read : Reading) (from : State) (begun : List Order) (w : World) (f : I
   b = f.stands.base
 
   abbrev Stood : Leaving → Type 0
-  Stood leaves = Holds f.now f.offset f.text f.how f.own (Answers said leaves) f.stands.way b
+  Stood leaves = Holds f.now f.ask f.own (Answers said leaves) f.stands.way b
 
   is_rest : (leaves : Leaving) → Stood leaves → w ≡ world_at b rest no_octets
   is_rest leaves h = rest_placed _ w f.stands h.way_is
@@ -137,14 +137,14 @@ module _ (read : Reading) (from : State) (begun : List Order) (w : World) (f : I
         data_to_client = h.to_client i;
       })
 
-  told_now : Fared f.now f.offset f.text f.how f.own said → length f.own ≤ 1 → Told from begun w.marks None (w.reports ++ said ∷ []) f.now
+  told_now : Fared f.now f.ask f.own said → length f.own ≤ 1 → Told from begun w.marks None (w.reports ++ said ∷ []) f.now
   told_now fares few =
-      let t = told_fared from f.done f.marks w.reports f.now f.offset f.text f.how f.moment f.own said f.told fares few in
+      let t = told_fared from f.done f.marks w.reports f.now f.ask f.is_ask.plan f.moment f.own said f.told fares few in
       subst (λ done. Told from done w.marks None (w.reports ++ said ∷ []) f.now) (sym f.begun_is)
-      (subst (λ marks. Told from (f.done ++ Single (fetch f.offset f.text f.how) f.moment ∷ []) marks None (w.reports ++ said ∷ []) f.now) (sym f.marks_are) t)
+      (subst (λ marks. Told from (f.done ++ Single f.ask.op f.moment ∷ []) marks None (w.reports ++ said ∷ []) f.now) (sym f.marks_are) t)
 
   -- the session is free again
-  freed : (leaves : Leaving) (connection : FarConnection Transfer) → Stood leaves → Fared f.now f.offset f.text f.how f.own said → length f.own ≤ 1 → is_aside connection ≡ true
+  freed : (leaves : Leaving) (connection : FarConnection Transfer) → Stood leaves → Fared f.now f.ask f.own said → length f.own ≤ 1 → is_aside connection ≡ true
       → Follows read from begun (world_at (taken_base said connection Gone b) rest no_octets)
   freed leaves connection h fares few aside =
       let is = is_rest leaves h in
@@ -166,7 +166,7 @@ module _ (read : Reading) (from : State) (begun : List Order) (w : World) (f : I
               cut = no_octets;
               is = refl;
               fits = (tt, (refl, refl));
-              here = inr (refl, refl, steady_stands f.now f.how.representation (resting b.near) (far_linked (linked connection false Pendings.Nothing b.far.session) b.far) h.steady aside connection refl);
+              here = inr (refl, refl, steady_stands f.now f.ask.settings (resting b.near) (far_linked (linked connection false Pendings.Nothing b.far.session) b.far) h.steady aside connection refl);
             };
           }),
         );
@@ -188,9 +188,8 @@ module _ (read : Reading) (from : State) (begun : List Order) (w : World) (f : I
         done = f.done;
         marks = f.marks;
         reports = w.reports;
-        offset = f.offset;
-        text = f.text;
-        how = f.how;
+        ask = f.ask;
+        plan = f.is_ask.plan;
         moment = f.moment;
         said = said;
         begun_is = f.begun_is;
@@ -208,7 +207,7 @@ module _ (read : Reading) (from : State) (begun : List Order) (w : World) (f : I
           is = refl;
           fits = (tt, (refl, refl));
           here = record {
-            settings = f.how.representation;
+            settings = f.ask.settings;
             near = refl;
             session = refl;
             steady = h.steady;
@@ -276,9 +275,9 @@ module _ (read : Reading) (reads : IsReading read) (from : State) (begun : List 
 
   pub reported : (own : List Mark) → length own ≤ 1 → Told from begun (t.marks ++ own ∷ []) None at.reports t.now
   reported own few =
-      let told_now = told_fared from t.done t.marks t.reports t.now t.offset t.text t.how t.moment own t.said t.told (t.fares own) few in
+      let told_now = told_fared from t.done t.marks t.reports t.now t.ask t.plan t.moment own t.said t.told (t.fares own) few in
       subst (λ done. Told from done (t.marks ++ own ∷ []) None at.reports t.now) (sym t.begun_is)
-      (subst (λ reports. Told from (t.done ++ Single (fetch t.offset t.text t.how) t.moment ∷ []) (t.marks ++ own ∷ []) None reports t.now)
+      (subst (λ reports. Told from (t.done ++ Single t.ask.op t.moment ∷ []) (t.marks ++ own ∷ []) None reports t.now)
       (sym t.reports_are ∙ ap (λ u. u.reports) trails_rest) told_now)
 
   pub marks_at : at.marks ≡ t.marks ++ [] ∷ []

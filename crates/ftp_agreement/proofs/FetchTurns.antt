@@ -1,30 +1,26 @@
 -- Each turn of an end leads a download from a stage to a stage.
 use Rattle.std.proofs.Common.{◌≡◌, inl, inr, ℕ, zero, suc, ◌<◌, ◌≤◌, ◌^◌, Bool, true, false, ◌||◌, List, [], ◌∷◌, length, Option, Some, None, refl, sym, ap, subst, ◌∙◌, arith}
-use Rattle.ftp_nvt.specs.Lines.{written_line}
 use Rattle.ftp_command.specs.Line.{line_of}
 use Rattle.ftp_command.specs.declared.command.Command.TheVariants as Commands
 use Rattle.ftp_command.proofs.CarriedLemmas.{carried}
 use Rattle.ftp_decoder.specs.Decoder.{no_octets}
 use Rattle.ftp_endpoint.specs.Written.{IsTypedHost}
 use Rattle.ftp_ends.specs.Reply.{IsWritten, Reply}
-use Rattle.ftp_operation.specs.Answer.{Said, Octets, Refused, Unopened as NotOpened}
-use Rattle.ftp_operation.specs.Operation.{can_be_sent}
-use Rattle.ftp_operation.specs.declared.op.How.{How}
+use Rattle.ftp_operation.specs.Answer.{Said, Refused, Unopened as NotOpened}
 use Rattle.ftp_operation.specs.declared.op.Op.{Op}
-use Rattle.ftp_path.specs.Path.{IsPathText, Names}
+use Rattle.ftp_path.specs.Path.{Names}
 use Rattle.ftp_direct.specs.declared.refusal.Refusal.{Refusal}
-use Rattle.ftp_direct.specs.Direct.{State, offset_refusal, or_refused, refusal, refused_from}
+use Rattle.ftp_direct.specs.Direct.{State, offset_refusal}
 use Rattle.ftp_direct.specs.Refusal.{code_of}
 use Rattle.ftp_client_machine.specs.Dialogue.{answered}
 use Rattle.ftp_client_machine.specs.Plan.{is_extended}
 use Rattle.ftp_client_machine.specs.View.{View as Near}
 use Rattle.ftp_client_machine.specs.declared.client.DataConnection.TheVariants as NearData
 use Rattle.ftp_client_machine.specs.declared.client.Ending.TheVariants as Endings
-use Rattle.ftp_client_machine.specs.declared.client.Replied.TheVariants as Replies
 use Rattle.ftp_server_machine.specs.Endpoint.{forgotten, is_standing}
 use Rattle.ftp_server_machine.specs.Machine.{Reading, IsReading, is_connection_busy}
 use Rattle.ftp_server_machine.specs.Replies.{fixed_reply}
-use Rattle.ftp_server_machine.specs.View.{View as Far, Session, Transfer}
+use Rattle.ftp_server_machine.specs.View.{View as Far, Session, Transfer, how_in_force}
 use Rattle.ftp_server_machine.specs.Walk.{refusal_text}
 use Rattle.ftp_server_machine.specs.declared.reply.ReplyKind.TheVariants as Kinds
 use Rattle.ftp_server_machine.specs.declared.reply.Text.{Text}
@@ -37,7 +33,7 @@ use Rattle.ftp_server_machine.proofs.RepliesWritten.{replies_are_written}
 use Rattle.ftp_world.specs.Outcome.{mark_in}
 use Rattle.ftp_world.specs.World.{World, Gone, Mark, Broken, counted}
 use Rattle.ftp_dialogues.specs.Dialogue.{IsSound, Passes}
-use Rattle.ftp_dialogues.specs.Fetches.{IsPassive, fetch, busy, fetching, leaving, linked, port_reply, rest_reply, offset_pending, kept, IsSteady, PortIsAsked, why_not, fetched_wire}
+use Rattle.ftp_dialogues.specs.Fetches.{Ask, IsAsk, IsPassive, IsPlacedAt, busy, fetching, leaving, linked, port_reply, rest_reply, offset_pending, kept, IsSteady, PortIsAsked}
 use Rattle.ftp_dialogues.specs.Login.{IsOnWay}
 use Rattle.ftp_dialogues.specs.Stage.{calm, Way, Asking, Answering, FarTurn, NearTurn, Turns, behind}
 use Rattle.ftp_dialogues.proofs.Exchanges.{with_session}
@@ -46,8 +42,8 @@ use Rattle.ftp_dialogues.proofs.LoginTurns.{no_asking, no_reply, asked_text, ope
 use Rattle.ftp_dialogues.proofs.ServerTurns.{cleared}
 use Rattle.ftp_agreement.specs.Cut.{Goes}
 use Rattle.ftp_agreement.specs.Stages as Stages
-use Rattle.ftp_agreement.specs.Stages.{Tie, Joined, Parting, Left, Over, Restart, Sent, Granted, Denied, Heard, NoReply, OneReply, BothReplies, heard_by, replied_of, Gap, Unclosed, Closed, Lost, Course, Giving, Given, Ended, Severed, Refusing, Unopened, heard_of, tie_of, gives_on, is_parting, link_of, is_to_close, far_leaves, far_parting, link_left, ending_by, left_tie, gap_tie, replies_in, Carry, Leaving, NoLink, PortAside, LinkOpen, LinkLeft, LinkParting, Stage, PortAsked, PortTold, Dials, Restarts, Retrieves, Carries, Answers, near_link, far_link, early_tie, tie_marks, Fared, Flows, IsPlaced, IsRestarted, Holds, AtFetch}
-use Rattle.ftp_agreement.proofs.Fates.{refusal_is, refused_fares, content_fares, content, judged_whole, judged_cut, cut_said, cut_fares, broken_link_fares, fetch_text, fetch_few}
+use Rattle.ftp_agreement.specs.Stages.{Over, Restart, Sent, Granted, Denied, NoReply, OneReply, BothReplies, replied_of, Unclosed, Closed, Lost, Course, Giving, Given, Ended, Severed, Refusing, Unopened, heard_of, tie_of, gives_on, is_parting, link_of, is_to_close, far_leaves, far_parting, link_left, replies_in, Leaving, NoLink, LinkOpen, LinkLeft, LinkParting, Stage, PortAsked, PortTold, Dials, Restarts, Retrieves, Carries, Answers, near_link, far_link, early_tie, tie_marks, Flows, Holds, AtFetch}
+use Rattle.ftp_agreement.proofs.Fates.{refused_fares, said_fares, judged_whole, judged_cut, cut_said, cut_fares, broken_link_fares}
 use Rattle.ftp_agreement.proofs.Still.{way_some}
 
 -- ---- what is on the way
@@ -78,27 +74,24 @@ forgotten_on : (s : Session) (connection : FarConnection Transfer) (pending : Pe
 forgotten_on s connection pending e =
     λ i. record (forgotten (record s { pending = Pendings.Nothing })) { closing = (e i).closing || is_standing (e i).connection; life = (e i).life }
 
-module _ (read : Reading) (reads : IsReading read) (state : State) (offset : Option ℕ) (text : List ℕ) (how : How)
-    (can : can_be_sent (fetch offset text how) ≡ true) (sound : IsSound state) (known : state.known ≡ true) (passive : IsPassive how) (own : List Mark) where
+module _ (read : Reading) (reads : IsReading read) (state : State) (ask : Ask)
+    (good : IsAsk ask) (sound : IsSound state) (known : state.known ≡ true) (passive : IsPassive ask.how) (own : List Mark) where
   abbrev At : Way → World → Type 0
-  At way b = AtFetch state offset text how read own way b
+  At way b = AtFetch state ask read own way b
 
   abbrev Stands : Stage → Way → World → Type 0
-  Stands stage way b = Holds state offset text how own stage way b
+  Stands stage way b = Holds state ask own stage way b
 
   abbrev op : Op (List ℕ)
-  op = fetch offset text how
+  op = ask.op
 
-  path_text : IsPathText text
-  path_text = fetch_text offset text how can
-
-  few : (at : ℕ) → offset ≡ Some at → at < 10 ^ 18
-  few at is = fetch_few offset text how can at is
+  few : (at : ℕ) → ask.offset ≡ Some at → at < 10 ^ 18
+  few at is = good.row.few at is
 
   -- ---- the login, the settings and the command for a port
 
   abbrev Goal : Near → Far → Type 0
-  Goal n f = PortIsAsked state op how.representation n f
+  Goal n f = PortIsAsked state op ask.settings n f
 
   abbrev Along : Near → Far → Type 0
   Along n f = Passes state.table state.table n f
@@ -141,18 +134,18 @@ module _ (read : Reading) (reads : IsReading read) (state : State) (offset : Opt
 
   rest_turn : (at : ℕ) (joined : Bool) (b : World) → Stands (Restarts at Sent joined) (Asking (line_of (Commands.Rest at))) b
       → (t : FarTurn read b.far (line_of (Commands.Rest at))) × At (Answering t.replies) (record b { far = t.far })
-  rest_turn at joined b h = by_why (offset_refusal at how) refl
+  rest_turn at joined b h = by_why (offset_refusal at (how_in_force ask.settings)) refl
     where
       idle : is_connection_busy b.far.session.connection ≡ false
       idle = idle_at joined b.far (ap (λ s. s.connection) h.session)
 
-      by_why : (why : Option Refusal) → offset_refusal at how ≡ why
+      by_why : (why : Option Refusal) → offset_refusal at (how_in_force ask.settings) ≡ why
           → (t : FarTurn read b.far (line_of (Commands.Rest at))) × At (Answering t.replies) (record b { far = t.far })
       by_why None none = (
         record {
           far = with_session (record (cleared b.far) { pending = Pendings.Restart at }) b.far;
           replies = rest_reply at ∷ [];
-          is = granted_turn read reads state how b.near b.far h.steady idle at (few at h.fine.0) none;
+          is = granted_turn read reads state ask good.row b.near b.far h.steady idle at (few at h.fine.0) none;
           fine = (replies_are_written b.far.session (Kinds.Restarting at) (rest_reply at) (few at h.fine.0) refl, tt);
         },
         inr (
@@ -175,7 +168,7 @@ module _ (read : Reading) (reads : IsReading read) (state : State) (offset : Opt
         record {
           far = with_session (cleared b.far) b.far;
           replies = fixed_reply (refusal_text why) ∷ [];
-          is = denied_turn read reads state how b.near b.far h.steady idle at why (few at h.fine.0) some;
+          is = denied_turn read reads state ask good.row b.near b.far h.steady idle at why (few at h.fine.0) some;
           fine = (fixed b.far.session (refusal_text why), tt);
         },
         inr (
@@ -196,27 +189,27 @@ module _ (read : Reading) (reads : IsReading read) (state : State) (offset : Opt
       )
 
   -- RETR over a link that broke
-  retr_broken : (b : World) → Stands (Retrieves false) (Asking (line_of (Commands.Retr text))) b
-      → (t : FarTurn read b.far (line_of (Commands.Retr text))) × At (Answering t.replies) (record b { far = t.far })
-  retr_broken b h = by_why (why_not state offset text how) refl
+  retr_broken : (b : World) → Stands (Retrieves false) (Asking (line_of ask.command)) b
+      → (t : FarTurn read b.far (line_of ask.command)) × At (Answering t.replies) (record b { far = t.far })
+  retr_broken b h = by_why (ask.why state) refl
     where
       idle : is_connection_busy b.far.session.connection ≡ false
       idle = idle_at false b.far (ap (λ s. s.connection) h.session)
 
-      by_why : (why : Option Refusal) → why_not state offset text how ≡ why
-          → (t : FarTurn read b.far (line_of (Commands.Retr text))) × At (Answering t.replies) (record b { far = t.far })
+      by_why : (why : Option Refusal) → ask.why state ≡ why
+          → (t : FarTurn read b.far (line_of ask.command)) × At (Answering t.replies) (record b { far = t.far })
       by_why None none = (
         record {
           far = with_session (cleared b.far) b.far;
           replies = fixed_reply Texts.NoConnection ∷ [];
-          is = unopens_turn read reads state how b.near b.far h.steady idle offset text path_text (ap (λ s. s.pending) h.session) none (ap (λ s. s.connection) h.session);
+          is = unopens_turn read reads state ask good.row b.near b.far h.steady idle (ap (λ s. s.pending) h.session) none (ap (λ s. s.connection) h.session);
           fine = (fixed b.far.session Texts.NoConnection, tt);
         },
         inr (
           Carries (record { course = Unopened; came = []; queue = [] }),
           record {
             near = h.near;
-            session = linked_on b.far.session FarData.Free false (offset_pending offset) Pendings.Nothing h.session;
+            session = linked_on b.far.session FarData.Free false (offset_pending ask.offset) Pendings.Nothing h.session;
             steady = h.steady;
             link = h.link;
             to_server = h.to_server;
@@ -232,14 +225,14 @@ module _ (read : Reading) (reads : IsReading read) (state : State) (offset : Opt
         record {
           far = with_session (forgotten (cleared b.far)) b.far;
           replies = fixed_reply (refusal_text why) ∷ [];
-          is = refuses_turn read reads state how b.near b.far h.steady idle offset text path_text (ap (λ s. s.pending) h.session) why some;
+          is = refuses_turn read reads state ask good.row b.near b.far h.steady idle (ap (λ s. s.pending) h.session) why some;
           fine = (fixed b.far.session (refusal_text why), tt);
         },
         inr (
           Carries (record { course = Refusing why (Lost false); came = []; queue = [] }),
           record {
             near = h.near;
-            session = forgotten_on b.far.session FarData.Free (offset_pending offset) h.session;
+            session = forgotten_on b.far.session FarData.Free (offset_pending ask.offset) h.session;
             steady = h.steady;
             link = h.link;
             to_server = h.to_server;
@@ -247,15 +240,15 @@ module _ (read : Reading) (reads : IsReading read) (state : State) (offset : Opt
             came = h.came;
             marked = h.marked;
             way_is = refl;
-            fine = (refusal_is state offset text how h.fine ∙ some, (refl, refl));
+            fine = (good.answer.refused state h.fine ∙ some, (refl, refl));
           },
         ),
       )
 
   -- RETR over an open link
-  retr_open : (b : World) → Stands (Retrieves true) (Asking (line_of (Commands.Retr text))) b
-      → (t : FarTurn read b.far (line_of (Commands.Retr text))) × At (Answering t.replies) (record b { far = t.far })
-  retr_open b h = by_why (why_not state offset text how) refl (fetched_wire state offset text how) refl
+  retr_open : (b : World) → Stands (Retrieves true) (Asking (line_of ask.command)) b
+      → (t : FarTurn read b.far (line_of ask.command)) × At (Answering t.replies) (record b { far = t.far })
+  retr_open b h = by_why (ask.why state) refl (ask.wire state) refl
     where
       idle : is_connection_busy b.far.session.connection ≡ false
       idle = idle_at true b.far (ap (λ s. s.connection) h.session)
@@ -263,23 +256,23 @@ module _ (read : Reading) (reads : IsReading read) (state : State) (offset : Opt
       ready : b.far.session.connection ≡ FarData.Ready
       ready = ap (λ s. s.connection) h.session
 
-      pending : b.far.session.pending ≡ offset_pending offset
+      pending : b.far.session.pending ≡ offset_pending ask.offset
       pending = ap (λ s. s.pending) h.session
 
-      by_why : (why : Option Refusal) → why_not state offset text how ≡ why → (octets : List ℕ) → fetched_wire state offset text how ≡ octets
-          → (t : FarTurn read b.far (line_of (Commands.Retr text))) × At (Answering t.replies) (record b { far = t.far })
+      by_why : (why : Option Refusal) → ask.why state ≡ why → (octets : List ℕ) → ask.wire state ≡ octets
+          → (t : FarTurn read b.far (line_of ask.command)) × At (Answering t.replies) (record b { far = t.far })
       by_why None none [] empty = (
         record {
-          far = with_session (forgotten (giving [] b.far)) b.far;
+          far = with_session (forgotten (giving ask.listed [] b.far)) b.far;
           replies = fixed_reply Texts.Opens ∷ fixed_reply Texts.Complete ∷ [];
-          is = gave_turn read reads state how b.near b.far h.steady idle offset text path_text pending none ready empty;
+          is = gave_turn read reads state ask good.row b.near b.far h.steady idle pending none ready empty;
           fine = (fixed b.far.session Texts.Opens, (fixed b.far.session Texts.Complete, tt));
         },
         inr (
           Carries (record { course = Given NoReply false; came = []; queue = [] }),
           record {
             near = h.near;
-            session = λ i. record (forgotten (giving [] b.far)) { closing = (h.session i).closing || true; life = (h.session i).life };
+            session = λ i. record (forgotten (giving ask.listed [] b.far)) { closing = (h.session i).closing || true; life = (h.session i).life };
             steady = h.steady;
             link = h.link;
             to_server = h.to_server;
@@ -287,22 +280,22 @@ module _ (read : Reading) (reads : IsReading read) (state : State) (offset : Opt
             came = h.came;
             marked = h.marked;
             way_is = refl;
-            fine = ((none, refusal_is state offset text how h.fine ∙ none), sym empty);
+            fine = ((none, good.answer.refused state h.fine ∙ none), sym empty);
           },
         ),
       )
       by_why None none (octet ∷ more) some = (
         record {
-          far = with_session (giving (octet ∷ more) b.far) b.far;
+          far = with_session (giving ask.listed (octet ∷ more) b.far) b.far;
           replies = fixed_reply Texts.Opens ∷ [];
-          is = gives_turn read reads state how b.near b.far h.steady idle offset text path_text pending octet more none ready some;
+          is = gives_turn read reads state ask good.row b.near b.far h.steady idle pending octet more none ready some;
           fine = (fixed b.far.session Texts.Opens, tt);
         },
         inr (
           Carries (record { course = Giving false octet more; came = []; queue = [] }),
           record {
             near = h.near;
-            session = λ i. record (giving (octet ∷ more) b.far) { closing = (h.session i).closing; life = (h.session i).life };
+            session = λ i. record (giving ask.listed (octet ∷ more) b.far) { closing = (h.session i).closing; life = (h.session i).life };
             steady = h.steady;
             link = h.link;
             to_server = h.to_server;
@@ -310,7 +303,7 @@ module _ (read : Reading) (reads : IsReading read) (state : State) (offset : Opt
             came = h.came;
             marked = h.marked;
             way_is = refl;
-            fine = ((none, refusal_is state offset text how h.fine ∙ none), sym some);
+            fine = ((none, good.answer.refused state h.fine ∙ none), sym some);
           },
         ),
       )
@@ -318,14 +311,14 @@ module _ (read : Reading) (reads : IsReading read) (state : State) (offset : Opt
         record {
           far = with_session (forgotten (cleared b.far)) b.far;
           replies = fixed_reply (refusal_text why) ∷ [];
-          is = refuses_turn read reads state how b.near b.far h.steady idle offset text path_text pending why some;
+          is = refuses_turn read reads state ask good.row b.near b.far h.steady idle pending why some;
           fine = (fixed b.far.session (refusal_text why), tt);
         },
         inr (
           Carries (record { course = Refusing why Unclosed; came = []; queue = [] }),
           record {
             near = h.near;
-            session = forgotten_on b.far.session FarData.Ready (offset_pending offset) h.session;
+            session = forgotten_on b.far.session FarData.Ready (offset_pending ask.offset) h.session;
             steady = h.steady;
             link = h.link;
             to_server = h.to_server;
@@ -333,7 +326,7 @@ module _ (read : Reading) (reads : IsReading read) (state : State) (offset : Opt
             came = h.came;
             marked = h.marked;
             way_is = refl;
-            fine = (refusal_is state offset text how h.fine ∙ some, (refl, refl));
+            fine = (good.answer.refused state h.fine ∙ some, (refl, refl));
           },
         ),
       )
@@ -363,13 +356,13 @@ module _ (read : Reading) (reads : IsReading read) (state : State) (offset : Opt
   abbrev Hears : World → Reply → List Reply → Type 0
   Hears b reply more = (t : NearTurn b.near reply more) × At (behind t.line more) (record b { near = t.near })
 
-  typed_peer : (b : World) → IsSteady state how.representation (kept b.near b.far) → IsTypedHost b.near.peer
+  typed_peer : (b : World) → IsSteady state ask.settings (kept b.near b.far) → IsTypedHost b.near.peer
   typed_peer b steady = subst IsTypedHost (sym steady.peer) steady.typed
 
   port_heard : (port : ℕ) (way : Way) (b : World) → Stands (PortTold port) way b → Hears b (port_reply (is_extended b.near op) b.near.peer port) []
   port_heard port way b h = (
     record {
-      near = Stages.near_at state offset text how (Dials port) b.near;
+      near = Stages.near_at state ask (Dials port) b.near;
       line = None;
       is = ap (λ v. answered (port_reply (is_extended b.near op) b.near.peer port).code (port_reply (is_extended b.near op) b.near.peer port).lines (calm v)) h.near
           ∙ port_is_told op port b.near (is_extended b.near op) refl (typed_peer b h.steady) h.fine.0 h.fine.1;
@@ -395,12 +388,11 @@ module _ (read : Reading) (reads : IsReading read) (state : State) (offset : Opt
   rest_heard : (at : ℕ) (joined : Bool) (way : Way) (b : World) → Stands (Restarts at Granted joined) way b → Hears b (rest_reply at) []
   rest_heard at joined way b h = (
     record {
-      near = Stages.near_at state offset text how (Retrieves joined) b.near;
-      line = Some (line_of (Commands.Retr text));
+      near = Stages.near_at state ask (Retrieves joined) b.near;
+      line = Some (line_of ask.command);
       is = ap (λ v. answered (rest_reply at).code (rest_reply at).lines (calm v)) h.near
-          ∙ rest_granted at text how (near_link (early_tie joined)) (rest_reply at).lines b.near
-          ∙ ap (λ o. record (calm (busy (fetching (fetch o text how) Replies.Nothing how.representation []) (near_link (early_tie joined)) b.near)) { owed = written_line (line_of (Commands.Retr text)) }) (sym h.fine.0);
-      fine = (carried (Commands.Retr text) tt path_text, refl);
+          ∙ rest_granted ask good.plan (near_link (early_tie joined)) (rest_reply at).lines b.near;
+      fine = (carried ask.command good.row.typed good.row.stated, refl);
     },
     inr (
       Retrieves joined,
@@ -414,7 +406,7 @@ module _ (read : Reading) (reads : IsReading read) (state : State) (offset : Opt
         came = h.came;
         marked = h.marked;
         way_is = refl;
-        fine = subst (IsPlaced state offset text how) (sym h.fine.0) h.fine.1;
+        fine = subst (IsPlacedAt ask.settings) (sym h.fine.0) h.fine.1;
       },
     ),
   )
@@ -425,17 +417,13 @@ module _ (read : Reading) (reads : IsReading read) (state : State) (offset : Opt
   one_more : (own : List Mark) (mark : Mark) → own ≡ mark ∷ [] → length own ≤ 1
   one_more own mark is = subst (λ l. length l ≤ 1) (sym is) (omega arith)
 
-  -- REST's refusal is that of the direct run
-  refusal_at : (at : ℕ) (why : Refusal) → offset ≡ Some at → offset_refusal at how ≡ Some why → refusal state op ≡ Some why
-  refusal_at at why is some = ap (λ o. refusal state (fetch o text how)) is ∙ ap (λ o. or_refused o (refused_from state text how at)) some
-
   rest_refused : (at : ℕ) (why : Refusal) (joined : Bool) (way : Way) (b : World) → Stands (Restarts at (Denied why) joined) way b → Hears b (fixed_reply (refusal_text why)) []
   rest_refused at why true way b h = (
     record {
       near = leaving (Refused (code_of why)) true b.near;
       line = None;
       is = ap (λ v. answered (fixed_reply (refusal_text why)).code (fixed_reply (refusal_text why)).lines (calm v)) h.near
-          ∙ rest_denied (fetch (Some at) text how) why NearData.Open (fixed_reply (refusal_text why)).lines b.near;
+          ∙ rest_denied (ask.op) why NearData.Open (fixed_reply (refusal_text why)).lines b.near;
       fine = tt;
     },
     inr (
@@ -450,7 +438,7 @@ module _ (read : Reading) (reads : IsReading read) (state : State) (offset : Opt
         came = tt;
         marked = h.marked;
         way_is = refl;
-        fine = λ any. refused_fares state offset text how any why can known (refusal_at at why h.fine.0 h.fine.1);
+        fine = λ any. refused_fares state ask good any why known (good.answer.unplaced state at why h.fine.0 h.fine.1);
       },
     ),
   )
@@ -459,7 +447,7 @@ module _ (read : Reading) (reads : IsReading read) (state : State) (offset : Opt
       near = leaving (Refused (code_of why)) false b.near;
       line = None;
       is = ap (λ v. answered (fixed_reply (refusal_text why)).code (fixed_reply (refusal_text why)).lines (calm v)) h.near
-          ∙ rest_denied (fetch (Some at) text how) why (NearData.Over Endings.Broken) (fixed_reply (refusal_text why)).lines b.near;
+          ∙ rest_denied (ask.op) why (NearData.Over Endings.Broken) (fixed_reply (refusal_text why)).lines b.near;
       fine = tt;
     },
     inr (
@@ -474,7 +462,7 @@ module _ (read : Reading) (reads : IsReading read) (state : State) (offset : Opt
         came = tt;
         marked = one_more own (Broken 0) h.marked;
         way_is = refl;
-        fine = refused_fares state offset text how own why can known (refusal_at at why h.fine.0 h.fine.1);
+        fine = refused_fares state ask good own why known (good.answer.unplaced state at why h.fine.0 h.fine.1);
       },
     ),
   )
@@ -485,12 +473,12 @@ module _ (read : Reading) (reads : IsReading read) (state : State) (offset : Opt
   carry course came queue = Carries (record { course = course; came = came; queue = queue })
 
   abbrev near_with : Course → List ℕ → Near → Near
-  near_with course came n = busy (fetching op (replied_of (heard_of course)) how.representation came) (near_link (tie_of course)) n
+  near_with course came n = busy (fetching op (replied_of (heard_of course)) ask.settings came) (near_link (tie_of course)) n
 
   -- a reply that leads on to another course
   leads_on : (course next : Course) (came queue : List ℕ) (way : Way) (b : World) (reply : Reply) (more : List Reply) → Stands (carry course came queue) way b
       → answered reply.code reply.lines (calm (near_with course came b.near)) ≡ record (calm (near_with next came b.near)) { owed = [] }
-      → far_link (gives_on next) (tie_of next) ≡ far_link (gives_on course) (tie_of course) → tie_of next ≡ tie_of course → Flows state offset text how next came queue
+      → far_link (gives_on ask.listed next) (tie_of next) ≡ far_link (gives_on ask.listed course) (tie_of course) → tie_of next ≡ tie_of course → Flows state ask next came queue
       → more ≡ replies_in next → Hears b reply more
   leads_on course next came queue way b reply more h is link tie flows rows = (
     record {
@@ -519,8 +507,8 @@ module _ (read : Reading) (reads : IsReading read) (state : State) (offset : Opt
   -- the last reply, behind which the client tells its answer
   tells_so : (course : Course) (came queue : List ℕ) (way : Way) (b : World) (reply : Reply) (said : Said) (leaves : Leaving) → Stands (carry course came queue) way b
       → answered reply.code reply.lines (calm (near_with course came b.near)) ≡ record (calm (leaving said (is_to_close leaves) b.near)) { owed = [] }
-      → far_leaves leaves ≡ far_link (gives_on course) (tie_of course) → far_parting leaves ≡ is_parting (tie_of course) → link_left leaves ≡ link_of (tie_of course)
-      → queue ≡ [] → Stages.MarkedAt state offset text how (Answers said leaves) own → Stages.FineAt state offset text how (Answers said leaves) own → Hears b reply []
+      → far_leaves leaves ≡ far_link (gives_on ask.listed course) (tie_of course) → far_parting leaves ≡ is_parting (tie_of course) → link_left leaves ≡ link_of (tie_of course)
+      → queue ≡ [] → Stages.MarkedAt state ask (Answers said leaves) own → Stages.FineAt state ask (Answers said leaves) own → Hears b reply []
   tells_so course came queue way b reply said leaves h is link parting left empty marked fares = (
     record {
       near = leaving said (is_to_close leaves) b.near;
@@ -550,84 +538,84 @@ module _ (read : Reading) (reads : IsReading read) (state : State) (offset : Opt
   carry_heard (Giving false octet later) came queue way b reply more h e =
       at_first (Hears b) reply (fixed_reply Texts.Opens) more [] e
       (leads_on (Giving false octet later) (Giving true octet later) came queue way b (fixed_reply Texts.Opens) [] h
-      (begins_open offset text how how.representation came b.near (fixed_reply Texts.Opens).lines) refl refl h.fine refl)
+      (begins_open op good.plan.all ask.settings came b.near (fixed_reply Texts.Opens).lines) refl refl h.fine refl)
   carry_heard (Giving true octet later) came queue way b reply more h e = absurd (no_reply reply more e)
   carry_heard (Given NoReply false) came queue way b reply more h e =
       at_first (Hears b) reply (fixed_reply Texts.Opens) more (fixed_reply Texts.Complete ∷ []) e
       (leads_on (Given NoReply false) (Given OneReply false) came queue way b (fixed_reply Texts.Opens) (fixed_reply Texts.Complete ∷ []) h
-      (begins_open offset text how how.representation came b.near (fixed_reply Texts.Opens).lines) refl refl h.fine refl)
+      (begins_open op good.plan.all ask.settings came b.near (fixed_reply Texts.Opens).lines) refl refl h.fine refl)
   carry_heard (Given NoReply true) came queue way b reply more h e =
       at_first (Hears b) reply (fixed_reply Texts.Opens) more (fixed_reply Texts.Complete ∷ []) e
       (leads_on (Given NoReply true) (Given OneReply true) came queue way b (fixed_reply Texts.Opens) (fixed_reply Texts.Complete ∷ []) h
-      (begins_open offset text how how.representation came b.near (fixed_reply Texts.Opens).lines) refl refl h.fine refl)
+      (begins_open op good.plan.all ask.settings came b.near (fixed_reply Texts.Opens).lines) refl refl h.fine refl)
   carry_heard (Given OneReply false) came queue way b reply more h e =
       at_first (Hears b) reply (fixed_reply Texts.Complete) more [] e
       (leads_on (Given OneReply false) (Given BothReplies false) came queue way b (fixed_reply Texts.Complete) [] h
-      (ends_open offset text how how.representation came b.near (fixed_reply Texts.Complete).lines) refl refl h.fine refl)
+      (ends_open op good.plan.all ask.settings came b.near (fixed_reply Texts.Complete).lines) refl refl h.fine refl)
   carry_heard (Given OneReply true) came queue way b reply more h e =
       at_first (Hears b) reply (fixed_reply Texts.Complete) more [] e
       (leads_on (Given OneReply true) (Given BothReplies true) came queue way b (fixed_reply Texts.Complete) [] h
-      (ends_open offset text how how.representation came b.near (fixed_reply Texts.Complete).lines) refl refl h.fine refl)
+      (ends_open op good.plan.all ask.settings came b.near (fixed_reply Texts.Complete).lines) refl refl h.fine refl)
   carry_heard (Given BothReplies left) came queue way b reply more h e = absurd (no_reply reply more e)
   carry_heard (Ended false true) came queue way b reply more h e =
       at_first (Hears b) reply (fixed_reply Texts.Opens) more (fixed_reply Texts.Complete ∷ []) e
       (leads_on (Ended false true) (Ended true true) came queue way b (fixed_reply Texts.Opens) (fixed_reply Texts.Complete ∷ []) h
-      (begins_over offset text how how.representation came b.near Endings.Clean (fixed_reply Texts.Opens).lines) refl refl h.fine refl)
+      (begins_over op ask.settings came b.near Endings.Clean (fixed_reply Texts.Opens).lines) refl refl h.fine refl)
   carry_heard (Ended false false) came queue way b reply more h e =
       at_first (Hears b) reply (fixed_reply Texts.Opens) more (fixed_reply Texts.Complete ∷ []) e
       (leads_on (Ended false false) (Ended true false) came queue way b (fixed_reply Texts.Opens) (fixed_reply Texts.Complete ∷ []) h
-      (begins_over offset text how how.representation came b.near Endings.Broken (fixed_reply Texts.Opens).lines) refl refl h.fine refl)
+      (begins_over op ask.settings came b.near Endings.Broken (fixed_reply Texts.Opens).lines) refl refl h.fine refl)
   carry_heard (Ended true true) came queue way b reply more h e =
       at_first (Hears b) reply (fixed_reply Texts.Complete) more [] e
-      (tells_so (Ended true true) came queue way b (fixed_reply Texts.Complete) (Octets (content state offset text how)) NoLink h
-      (ends_over offset text how how.representation came b.near Endings.Clean 226 (Octets (content state offset text how)) (fixed_reply Texts.Complete).lines
-      (judged_whole state offset text how came (mark_in (no_octets how.representation) None came) sound h.fine.1))
+      (tells_so (Ended true true) came queue way b (fixed_reply Texts.Complete) (ask.said state) NoLink h
+      (ends_over op ask.settings came b.near Endings.Clean 226 (ask.said state) (fixed_reply Texts.Complete).lines
+      (judged_whole state ask good came (mark_in (no_octets ask.settings) None came) sound known h.fine.0.0 h.fine.1))
       refl refl refl h.fine.2 (none_more own h.marked)
-      (content_fares state offset text how own can known h.fine.0.1))
+      (said_fares state ask good own known h.fine.0.1))
   carry_heard (Ended true false) came queue way b reply more h e =
       at_first (Hears b) reply (fixed_reply Texts.Complete) more [] e
-      (tells_so (Ended true false) came queue way b (fixed_reply Texts.Complete) (cut_said state offset text how came) NoLink h
-      (ends_over offset text how how.representation came b.near Endings.Broken 226 (cut_said state offset text how came) (fixed_reply Texts.Complete).lines
-      (judged_cut state offset text how 226 came (inl refl)))
+      (tells_so (Ended true false) came queue way b (fixed_reply Texts.Complete) (cut_said ask came) NoLink h
+      (ends_over op ask.settings came b.near Endings.Broken 226 (cut_said ask came) (fixed_reply Texts.Complete).lines
+      (judged_cut ask good 226 came (inl refl)))
       refl refl refl h.fine.1.1 (one_more own (Broken (counted (length came))) h.marked)
-      (cut_fares state offset text how own came can known h.fine.0.1 h.fine.0.0 h.fine.1.0 h.marked))
+      (cut_fares state ask good own came known h.fine.0.1 h.fine.0.0 h.fine.1.0 h.marked))
   carry_heard (Severed false) came queue way b reply more h e =
       at_first (Hears b) reply (fixed_reply Texts.Opens) more (fixed_reply Texts.Broken ∷ []) e
       (leads_on (Severed false) (Severed true) came queue way b (fixed_reply Texts.Opens) (fixed_reply Texts.Broken ∷ []) h
-      (begins_over offset text how how.representation came b.near Endings.Broken (fixed_reply Texts.Opens).lines) refl refl h.fine refl)
+      (begins_over op ask.settings came b.near Endings.Broken (fixed_reply Texts.Opens).lines) refl refl h.fine refl)
   carry_heard (Severed true) came queue way b reply more h e =
       at_first (Hears b) reply (fixed_reply Texts.Broken) more [] e
-      (tells_so (Severed true) came queue way b (fixed_reply Texts.Broken) (cut_said state offset text how came) NoLink h
-      (breaks_over offset text how how.representation came b.near (cut_said state offset text how came) (fixed_reply Texts.Broken).lines
-      (judged_cut state offset text how 426 came (inr refl)))
+      (tells_so (Severed true) came queue way b (fixed_reply Texts.Broken) (cut_said ask came) NoLink h
+      (breaks_over op ask.settings came b.near (cut_said ask came) (fixed_reply Texts.Broken).lines
+      (judged_cut ask good 426 came (inr refl)))
       refl refl refl h.fine.1.1 (one_more own (Broken (counted (length came))) h.marked)
-      (cut_fares state offset text how own came can known h.fine.0.1 h.fine.0.0 h.fine.1.0 h.marked))
+      (cut_fares state ask good own came known h.fine.0.1 h.fine.0.0 h.fine.1.0 h.marked))
   carry_heard (Refusing why Unclosed) came queue way b reply more h e =
       at_first (Hears b) reply (fixed_reply (refusal_text why)) more [] e
       (tells_so (Refusing why Unclosed) came queue way b (fixed_reply (refusal_text why)) (Refused (code_of why)) LinkParting h
-      (denied offset text how how.representation came b.near why NearData.Open (fixed_reply (refusal_text why)).lines)
-      refl refl refl h.fine.1.1 (none_more own h.marked) (refused_fares state offset text how own why can known h.fine.0))
+      (denied op ask.settings came b.near why NearData.Open (fixed_reply (refusal_text why)).lines)
+      refl refl refl h.fine.1.1 (none_more own h.marked) (refused_fares state ask good own why known h.fine.0))
   carry_heard (Refusing why Closed) came queue way b reply more h e =
       at_first (Hears b) reply (fixed_reply (refusal_text why)) more [] e
       (tells_so (Refusing why Closed) came queue way b (fixed_reply (refusal_text why)) (Refused (code_of why)) LinkLeft h
-      (denied offset text how how.representation came b.near why NearData.Open (fixed_reply (refusal_text why)).lines)
-      refl refl refl h.fine.1.1 (none_more own h.marked) (refused_fares state offset text how own why can known h.fine.0))
+      (denied op ask.settings came b.near why NearData.Open (fixed_reply (refusal_text why)).lines)
+      refl refl refl h.fine.1.1 (none_more own h.marked) (refused_fares state ask good own why known h.fine.0))
   carry_heard (Refusing why (Lost true)) came queue way b reply more h e =
       at_first (Hears b) reply (fixed_reply (refusal_text why)) more [] e
       (tells_so (Refusing why (Lost true)) came queue way b (fixed_reply (refusal_text why)) (Refused (code_of why)) NoLink h
-      (denied offset text how how.representation came b.near why (NearData.Over Endings.Clean) (fixed_reply (refusal_text why)).lines)
-      refl refl refl h.fine.1.1 (none_more own h.marked) (refused_fares state offset text how own why can known h.fine.0))
+      (denied op ask.settings came b.near why (NearData.Over Endings.Clean) (fixed_reply (refusal_text why)).lines)
+      refl refl refl h.fine.1.1 (none_more own h.marked) (refused_fares state ask good own why known h.fine.0))
   carry_heard (Refusing why (Lost false)) came queue way b reply more h e =
       at_first (Hears b) reply (fixed_reply (refusal_text why)) more [] e
       (tells_so (Refusing why (Lost false)) came queue way b (fixed_reply (refusal_text why)) (Refused (code_of why)) NoLink h
-      (denied offset text how how.representation came b.near why (NearData.Over Endings.Broken) (fixed_reply (refusal_text why)).lines)
-      refl refl refl h.fine.1.1 (one_more own (Broken (counted (length came))) h.marked) (refused_fares state offset text how own why can known h.fine.0))
+      (denied op ask.settings came b.near why (NearData.Over Endings.Broken) (fixed_reply (refusal_text why)).lines)
+      refl refl refl h.fine.1.1 (one_more own (Broken (counted (length came))) h.marked) (refused_fares state ask good own why known h.fine.0))
   carry_heard Unopened came queue way b reply more h e =
       at_first (Hears b) reply (fixed_reply Texts.NoConnection) more [] e
       (tells_so Unopened came queue way b (fixed_reply Texts.NoConnection) NotOpened NoLink h
-      (unopened offset text how how.representation came b.near (NearData.Over Endings.Broken) (fixed_reply Texts.NoConnection).lines)
+      (unopened op ask.settings came b.near (NearData.Over Endings.Broken) (fixed_reply Texts.NoConnection).lines)
       refl refl refl h.fine.1 (one_more own (Broken (counted (length came))) h.marked)
-      (broken_link_fares state offset text how own (h.marked ∙ ap (λ l. Broken (counted (length l)) ∷ []) h.fine.0)))
+      (broken_link_fares state ask good own (h.marked ∙ ap (λ l. Broken (counted (length l)) ∷ []) h.fine.0)))
 
   -- ---- every reply
 
@@ -639,7 +627,7 @@ module _ (read : Reading) (reads : IsReading read) (state : State) (offset : Opt
   told_at (Restarts at Granted joined) reply more b h = at_first (Hears b) reply (rest_reply at) more [] h.way_is (rest_heard at joined (Answering (reply ∷ more)) b h)
   told_at (Restarts at (Denied why) joined) reply more b h =
       at_first (Hears b) reply (fixed_reply (refusal_text why)) more [] h.way_is (rest_refused at why joined (Answering (reply ∷ more)) b h)
-  told_at (Retrieves joined) reply more b h = absurd (no_asking (line_of (Commands.Retr text)) (reply ∷ more) (sym h.way_is))
+  told_at (Retrieves joined) reply more b h = absurd (no_asking (line_of ask.command) (reply ∷ more) (sym h.way_is))
   told_at (Carries c) reply more b h = carry_heard c.course c.came c.queue (Answering (reply ∷ more)) b reply more h h.way_is
   told_at (Answers said leaves) reply more b h = absurd (no_reply reply more h.way_is)
 
@@ -649,7 +637,7 @@ module _ (read : Reading) (reads : IsReading read) (state : State) (offset : Opt
   fetch_goes = record { asked = asked; told = told }
     where
       turns : Turns read (IsOnWay read state op Along Goal)
-      turns = operation_turns read state op Along Goal reads (λ n f stands. fetch_leads read state offset text how reads known passive n f stands)
+      turns = operation_turns read state op Along Goal reads (λ n f stands. fetch_leads read state ask reads good.plan known passive n f stands)
 
       asked : (line : List ℕ) (b : World) → At (Asking line) b → (t : FarTurn read b.far line) × At (Answering t.replies) (record b { far = t.far })
       asked line b (inl l) =

@@ -10,6 +10,8 @@ pub mod Events
 pub mod Agreeing
 pub mod Quiet
 pub mod Fates
+pub mod Downloads
+pub mod Asks
 pub mod Beginning
 pub mod Theorems
 pub mod FetchTurns

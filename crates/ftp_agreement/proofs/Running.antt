@@ -6,7 +6,6 @@ use Rattle.ftp_operation.specs.Operation.{can_be_sent}
 use Rattle.ftp_operation.specs.declared.op.Op.{Op}
 use Rattle.ftp_direct.specs.Direct.{State}
 use Rattle.ftp_client_machine.specs.Calls as near
-use Rattle.ftp_client_machine.specs.Calls.{is_busy_job}
 use Rattle.ftp_server_machine.specs.Calls as far
 use Rattle.ftp_server_machine.specs.Machine.{Reading, IsReading}
 use Rattle.ftp_world.specs.Agreement.{Order, Single, Leads, begun_by}
@@ -16,10 +15,10 @@ use Rattle.ftp_world.specs.Serving.{after_event}
 use Rattle.ftp_world.specs.World.{World}
 use Rattle.ftp_dialogues.specs.Dialogue.{HasNoTransfer}
 use Rattle.ftp_dialogues.specs.Fetches.{IsFetch}
-use Rattle.ftp_dialogues.proofs.Refusing.{fetch_of}
 use Rattle.ftp_agreement.specs.Follows.{IsFree, IsLinked, Phase, Follows}
 use Rattle.ftp_agreement.specs.Laws.{IsPlain, ArePlain}
 use Rattle.ftp_agreement.specs.Runs.{IsFetchingOn, IsTrailing, Runs}
+use Rattle.ftp_agreement.proofs.Asks.{IsAskOf, ask_of}
 use Rattle.ftp_agreement.proofs.Begins.{begins_free}
 use Rattle.ftp_agreement.proofs.Deliveries.{taken_at}
 use Rattle.ftp_agreement.proofs.Events.{IsNoBeginning, both_false, happens, lent_again, never, under_busy}
@@ -39,9 +38,8 @@ trailing_taken from begun octets w t =
       done = t.done;
       marks = t.marks;
       reports = t.reports;
-      offset = t.offset;
-      text = t.text;
-      how = t.how;
+      ask = t.ask;
+      plan = t.plan;
       moment = t.moment;
       said = t.said;
       begun_is = t.begun_is;
@@ -97,13 +95,13 @@ module _ (read : Reading) (reads : IsReading read) (from : State) where
   on_happens begun (Deliver ControlToClient count) w new plain on e = fetch_delivers_client read reads from begun _ count _ new (fetching_on_taken read reads from begun [] w on).fetching e.1
   on_happens begun (Deliver DataToServer count) w new plain on e =
       let f = on.fetching in
-      let none = gives_none read f.now f.offset f.text f.how f.own w f.stands on.lasts in
+      let none = gives_none read f.now f.ask f.is_ask.plan f.own w f.stands on.lasts in
       absurd (never (can_happen (Deliver DataToServer count) w) (both_false (near.to_give w.near) w.data_to_server _ (not (count == 0)) _ none.due none.queue) e.0)
   on_happens begun (Deliver DataToClient count) w new plain on e =
       let u : World = record w { taken = [] } in
       let on_u = fetching_on_taken read reads from begun [] w on in
       let f = on_u.fetching in
-      elim (flows_or_none read f.now f.offset f.text f.how f.own u f.stands on_u.lasts) [
+      elim (flows_or_none read f.now f.ask f.is_ask.plan f.own u f.stands on_u.lasts) [
         | inl flowing ↦ fetch_delivers_data read reads from begun _ count u new f flowing e.1
         | inr none ↦ absurd (never (can_happen (Deliver DataToClient count) w) (both_false (far.to_give w.far) w.data_to_client _ (not (count == 0)) _ none.0 none.1) e.0)
       ]
@@ -115,7 +113,7 @@ module _ (read : Reading) (reads : IsReading read) (from : State) where
   on_happens begun (End ControlToClient) w new plain on e = absurd (never _ (rw (ap is_left_by_far on.fetching.linked.control) refl) e.0)
   on_happens begun (End DataToServer) w new plain on e =
       let f = on.fetching in
-      absurd (never _ (rw (gives_none read f.now f.offset f.text f.how f.own w f.stands on.lasts).closed refl) e.0)
+      absurd (never _ (rw (gives_none read f.now f.ask f.is_ask.plan f.own w f.stands on.lasts).closed refl) e.0)
   on_happens begun (End DataToClient) w new plain on e =
       let left = three_parts (is_closed_by_far w.link) (not (has_octets w.data_to_client)) _ e.0 in
       subst (Holds begun) (sym e.1)
@@ -178,16 +176,17 @@ module _ (read : Reading) (reads : IsReading read) (from : State) where
       → Holds (begun ++ Single op moment ∷ []) (after_event (operation_begins op moment u))
   free_begins begun op moment u plain h l f = by_sent (can_be_sent op) refl
     where
-      by_known : (known : Bool) → f.now.known ≡ known → can_be_sent op ≡ true → IsFetch op → Holds (begun ++ Single op moment ∷ []) (after_event (operation_begins op moment u))
-      by_known false unknown can fetches = inl (begins_free read reads from begun op moment u h.unlinked l f (λ sent. inr (fetches, unknown)))
-      by_known true known can fetches =
-          let o = fetch_of op fetches in
-          subst (λ op. Holds (begun ++ Single op moment ∷ []) (after_event (operation_begins op moment u))) (sym o.is)
-          (begins_fetch read reads from begun o.offset o.text o.how moment o.passive u (subst (λ op. can_be_sent op ≡ true) o.is can) h.unlinked l f known)
+      by_known : (known : Bool) → f.now.known ≡ known → IsAskOf op → Holds (begun ++ Single op moment ∷ []) (after_event (operation_begins op moment u))
+      by_known false unknown o =
+          inl (begins_free read reads from begun op moment u h.unlinked l f
+          (λ sent. inr (record { ask = o.ask; plan = o.good.plan; passive = o.passive; op_is = o.op_is; unknown = unknown })))
+      by_known true known o =
+          subst (λ op. Holds (begun ++ Single op moment ∷ []) (after_event (operation_begins op moment u))) (sym o.op_is)
+          (begins_fetch read reads from begun o.ask moment o.good o.passive u h.unlinked l f known)
 
       by_plain : can_be_sent op ≡ true → HasNoTransfer op ⊎ IsFetch op → Holds (begun ++ Single op moment ∷ []) (after_event (operation_begins op moment u))
       by_plain can (inl alone) = inl (begins_free read reads from begun op moment u h.unlinked l f (λ sent. inl alone))
-      by_plain can (inr fetches) = by_known f.now.known refl can fetches
+      by_plain can (inr fetches) = by_known f.now.known refl (ask_of op fetches can)
 
       by_sent : (b : Bool) → can_be_sent op ≡ b → Holds (begun ++ Single op moment ∷ []) (after_event (operation_begins op moment u))
       by_sent true can = by_plain can (plain can)
@@ -207,7 +206,7 @@ module _ (read : Reading) (reads : IsReading read) (from : State) where
       by_phase u h can (inr l) = inl (begins_lost read from begun op moment u h.unlinked l)
   next_runs begun op moment w new plain (inr (inl on)) e =
       let f = on.fetching in
-      absurd (never (can_begin w) (ap (λ (b : Bool). not b && is_gone w.link && not (is_asked_for w)) (lasting_busy read f.now f.offset f.text f.how f.own w f.stands on.lasts)) e.0)
+      absurd (never (can_begin w) (ap (λ (b : Bool). not b && is_gone w.link && not (is_asked_for w)) (lasting_busy read f.now f.ask f.is_ask.plan f.own w f.stands on.lasts)) e.0)
   next_runs begun op moment w new plain (inr (inr t)) e = absurd (never (can_begin w) (ap can_begin (closed_is read reads from begun w t)) e.0)
 
   same : (begun : List Order) (w : World) → Holds begun w → Holds (begun ++ []) w

@@ -1,8 +1,6 @@
 -- What holds after every event of a list whose operations have no transfer or are downloads over passive data connections.
-use Rattle.std.specs.Prelude.{◌≡◌, ◌⊎◌, ℕ, true, false, List, [], ◌∷◌, ◌++◌, Option, None}
+use Rattle.std.specs.Prelude.{◌≡◌, ◌⊎◌, ℕ, true, false, List, [], ◌∷◌, ◌++◌, None}
 use Rattle.ftp_operation.specs.Answer.{Said}
-use Rattle.ftp_operation.specs.Operation.{can_be_sent}
-use Rattle.ftp_operation.specs.declared.op.How.{How}
 use Rattle.ftp_representation.specs.declared.representation.Representation.{Representation}
 use Rattle.ftp_direct.specs.Direct.{State}
 use Rattle.ftp_server_machine.specs.Machine.{Reading}
@@ -11,7 +9,7 @@ use Rattle.ftp_server_machine.specs.declared.session.Pending.TheVariants as Pend
 use Rattle.ftp_world.specs.Agreement.{Order, Single}
 use Rattle.ftp_world.specs.World.{World, Mark, ClosedByNear}
 use Rattle.ftp_dialogues.specs.Dialogue.{IsSound, resting}
-use Rattle.ftp_dialogues.specs.Fetches.{IsPassive, fetch, linked, kept, IsSteady}
+use Rattle.ftp_dialogues.specs.Fetches.{Ask, HasPlan, IsAsk, IsPassive, linked, kept, IsSteady}
 use Rattle.ftp_dialogues.specs.Stage.{Way, rest}
 use Rattle.ftp_agreement.specs.Cut.{PlacedAt}
 use Rattle.ftp_agreement.specs.Follows.{Told, IsLinked, Follows}
@@ -22,25 +20,23 @@ pub record IsFetching (read : Reading) (from : State) (begun : List Order) (w : 
   pub done : List Order
   pub marks : List (List Mark)
   pub own : List Mark
-  pub offset : Option ℕ
-  pub text : List ℕ
-  pub how : How
+  pub ask : Ask
   pub moment : ℕ
-  pub begun_is : begun ≡ done ++ Single (fetch offset text how) moment ∷ []
+  pub begun_is : begun ≡ done ++ Single ask.op moment ∷ []
   pub marks_are : w.marks ≡ marks ++ own ∷ []
   pub now : State
   pub sound : IsSound now
   pub known : now.known ≡ true
-  pub sent : can_be_sent (fetch offset text how) ≡ true
-  pub passive : IsPassive how
+  pub is_ask : IsAsk ask
+  pub passive : IsPassive ask.how
   pub told : Told from done marks None w.reports now
   pub linked : IsLinked w
-  pub stands : PlacedAt (λ way b. AtFetch now offset text how read own way b) w
+  pub stands : PlacedAt (λ way b. AtFetch now ask read own way b) w
 
 -- between two events
 pub record IsFetchingOn (read : Reading) (from : State) (begun : List Order) (w : World) : Type 0 where
   pub fetching : IsFetching read from begun w
-  pub lasts : IsLasting fetching.now fetching.offset fetching.text fetching.how read fetching.own fetching.stands.way fetching.stands.base fetching.stands.here
+  pub lasts : IsLasting fetching.now fetching.ask read fetching.own fetching.stands.way fetching.stands.base fetching.stands.here
 
 -- both ends where the client has closed a link that the server had for no transfer yet
 pub record AtClosed (now : State) (way : Way) (b : World) : Type 0 where
@@ -58,18 +54,17 @@ pub record IsTrailing (from : State) (begun : List Order) (w : World) : Type 0 w
   pub done : List Order
   pub marks : List (List Mark)
   pub reports : List Said
-  pub offset : Option ℕ
-  pub text : List ℕ
-  pub how : How
+  pub ask : Ask
+  pub plan : HasPlan ask
   pub moment : ℕ
   pub said : Said
-  pub begun_is : begun ≡ done ++ Single (fetch offset text how) moment ∷ []
+  pub begun_is : begun ≡ done ++ Single ask.op moment ∷ []
   pub marks_are : w.marks ≡ marks ++ [] ∷ []
   pub reports_are : w.reports ≡ reports ++ said ∷ []
   pub now : State
   pub sound : IsSound now
   pub told : Told from done marks None reports now
-  pub fares : (own : List Mark) → Fared now offset text how own said
+  pub fares : (own : List Mark) → Fared now ask own said
   pub linked : IsLinked w
   pub stands : PlacedAt (AtClosed now) w
 

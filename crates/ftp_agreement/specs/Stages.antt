@@ -1,6 +1,6 @@
--- A world while a download over a passive data connection is under way: a stage says what both ends hold of it, how the link stands and
+-- A world while a download or a listing over a passive data connection is under way: a stage says what both ends hold of it, how the link stands and
 -- what is on its way (RFC 959, sections 3.2 to 3.5 and 4.1.2).
-use Rattle.std.specs.Prelude.{◌≡◌, ◌≢◌, ◌⊎◌, ℕ, ◌<◌, ◌≤◌, Bool, true, false, List, [], ◌∷◌, ◌++◌, length, Option, Some, None}
+use Rattle.std.specs.Prelude.{◌≡◌, ◌≢◌, ◌⊎◌, ℕ, ◌<◌, ◌≤◌, Bool, true, false, List, [], ◌∷◌, ◌++◌, length, Some, None}
 use mathlib.Core.Logic.{inl, inr}
 use Rattle.ftp_command.specs.Line.{line_of}
 use Rattle.ftp_command.specs.declared.command.Command.TheVariants as Commands
@@ -8,8 +8,6 @@ use Rattle.ftp_endpoint.specs.declared.host.Host.{Host}
 use Rattle.ftp_ends.specs.Reply.{Reply}
 use Rattle.ftp_machine.specs.Machine.{IsFront}
 use Rattle.ftp_operation.specs.Answer.{Said}
-use Rattle.ftp_operation.specs.declared.op.How.{How}
-use Rattle.ftp_operation.specs.declared.op.Op.{Op}
 use Rattle.ftp_path.specs.Path.{Names}
 use Rattle.ftp_direct.specs.declared.refusal.Refusal.{Refusal}
 use Rattle.ftp_direct.specs.Direct.{State, offset_refusal, refusal}
@@ -24,19 +22,18 @@ use Rattle.ftp_client_machine.specs.declared.client.Replied.TheVariants as Repli
 use Rattle.ftp_client_machine.specs.declared.client.Step.TheVariants as Steps
 use Rattle.ftp_server_machine.specs.Machine.{Reading}
 use Rattle.ftp_server_machine.specs.Replies.{fixed_reply}
-use Rattle.ftp_server_machine.specs.View.{Transfer}
+use Rattle.ftp_server_machine.specs.View.{Transfer, how_in_force}
 use Rattle.ftp_server_machine.specs.Walk.{refusal_text}
 use Rattle.ftp_server_machine.specs.declared.reply.Text.TheVariants as Texts
 use Rattle.ftp_server_machine.specs.declared.session.DataConnection.{DataConnection as FarConnection}
 use Rattle.ftp_server_machine.specs.declared.session.DataConnection.TheVariants as FarData
 use Rattle.ftp_server_machine.specs.declared.session.Pending.{Pending}
 use Rattle.ftp_server_machine.specs.declared.session.Pending.TheVariants as Pendings
-use Rattle.ftp_server_machine.specs.declared.session.Transfer.TheVariants as Transfers
 use Rattle.ftp_world.specs.Agreement.{Allows}
 use Rattle.ftp_world.specs.Outcome.{Outcome, CanBe, did}
 use Rattle.ftp_world.specs.World.{World, Link, Gone, Opened, ClosedByFar, Mark, Broken, counted}
 use Rattle.ftp_dialogues.specs.Dialogue.{Passes}
-use Rattle.ftp_dialogues.specs.Fetches.{fetch, busy, fetching, leaving, linked, asked_of, port_reply, rest_reply, offset_pending, kept, IsSteady, PortIsAsked, fetched_wire, why_not}
+use Rattle.ftp_dialogues.specs.Fetches.{Ask, IsPlacedAt, busy, fetching, leaving, linked, asked_of, port_reply, rest_reply, giving_of, offset_pending, kept, IsSteady, PortIsAsked}
 use Rattle.ftp_dialogues.specs.Login.{IsOnWay}
 use Rattle.ftp_dialogues.specs.Stage.{Way, Asking, Answering, rest}
 
@@ -168,10 +165,10 @@ replies_in (Severed begun) = behind_opening (heard_by begun) (fixed_reply Texts.
 replies_in (Refusing why gap) = fixed_reply (refusal_text why) ∷ []
 replies_in Unopened = fixed_reply Texts.NoConnection ∷ []
 
--- what the server holds of the link while it is open at both ends
-abbrev pub gives_on : Course → FarConnection Transfer
-gives_on (Giving begun octet more) = FarData.Transferring (Transfers.Download (octet ∷ more))
-gives_on course = FarData.Free
+-- what the server holds of the link while it is open at both ends, of a listing or of a file
+abbrev pub gives_on : Bool → Course → FarConnection Transfer
+gives_on listed (Giving begun octet more) = FarData.Transferring (giving_of listed (octet ∷ more))
+gives_on listed course = FarData.Free
 
 -- behind RETR: the octets that came, and those on their way
 pub record Carry : Type 0 where
@@ -229,19 +226,15 @@ is_passing (Carries carry) = is_parting (tie_of carry.course)
 is_passing (Answers said leaves) = true
 is_passing stage = false
 
-module _ (state : State) (offset : Option ℕ) (text : List ℕ) (how : How) where
-  -- the operation
-  abbrev pub fetched_op : Op (List ℕ)
-  fetched_op = fetch offset text how
-
+module _ (state : State) (ask : Ask) where
   -- the client
   abbrev pub near_at : Stage → Near → Near
-  near_at (PortAsked closing) n = busy (Doing fetched_op Steps.Passive) NearData.Free n
-  near_at (PortTold port) n = busy (Doing fetched_op Steps.Passive) NearData.Free n
-  near_at (Dials port) n = busy (Doing fetched_op Steps.Connect) (NearData.Connecting (record { host = n.peer; port = port })) n
-  near_at (Restarts at restart joined) n = busy (Doing (fetch (Some at) text how) Steps.Restart) (near_link (early_tie joined)) n
-  near_at (Retrieves joined) n = busy (fetching fetched_op Replies.Nothing how.representation []) (near_link (early_tie joined)) n
-  near_at (Carries c) n = busy (fetching fetched_op (replied_of (heard_of c.course)) how.representation c.came) (near_link (tie_of c.course)) n
+  near_at (PortAsked closing) n = busy (Doing ask.op Steps.Passive) NearData.Free n
+  near_at (PortTold port) n = busy (Doing ask.op Steps.Passive) NearData.Free n
+  near_at (Dials port) n = busy (Doing ask.op Steps.Connect) (NearData.Connecting (record { host = n.peer; port = port })) n
+  near_at (Restarts at restart joined) n = busy (Doing ask.op Steps.Restart) (near_link (early_tie joined)) n
+  near_at (Retrieves joined) n = busy (fetching ask.op Replies.Nothing ask.settings []) (near_link (early_tie joined)) n
+  near_at (Carries c) n = busy (fetching ask.op (replied_of (heard_of c.course)) ask.settings c.came) (near_link (tie_of c.course)) n
   near_at (Answers said leaves) n = leaving said (is_to_close leaves) n
 
   -- the server's data connection, by what the client asked for
@@ -251,7 +244,7 @@ module _ (state : State) (offset : Option ℕ) (text : List ℕ) (how : How) whe
   far_at (Dials port) extended = FarData.Passive
   far_at (Restarts at restart joined) extended = far_link FarData.Ready (early_tie joined)
   far_at (Retrieves joined) extended = far_link FarData.Ready (early_tie joined)
-  far_at (Carries c) extended = far_link (gives_on c.course) (tie_of c.course)
+  far_at (Carries c) extended = far_link (gives_on ask.listed c.course) (tie_of c.course)
   far_at (Answers said leaves) extended = far_leaves leaves
 
   -- whether it is to be closed
@@ -264,7 +257,7 @@ module _ (state : State) (offset : Option ℕ) (text : List ℕ) (how : How) whe
   -- what is pending for the server's next line
   abbrev pub pending_at : Stage → Pending Names
   pending_at (Restarts at Granted joined) = Pendings.Restart at
-  pending_at (Retrieves joined) = offset_pending offset
+  pending_at (Retrieves joined) = offset_pending ask.offset
   pending_at stage = Pendings.Nothing
 
   -- the link of the world
@@ -285,7 +278,7 @@ module _ (state : State) (offset : Option ℕ) (text : List ℕ) (how : How) whe
   abbrev pub way_at : Stage → Bool → Host → Way
   way_at (PortTold port) extended host = Answering (port_reply extended host port ∷ [])
   way_at (Restarts at restart joined) extended host = rest_way at restart
-  way_at (Retrieves joined) extended host = Asking (line_of (Commands.Retr text))
+  way_at (Retrieves joined) extended host = Asking (line_of ask.command)
   way_at (Carries c) extended host = Answering (replies_in c.course)
   way_at stage extended host = rest
 
@@ -315,17 +308,17 @@ module _ (state : State) (offset : Option ℕ) (text : List ℕ) (how : How) whe
   -- the operation fared so that this is its answer
   pub record Fared (own : List Mark) (said : Said) : Type 0 where
     pub outcome : Outcome
-    pub can_be : CanBe outcome state fetched_op
+    pub can_be : CanBe outcome state ask.op
     pub allowed : (index : ℕ) → Allows outcome own None index
-    pub did_so : (moment : ℕ) → did outcome state fetched_op moment ≡ (said, state)
+    pub did_so : (moment : ℕ) → did outcome state ask.op moment ≡ (said, state)
 
   -- RETR is not refused, nor the operation in the direct run
   abbrev pub IsTaken : Type 0
-  IsTaken = (why_not state offset text how ≡ None) × (refusal state fetched_op ≡ None)
+  IsTaken = (ask.why state ≡ None) × (refusal state ask.op ≡ None)
 
   -- its text
   abbrev pub wire : List ℕ
-  wire = fetched_wire state offset text how
+  wire = ask.wire state
 
   -- a break leaves a front of the text
   abbrev pub IsCutAt : List ℕ → List ℕ → Type 0
@@ -342,19 +335,14 @@ module _ (state : State) (offset : Option ℕ) (text : List ℕ) (how : How) whe
   Flows (Ended begun true) came queue = IsTaken × (came ≡ wire) × (queue ≡ [])
   Flows (Ended begun false) came queue = IsTaken × IsCutAt came queue
   Flows (Severed begun) came queue = IsTaken × IsCutAt came queue
-  Flows (Refusing why gap) came queue = (refusal state fetched_op ≡ Some why) × IsEmpty came queue
+  Flows (Refusing why gap) came queue = (refusal state ask.op ≡ Some why) × IsEmpty came queue
   Flows Unopened came queue = IsEmpty came queue
 
   -- REST, as the direct run has it
   abbrev pub IsRestarted : ℕ → Restart → Type 0
   IsRestarted at Sent = Unit {0}
-  IsRestarted at Granted = offset_refusal at how ≡ None
-  IsRestarted at (Denied why) = offset_refusal at how ≡ Some why
-
-  -- the offset was not refused
-  abbrev pub IsPlaced : Option ℕ → Type 0
-  IsPlaced None = Unit {0}
-  IsPlaced (Some at) = offset_refusal at how ≡ None
+  IsRestarted at Granted = offset_refusal at (how_in_force ask.settings) ≡ None
+  IsRestarted at (Denied why) = offset_refusal at (how_in_force ask.settings) ≡ Some why
 
   -- a port that can be told
   abbrev pub HasPort : ℕ → Type 0
@@ -365,8 +353,8 @@ module _ (state : State) (offset : Option ℕ) (text : List ℕ) (how : How) whe
   FineAt (PortAsked closing) own = Unit {0}
   FineAt (PortTold port) own = HasPort port
   FineAt (Dials port) own = Unit {0}
-  FineAt (Restarts at restart joined) own = (offset ≡ Some at) × IsRestarted at restart
-  FineAt (Retrieves joined) own = IsPlaced offset
+  FineAt (Restarts at restart joined) own = (ask.offset ≡ Some at) × IsRestarted at restart
+  FineAt (Retrieves joined) own = IsPlacedAt ask.settings ask.offset
   FineAt (Carries c) own = Flows c.course c.came c.queue
   FineAt (Answers said LinkOpen) own = (any : List Mark) → Fared any said
   FineAt (Answers said leaves) own = Fared own said
@@ -374,19 +362,19 @@ module _ (state : State) (offset : Option ℕ) (text : List ℕ) (how : How) whe
   -- a base world at a stage, with marks of the operation and with this on its way
   pub record Holds (own : List Mark) (stage : Stage) (way : Way) (b : World) : Type 0 where
     pub near : b.near ≡ near_at stage b.near
-    pub session : b.far.session ≡ linked (far_at stage (is_extended b.near fetched_op)) (closing_at stage) (pending_at stage) b.far.session
-    pub steady : IsSteady state how.representation (kept b.near b.far)
+    pub session : b.far.session ≡ linked (far_at stage (is_extended b.near ask.op)) (closing_at stage) (pending_at stage) b.far.session
+    pub steady : IsSteady state ask.settings (kept b.near b.far)
     pub link : b.link ≡ link_at stage
     pub to_server : b.data_to_server ≡ []
     pub to_client : b.data_to_client ≡ queue_at stage
     pub came : CameAt stage b.came
     pub marked : MarkedAt stage own
-    pub way_is : way ≡ way_at stage (is_extended b.near fetched_op) b.near.peer
+    pub way_is : way ≡ way_at stage (is_extended b.near ask.op) b.near.peer
     pub fine : FineAt stage own
 
   -- the login, the settings and the command for a port are under way
   pub record Leads (read : Reading) (own : List Mark) (way : Way) (b : World) : Type 0 where
-    pub on : IsOnWay read state fetched_op (Passes state.table state.table) (PortIsAsked state fetched_op how.representation) way b.near b.far
+    pub on : IsOnWay read state ask.op (Passes state.table state.table) (PortIsAsked state ask.op ask.settings) way b.near b.far
     pub some : way ≢ rest
     pub link : b.link ≡ Gone
     pub to_server : b.data_to_server ≡ []

@@ -1,4 +1,4 @@
--- A download over a passive data connection: what each end makes of each line and reply.
+-- A download or a listing over a passive data connection: what each end makes of each line and reply.
 use Rattle.std.proofs.Common.{◌≡◌, inl, ℕ, ◌<◌, ◌≤◌, ◌^◌, Bool, true, false, ◌||◌, List, [], ◌∷◌, ◌++◌, drop, Option, Some, None, refl, sym, ap, subst, ◌∙◌, append-nil}
 use Rattle.std.specs.Prelude.{if◌then◌else◌}
 use Rattle.std.specs.Option.{unwrap_or}
@@ -25,19 +25,20 @@ use Rattle.ftp_direct.specs.declared.refusal.Refusal.{Refusal}
 use Rattle.ftp_direct.specs.declared.refusal.Refusal.TheVariants as Refusals
 use Rattle.ftp_direct.specs.Direct.{State, file_of, offset_refusal, or_refused, place_at, refused_file, refused_there}
 use Rattle.ftp_direct.specs.Refusal.{code_of}
-use Rattle.ftp_client_machine.specs.Dialogue.{answered, endpoint_named, finishes_read, judged, judged_reply, passive_named, port_named}
-use Rattle.ftp_client_machine.specs.Plan.{asked_settings, asks_extended, from_kind, how_of, is_extended, opening_of, passive_command}
-use Rattle.ftp_client_machine.specs.View.{View as Near, Doing, Receiving, stands}
+use Rattle.ftp_client_machine.specs.Dialogue.{answered, answers_once_over, endpoint_named, finishes_read, judged, judged_reply, last_job, passive_named, placed, port_named, sends, sends_abort}
+use Rattle.ftp_client_machine.specs.Octets.{flow_of, has_settled}
+use Rattle.ftp_client_machine.specs.Plan.{asks_extended, count_of, from_kind, how_of, is_extended, opening_of, passive_command, step_by}
+use Rattle.ftp_client_machine.specs.View.{View as Near, Transfer as ClientTransfer, Flow, Doing, Receiving, stands}
 use Rattle.ftp_client_machine.specs.declared.client.Abort.TheVariants as Aborts
 use Rattle.ftp_client_machine.specs.declared.client.DataConnection.{DataConnection as NearConnection}
 use Rattle.ftp_client_machine.specs.declared.client.DataConnection.TheVariants as NearData
 use Rattle.ftp_client_machine.specs.declared.client.Ending.{Ending}
 use Rattle.ftp_client_machine.specs.declared.client.Ending.TheVariants as Endings
 use Rattle.ftp_client_machine.specs.declared.client.Replied.TheVariants as Replies
-use Rattle.ftp_client_machine.specs.declared.client.Step.{Step}
 use Rattle.ftp_client_machine.specs.declared.client.Step.TheVariants as Steps
 use Rattle.ftp_server_machine.specs.Endpoint.{forgotten, is_standing}
-use Rattle.ftp_server_machine.specs.Machine.{Reading, IsReading, given_out, heard_line, is_connection_busy, turned}
+use Rattle.ftp_server_machine.specs.Machine.{Reading, IsReading, given_out, heard_line, is_connection_busy, replied, turned}
+use Rattle.ftp_server_machine.specs.Act.{act}
 use Rattle.ftp_server_machine.specs.Replies.{extended_text, fixed_reply, passive_text, tells}
 use Rattle.ftp_server_machine.specs.Texts.{code_of as reply_code}
 use Rattle.ftp_server_machine.specs.Transfer.{begin, file_wire, misplaced, place_of, rests, transfer_starts}
@@ -51,8 +52,8 @@ use Rattle.ftp_server_machine.specs.declared.session.DataConnection.TheVariants 
 use Rattle.ftp_server_machine.specs.declared.session.Pending.TheVariants as Pendings
 use Rattle.ftp_server_machine.specs.declared.session.Transfer.TheVariants as Transfers
 use Rattle.ftp_world.specs.Outcome.{mark_in}
-use Rattle.ftp_dialogues.specs.Dialogue.{FarWaits, Passes, Stands, doing}
-use Rattle.ftp_dialogues.specs.Fetches.{IsPassive, fetch, busy, fetching, leaving, asked_of, port_reply, rest_reply, offset_pending, kept, IsSteady, PortIsAsked, place_in_file, why_not, fetched_wire}
+use Rattle.ftp_dialogues.specs.Dialogue.{FarWaits, Passes, Stands, doing, resting}
+use Rattle.ftp_dialogues.specs.Fetches.{Ask, HasPlan, HasRow, IsPassive, busy, fetching, leaving, asked_of, port_reply, rest_reply, giving_of, offset_pending, kept, IsSteady, PortIsAsked, download_ask, place_in_file}
 use Rattle.ftp_dialogues.specs.Operations.{LeadsBy}
 use Rattle.ftp_dialogues.specs.Stage.{calm, still, row_octets, FarTurn}
 use Rattle.ftp_dialogues.proofs.Exchanges.{IsSent, with_session}
@@ -153,32 +154,24 @@ module _ (read : Reading) (reads : IsReading read) (state : State) (op : Op (Lis
   asks_port n f stands set = asks_by (is_extended n op) n f refl stands set
 
 -- from the beginning of the operation on
-pub fetch_leads : (read : Reading) (state : State) (offset : Option ℕ) (text : List ℕ) (how : How) → IsReading read → state.known ≡ true → IsPassive how
-    → (n : Near) (f : Far) → Stands state n f
-    → LeadsBy read (Passes state.table state.table) (PortIsAsked state (fetch offset text how) how.representation) (fetch offset text how) n f
-fetch_leads read state offset text how reads known passive n f stands = by_offset offset
-  where
-    Goal : Option ℕ → Near → Far → Type 0
-    Goal offset n f = PortIsAsked state (fetch offset text how) how.representation n f
-
-    on : (offset : Option ℕ) → how_of (fetch offset text how) ≡ Some how → asked_settings (fetch offset text how) ≡ Some how.representation
-        → LeadsFrom read (Passes state.table state.table) (Goal offset) (fetch offset text how)
-        (from_kind n.settings how.representation (opening_of (how_of (fetch offset text how)) (fetch offset text how))) n f
-    on offset how_is asks =
-        settings_lead read state state.table (Goal offset) (fetch offset text how) reads known how.representation asks
-        (λ n f stands set.
-        let At : Step → Type 0 = λ step. LeadsFrom read (Passes state.table state.table) (Goal offset) (fetch offset text how) step n f in
-        let opening : Steps.Passive ≡ opening_of (how_of (fetch offset text how)) (fetch offset text how) =
-        sym (ap (λ h. opening_of h (fetch offset text how)) how_is ∙ ap (λ (b : Bool). if b then Steps.Listen else Steps.Passive) passive) in
-        subst At opening (asks_port read reads state (fetch offset text how) how.representation known n f stands set)) n f stands
-
-    by_offset : (offset : Option ℕ) → LeadsBy read (Passes state.table state.table) (Goal offset) (fetch offset text how) n f
-    by_offset None =
-        let l = on None refl refl in
-        record { near = l.near; text = l.text; left = l.left; begins_so = l.placed_so; line = l.line; leads = l.leads }
-    by_offset (Some offset) =
-        let l = on (Some offset) refl refl in
-        record { near = l.near; text = l.text; left = l.left; begins_so = l.placed_so; line = l.line; leads = l.leads }
+pub fetch_leads : (read : Reading) (state : State) (ask : Ask) → IsReading read → HasPlan ask → state.known ≡ true → IsPassive ask.how → (n : Near) (f : Far) → Stands state n f
+    → LeadsBy read (Passes state.table state.table) (PortIsAsked state ask.op ask.settings) ask.op n f
+fetch_leads read state ask reads plan known passive n f stands =
+    let Goal : Near → Far → Type 0 = λ n f. PortIsAsked state ask.op ask.settings n f in
+    let opening : Steps.Passive ≡ opening_of (how_of ask.op) ask.op =
+    sym (ap (λ h. opening_of h ask.op) plan.how_is ∙ ap (λ (b : Bool). if b then Steps.Listen else Steps.Passive) passive) in
+    let l = settings_lead read state state.table Goal ask.op reads known ask.settings plan.asks
+    (λ n f stands set.
+    subst (λ step. LeadsFrom read (Passes state.table state.table) Goal ask.op step n f) opening
+    (asks_port read reads state ask.op ask.settings known n f stands set)) n f stands in
+    record {
+      near = l.near;
+      text = l.text;
+      left = l.left;
+      begins_so = λ job. ap (λ asked. placed ask.op (step_by from_kind asked n.settings ask.op) (record (calm (resting n)) { job = job })) plan.asks ∙ l.placed_so job;
+      line = l.line;
+      leads = l.leads;
+    }
 
 -- ---- the client: the port that the server told
 
@@ -203,11 +196,17 @@ module _ (op : Op (List ℕ)) (port : ℕ) (n : Near) where
 
 -- ---- the client: REST
 
-pub rest_granted : (offset : ℕ) (text : List ℕ) (how : How) (connection : NearConnection) (texts : List ReplyText) (n : Near)
-    → answered 350 texts (calm (busy (Doing (fetch (Some offset) text how) Steps.Restart) connection n))
-    ≡ record (calm (busy (fetching (fetch (Some offset) text how) Replies.Nothing how.representation []) connection n)) { owed = written_line (line_of (Commands.Retr text)) }
+-- the own command is sent
+pub own_sent : (ask : Ask) → HasPlan ask → (v : Near) → placed ask.op Steps.Last v ≡ sends ask.command (record v { job = fetching ask.op Replies.Nothing ask.settings [] })
+own_sent ask plan v =
+    ap (λ command. sends command (record v { job = last_job ask.op (flow_of ask.op) })) plan.own
+    ∙ ap (λ flow. sends ask.command (record v { job = last_job ask.op flow })) plan.flow
+
+pub rest_granted : (ask : Ask) → HasPlan ask → (connection : NearConnection) (texts : List ReplyText) (n : Near)
+    → answered 350 texts (calm (busy (Doing ask.op Steps.Restart) connection n))
+    ≡ record (calm (busy (fetching ask.op Replies.Nothing ask.settings []) connection n)) { owed = written_line (line_of ask.command) }
 unfolding answered
-rest_granted offset text how connection texts n = refl
+rest_granted ask plan connection texts n = own_sent ask plan (calm (busy (Doing ask.op Steps.Restart) connection n))
 
 pub rest_denied : (op : Op (List ℕ)) (why : Refusal) (connection : NearConnection) (texts : List ReplyText) (n : Near)
     → answered (reply_code (refusal_text why)) texts (calm (busy (Doing op Steps.Restart) connection n))
@@ -217,28 +216,28 @@ rest_denied op why connection texts n =
     ap (λ v. judged_reply v (reply_code (refusal_text why)) texts (calm (busy (Doing op Steps.Restart) connection n))) (is_negative why)
     ∙ ap (λ code. record (calm (leaving (Refused code) (stands connection) n)) { owed = [] }) (tells_code why)
 
--- ---- the client: replies to RETR
+-- ---- the client: replies to the own command
 
-module _ (offset : Option ℕ) (text : List ℕ) (how : How) (settings : Representation) (came : List ℕ) (n : Near) where
+module _ (op : Op (List ℕ)) (settings : Representation) (came : List ℕ) (n : Near) where
   pub begins_over : (ending : Ending) (texts : List ReplyText)
-      → answered 150 texts (calm (busy (fetching (fetch offset text how) Replies.Nothing settings came) (NearData.Over ending) n))
-      ≡ record (calm (busy (fetching (fetch offset text how) Replies.Begun settings came) (NearData.Over ending) n)) { owed = [] }
+      → answered 150 texts (calm (busy (fetching op Replies.Nothing settings came) (NearData.Over ending) n))
+      ≡ record (calm (busy (fetching op Replies.Begun settings came) (NearData.Over ending) n)) { owed = [] }
   unfolding answered
   begins_over ending texts = refl
 
   pub ends_over : (ending : Ending) (code : ℕ) (said : Said) (texts : List ReplyText)
-      → judged ending Aborts.Unsent 226 (fetch offset text how) (Receiving (decoder_of settings came) (mark_in (no_octets settings) None came)) ≡ Some said
-      → answered 226 texts (calm (busy (fetching (fetch offset text how) Replies.Begun settings came) (NearData.Over ending) n)) ≡ record (calm (leaving said false n)) { owed = [] }
+      → judged ending Aborts.Unsent 226 op (Receiving (decoder_of settings came) (mark_in (no_octets settings) None came)) ≡ Some said
+      → answered 226 texts (calm (busy (fetching op Replies.Begun settings came) (NearData.Over ending) n)) ≡ record (calm (leaving said false n)) { owed = [] }
   unfolding answered
   ends_over ending code said texts is =
-      ap (λ o. finishes_read o (calm (busy (fetching (fetch offset text how) (Replies.Final 226) settings came) (NearData.Over ending) n))) is
+      ap (λ o. finishes_read o (calm (busy (fetching op (Replies.Final 226) settings came) (NearData.Over ending) n))) is
 
   pub breaks_over : (said : Said) (texts : List ReplyText)
-      → judged Endings.Broken Aborts.Unsent 426 (fetch offset text how) (Receiving (decoder_of settings came) (mark_in (no_octets settings) None came)) ≡ Some said
-      → answered 426 texts (calm (busy (fetching (fetch offset text how) Replies.Begun settings came) (NearData.Over Endings.Broken) n)) ≡ record (calm (leaving said false n)) { owed = [] }
+      → judged Endings.Broken Aborts.Unsent 426 op (Receiving (decoder_of settings came) (mark_in (no_octets settings) None came)) ≡ Some said
+      → answered 426 texts (calm (busy (fetching op Replies.Begun settings came) (NearData.Over Endings.Broken) n)) ≡ record (calm (leaving said false n)) { owed = [] }
   unfolding answered
   breaks_over said texts is =
-      ap (λ o. finishes_read o (calm (busy (fetching (fetch offset text how) (Replies.Final 426) settings came) (NearData.Over Endings.Broken) n))) is
+      ap (λ o. finishes_read o (calm (busy (fetching op (Replies.Final 426) settings came) (NearData.Over Endings.Broken) n))) is
 
   -- the link that it gave up is no other to close
   as_it_stood : (said : Said) (b : Bool) → record (calm (leaving said (b || false) n)) { owed = [] } ≡ record (calm (leaving said b n)) { owed = [] }
@@ -246,7 +245,7 @@ module _ (offset : Option ℕ) (text : List ℕ) (how : How) (settings : Represe
   as_it_stood said false = refl
 
   pub denied : (why : Refusal) (connection : NearConnection) (texts : List ReplyText)
-      → answered (reply_code (refusal_text why)) texts (calm (busy (fetching (fetch offset text how) Replies.Nothing settings came) connection n))
+      → answered (reply_code (refusal_text why)) texts (calm (busy (fetching op Replies.Nothing settings came) connection n))
       ≡ record (calm (leaving (Refused (code_of why)) (stands connection) n)) { owed = [] }
   unfolding answered
   denied Refusals.LocalFault connection texts = as_it_stood (Refused (code_of Refusals.LocalFault)) (stands connection)
@@ -259,105 +258,138 @@ module _ (offset : Option ℕ) (text : List ℕ) (how : How) (settings : Represe
   denied Refusals.BadName connection texts = as_it_stood (Refused (code_of Refusals.BadName)) (stands connection)
 
   pub unopened : (connection : NearConnection) (texts : List ReplyText)
-      → answered 425 texts (calm (busy (fetching (fetch offset text how) Replies.Nothing settings came) connection n)) ≡ record (calm (leaving Unopened (stands connection) n)) { owed = [] }
+      → answered 425 texts (calm (busy (fetching op Replies.Nothing settings came) connection n)) ≡ record (calm (leaving Unopened (stands connection) n)) { owed = [] }
   unfolding answered
   unopened connection texts = as_it_stood Unopened (stands connection)
 
--- while the link is open, by the offset
-pub begins_open : (offset : Option ℕ) (text : List ℕ) (how : How) (settings : Representation) (came : List ℕ) (n : Near) (texts : List ReplyText)
-    → answered 150 texts (calm (busy (fetching (fetch offset text how) Replies.Nothing settings came) NearData.Open n))
-    ≡ record (calm (busy (fetching (fetch offset text how) Replies.Begun settings came) NearData.Open n)) { owed = [] }
+-- while the link is open, of an operation that asks for all octets
+pub begins_open : (op : Op (List ℕ)) → count_of op ≡ None → (settings : Representation) (came : List ℕ) (n : Near) (texts : List ReplyText)
+    → answered 150 texts (calm (busy (fetching op Replies.Nothing settings came) NearData.Open n))
+    ≡ record (calm (busy (fetching op Replies.Begun settings came) NearData.Open n)) { owed = [] }
 unfolding answered
-begins_open None text how settings came n texts = refl
-begins_open (Some offset) text how settings came n texts = refl
+begins_open op all settings came n texts =
+    let flow : Flow = Receiving (decoder_of settings came) (mark_in (no_octets settings) None came) in
+    let transfer : ClientTransfer = record { replied = Replies.Begun; abort = Aborts.Unsent; flow = flow } in
+    let v : Near = calm (busy (fetching op Replies.Begun settings came) NearData.Open n) in
+    ap (λ count. answers_once_over (if has_settled count flow then sends_abort op transfer v else v)) all
 
-pub ends_open : (offset : Option ℕ) (text : List ℕ) (how : How) (settings : Representation) (came : List ℕ) (n : Near) (texts : List ReplyText)
-    → answered 226 texts (calm (busy (fetching (fetch offset text how) Replies.Begun settings came) NearData.Open n))
-    ≡ record (calm (busy (fetching (fetch offset text how) (Replies.Final 226) settings came) NearData.Open n)) { owed = [] }
+pub ends_open : (op : Op (List ℕ)) → count_of op ≡ None → (settings : Representation) (came : List ℕ) (n : Near) (texts : List ReplyText)
+    → answered 226 texts (calm (busy (fetching op Replies.Begun settings came) NearData.Open n))
+    ≡ record (calm (busy (fetching op (Replies.Final 226) settings came) NearData.Open n)) { owed = [] }
 unfolding answered
-ends_open None text how settings came n texts = refl
-ends_open (Some offset) text how settings came n texts = refl
+ends_open op all settings came n texts =
+    let flow : Flow = Receiving (decoder_of settings came) (mark_in (no_octets settings) None came) in
+    let transfer : ClientTransfer = record { replied = Replies.Final 226; abort = Aborts.Unsent; flow = flow } in
+    let v : Near = calm (busy (fetching op (Replies.Final 226) settings came) NearData.Open n) in
+    ap (λ count. answers_once_over (if has_settled count flow then sends_abort op transfer v else v)) all
 
 -- ---- the server: REST
 
 -- its session while these octets are to be given
-abbrev pub giving : List ℕ → Far → Session
-giving wire f = record (cleared f) { connection = FarData.Transferring (Transfers.Download wire) }
+abbrev pub giving : Bool → List ℕ → Far → Session
+giving listed wire f = record (cleared f) { connection = FarData.Transferring (giving_of listed wire) }
+
+-- while octets are left nothing more is said; behind the last the transfer is over
+pub giving_on : (listed : Bool) (octet : ℕ) (more : List ℕ) (v : Far) → given_out (FarData.Transferring (giving_of listed (octet ∷ more))) v ≡ v
+giving_on false octet more v = refl
+giving_on true octet more v = refl
+
+pub given_all : (listed : Bool) (v : Far) → given_out (FarData.Transferring (giving_of listed [])) v ≡ replied Texts.Complete (forgotten v.session) v
+given_all false v = refl
+given_all true v = refl
 
 -- what the direct run sees of a steady session
 same_direct : (state : State) (settings : Representation) (n : Near) (f : Far) → IsSteady state settings (kept n f) → direct_of (cleared f) ≡ state
 same_direct state settings n f steady = λ i. record { table = steady.table i; root = steady.root i; cwd = steady.cwd i; known = sym steady.known i }
 
-module _ (read : Reading) (reads : IsReading read) (state : State) (how : How) (n : Near) (f : Far) (steady : IsSteady state how.representation (kept n f))
+module _ (read : Reading) (reads : IsReading read) (state : State) (ask : Ask) (row : HasRow ask) (n : Near) (f : Far) (steady : IsSteady state ask.settings (kept n f))
     (idle : is_connection_busy f.session.connection ≡ false) where
-  rest_decided : (offset : ℕ) (why : Option Refusal) → offset_refusal offset how ≡ why → decides (Commands.Rest offset) f ≡ rests why offset (cleared f)
+  rest_decided : (offset : ℕ) (why : Option Refusal) → offset_refusal offset (how_in_force ask.settings) ≡ why → decides (Commands.Rest offset) f ≡ rests why offset (cleared f)
   rest_decided offset why is =
       decides_known (Commands.Rest offset) f steady.access
       ∙ ap (λ settings. rests (offset_refusal offset (how_in_force settings)) offset (cleared f)) steady.settings_are
       ∙ ap (λ w. rests w offset (cleared f)) is
 
-  pub granted_turn : (offset : ℕ) → offset < 10 ^ 18 → offset_refusal offset how ≡ None
+  pub granted_turn : (offset : ℕ) → offset < 10 ^ 18 → offset_refusal offset (how_in_force ask.settings) ≡ None
       → heard_line (read (line_of (Commands.Rest offset))) (still f)
       ≡ record (still (with_session (record (cleared f) { pending = Pendings.Restart offset }) f)) { owed = row_octets (rest_reply offset ∷ []) }
   granted_turn offset few none =
       far_turn_is read (Commands.Rest offset) f (record (cleared f) { pending = Pendings.Restart offset }) (Kinds.Restarting offset) (rest_reply offset)
       reads tt few refl idle (rest_decided offset None none) idle refl
 
-  pub denied_turn : (offset : ℕ) (why : Refusal) → offset < 10 ^ 18 → offset_refusal offset how ≡ Some why
+  pub denied_turn : (offset : ℕ) (why : Refusal) → offset < 10 ^ 18 → offset_refusal offset (how_in_force ask.settings) ≡ Some why
       → heard_line (read (line_of (Commands.Rest offset))) (still f) ≡ record (still (with_session (cleared f) f)) { owed = row_octets (fixed_reply (refusal_text why) ∷ []) }
   denied_turn offset why few some =
       far_turn_is read (Commands.Rest offset) f (cleared f) (Kinds.Fixed (refusal_text why)) (fixed_reply (refusal_text why))
       reads tt few refl idle (rest_decided offset (Some why) some) idle refl
 
-  -- ---- the server: RETR
+  -- ---- the server: the own command
 
-  module _ (offset : Option ℕ) (text : List ℕ) (path : IsPathText text) (pending : f.session.pending ≡ offset_pending offset) where
-    place_is : (offset : Option ℕ) → place_of (offset_pending offset) (path_of (cleared f) text) (cleared f) ≡ place_in_file state offset text how
-    place_is None = refl
-    place_is (Some offset) =
-        λ i. place_at (same_direct state how.representation n f steady i) (resolved (steady.cwd i) text) (how_in_force (steady.settings_are i)) offset
+  module _ (pending : f.session.pending ≡ offset_pending ask.offset) where
+    own_decided : (why : Option Refusal) → ask.why state ≡ why → decides ask.command f ≡ transfer_starts why (giving_of ask.listed (ask.wire state)) (cleared f)
+    own_decided why is =
+        decides_known ask.command f steady.access
+        ∙ ap (λ p. act f.footing ask.command p (cleared f)) pending
+        ∙ row.acts f.footing (cleared f) steady.settings_are steady.facts
+        ∙ ap (λ s. transfer_starts (ask.why s) (giving_of ask.listed (ask.wire s)) (cleared f)) (same_direct state ask.settings n f steady)
+        ∙ ap (λ w. transfer_starts w (giving_of ask.listed (ask.wire state)) (cleared f)) is
 
-    retr_decided : (why : Option Refusal) → why_not state offset text how ≡ why
-        → decides (Commands.Retr text) f ≡ transfer_starts why (Transfers.Download (fetched_wire state offset text how)) (cleared f)
-    retr_decided why is =
-        let place : place_of f.session.pending (path_of (cleared f) text) (cleared f) ≡ place_in_file state offset text how =
-        ap (λ p. place_of p (path_of (cleared f) text) (cleared f)) pending ∙ place_is offset in
-        decides_known (Commands.Retr text) f steady.access
-        ∙ (λ i. transfer_starts (or_refused (refused_file (same_direct state how.representation n f steady i) text) (refused_there (misplaced (place i))))
-        (Transfers.Download (file_wire (steady.settings_are i) (unwrap_or (place i) 0) (drop (unwrap_or (place i) 0) (file_of (same_direct state how.representation n f steady i) text)))) (cleared f))
-        ∙ ap (λ w. transfer_starts w (Transfers.Download (fetched_wire state offset text how)) (cleared f)) is
-
-    pub refuses_turn : (why : Refusal) → why_not state offset text how ≡ Some why
-        → heard_line (read (line_of (Commands.Retr text))) (still f) ≡ record (still (with_session (forgotten (cleared f)) f)) { owed = row_octets (fixed_reply (refusal_text why) ∷ []) }
+    pub refuses_turn : (why : Refusal) → ask.why state ≡ Some why
+        → heard_line (read (line_of ask.command)) (still f) ≡ record (still (with_session (forgotten (cleared f)) f)) { owed = row_octets (fixed_reply (refusal_text why) ∷ []) }
     refuses_turn why is =
-        far_turn_is read (Commands.Retr text) f (forgotten (cleared f)) (Kinds.Fixed (refusal_text why)) (fixed_reply (refusal_text why))
-        reads tt path refl idle (retr_decided (Some why) is) refl refl
+        far_turn_is read ask.command f (forgotten (cleared f)) (Kinds.Fixed (refusal_text why)) (fixed_reply (refusal_text why))
+        reads row.typed row.stated row.other idle (own_decided (Some why) is) refl refl
 
-    pub unopens_turn : why_not state offset text how ≡ None → f.session.connection ≡ FarData.Free
-        → heard_line (read (line_of (Commands.Retr text))) (still f) ≡ record (still (with_session (cleared f) f)) { owed = row_octets (fixed_reply Texts.NoConnection ∷ []) }
+    pub unopens_turn : ask.why state ≡ None → f.session.connection ≡ FarData.Free
+        → heard_line (read (line_of ask.command)) (still f) ≡ record (still (with_session (cleared f) f)) { owed = row_octets (fixed_reply Texts.NoConnection ∷ []) }
     unopens_turn none free =
-        far_turn_is read (Commands.Retr text) f (cleared f) (Kinds.Fixed Texts.NoConnection) (fixed_reply Texts.NoConnection)
-        reads tt path refl idle
-        (retr_decided None none ∙ ap (λ c. begin c (Transfers.Download (fetched_wire state offset text how)) (cleared f)) free) idle refl
+        far_turn_is read ask.command f (cleared f) (Kinds.Fixed Texts.NoConnection) (fixed_reply Texts.NoConnection)
+        reads row.typed row.stated row.other idle
+        (own_decided None none ∙ ap (λ c. begin c (giving_of ask.listed (ask.wire state)) (cleared f)) free) idle refl
 
-    begins_by : why_not state offset text how ≡ None → f.session.connection ≡ FarData.Ready
-        → heard_line (read (line_of (Commands.Retr text))) (still f)
-        ≡ given_out (FarData.Transferring (Transfers.Download (fetched_wire state offset text how))) (turned (giving (fetched_wire state offset text how) f, Kinds.Fixed Texts.Opens) (still f))
+    begins_by : ask.why state ≡ None → f.session.connection ≡ FarData.Ready
+        → heard_line (read (line_of ask.command)) (still f)
+        ≡ given_out (FarData.Transferring (giving_of ask.listed (ask.wire state))) (turned (giving ask.listed (ask.wire state) f, Kinds.Fixed Texts.Opens) (still f))
     begins_by none ready =
-        far_hears read (Commands.Retr text) f (giving (fetched_wire state offset text how) f, Kinds.Fixed Texts.Opens) reads tt path refl idle
-        (retr_decided None none ∙ ap (λ c. begin c (Transfers.Download (fetched_wire state offset text how)) (cleared f)) ready)
+        far_hears read ask.command f (giving ask.listed (ask.wire state) f, Kinds.Fixed Texts.Opens) reads row.typed row.stated row.other idle
+        (own_decided None none ∙ ap (λ c. begin c (giving_of ask.listed (ask.wire state)) (cleared f)) ready)
 
-    pub gives_turn : (octet : ℕ) (more : List ℕ) → why_not state offset text how ≡ None → f.session.connection ≡ FarData.Ready → fetched_wire state offset text how ≡ octet ∷ more
-        → heard_line (read (line_of (Commands.Retr text))) (still f) ≡ record (still (with_session (giving (octet ∷ more) f) f)) { owed = row_octets (fixed_reply Texts.Opens ∷ []) }
+    pub gives_turn : (octet : ℕ) (more : List ℕ) → ask.why state ≡ None → f.session.connection ≡ FarData.Ready → ask.wire state ≡ octet ∷ more
+        → heard_line (read (line_of ask.command)) (still f) ≡ record (still (with_session (giving ask.listed (octet ∷ more) f) f)) { owed = row_octets (fixed_reply Texts.Opens ∷ []) }
     gives_turn octet more none ready some =
         begins_by none ready
-        ∙ ap (λ l. given_out (FarData.Transferring (Transfers.Download l)) (turned (giving l f, Kinds.Fixed Texts.Opens) (still f))) some
-        ∙ ap (λ l. record (still (with_session (giving (octet ∷ more) f) f)) { owed = l }) (sym (append-nil _))
+        ∙ ap (λ l. given_out (FarData.Transferring (giving_of ask.listed l)) (turned (giving ask.listed l f, Kinds.Fixed Texts.Opens) (still f))) some
+        ∙ giving_on ask.listed octet more (turned (giving ask.listed (octet ∷ more) f, Kinds.Fixed Texts.Opens) (still f))
+        ∙ ap (λ l. record (still (with_session (giving ask.listed (octet ∷ more) f) f)) { owed = l }) (sym (append-nil _))
 
-    pub gave_turn : why_not state offset text how ≡ None → f.session.connection ≡ FarData.Ready → fetched_wire state offset text how ≡ []
-        → heard_line (read (line_of (Commands.Retr text))) (still f)
-        ≡ record (still (with_session (forgotten (giving [] f)) f)) { owed = row_octets (fixed_reply Texts.Opens ∷ fixed_reply Texts.Complete ∷ []) }
+    pub gave_turn : ask.why state ≡ None → f.session.connection ≡ FarData.Ready → ask.wire state ≡ []
+        → heard_line (read (line_of ask.command)) (still f)
+        ≡ record (still (with_session (forgotten (giving ask.listed [] f)) f)) { owed = row_octets (fixed_reply Texts.Opens ∷ fixed_reply Texts.Complete ∷ []) }
     gave_turn none ready empty =
         begins_by none ready
-        ∙ ap (λ l. given_out (FarData.Transferring (Transfers.Download l)) (turned (giving l f, Kinds.Fixed Texts.Opens) (still f))) empty
-        ∙ ap (λ l. record (still (with_session (forgotten (giving [] f)) f)) { owed = reply_octets (fixed_reply Texts.Opens) ++ l }) (sym (append-nil _))
+        ∙ ap (λ l. given_out (FarData.Transferring (giving_of ask.listed l)) (turned (giving ask.listed l f, Kinds.Fixed Texts.Opens) (still f))) empty
+        ∙ given_all ask.listed (turned (giving ask.listed [] f, Kinds.Fixed Texts.Opens) (still f))
+        ∙ ap (λ l. record (still (with_session (forgotten (giving ask.listed [] f)) f)) { owed = reply_octets (fixed_reply Texts.Opens) ++ l }) (sym (append-nil _))
+
+-- ---- downloads
+
+-- RETR behind a REST, or behind none
+place_is : (offset : Option ℕ) (text : List ℕ) (how : How) (s : Session) → s.settings ≡ how.representation
+    → place_of (offset_pending offset) (path_of s text) s ≡ place_in_file (direct_of s) offset text how
+place_is None text how s set = refl
+place_is (Some offset) text how s set = ap (λ settings. place_at (direct_of s) (resolved s.cwd text) (how_in_force settings) offset) set
+
+pub download_plan : (offset : Option ℕ) (text : List ℕ) (how : How) → HasPlan (download_ask offset text how)
+download_plan None text how = record { how_is = refl; asks = refl; offset_is = refl; own = refl; flow = refl; all = refl }
+download_plan (Some at) text how = record { how_is = refl; asks = refl; offset_is = refl; own = refl; flow = refl; all = refl }
+
+pub download_row : (offset : Option ℕ) (text : List ℕ) (how : How) → IsPathText text → ((at : ℕ) → offset ≡ Some at → at < 10 ^ 18) → HasRow (download_ask offset text how)
+download_row offset text how path few = record {
+  typed = tt;
+  stated = path;
+  other = refl;
+  few = few;
+  acts = λ footing s set facts. λ i.
+      transfer_starts (or_refused (refused_file (direct_of s) text) (refused_there (misplaced (place_is offset text how s set i))))
+      (Transfers.Download (file_wire (set i) (unwrap_or (place_is offset text how s set i) 0) (drop (unwrap_or (place_is offset text how s set i) 0) (file_of (direct_of s) text)))) s;
+}

@@ -1,35 +1,43 @@
--- A download over a passive data connection, Get or GetFrom: what both ends hold while it is under way (RFC 959, sections 3.2 to 3.5 and
--- 4.1.2; RFC 2428; RFC 3659, section 5).
-use Rattle.std.specs.Prelude.{◌≡◌, ◌⊎◌, ℕ, Bool, true, false, drop, List, [], ◌++◌, codes, decimal, Option, Some, None, if◌then◌else◌}
+-- A download or a listing over a passive data connection: what both ends hold while it is under way (RFC 959, sections 3.2 to 3.5 and
+-- 4.1.2; RFC 2428; RFC 3659, sections 5 and 7).
+use Rattle.std.specs.Prelude.{◌≡◌, ◌⊎◌, ℕ, ◌<◌, ◌^◌, Bool, true, false, drop, List, [], ◌++◌, codes, decimal, Option, Some, None, if◌then◌else◌}
 use Rattle.std.specs.Option.{unwrap_or}
+use Rattle.ftp_command.specs.Line.{IsStated, IsTyped}
 use Rattle.ftp_command.specs.declared.command.Command.{Command}
 use Rattle.ftp_command.specs.declared.command.Command.TheVariants as Commands
 use Rattle.ftp_endpoint.specs.Written.{IsTypedHost}
 use Rattle.ftp_endpoint.specs.declared.host.Host.{Host}
 use Rattle.ftp_decoder.specs.Decoder.{no_octets, decoder_of}
 use Rattle.ftp_ends.specs.Reply.{Reply, reply_of}
+use Rattle.ftp_operation.specs.Answer.{Said, Octets}
+use Rattle.ftp_operation.specs.Operation.{can_be_sent}
 use Rattle.ftp_operation.specs.declared.op.How.{How}
 use Rattle.ftp_operation.specs.declared.op.Op.{Op}
 use Rattle.ftp_operation.specs.declared.op.Op.TheVariants as Ops
 use Rattle.ftp_path.specs.Path.{Names}
+use Rattle.ftp_representation.specs.Representation.{has_markers}
 use Rattle.ftp_representation.specs.declared.representation.Representation.{Representation}
 use Rattle.ftp_tree.specs.Tree.{Table}
 use Rattle.ftp_direct.specs.declared.refusal.Refusal.{Refusal}
-use Rattle.ftp_direct.specs.Direct.{State, file_of, named, or_refused, place_at, refused_file, refused_there}
-use Rattle.ftp_client_machine.specs.Plan.{is_extended}
+use Rattle.ftp_direct.specs.Direct.{State, done, file_of, named, offset_refusal, or_refused, place_at, refusal, refused_file, refused_there}
+use Rattle.ftp_client_machine.specs.Dialogue.{judged}
+use Rattle.ftp_client_machine.specs.Octets.{download_flow, flow_of, written}
+use Rattle.ftp_client_machine.specs.Plan.{asked_settings, count_of, how_of, is_extended, offset_of, own_command}
 use Rattle.ftp_client_machine.specs.View.{View as Near, Job, Doing, Transferring, Told, Receiving}
 use Rattle.ftp_client_machine.specs.declared.client.Abort.TheVariants as Aborts
 use Rattle.ftp_client_machine.specs.declared.client.DataConnection.{DataConnection as NearConnection}
 use Rattle.ftp_client_machine.specs.declared.client.DataConnection.TheVariants as NearData
+use Rattle.ftp_client_machine.specs.declared.client.Ending.TheVariants as Endings
 use Rattle.ftp_client_machine.specs.declared.client.Replied.{Replied}
 use Rattle.ftp_client_machine.specs.declared.client.Replied.TheVariants as Replies
 use Rattle.ftp_client_machine.specs.declared.client.Standing.TheVariants as Standings
 use Rattle.ftp_client_machine.specs.declared.client.Step.TheVariants as Steps
-use Rattle.ftp_operation.specs.Answer.{Said}
-use Rattle.ftp_server_machine.specs.Act.{is_in}
+use Rattle.ftp_server_machine.specs.Act.{act, is_in}
+use Rattle.ftp_server_machine.specs.Machine.{is_abor}
 use Rattle.ftp_server_machine.specs.Replies.{extended_text, passive_text}
-use Rattle.ftp_server_machine.specs.Transfer.{file_wire, misplaced}
-use Rattle.ftp_server_machine.specs.View.{View as Far, Session, Transfer, all_facts}
+use Rattle.ftp_server_machine.specs.Transfer.{file_wire, misplaced, transfer_starts}
+use Rattle.ftp_server_machine.specs.View.{View as Far, Footing, Session, Transfer, all_facts, direct_of, how_in_force}
+use Rattle.ftp_server_machine.specs.declared.heard.Heard.TheVariants.{Asks}
 use Rattle.ftp_server_machine.specs.declared.session.Access.{Access}
 use Rattle.ftp_server_machine.specs.declared.session.Asked.{Asked}
 use Rattle.ftp_server_machine.specs.declared.session.Asked.TheVariants as Asking
@@ -39,10 +47,11 @@ use Rattle.ftp_server_machine.specs.declared.session.Facts.{Facts}
 use Rattle.ftp_server_machine.specs.declared.session.Life.TheVariants as Lives
 use Rattle.ftp_server_machine.specs.declared.session.Pending.{Pending}
 use Rattle.ftp_server_machine.specs.declared.session.Pending.TheVariants as Pendings
-use Rattle.ftp_world.specs.Outcome.{mark_in}
-use Rattle.ftp_dialogues.specs.Dialogue.{HasNoTransfer}
+use Rattle.ftp_server_machine.specs.declared.session.Transfer.TheVariants as Transfers
+use Rattle.ftp_world.specs.Outcome.{download_of, fetched, mark_in, upload_of}
+use Rattle.ftp_dialogues.specs.Dialogue.{HasNoTransfer, IsSound}
 
--- ---- the operation
+-- ---- what is asked for
 
 -- the client opens its link
 abbrev pub IsPassive : How → Type 0
@@ -54,14 +63,18 @@ IsFetch (Ops.Get text how) = IsPassive how
 IsFetch (Ops.GetFrom text offset how) = IsPassive how
 IsFetch other = ⊥
 
--- an operation that is a dialogue alone: it has no transfer, or is refused before its link is asked for, as nobody is logged in
-abbrev pub IsDialogue : State → Op (List ℕ) → Type 0
-IsDialogue state op = HasNoTransfer op ⊎ (IsFetch op × (state.known ≡ false))
-
--- both in one, by the offset
-abbrev pub fetch : Option ℕ → List ℕ → How → Op (List ℕ)
-fetch None text how = Ops.Get text how
-fetch (Some offset) text how = Ops.GetFrom text offset how
+-- what an operation asks for whose octets come to the client: how its link is opened, the settings that it goes in, the offset of REST,
+-- its own command, why the server refuses that, whether the octets are those of a listing, the octets, and the answer where they come whole
+pub record Ask : Type 0 where
+  pub op : Op (List ℕ)
+  pub how : How
+  pub settings : Representation
+  pub offset : Option ℕ
+  pub command : Command (List ℕ)
+  pub why : State → Option Refusal
+  pub listed : Bool
+  pub wire : State → List ℕ
+  pub said : State → Said
 
 -- ---- the client
 
@@ -78,15 +91,15 @@ fetching op replied settings came =
 abbrev pub leaving : Said → Bool → Near → Near
 leaving said closing n = record n { standing = Standings.Entered; job = Told said; run = None; connection = NearData.Free; closing = closing }
 
--- the first job and the first command behind the opening: REST where there is an offset, else RETR
-abbrev pub opened_job : Option ℕ → List ℕ → How → Job
-opened_job None text how = fetching (fetch None text how) Replies.Nothing how.representation []
-opened_job (Some offset) text how = Doing (fetch (Some offset) text how) Steps.Restart
+-- the first job and the first command behind the opening: REST where there is an offset, else the own command
+abbrev pub opened_job : Option ℕ → Ask → Job
+opened_job None ask = fetching ask.op Replies.Nothing ask.settings []
+opened_job (Some offset) ask = Doing ask.op Steps.Restart
 
 -- the command of that job
-abbrev pub opened_command : Option ℕ → List ℕ → Command (List ℕ)
-opened_command None text = Commands.Retr text
-opened_command (Some offset) text = Commands.Rest offset
+abbrev pub opened_command : Option ℕ → Ask → Command (List ℕ)
+opened_command None ask = ask.command
+opened_command (Some offset) ask = Commands.Rest offset
 
 -- ---- the server
 
@@ -107,7 +120,12 @@ port_reply false host port = reply_of 227 (passive_text (record { host = host; p
 abbrev pub rest_reply : ℕ → Reply
 rest_reply offset = reply_of 350 (codes "Restarting at " ++ decimal offset)
 
--- what REST left for RETR
+-- octets that are still to be given, of a file or of a listing
+abbrev pub giving_of : Bool → List ℕ → Transfer
+giving_of false octets = Transfers.Download octets
+giving_of true octets = Transfers.Listing octets
+
+-- what REST left for the own command
 abbrev pub offset_pending : Option ℕ → Pending Names
 offset_pending None = Pendings.Nothing
 offset_pending (Some offset) = Pendings.Restart offset
@@ -168,7 +186,12 @@ pub record PortIsAsked (state : State) (op : Op (List ℕ)) (settings : Represen
   pub session : f.session ≡ linked (FarData.Asked (asked_of (is_extended n op))) closing Pendings.Nothing f.session
   pub steady : IsSteady state settings (kept n f)
 
--- ---- what is sent, and why nothing is
+-- ---- downloads: what is sent, and why nothing is
+
+-- both in one, by the offset
+abbrev pub fetch : Option ℕ → List ℕ → How → Op (List ℕ)
+fetch None text how = Ops.Get text how
+fetch (Some offset) text how = Ops.GetFrom text offset how
 
 -- where a download begins in its file, if there is such a place
 abbrev pub place_in_file : State → Option ℕ → List ℕ → How → Option ℕ
@@ -179,10 +202,88 @@ place_in_file state (Some offset) text how = place_at state (named state text) h
 abbrev pub why_not : State → Option ℕ → List ℕ → How → Option Refusal
 why_not state offset text how = or_refused (refused_file state text) (refused_there (misplaced (place_in_file state offset text how)))
 
--- the octets of the link
-abbrev pub wire_from : State → List ℕ → How → ℕ → List ℕ
-wire_from state text how place = file_wire how.representation place (drop place (file_of state text))
+-- what is asked for, from the place where the download begins
+abbrev pub content_from : State → Option ℕ → List ℕ → How → List ℕ
+content_from state offset text how = drop (unwrap_or (place_in_file state offset text how) 0) (file_of state text)
 
--- from the place where the download begins
+-- the octets of the link
 abbrev pub fetched_wire : State → Option ℕ → List ℕ → How → List ℕ
-fetched_wire state offset text how = wire_from state text how (unwrap_or (place_in_file state offset text how) 0)
+fetched_wire state offset text how = file_wire how.representation (unwrap_or (place_in_file state offset text how) 0) (content_from state offset text how)
+
+-- a download as what is asked for
+abbrev pub download_ask : Option ℕ → List ℕ → How → Ask
+download_ask offset text how = record {
+  op = fetch offset text how;
+  how = how;
+  settings = how.representation;
+  offset = offset;
+  command = Commands.Retr text;
+  why = λ state. why_not state offset text how;
+  listed = false;
+  wire = λ state. fetched_wire state offset text how;
+  said = λ state. Octets (content_from state offset text how);
+}
+
+-- ---- what is so of what is asked for
+
+-- the client plans it so
+pub record HasPlan (ask : Ask) : Type 0 where
+  pub how_is : how_of ask.op ≡ Some ask.how
+  pub asks : asked_settings ask.op ≡ Some ask.settings
+  pub offset_is : offset_of ask.op ≡ ask.offset
+  pub own : own_command ask.op ≡ ask.command
+  pub flow : flow_of ask.op ≡ Some (download_flow ask.settings)
+  pub all : count_of ask.op ≡ None
+
+-- the server reads its commands, and acts on the own one so in these settings
+pub record HasRow (ask : Ask) : Type 0 where
+  pub typed : IsTyped ask.command
+  pub stated : IsStated ask.command
+  pub other : is_abor (Asks ask.command) ≡ false
+  pub few : (at : ℕ) → ask.offset ≡ Some at → at < 10 ^ 18
+  pub acts : (footing : Footing) (s : Session) → s.settings ≡ ask.settings → s.facts ≡ all_facts
+      → act footing ask.command (offset_pending ask.offset) s ≡ transfer_starts (ask.why (direct_of s)) (giving_of ask.listed (ask.wire (direct_of s))) s
+
+-- REST is not refused
+abbrev pub IsPlacedAt : Representation → Option ℕ → Type 0
+IsPlacedAt settings None = Unit {0}
+IsPlacedAt settings (Some at) = offset_refusal at (how_in_force settings) ≡ None
+
+-- its octets are the one text of a download that the world knows
+pub record IsKnownText (ask : Ask) (state : State) : Type 0 where
+  pub start : ℕ
+  pub octets : List ℕ
+  pub down : download_of state ask.op ≡ Some (fetched ask.settings start octets)
+  pub text : written (has_markers ask.settings) ask.settings start octets ≡ ask.wire state
+
+-- the direct run refuses it or answers so, and the client reads that answer out of the whole octets
+pub record HasAnswer (ask : Ask) : Type 0 where
+  pub can : can_be_sent ask.op ≡ true
+  pub refused : (state : State) → IsPlacedAt ask.settings ask.offset → refusal state ask.op ≡ ask.why state
+  pub unplaced : (state : State) (at : ℕ) (why : Refusal) → ask.offset ≡ Some at → offset_refusal at (how_in_force ask.settings) ≡ Some why
+      → refusal state ask.op ≡ Some why
+  pub done_so : (state : State) (moment : ℕ) → done state ask.op moment ≡ (ask.said state, state)
+  pub whole : (state : State) (mark : Option ℕ) → IsSound state → state.known ≡ true → ask.why state ≡ None
+      → judged Endings.Clean Aborts.Unsent 226 ask.op (Receiving (decoder_of ask.settings (ask.wire state)) mark) ≡ Some (ask.said state)
+  pub no_upload : (state : State) → upload_of state ask.op ≡ None
+  pub sent_so : (state : State) → ask.why state ≡ None → IsKnownText ask state
+
+-- all of these
+pub record IsAsk (ask : Ask) : Type 0 where
+  pub plan : HasPlan ask
+  pub row : HasRow ask
+  pub answer : HasAnswer ask
+
+-- ---- operations that are dialogues alone
+
+-- what is asked for over such a link is refused before the link is asked for, as nobody is logged in
+pub record IsUnknown (state : State) (op : Op (List ℕ)) : Type 0 where
+  pub ask : Ask
+  pub plan : HasPlan ask
+  pub passive : IsPassive ask.how
+  pub op_is : op ≡ ask.op
+  pub unknown : state.known ≡ false
+
+-- it has no transfer, or is refused so
+abbrev pub IsDialogue : State → Op (List ℕ) → Type 0
+IsDialogue state op = HasNoTransfer op ⊎ IsUnknown state op
