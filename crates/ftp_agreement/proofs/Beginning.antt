@@ -1,6 +1,7 @@
 -- A fair beginning is a login with no operation, from a sound state.
 use Rattle.std.proofs.Common.{◌≡◌, inl, ℕ, ◌+◌, ◌≤◌, Bool, true, false, not, ◌&&◌, ◌||◌, List, [], ◌∷◌, ◌++◌, length, Option, Some, None, refl, sym, ap, subst, ◌∙◌, append-nil, arith, cond}
-use Rattle.std.specs.Prelude.{IsTrue, nat_le, is_none, if◌then◌else◌}
+use Rattle.std.specs.Prelude.{IsTrue, IsSome, nat_le, is_none, is_some, if◌then◌else◌}
+use Rattle.std.proofs.lemmas.List.Folds.{list_all-append}
 use Rattle.std.specs.FinMap as fin
 use Rattle.std.specs.FinMap.Entries.{find as find_entry}
 use Rattle.std.specs.List.{find, list_all, list_any, sum_by}
@@ -14,10 +15,10 @@ use Rattle.ftp_ends.specs.Reply.{reply_octets}
 use Rattle.ftp_login.specs.Login.{is_login_octet}
 use Rattle.ftp_operation.specs.Account.{Account, has_user, are_distinct, are_apart, accounts_refusal, passes, knows, login_root, is_user, is_password}
 use Rattle.ftp_operation.specs.declared.account.AccountsFault.TheVariants.{SameUser, NestedRoots}
-use Rattle.ftp_path.specs.Path.{Names, fits, path_cmp, text_of}
+use Rattle.ftp_path.specs.Path.{Names, fits, is_name, path_cmp, text_of}
 use Rattle.ftp_tree.specs.Sound.{is_sound_entry, is_sound_node, last_second}
 use Rattle.ftp_tree.specs.Tree.{Node, Dir, File, Table, IsTree, node_at, octets_in, length_of, total_limit}
-use Rattle.ftp_tree.proofs.LawLemmas.{get-node, under-stands}
+use Rattle.ftp_tree.proofs.LawLemmas.{get-node, same, under-stands}
 use Rattle.ftp_tree.proofs.PartLemmas.{parts-trees}
 use Rattle.ftp_direct.specs.Direct.{start as direct_start, is_directory, part}
 use Rattle.ftp_server_machine.specs.Login.{is_open, open_root}
@@ -146,6 +147,14 @@ short_file table path octets moment few is =
     let short = short_entry path (fin.entries table) octets moment (get-node table path ∙ is) in
     omega (arith, short, few)
 
+named_entry : (path : Names) (rows : List (Names × Node)) → list_all is_sound_entry rows ≡ true → IsSome (find_entry path_cmp path rows) → list_all is_name path ≡ true
+named_entry path [] all some = absurd (cc)
+named_entry path (row ∷ rows) all some =
+    let both = and_parts (is_sound_entry row) (list_all is_sound_entry rows) all in
+    by_bool (eq_by_cmp path_cmp path row.0)
+    (λ e. ap (list_all is_name) (same path row.0 e) ∙ (and_parts (list_all is_name row.0) (is_sound_node row.1) both.0).0)
+    (λ e. named_entry path rows both.1 (sym (ap (λ b. is_some (cond b (Some row.1) (find_entry path_cmp path rows))) e) ∙ some))
+
 root_is_path : is_path [] ≡ true
 unfolding fits text_of
 root_is_path = refl
@@ -155,6 +164,8 @@ sound_start : (table : Table) (root : Option Names) → IsTree table → list_al
 sound_start table None tree all few = record {
   cwd = root_is_path;
   tree = λ known. absurd (cc);
+  here = λ known. absurd (cc);
+  names = λ path some. named_entry path (fin.entries table) all (ap is_some (get-node table path ∙ sym (under-stands table [] path)) ∙ some);
   files = λ path octets moment is. (
     early_entry path (fin.entries table) octets moment all (get-node table path ∙ sym (under-stands table [] path) ∙ is),
     short_file (part (direct_start table None)) path octets moment few is,
@@ -163,6 +174,10 @@ sound_start table None tree all few = record {
 sound_start table (Some root) tree all few = record {
   cwd = root_is_path;
   tree = λ known. parts-trees.taking table root tree (a_directory (node_at table root) known);
+  here = λ known. (parts-trees.taking table root tree (a_directory (node_at table root) known)).root;
+  names = λ path some.
+      let whole = named_entry (root ++ path) (fin.entries table) all (ap is_some (get-node table (root ++ path) ∙ sym (under-stands table root path)) ∙ some) in
+      (and_parts (list_all is_name root) (list_all is_name path) (sym (list_all-append is_name root path) ∙ whole)).1;
   files = λ path octets moment is. (
     early_entry (root ++ path) (fin.entries table) octets moment all (get-node table (root ++ path) ∙ sym (under-stands table root path) ∙ is),
     short_file (part (direct_start table (Some root))) path octets moment few is,

@@ -1,13 +1,14 @@
 -- An operation without a transfer: what both ends hold while it is under way, and what it leads to. No data connection stands or is
 -- wanted.
-use Rattle.std.specs.Prelude.{◌≡◌, ◌⊎◌, ℕ, ◌≤◌, Bool, true, false, List, length, Some, None, IsTrue}
+use Rattle.std.specs.Prelude.{◌≡◌, ◌⊎◌, ℕ, ◌≤◌, Bool, true, false, List, length, Some, None, IsTrue, IsSome}
+use Rattle.std.specs.List.{list_all}
 use Rattle.ftp_endpoint.specs.Written.{IsTypedHost}
 use Rattle.ftp_operation.specs.Answer.{Said}
 use Rattle.ftp_operation.specs.declared.op.Op.{Op}
-use Rattle.ftp_path.specs.Path.{Names}
+use Rattle.ftp_path.specs.Path.{Names, is_name}
 use Rattle.ftp_direct.specs.Direct.{State, part}
 use Rattle.ftp_tree.specs.Sound.{last_second}
-use Rattle.ftp_tree.specs.Tree.{Table, File, IsTree, node_at, total_limit}
+use Rattle.ftp_tree.specs.Tree.{Table, Dir, File, IsTree, node_at, total_limit}
 use Rattle.ftp_client_machine.specs.Calls.{is_sound, is_busy_job, report_of}
 use Rattle.ftp_client_machine.specs.Plan.{how_of}
 use Rattle.ftp_client_machine.specs.View.{View as Near, Idle, Doing, Told}
@@ -95,11 +96,13 @@ pub record Ends (result : Said × State) (n : Near) (f : Far) : Type 0 where
 abbrev pub IsFine : List ℕ → ℕ → Type 0
 IsFine octets moment = (moment ≤ last_second) × (length octets ≤ total_limit)
 
--- the current directory is a path, and what the account sees is a tree of such files
+-- the current directory is a path at which a directory stands, and what the account sees is a tree of names and of such files
 pub record IsSound (state : State) : Type 0 where
   pub cwd : IsTrue (is_path state.cwd)
+  pub here : state.known ≡ true → node_at (part state) state.cwd ≡ Some Dir
   pub tree : state.known ≡ true → IsTree (part state)
   pub files : (path : Names) (octets : List ℕ) (moment : ℕ) → node_at (part state) path ≡ Some (File octets moment) → IsFine octets moment
+  pub names : (path : Names) → IsSome (node_at (part state) path) → IsTrue (list_all is_name path)
 
 -- ---- the operations
 
