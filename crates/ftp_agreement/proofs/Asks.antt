@@ -3,8 +3,9 @@ use Rattle.std.proofs.Common.{◌≡◌, ℕ, true, List, Some, None, refl}
 use Rattle.ftp_operation.specs.Operation.{can_be_sent}
 use Rattle.ftp_operation.specs.declared.op.Op.{Op}
 use Rattle.ftp_operation.specs.declared.op.Op.TheVariants as Ops
-use Rattle.ftp_dialogues.specs.Fetches.{Ask, IsAsk, IsFetch, IsPassive, download_ask}
+use Rattle.ftp_dialogues.specs.Fetches.{Ask, IsAsk, IsFetch, IsPassive, download_ask, list_ask, names_ask}
 use Rattle.ftp_agreement.proofs.Downloads.{download_is_ask}
+use Rattle.ftp_dialogues.proofs.Listings.{list_is_ask, names_is_ask}
 
 -- an operation as what it asks for
 pub record IsAskOf (op : Op (List ℕ)) : Type 0 where
@@ -31,5 +32,5 @@ ask_of (Ops.Peek text count how) passive can = absurd passive
 ask_of (Ops.Size text how) passive can = absurd passive
 ask_of (Ops.Modified text) passive can = absurd passive
 ask_of (Ops.Facts text) passive can = absurd passive
-ask_of (Ops.List text how) passive can = absurd passive
-ask_of (Ops.Names text how) passive can = absurd passive
+ask_of (Ops.List text how) passive can = record { ask = list_ask text how; good = list_is_ask text how can; passive = passive; op_is = refl }
+ask_of (Ops.Names text how) passive can = record { ask = names_ask text how; good = names_is_ask text how can; passive = passive; op_is = refl }

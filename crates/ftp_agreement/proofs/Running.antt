@@ -1,4 +1,4 @@
--- Every event keeps what follows of operations without a transfer and of passive downloads, and so every list of them.
+-- Every event keeps what follows of operations without a transfer and of passive downloads and listings, and so every list of them.
 use Rattle.std.proofs.Common.{◌≡◌, ◌⊎◌, inl, inr, ℕ, ◌==◌, List, [], ◌∷◌, ◌++◌, Bool, true, false, not, ◌&&◌, refl, sym, ap, subst, ◌∙◌, append-nil, append_assoc}
 use Rattle.std.specs.Prelude.{IsTrue}
 use Rattle.std.proofs.lemmas.Bool.{and_parts}

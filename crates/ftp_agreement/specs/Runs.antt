@@ -1,4 +1,4 @@
--- What holds after every event of a list whose operations have no transfer or are downloads over passive data connections.
+-- What holds after every event of a list whose operations have no transfer or are downloads or listings over passive data connections.
 use Rattle.std.specs.Prelude.{◌≡◌, ◌⊎◌, ℕ, true, false, List, [], ◌∷◌, ◌++◌, None}
 use Rattle.ftp_operation.specs.Answer.{Said}
 use Rattle.ftp_representation.specs.declared.representation.Representation.{Representation}

@@ -15,3 +15,5 @@ pub mod Commuting
 pub mod PortTexts
 pub mod Fetching
 pub mod Refusing
+pub mod ListingTexts
+pub mod Listings

@@ -70,11 +70,11 @@ size_short count = by_number (is_number count) refl
 -- ---- the line of an entry says it
 
 -- its node, if it is a file, has a moment
-abbrev IsEarly : Node → Type 0
+abbrev pub IsEarly : Node → Type 0
 IsEarly Dir = Unit {0}
 IsEarly (File octets moment) = moment ≤ last_second
 
-line-reads : (path : Names) (node : Node) (name : List ℕ) → IsPathText name → IsEarly node → entry_value (listed_line all_facts (listed name path node)) ≡ Some (listed name path node)
+pub line-reads : (path : Names) (node : Node) (name : List ℕ) → IsPathText name → IsEarly node → entry_value (listed_line all_facts (listed name path node)) ≡ Some (listed name path node)
 line-reads path Dir name is early =
     let entry : Entry ℕ = record {
       name = name;
@@ -108,7 +108,7 @@ line-reads path (File octets moment) name is early =
 abbrev pub told_path : State → List ℕ → Names
 told_path state text = named_or_here state text
 
-early-at : (state : State) (path : Names) → IsSound state → IsEarly (unwrap_or (node_at (part state) path) Dir)
+pub early-at : (state : State) (path : Names) → IsSound state → IsEarly (unwrap_or (node_at (part state) path) Dir)
 early-at state path sound = by_node (node_at (part state) path) refl
   where
     by_node : (node : Option Node) → node_at (part state) path ≡ node → IsEarly (unwrap_or node Dir)
@@ -143,10 +143,10 @@ facts_accepts text state moment n f sound stands known is =
     })
 
 -- a text that is not empty is sent as it is
-not_empty : (c : ℕ) (text : List ℕ) → (length (c ∷ text) == 0) ≡ false
+pub not_empty : (c : ℕ) (text : List ℕ) → (length (c ∷ text) == 0) ≡ false
 not_empty c text = ne_eqb (length (c ∷ text)) 0 (λ e. absurd (omega (arith, e)))
 
-is_sent : (c : ℕ) (text : List ℕ) → can_be_sent (Ops.Facts (c ∷ text)) ≡ true → IsPathText (c ∷ text)
+pub is_sent : (c : ℕ) (text : List ℕ) → can_be_sent (Ops.Facts (c ∷ text)) ≡ true → IsPathText (c ∷ text)
 is_sent c text can = ap (λ b. b || is_path_text (c ∷ text)) (sym (not_empty c text)) ∙ can
 
 -- where MLST leads is a path
@@ -163,7 +163,7 @@ facts_row : (text : List ℕ) (s : Session) → unless (refusal (direct_of s) (O
 facts_row [] s = refl
 facts_row (c ∷ text) s = refl
 
-stated : (text : List ℕ) → can_be_sent (Ops.Facts text) ≡ true → IfGiven IsPathText (optional text)
+pub stated : (text : List ℕ) → can_be_sent (Ops.Facts text) ≡ true → IfGiven IsPathText (optional text)
 stated [] can = tt
 stated (c ∷ text) can = is_sent c text can
 

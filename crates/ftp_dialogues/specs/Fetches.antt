@@ -9,7 +9,7 @@ use Rattle.ftp_endpoint.specs.Written.{IsTypedHost}
 use Rattle.ftp_endpoint.specs.declared.host.Host.{Host}
 use Rattle.ftp_decoder.specs.Decoder.{no_octets, decoder_of}
 use Rattle.ftp_ends.specs.Reply.{Reply, reply_of}
-use Rattle.ftp_operation.specs.Answer.{Said, Octets}
+use Rattle.ftp_operation.specs.Answer.{Said, Octets, Entries, Names as NameList}
 use Rattle.ftp_operation.specs.Operation.{can_be_sent}
 use Rattle.ftp_operation.specs.declared.op.How.{How}
 use Rattle.ftp_operation.specs.declared.op.Op.{Op}
@@ -19,10 +19,10 @@ use Rattle.ftp_representation.specs.Representation.{has_markers}
 use Rattle.ftp_representation.specs.declared.representation.Representation.{Representation}
 use Rattle.ftp_tree.specs.Tree.{Table}
 use Rattle.ftp_direct.specs.declared.refusal.Refusal.{Refusal}
-use Rattle.ftp_direct.specs.Direct.{State, done, file_of, named, offset_refusal, or_refused, place_at, refusal, refused_file, refused_there}
+use Rattle.ftp_direct.specs.Direct.{State, done, entries_in, file_of, named, named_or_here, names_for, offset_refusal, or_refused, part, place_at, refusal, refused_file, refused_there}
 use Rattle.ftp_client_machine.specs.Dialogue.{judged}
 use Rattle.ftp_client_machine.specs.Octets.{download_flow, flow_of, written}
-use Rattle.ftp_client_machine.specs.Plan.{asked_settings, count_of, how_of, is_extended, offset_of, own_command}
+use Rattle.ftp_client_machine.specs.Plan.{asked_settings, count_of, how_of, is_extended, listing_settings, offset_of, optional, own_command}
 use Rattle.ftp_client_machine.specs.View.{View as Near, Job, Doing, Transferring, Told, Receiving}
 use Rattle.ftp_client_machine.specs.declared.client.Abort.TheVariants as Aborts
 use Rattle.ftp_client_machine.specs.declared.client.DataConnection.{DataConnection as NearConnection}
@@ -33,6 +33,7 @@ use Rattle.ftp_client_machine.specs.declared.client.Replied.TheVariants as Repli
 use Rattle.ftp_client_machine.specs.declared.client.Standing.TheVariants as Standings
 use Rattle.ftp_client_machine.specs.declared.client.Step.TheVariants as Steps
 use Rattle.ftp_server_machine.specs.Act.{act, is_in}
+use Rattle.ftp_server_machine.specs.Listing.{entry_lines, listing_wire, name_lines}
 use Rattle.ftp_server_machine.specs.Machine.{is_abor}
 use Rattle.ftp_server_machine.specs.Replies.{extended_text, passive_text}
 use Rattle.ftp_server_machine.specs.Transfer.{file_wire, misplaced, transfer_starts}
@@ -57,10 +58,12 @@ use Rattle.ftp_dialogues.specs.Dialogue.{HasNoTransfer, IsSound}
 abbrev pub IsPassive : How → Type 0
 IsPassive how = how.active ≡ false
 
--- a download of a file over such a link
+-- a download of a file or a listing over such a link
 abbrev pub IsFetch : Op (List ℕ) → Type 0
 IsFetch (Ops.Get text how) = IsPassive how
 IsFetch (Ops.GetFrom text offset how) = IsPassive how
+IsFetch (Ops.List text how) = IsPassive how
+IsFetch (Ops.Names text how) = IsPassive how
 IsFetch other = ⊥
 
 -- what an operation asks for whose octets come to the client: how its link is opened, the settings that it goes in, the offset of REST,
@@ -222,6 +225,36 @@ download_ask offset text how = record {
   listed = false;
   wire = λ state. fetched_wire state offset text how;
   said = λ state. Octets (content_from state offset text how);
+}
+
+-- ---- listings: lines that end in LF, in type A (RFC 959, section 4.1.3; RFC 3659, section 7)
+
+-- entries, one a line
+abbrev pub list_ask : List ℕ → How → Ask
+list_ask text how = record {
+  op = Ops.List text how;
+  how = how;
+  settings = listing_settings how.representation.mode;
+  offset = None;
+  command = Commands.Mlsd (optional text);
+  why = λ state. refusal state (Ops.List text how);
+  listed = true;
+  wire = λ state. listing_wire how.representation.mode (entry_lines all_facts (part state) (named_or_here state text));
+  said = λ state. Entries (entries_in (part state) (named_or_here state text));
+}
+
+-- pathnames, one a line
+abbrev pub names_ask : List ℕ → How → Ask
+names_ask text how = record {
+  op = Ops.Names text how;
+  how = how;
+  settings = listing_settings how.representation.mode;
+  offset = None;
+  command = Commands.Nlst (optional text);
+  why = λ state. refusal state (Ops.Names text how);
+  listed = true;
+  wire = λ state. listing_wire how.representation.mode (name_lines (part state) (named_or_here state text) text);
+  said = λ state. NameList (names_for (part state) (named_or_here state text) text);
 }
 
 -- ---- what is so of what is asked for
