@@ -11,6 +11,9 @@ use Rattle.std.proofs.lemmas.Bool.{and_parts, leb-true}
 use Rattle.std.proofs.lemmas.List.Sums.{sum_by-cons}
 use Rattle.std.proofs.lemmas.Slice.Eq.{bytes_eq-Decides}
 use Rattle.ftp_command.specs.Argument.{IsName, IsPassword}
+use Rattle.ftp_endpoint.specs.declared.host.Host.{Host}
+use Rattle.ftp_endpoint.specs.declared.host.Host.TheVariants.{V4, V6}
+use Rattle.ftp_ends.specs.Link.{is_v6}
 use Rattle.ftp_ends.specs.Reply.{reply_octets}
 use Rattle.ftp_login.specs.Login.{is_login_octet}
 use Rattle.ftp_operation.specs.Account.{Account, has_user, are_distinct, are_apart, accounts_refusal, passes, knows, login_root, is_user, is_password}
@@ -29,7 +32,7 @@ use Rattle.ftp_server_machine.specs.declared.reply.ReplyKind.TheVariants as Repl
 use Rattle.ftp_server_machine.specs.declared.reply.Text.TheVariants as Texts
 use Rattle.ftp_server_machine.proofs.RepliesWritten.{replies_are_written}
 use Rattle.ftp_server_machine.specs.Told.{is_path}
-use Rattle.ftp_world.specs.Claims.{Beginning, IsFair, state_of, world_of}
+use Rattle.ftp_world.specs.Claims.{AreRelated, Beginning, IsFair, state_of, world_of}
 use Rattle.ftp_dialogues.specs.Dialogue.{IsSound}
 use Rattle.ftp_dialogues.specs.Login.{Greets, Logging}
 use Rattle.ftp_dialogues.specs.Stage.{Answering, row_octets, AreWritten}
@@ -189,6 +192,14 @@ sound_start table (Some root) tree all few = record {
     a_directory (Some Dir) is = refl
     a_directory (Some (File octets moment)) is = absurd (cc)
 
+-- ---- the hosts
+
+one_family : (one other : Host) → AreRelated one other → is_v6 one ≡ is_v6 other
+one_family (V4 octets) (V4 others) related = refl
+one_family (V4 octets) (V6 others) related = absurd related
+one_family (V6 octets) (V4 others) related = absurd related
+one_family (V6 octets) (V6 others) related = refl
+
 -- ---- the world at the start
 
 pub begins_follow : (read : Reading) (b : Beginning) → IsFair b → Follows read (state_of b) [] (world_of b)
@@ -235,7 +246,7 @@ begins_follow read b fair = record {
         facts = refl;
         table = sym table_is;
         access = refl;
-        meets = record { peer = refl; here = refl; typed = fair.far_typed; all_ways = refl };
+        meets = record { peer = refl; here = refl; typed = fair.far_typed; own = fair.near_typed; family = one_family b.near_host b.far_host fair.hosts; all_ways = refl };
         leads_to = ap (λ table. direct_start table (login_root b.accounts b.user b.pass)) (sym table_is);
         opens = λ root found. opens_as b.accounts b.user b.pass root fair.accounts found;
       };

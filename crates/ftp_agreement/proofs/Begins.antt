@@ -1,5 +1,5 @@
 -- An operation is begun: it waits for the login, its first line is owed, or it is answered at once as one that can't be sent.
-use Rattle.std.proofs.Common.{◌≡◌, inl, inr, ℕ, Bool, true, false, List, [], ◌∷◌, ◌++◌, None, refl, sym, ap, subst, ◌∙◌, append-nil}
+use Rattle.std.proofs.Common.{◌≡◌, inl, inr, ℕ, Bool, true, false, List, [], ◌∷◌, ◌++◌, Option, Some, None, refl, sym, ap, subst, ◌∙◌, append-nil}
 use Rattle.std.specs.Prelude.{if◌then◌else◌}
 use Rattle.ftp_nvt.specs.Lines.{written_line}
 use Rattle.ftp_ends.specs.Reply.{Reply}
@@ -8,7 +8,7 @@ use Rattle.ftp_operation.specs.Operation.{can_be_sent}
 use Rattle.ftp_operation.specs.declared.op.Op.{Op}
 use Rattle.ftp_direct.specs.Direct.{State, answer, chosen, done, first_refusal}
 use Rattle.ftp_client_machine.specs.Calls as near
-use Rattle.ftp_client_machine.specs.Calls.{is_sound, started_by, unsendable_by, report_of, report_of_job}
+use Rattle.ftp_client_machine.specs.Calls.{is_sound, started_by, unsendable_by}
 use Rattle.ftp_client_machine.specs.Dialogue.{begins}
 use Rattle.ftp_client_machine.specs.View.{View as Near, Job, Idle, Waiting, Told as Answered, done_with}
 use Rattle.ftp_client_machine.specs.declared.client.Standing.{Standing}
@@ -21,12 +21,11 @@ use Rattle.ftp_world.specs.Agreement.{Order, Single}
 use Rattle.ftp_world.specs.Events.{operation_begins}
 use Rattle.ftp_world.specs.Serving.{after_event}
 use Rattle.ftp_world.specs.World.{World, Mark}
-use Rattle.ftp_dialogues.specs.Dialogue.{Passes, Stands, Ends, resting}
-use Rattle.ftp_dialogues.specs.Fetches.{IsDialogue}
+use Rattle.ftp_dialogues.specs.Dialogue.{HasNoTransfer, Passes, Stands, Ends, resting}
 use Rattle.ftp_dialogues.specs.Login.{Place, Greets, AsksUser, WantsPass, AsksPass, Answers, standing_of, way_of, IsAccessOf, Logging, AtFree, IsOnWay}
 use Rattle.ftp_dialogues.specs.Operations.{LeadsBy}
-use Rattle.ftp_dialogues.specs.Stage.{calm, still, Way, Asking, Answering, rest, AreWritten}
-use Rattle.ftp_dialogues.proofs.Refusing.{dialogue-leads}
+use Rattle.ftp_dialogues.specs.Stage.{calm, still, Way, Asking, Answering, rest, AreWritten, line_octets, IsAlone, behind}
+use Rattle.ftp_dialogues.proofs.Theorems.{each-leads}
 use Rattle.ftp_agreement.specs.Cut.{Cut, Flows, FlowsRow, Fits, coming, world_at, StandsAt}
 use Rattle.ftp_agreement.specs.Follows.{Told, IsFree, IsLinked, IsUnlinked, Follows}
 use Rattle.ftp_agreement.proofs.Keeps.{line_is_some, anew}
@@ -80,7 +79,7 @@ logging_with state way job moment n f l = record {
     facts = l.logs.facts;
     table = l.logs.table;
     access = access_at l.place state moment (with_job job n) f (access_job l.place state job n f l.logs.access);
-    meets = record { peer = l.logs.meets.peer; here = l.logs.meets.here; typed = l.logs.meets.typed; all_ways = l.logs.meets.all_ways };
+    meets = record { peer = l.logs.meets.peer; here = l.logs.meets.here; typed = l.logs.meets.typed; own = l.logs.meets.own; family = l.logs.meets.family; all_ways = l.logs.meets.all_ways };
     leads_to = l.logs.leads_to;
     opens = l.logs.opens;
   };
@@ -88,7 +87,7 @@ logging_with state way job moment n f l = record {
 
 stands_at_moment : (state : State) (moment : ℕ) (n : Near) (f : Far) → Stands state n f → Stands state n (at_moment moment f)
 stands_at_moment state moment n f s = record {
-  meets = record { peer = s.meets.peer; here = s.meets.here; typed = s.meets.typed; all_ways = s.meets.all_ways };
+  meets = record { peer = s.meets.peer; here = s.meets.here; typed = s.meets.typed; own = s.meets.own; family = s.meets.family; all_ways = s.meets.all_ways };
   far = record { aside = s.far.aside; closing = s.far.closing; life = s.far.life };
   sees = s.sees;
   settings = s.settings;
@@ -151,6 +150,17 @@ waits_at job moment marks b (Answering rows) c fits =
     ap (λ v. record (world_at b (Answering rows) c) { far = at_moment moment (record (still b.far) { owed = c.owed }); near = v; marks = marks })
     (row_with job b.near rows c.held (coming c) fits.0 fits.1)
 
+-- a line is owed, or nothing
+lined : (b : World) (line : Option (List ℕ))
+    → record b { near = record (calm b.near) { owed = line_octets line }; far = still b.far; control_to_server = []; control_to_client = [] }
+    ≡ world_at b (behind line []) (record { held = []; moving = []; owed = line_octets line })
+lined b None = refl
+lined b (Some text) = refl
+
+fits_line : (line : Option (List ℕ)) → IsAlone line [] → Fits (behind line []) (record { held = []; moving = []; owed = line_octets line })
+fits_line None fine = (tt, (refl, refl))
+fits_line (Some text) fine = (fine.0, subst (λ l. Flows (written_line text) [] l []) (append-nil (written_line text)) (anew (written_line text) [] (line_is_some text)))
+
 module _ (read : Reading) (reads : IsReading read) (from : State) (begun : List Order) (op : Op (List ℕ)) (moment : ℕ) where
   -- ---- one that can be sent
 
@@ -179,15 +189,15 @@ module _ (read : Reading) (reads : IsReading read) (from : State) (begun : List 
       let on : LeadsBy read Along Goal op b.near f = leads b.near f (stands_at_moment now moment b.near b.far stands) in
       let marks : List (List Mark) = w.marks ++ [] ∷ [] in
       let begin : World → World = λ u. record u { far = far.clocked moment u.far; near = near.starts op u.near; marks = marks } in
-      let start : near.starts op (calm b.near) ≡ record (calm on.near) { owed = written_line on.text } =
+      let start : near.starts op (calm b.near) ≡ record (calm on.near) { owed = line_octets on.line } =
       ap (λ v. near.starts op (calm v)) entered ∙ starts_begins op b.near can ∙ on.begins_so Idle in
       let by_near : Near → World = λ v. record (world_at b rest no_octets) { far = still f; near = v; marks = marks } in
       record {
         base = record b { near = on.near; far = f; marks = marks };
-        way = Asking on.text;
-        cut = record { held = []; moving = []; owed = written_line on.text };
-        is = ap begin (rest_world (AtFree now) w s way) ∙ ap by_near start;
-        fits = (on.line, subst (λ l. Flows (written_line on.text) [] l []) (append-nil (written_line on.text)) (anew (written_line on.text) [] (line_is_some on.text)));
+        way = behind on.line [];
+        cut = record { held = []; moving = []; owed = line_octets on.line };
+        is = ap begin (rest_world (AtFree now) w s way) ∙ ap by_near start ∙ lined (record b { near = on.near; far = f; marks = marks }) on.line;
+        fits = fits_line on.line on.fine;
         here = inr (on.left, on.leads);
       }
 
@@ -196,7 +206,7 @@ module _ (read : Reading) (reads : IsReading read) (from : State) (begun : List 
   begins_stands now Along Goal w leads can s (inl (logging, idle)) = begins_login now Along Goal w can s logging
   begins_stands now Along Goal w leads can s (inr (way, entered, stands)) = begins_rest now Along Goal w leads can s way entered stands
 
-  begins_sent : (w : World) → can_be_sent op ≡ true → IsUnlinked w → IsLinked w → (f : IsFree from begun w) → IsDialogue f.now op → Follows read from (begun ++ Single op moment ∷ []) (after_event (operation_begins op moment w))
+  begins_sent : (w : World) → can_be_sent op ≡ true → IsUnlinked w → IsLinked w → (f : IsFree from begun w) → HasNoTransfer op → Follows read from (begun ++ Single op moment ∷ []) (after_event (operation_begins op moment w))
   begins_sent w can unlinked linked f alone = follows_after read from (begun ++ Single op moment ∷ []) (operation_begins op moment w) (record {
     unlinked = record { link = unlinked.link; to_server = unlinked.to_server; to_client = unlinked.to_client };
     phase = inl (
@@ -214,7 +224,7 @@ module _ (read : Reading) (reads : IsReading read) (from : State) (begun : List 
         alone = alone;
         sent = can;
         stands = begins_stands f.now (Passes f.now.table (answer f.now op moment).1.table) (Ends (answer f.now op moment)) w
-            (λ n g stands. dialogue-leads read f.now op moment n g reads alone can f.sound stands) can f.stands f.stands.here;
+            (λ n g stands. each-leads read f.now op moment n g reads alone can f.sound stands) can f.stands f.stands.here;
       }),
     );
   })
@@ -293,7 +303,7 @@ module _ (read : Reading) (reads : IsReading read) (from : State) (begun : List 
         phase = inl (record { control = linked.control; cutoff = linked.cutoff }, inl free);
       })
 
-  pub begins_free : (w : World) → IsUnlinked w → IsLinked w → (f : IsFree from begun w) → (can_be_sent op ≡ true → IsDialogue f.now op) → Follows read from (begun ++ Single op moment ∷ []) (after_event (operation_begins op moment w))
+  pub begins_free : (w : World) → IsUnlinked w → IsLinked w → IsFree from begun w → (can_be_sent op ≡ true → HasNoTransfer op) → Follows read from (begun ++ Single op moment ∷ []) (after_event (operation_begins op moment w))
   begins_free w unlinked linked f alone = by_sent (can_be_sent op) refl
     where
       by_sent : (b : Bool) → can_be_sent op ≡ b → Follows read from (begun ++ Single op moment ∷ []) (after_event (operation_begins op moment w))

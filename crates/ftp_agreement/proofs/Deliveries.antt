@@ -16,8 +16,8 @@ use Rattle.ftp_agreement.proofs.Phases.{HasFollowed, turns_free, turns_under, fo
 
 -- ---- a predicate on both ends
 
-pub ends_go : (read : Reading) (At : Way → Near → Far → Type 0) → Turns read At → Goes read (of_ends At)
-ends_go read At turns = record { asked = λ text b here. turns.asked text b.near b.far here; told = λ reply more b here. turns.told reply more b.near b.far here }
+pub ends_go : (read : Reading) (At : Way → Near → Far → Type 0) → Turns read At → Goes read (of_ends At) (of_ends At)
+ends_go read At turns = record { held = λ way b here. here; asked = λ text b here. turns.asked text b.near b.far here; told = λ reply more b here. turns.told reply more b.near b.far here }
 
 -- ---- what is lent is of no matter
 
@@ -114,7 +114,7 @@ module _ (read : Reading) (reads : IsReading read) (from : State) (begun : List 
   pulled_server n w h =
       moves_follow read from begun w (pulled ControlToServer w n) reads
       (record { marks = refl; reports = refl; control = refl; cutoff = refl; link = refl; to_server = refl; to_client = refl })
-      (λ At turns s. pulls_to_server read (of_ends At) (ends_go read At turns) n w s)
+      (λ At turns s. pulls_to_server read (of_ends At) (of_ends At) (ends_go read At turns) n w s)
       (λ l. subst (IsLost from begun) (sym (no_pull_to_server n w l.near.owed)) l)
       h
 
@@ -122,7 +122,7 @@ module _ (read : Reading) (reads : IsReading read) (from : State) (begun : List 
   pulled_client n w h =
       moves_follow read from begun w (pulled ControlToClient w n) reads
       (record { marks = refl; reports = refl; control = refl; cutoff = refl; link = refl; to_server = refl; to_client = refl })
-      (λ At turns s. pulls_to_client read (of_ends At) (ends_go read At turns) n w s)
+      (λ At turns s. pulls_to_client read (of_ends At) (of_ends At) (ends_go read At turns) n w s)
       (λ l. subst (IsLost from begun) (sym (no_pull_to_client n w l.far.owed l.far.waiting)) l)
       h
 
@@ -130,7 +130,7 @@ module _ (read : Reading) (reads : IsReading read) (from : State) (begun : List 
   pushed_server n w h =
       moves_follow read from begun w (pushed read ControlToServer n w) reads
       (record { marks = refl; reports = refl; control = refl; cutoff = refl; link = refl; to_server = refl; to_client = refl })
-      (λ At turns s. pushes_to_server read (of_ends At) (ends_go read At turns) n w s)
+      (λ At turns s. pushes_to_server read (of_ends At) (of_ends At) (ends_go read At turns) n w s)
       (λ l. subst (IsLost from begun) (sym (no_push_to_server read n w l.to_server)) l)
       h
 
@@ -138,7 +138,7 @@ module _ (read : Reading) (reads : IsReading read) (from : State) (begun : List 
   pushed_client n w h =
       moves_follow read from begun w (pushed read ControlToClient n w) reads
       (record { marks = refl; reports = refl; control = refl; cutoff = refl; link = refl; to_server = refl; to_client = refl })
-      (λ At turns s. pushes_to_client read (of_ends At) (ends_go read At turns) n w s)
+      (λ At turns s. pushes_to_client read (of_ends At) (of_ends At) (ends_go read At turns) n w s)
       (λ l. subst (IsLost from begun) (sym (no_push_to_client read n w l.to_client)) l)
       h
 

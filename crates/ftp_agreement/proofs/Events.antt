@@ -3,7 +3,7 @@ use Rattle.std.proofs.Common.{◌≡◌, ◌⊎◌, inl, inr, ℕ, ◌==◌, Lis
 use Rattle.std.specs.Prelude.{IsTrue, if◌then◌else◌}
 use Rattle.ftp_direct.specs.Direct.{State, answer}
 use Rattle.ftp_client_machine.specs.Calls as near
-use Rattle.ftp_client_machine.specs.Calls.{is_busy_job, report_of, report_of_job}
+use Rattle.ftp_client_machine.specs.Calls.{is_busy_job, report_of}
 use Rattle.ftp_ends.specs.Link.{is_wanted}
 use Rattle.ftp_ends.specs.declared.link.Wants.{Wants}
 use Rattle.ftp_ends.specs.declared.link.Wants.TheVariants as Want
@@ -34,7 +34,7 @@ pub record HasNoData (w : World) : Type 0 where
   pub far_gives : far.to_give w.far ≡ []
   pub asks : is_asked_for w ≡ false
 
-given_none : (connection : DataConnection Transfer) → is_aside connection ≡ true → far.given_by connection ≡ []
+pub given_none : (connection : DataConnection Transfer) → is_aside connection ≡ true → far.given_by connection ≡ []
 given_none FarData.Free aside = refl
 given_none FarData.Passive aside = refl
 given_none (FarData.Active endpoint) aside = refl

@@ -1,5 +1,5 @@
 -- How what was asked for fares: refused, whole, cut or not opened, as its client tells it.
-use Rattle.std.proofs.Common.{◌≡◌, ◌⊎◌, inl, inr, ℕ, Bool, true, List, [], ◌∷◌, length, Option, Some, None, refl, sym, ap, subst, ◌∙◌, arith}
+use Rattle.std.proofs.Common.{◌≡◌, ◌⊎◌, inl, inr, ℕ, Bool, true, false, List, [], ◌∷◌, length, Option, Some, None, refl, sym, ap, subst, ◌∙◌, arith}
 use Rattle.std.specs.Prelude.{if◌then◌else◌}
 use Rattle.std.specs.List.{Contains}
 use Rattle.std.specs.Option.{is_some}
@@ -24,7 +24,7 @@ use Rattle.ftp_world.specs.Outcome.{Whole, Cut, Unopened, CanBeCut, IsCutOf, cut
 use Rattle.ftp_world.specs.World.{Mark, Broken, Refused as RefusedLink, counted}
 use Rattle.ftp_dialogues.specs.Dialogue.{IsSound}
 use Rattle.ftp_dialogues.specs.Fetches.{Ask, IsAsk}
-use Rattle.ftp_dialogues.proofs.Rows.{answer_known}
+use Rattle.ftp_dialogues.proofs.Rows.{answer_known, answer_unknown}
 use Rattle.ftp_agreement.specs.Stages.{Fared}
 
 -- what the client tells of a text that was cut
@@ -56,6 +56,10 @@ module _ (state : State) (ask : Ask) (good : IsAsk ask) where
 
   pub refused_fares : (own : List Mark) (why : Refusal) → state.known ≡ true → refusal state op ≡ Some why → Fared state ask own (Refused (code_of why))
   refused_fares own why known is = whole_fares own (Refused (code_of why)) (λ moment. sym (answer_known state op moment (Some why) good.answer.can known is))
+
+  -- nobody is logged in
+  pub unknown_fares : (own : List Mark) → state.known ≡ false → Fared state ask own (Refused 530)
+  unknown_fares own unknown = whole_fares own (Refused 530) (λ moment. sym (answer_unknown state op moment good.answer.can unknown))
 
   pub said_fares : (own : List Mark) → state.known ≡ true → refusal state op ≡ None → Fared state ask own (ask.said state)
   said_fares own known none =

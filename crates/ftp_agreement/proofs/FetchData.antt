@@ -203,6 +203,7 @@ module _ (read : Reading) (state : State) (ask : Ask) (plan : HasPlan ask) (own 
             near = h.near;
             session = refl;
             steady = h.steady;
+            ready = h.ready;
             link = h.link;
             to_server = h.to_server;
             to_client = refl;
@@ -221,6 +222,7 @@ module _ (read : Reading) (state : State) (ask : Ask) (plan : HasPlan ask) (own 
             near = h.near;
             session = refl;
             steady = h.steady;
+            ready = h.ready;
             link = h.link;
             to_server = h.to_server;
             to_client = refl;
@@ -279,6 +281,7 @@ module _ (read : Reading) (state : State) (ask : Ask) (plan : HasPlan ask) (own 
         near = refl;
         session = h.session;
         steady = h.steady;
+        ready = h.ready;
         link = h.link;
         to_server = h.to_server;
         to_client = refl;
@@ -295,6 +298,7 @@ module _ (read : Reading) (state : State) (ask : Ask) (plan : HasPlan ask) (own 
         near = refl;
         session = h.session;
         steady = h.steady;
+        ready = h.ready;
         link = h.link;
         to_server = h.to_server;
         to_client = refl;
@@ -308,6 +312,7 @@ module _ (read : Reading) (state : State) (ask : Ask) (plan : HasPlan ask) (own 
         near = refl;
         session = h.session;
         steady = h.steady;
+        ready = h.ready;
         link = h.link;
         to_server = h.to_server;
         to_client = refl;

@@ -1,25 +1,16 @@
--- Openings, refusals, ends and breaks of the link lead a download from a stage to a stage.
-use Rattle.std.proofs.Common.{◌≡◌, inl, inr, ℕ, ◌≤◌, Bool, true, false, List, [], ◌∷◌, ◌++◌, length, Option, Some, None, refl, sym, ap, subst, ◌∙◌, append-nil, arith}
-use Rattle.ftp_nvt.specs.Lines.{written_line}
-use Rattle.ftp_command.specs.Line.{IsLine, line_of}
-use Rattle.ftp_command.specs.declared.command.Command.TheVariants as Commands
-use Rattle.ftp_command.proofs.CarriedLemmas.{carried}
+-- Ends and breaks of the link lead what was asked for from a stage to a stage.
+use Rattle.std.proofs.Common.{◌≡◌, inl, inr, ℕ, ◌≤◌, Bool, true, false, List, [], ◌∷◌, ◌++◌, length, None, refl, sym, ap, subst, ◌∙◌, append-nil, arith}
 use Rattle.ftp_decoder.specs.Decoder.{no_octets}
-use Rattle.ftp_ends.specs.Link.{same_host, is_connecting}
 use Rattle.ftp_ends.specs.Ear.{quiet}
 use Rattle.ftp_ends.specs.Reply.{Reply, reply_octets}
 use Rattle.ftp_direct.specs.declared.refusal.Refusal.{Refusal}
-use Rattle.ftp_operation.specs.Answer.{Said, Unopened as NotOpened}
+use Rattle.ftp_operation.specs.Answer.{Said}
 use Rattle.ftp_operation.specs.declared.op.Op.{Op}
 use Rattle.ftp_direct.specs.Direct.{State}
 use Rattle.ftp_client_machine.specs.Calls as near
-use Rattle.ftp_client_machine.specs.Dialogue.{placed as placed_step, sends_if}
-use Rattle.ftp_client_machine.specs.Plan.{offset_of, restart_command, step_behind_opening}
-use Rattle.ftp_client_machine.specs.View.{View as Near, Doing}
-use Rattle.ftp_client_machine.specs.declared.client.DataConnection.TheVariants as NearData
-use Rattle.ftp_client_machine.specs.declared.client.Step.TheVariants as Steps
+use Rattle.ftp_client_machine.specs.View.{View as Near}
 use Rattle.ftp_server_machine.specs.Calls as far
-use Rattle.ftp_server_machine.specs.Machine.{Reading, completed, later}
+use Rattle.ftp_server_machine.specs.Machine.{Reading}
 use Rattle.ftp_server_machine.specs.Replies.{fixed_reply}
 use Rattle.ftp_server_machine.specs.View.{View as Far}
 use Rattle.ftp_server_machine.specs.declared.reply.ReplyKind.TheVariants as Kinds
@@ -27,20 +18,17 @@ use Rattle.ftp_server_machine.specs.declared.reply.Text.TheVariants as Texts
 use Rattle.ftp_server_machine.specs.declared.session.DataConnection.TheVariants as FarData
 use Rattle.ftp_server_machine.specs.declared.session.Pending.TheVariants as Pendings
 use Rattle.ftp_server_machine.proofs.RepliesWritten.{replies_are_written}
-use Rattle.ftp_world.specs.Events.{DataToClient, is_gone, is_closed_by_far, link_breaks, link_opens, link_refused, refused_by, broken_by, told}
+use Rattle.ftp_world.specs.Events.{DataToClient, is_gone, is_closed_by_far, link_breaks, broken_by, told}
 use Rattle.ftp_world.specs.Outcome.{mark_in}
-use Rattle.ftp_world.specs.World.{World, Link, Gone, Opened, ClosedByFar, Mark, Broken, Refused, marked_last, with_mark, gone, counted}
+use Rattle.ftp_world.specs.World.{World, Link, Gone, Opened, ClosedByFar, Mark, Broken, marked_last, with_mark, gone, counted}
 use Rattle.ftp_dialogues.specs.Dialogue.{IsSound}
-use Rattle.ftp_dialogues.specs.Fetches.{Ask, IsAsk, IsPlacedAt, leaving, linked, opened_job, opened_command, offset_pending, busy}
-use Rattle.ftp_dialogues.specs.Stage.{calm, still, Way, Asking, Answering, rest}
-use Rattle.ftp_dialogues.proofs.Fetching.{own_host, own_sent}
-use Rattle.ftp_agreement.specs.Cut.{Cut, Flows as FlowsOf, Fits, world_at, PlacedAt}
+use Rattle.ftp_dialogues.specs.Fetches.{Ask, IsAsk, linked, offset_pending}
+use Rattle.ftp_dialogues.specs.Stage.{still, Way, Asking, Answering}
+use Rattle.ftp_agreement.specs.Cut.{Cut, Fits, world_at, PlacedAt}
 use Rattle.ftp_agreement.specs.Stages as Stages
-use Rattle.ftp_agreement.specs.Stages.{Sent, Granted, Denied, NoReply, OneReply, BothReplies, heard_by, Unclosed, Closed, Lost, Course, Giving, Given, Ended, Severed, Refusing, Unopened, replies_in, Restart, NoLink, PortAside, Stage, PortAsked, PortTold, Dials, Restarts, Retrieves, Carries, Answers, is_passing, Holds, AtFetch}
-use Rattle.ftp_agreement.proofs.Fates.{said_fares, judged_whole, judged_cut, cut_said, cut_fares, refused_link_fares}
+use Rattle.ftp_agreement.specs.Stages.{Sent, Granted, Denied, NoReply, OneReply, BothReplies, heard_by, Unclosed, Closed, Lost, Course, Giving, Given, Ended, Severed, Refusing, Unopened, replies_in, Restart, no_link, Stage, PortAsked, PortTold, Dials, Restarts, Retrieves, Carries, Answers, is_passing, Holds, AtFetch, Dialled, Ported, PortWanted, PortSaid, PortTaken, PortDenied, Awaits, Unaccepted, Dismissed}
+use Rattle.ftp_agreement.proofs.Fates.{said_fares, judged_whole, judged_cut, cut_said, cut_fares}
 use Rattle.ftp_agreement.proofs.FetchLink.{Leads, FarLeads, near_acts, far_acts, both_act, fits_more, rest_breaks, near_ends, near_breaks, near_ends_all, near_breaks_all, far_linked, ready_breaks, giving_breaks}
-use Rattle.ftp_agreement.proofs.Keeps.{line_is_some, anew}
-use Rattle.ftp_agreement.proofs.Still.{no_octets as no_cut}
 
 -- ---- a world of a stage as its base with other ends
 
@@ -102,7 +90,7 @@ left_ends b way c n fits leads =
     (near_acts near.data_end b to way c fits leads) (far_acts (λ f. f) b to way c (λ ear owed. refl))
 
 module _ (read : Reading) (state : State) (ask : Ask)
-    (good : IsAsk ask) (sound : IsSound state) (known : state.known ≡ true) (own : List Mark) where
+    (good : IsAsk ask) (sound : IsSound state) (own : List Mark) where
   abbrev At : List Mark → Way → World → Type 0
   At own way b = AtFetch state ask read own way b
 
@@ -128,17 +116,18 @@ module _ (read : Reading) (state : State) (ask : Ask)
   abbrev Breaks : Way → World → Cut → Type 0
   Breaks way b c = PlacedAt (At (own ++ Broken b.came ∷ [])) (link_breaks (world_at b way c))
 
-  rest_broken : (at : ℕ) (restart : Restart) (way : Way) (b : World) (c : Cut) → Fits way c → Stands own (Restarts at restart true) way b → Breaks way b c
+  rest_broken : (at : ℕ) (restart : Restart) (way : Way) (b : World) (c : Cut) → Fits way c → Stands own (Restarts at restart (Dialled true)) way b → Breaks way b c
   rest_broken at restart way b c fits h =
-      let n : Near = near_at (Restarts at restart false) b.near in
-      let f : Far = far_linked (linked FarData.Free false (Stages.pending_at state ask (Restarts at restart true)) b.far.session) b.far in
-      placed (own ++ Broken b.came ∷ []) _ (behind_break n f b) way c (Restarts at restart false)
+      let n : Near = near_at (Restarts at restart (Dialled false)) b.near in
+      let f : Far = far_linked (linked FarData.Free false (Stages.pending_at state ask (Restarts at restart (Dialled true))) b.far.session) b.far in
+      placed (own ++ Broken b.came ∷ []) _ (behind_break n f b) way c (Restarts at restart (Dialled false))
       (opened_breaks b way c n f fits h.link (subst (λ v. Leads near.data_fault v n) (sym h.near) (rest_breaks ask.op b.near))
-      (ready_breaks b.far (Stages.pending_at state ask (Restarts at restart true)) h.session)) fits
+      (ready_breaks b.far (Stages.pending_at state ask (Restarts at restart (Dialled true))) h.session)) fits
       (record {
         near = refl;
         session = by_restart restart;
         steady = h.steady;
+        ready = h.ready;
         link = refl;
         to_server = refl;
         to_client = refl;
@@ -149,23 +138,24 @@ module _ (read : Reading) (state : State) (ask : Ask)
       })
     where
       by_restart : (restart : Restart)
-          → linked FarData.Free false (Stages.pending_at state ask (Restarts at restart true)) b.far.session
-          ≡ linked FarData.Free false (Stages.pending_at state ask (Restarts at restart false)) b.far.session
+          → linked FarData.Free false (Stages.pending_at state ask (Restarts at restart (Dialled true))) b.far.session
+          ≡ linked FarData.Free false (Stages.pending_at state ask (Restarts at restart (Dialled false))) b.far.session
       by_restart Sent = refl
       by_restart Granted = refl
       by_restart (Denied why) = refl
 
-  retr_broken : (way : Way) (b : World) (c : Cut) → Fits way c → Stands own (Retrieves true) way b → Breaks way b c
+  retr_broken : (way : Way) (b : World) (c : Cut) → Fits way c → Stands own (Retrieves (Dialled true)) way b → Breaks way b c
   retr_broken way b c fits h =
-      let n : Near = near_at (Retrieves false) b.near in
+      let n : Near = near_at (Retrieves (Dialled false)) b.near in
       let f : Far = far_linked (linked FarData.Free false (offset_pending ask.offset) b.far.session) b.far in
-      placed (own ++ Broken b.came ∷ []) _ (behind_break n f b) way c (Retrieves false)
+      placed (own ++ Broken b.came ∷ []) _ (behind_break n f b) way c (Retrieves (Dialled false))
       (opened_breaks b way c n f fits h.link (subst (λ v. Leads near.data_fault v n) (sym h.near) (near_breaks ask.op ask.settings [] b.near false))
       (ready_breaks b.far (offset_pending ask.offset) h.session)) fits
       (record {
         near = refl;
         session = refl;
         steady = h.steady;
+        ready = h.ready;
         link = refl;
         to_server = refl;
         to_client = refl;
@@ -192,6 +182,7 @@ module _ (read : Reading) (state : State) (ask : Ask)
         near = refl;
         session = refl;
         steady = h.steady;
+        ready = h.ready;
         link = refl;
         to_server = refl;
         to_client = refl;
@@ -217,6 +208,7 @@ module _ (read : Reading) (state : State) (ask : Ask)
         near = refl;
         session = h.session;
         steady = h.steady;
+        ready = h.ready;
         link = refl;
         to_server = refl;
         to_client = refl;
@@ -228,22 +220,23 @@ module _ (read : Reading) (state : State) (ask : Ask)
 
   given_all_broken : (came queue : List ℕ) (way : Way) (b : World) (c : Cut) → Fits way c → Stands own (carry (Given BothReplies true) came queue) way b → Breaks way b c
   given_all_broken came queue way b c fits h =
-      let n : Near = near_at (Answers (cut_said ask came) NoLink) b.near in
+      let n : Near = near_at (Answers (cut_said ask came) no_link) b.near in
       let marked : own ++ Broken b.came ∷ [] ≡ Broken (counted (length came)) ∷ [] = broken_so b came h.marked h.came in
-      placed (own ++ Broken b.came ∷ []) _ (behind_break n b.far b) way c (Answers (cut_said ask came) NoLink)
+      placed (own ++ Broken b.came ∷ []) _ (behind_break n b.far b) way c (Answers (cut_said ask came) no_link)
       (left_breaks b way c n fits h.link (subst (λ v. Leads near.data_fault v n) (sym h.near)
       (near_breaks_all ask.op ask.settings came b.near (cut_said ask came) (judged_cut ask good 226 came (inl refl))))) fits
       (record {
         near = refl;
         session = h.session;
         steady = h.steady;
+        ready = tt;
         link = refl;
         to_server = refl;
         to_client = refl;
         came = tt;
         marked = subst (λ l. length l ≤ 1) (sym marked) (omega arith);
         way_is = h.way_is;
-        fine = cut_fares state ask good (own ++ Broken b.came ∷ []) came known h.fine.0.1 h.fine.0.0 (queue, h.fine.1) marked;
+        fine = (cut_fares state ask good (own ++ Broken b.came ∷ []) came h.ready.1 h.fine.0.1 h.fine.0.0 (queue, h.fine.1) marked, refl);
       })
 
   refusing_broken : (why : Refusal) (came queue : List ℕ) (way : Way) (b : World) (c : Cut) → Fits way c → Stands own (carry (Refusing why Closed) came queue) way b → Breaks way b c
@@ -255,6 +248,7 @@ module _ (read : Reading) (state : State) (ask : Ask)
         near = refl;
         session = h.session;
         steady = h.steady;
+        ready = h.ready;
         link = refl;
         to_server = refl;
         to_client = refl;
@@ -265,8 +259,8 @@ module _ (read : Reading) (state : State) (ask : Ask)
       })
 
   -- a link that stands breaks
-  no_link : (link : Link) → link ≡ Gone → is_gone link ≡ false → ⊥
-  no_link link is some = let e : true ≡ false = sym (ap is_gone is) ∙ some in cc
+  no_link_stands : (link : Link) → link ≡ Gone → is_gone link ≡ false → ⊥
+  no_link_stands link is some = let e : true ≡ false = sym (ap is_gone is) ∙ some in cc
 
   carry_breaks : (course : Course) (came queue : List ℕ) (way : Way) (b : World) (c : Cut) → Fits way c → Stands own (carry course came queue) way b
       → is_passing (carry course came queue) ≡ false → is_gone b.link ≡ false → Breaks way b c
@@ -277,21 +271,30 @@ module _ (read : Reading) (state : State) (ask : Ask)
   carry_breaks (Given NoReply true) came queue way b c fits h stays some = given_broken false came queue way b c fits h h.way_is
   carry_breaks (Given OneReply true) came queue way b c fits h stays some = given_broken true came queue way b c fits h h.way_is
   carry_breaks (Given BothReplies true) came queue way b c fits h stays some = given_all_broken came queue way b c fits h
-  carry_breaks (Ended begun clean) came queue way b c fits h stays some = absurd (no_link b.link h.link some)
-  carry_breaks (Severed begun) came queue way b c fits h stays some = absurd (no_link b.link h.link some)
+  carry_breaks (Ended begun clean) came queue way b c fits h stays some = absurd (no_link_stands b.link h.link some)
+  carry_breaks (Severed begun) came queue way b c fits h stays some = absurd (no_link_stands b.link h.link some)
   carry_breaks (Refusing why Unclosed) came queue way b c fits h stays some = absurd (cc)
   carry_breaks (Refusing why Closed) came queue way b c fits h stays some = refusing_broken why came queue way b c fits h
-  carry_breaks (Refusing why (Lost clean)) came queue way b c fits h stays some = absurd (no_link b.link h.link some)
-  carry_breaks Unopened came queue way b c fits h stays some = absurd (no_link b.link h.link some)
+  carry_breaks (Refusing why (Lost clean)) came queue way b c fits h stays some = absurd (no_link_stands b.link h.link some)
+  carry_breaks Unopened came queue way b c fits h stays some = absurd (no_link_stands b.link h.link some)
 
   pub stage_breaks : (stage : Stage) (way : Way) (b : World) (c : Cut) → Fits way c → Stands own stage way b → is_passing stage ≡ false → is_gone b.link ≡ false → Breaks way b c
   stage_breaks (PortAsked closing) way b c fits h stays some = absurd (cc)
-  stage_breaks (PortTold port) way b c fits h stays some = absurd (no_link b.link h.link some)
-  stage_breaks (Dials port) way b c fits h stays some = absurd (no_link b.link h.link some)
-  stage_breaks (Restarts at restart true) way b c fits h stays some = rest_broken at restart way b c fits h
-  stage_breaks (Restarts at restart false) way b c fits h stays some = absurd (no_link b.link h.link some)
-  stage_breaks (Retrieves true) way b c fits h stays some = retr_broken way b c fits h
-  stage_breaks (Retrieves false) way b c fits h stays some = absurd (no_link b.link h.link some)
+  stage_breaks (PortTold port) way b c fits h stays some = absurd (no_link_stands b.link h.link some)
+  stage_breaks (Dials port) way b c fits h stays some = absurd (no_link_stands b.link h.link some)
+  stage_breaks (PortWanted connection pending) way b c fits h stays some = absurd (no_link_stands b.link h.link some)
+  stage_breaks (PortSaid port connection pending) way b c fits h stays some = absurd (no_link_stands b.link h.link some)
+  stage_breaks (PortTaken port closing) way b c fits h stays some = absurd (no_link_stands b.link h.link some)
+  stage_breaks (PortDenied port connection) way b c fits h stays some = absurd (no_link_stands b.link h.link some)
+  stage_breaks (Restarts at restart (Dialled true)) way b c fits h stays some = rest_broken at restart way b c fits h
+  stage_breaks (Restarts at restart (Dialled false)) way b c fits h stays some = absurd (no_link_stands b.link h.link some)
+  stage_breaks (Restarts at restart (Ported port)) way b c fits h stays some = absurd (no_link_stands b.link h.link some)
+  stage_breaks (Retrieves (Dialled true)) way b c fits h stays some = retr_broken way b c fits h
+  stage_breaks (Retrieves (Dialled false)) way b c fits h stays some = absurd (no_link_stands b.link h.link some)
+  stage_breaks (Retrieves (Ported port)) way b c fits h stays some = absurd (no_link_stands b.link h.link some)
+  stage_breaks (Awaits port begun) way b c fits h stays some = absurd (no_link_stands b.link h.link some)
+  stage_breaks (Unaccepted port) way b c fits h stays some = absurd (no_link_stands b.link h.link some)
+  stage_breaks (Dismissed port why) way b c fits h stays some = absurd (no_link_stands b.link h.link some)
   stage_breaks (Carries y) way b c fits h stays some = carry_breaks y.course y.came y.queue way b c fits h stays some
   stage_breaks (Answers said leaves) way b c fits h stays some = absurd (cc)
 
@@ -313,6 +316,7 @@ module _ (read : Reading) (state : State) (ask : Ask)
         near = refl;
         session = h.session;
         steady = h.steady;
+        ready = h.ready;
         link = refl;
         to_server = refl;
         to_client = refl;
@@ -325,22 +329,23 @@ module _ (read : Reading) (state : State) (ask : Ask)
   given_all_ended : (came queue : List ℕ) (way : Way) (b : World) (c : Cut) → Fits way c → Stands own (carry (Given BothReplies true) came queue) way b → queue ≡ [] → EndsAt way b c
   given_all_ended came queue way b c fits h empty =
       let said : Said = ask.said state in
-      let n : Near = near_at (Answers said NoLink) b.near in
-      placed own _ (record b { near = n; link = Gone; data_to_server = []; data_to_client = [] }) way c (Answers said NoLink)
+      let n : Near = near_at (Answers said no_link) b.near in
+      placed own _ (record b { near = n; link = Gone; data_to_server = []; data_to_client = [] }) way c (Answers said no_link)
       (left_ends b way c n fits (subst (λ v. Leads near.data_end v n) (sym h.near)
       (near_ends_all ask.op ask.settings came b.near said
-      (judged_whole state ask good came (mark_in (no_octets ask.settings) None came) sound known h.fine.0.0 (all_came came queue _ empty h.fine.1))))) fits
+      (judged_whole state ask good came (mark_in (no_octets ask.settings) None came) sound h.ready.1 h.fine.0.0 (all_came came queue _ empty h.fine.1))))) fits
       (record {
         near = refl;
         session = h.session;
         steady = h.steady;
+        ready = tt;
         link = refl;
         to_server = refl;
         to_client = refl;
         came = tt;
         marked = subst (λ l. length l ≤ 1) (sym h.marked) (omega arith);
         way_is = h.way_is;
-        fine = said_fares state ask good own known h.fine.0.1;
+        fine = (said_fares state ask good own h.ready.1 h.fine.0.1, refl);
       })
 
   refusing_ended : (why : Refusal) (came queue : List ℕ) (way : Way) (b : World) (c : Cut) → Fits way c → Stands own (carry (Refusing why Closed) came queue) way b → EndsAt way b c
@@ -352,6 +357,7 @@ module _ (read : Reading) (state : State) (ask : Ask)
         near = refl;
         session = h.session;
         steady = h.steady;
+        ready = h.ready;
         link = refl;
         to_server = refl;
         to_client = refl;
@@ -369,10 +375,19 @@ module _ (read : Reading) (state : State) (ask : Ask)
   stage_ends (PortAsked closing) way b c fits h left stays empty = absurd (cc)
   stage_ends (PortTold port) way b c fits h left stays empty = absurd (not_left b.link _ h.link refl left)
   stage_ends (Dials port) way b c fits h left stays empty = absurd (not_left b.link _ h.link refl left)
-  stage_ends (Restarts at restart true) way b c fits h left stays empty = absurd (not_left b.link _ h.link refl left)
-  stage_ends (Restarts at restart false) way b c fits h left stays empty = absurd (not_left b.link _ h.link refl left)
-  stage_ends (Retrieves true) way b c fits h left stays empty = absurd (not_left b.link _ h.link refl left)
-  stage_ends (Retrieves false) way b c fits h left stays empty = absurd (not_left b.link _ h.link refl left)
+  stage_ends (PortWanted connection pending) way b c fits h left stays empty = absurd (not_left b.link _ h.link refl left)
+  stage_ends (PortSaid port connection pending) way b c fits h left stays empty = absurd (not_left b.link _ h.link refl left)
+  stage_ends (PortTaken port closing) way b c fits h left stays empty = absurd (not_left b.link _ h.link refl left)
+  stage_ends (PortDenied port connection) way b c fits h left stays empty = absurd (not_left b.link _ h.link refl left)
+  stage_ends (Restarts at restart (Dialled true)) way b c fits h left stays empty = absurd (not_left b.link _ h.link refl left)
+  stage_ends (Restarts at restart (Dialled false)) way b c fits h left stays empty = absurd (not_left b.link _ h.link refl left)
+  stage_ends (Restarts at restart (Ported port)) way b c fits h left stays empty = absurd (not_left b.link _ h.link refl left)
+  stage_ends (Retrieves (Dialled true)) way b c fits h left stays empty = absurd (not_left b.link _ h.link refl left)
+  stage_ends (Retrieves (Dialled false)) way b c fits h left stays empty = absurd (not_left b.link _ h.link refl left)
+  stage_ends (Retrieves (Ported port)) way b c fits h left stays empty = absurd (not_left b.link _ h.link refl left)
+  stage_ends (Awaits port begun) way b c fits h left stays empty = absurd (not_left b.link _ h.link refl left)
+  stage_ends (Unaccepted port) way b c fits h left stays empty = absurd (not_left b.link _ h.link refl left)
+  stage_ends (Dismissed port why) way b c fits h left stays empty = absurd (not_left b.link _ h.link refl left)
   stage_ends (Carries y) way b c fits h left stays empty = by_course y.course y.came y.queue h stays
     where
       by_course : (course : Course) (came queue : List ℕ) → Stands own (carry course came queue) way b → is_passing (carry course came queue) ≡ false → EndsAt way b c
@@ -388,120 +403,3 @@ module _ (read : Reading) (state : State) (ask : Ask)
       by_course (Refusing why (Lost clean)) came queue h stays = absurd (not_left b.link _ h.link refl left)
       by_course Unopened came queue h stays = absurd (not_left b.link _ h.link refl left)
   stage_ends (Answers said leaves) way b c fits h left stays empty = absurd (cc)
-
-  -- ---- the link opens, or is refused
-
-  module _ (port : ℕ) (w b : World) (way : Way) (c : Cut) (is : w ≡ world_at b rest no_cut) (h : Stands own (Dials port) way b) where
-    -- the client behind the opening, and the line that it sends
-    opened_near : Near
-    opened_near = busy (opened_job ask.offset ask) NearData.Open b.near
-
-    opens_near : near.data_opened b.far.footing.here (calm b.near) ≡ record (calm opened_near) { owed = written_line (line_of (opened_command ask.offset ask)) }
-    unfolding near.data_opened opened_near
-    opens_near =
-        let at : Near = calm (busy (Doing ask.op Steps.Connect) NearData.Open b.near) in
-        ap (λ v. near.data_opened b.far.footing.here (calm v)) h.near
-        ∙ ap (λ o. placed_step ask.op (step_behind_opening o) at) good.plan.offset_is ∙ by_offset ask.offset good.plan.offset_is
-      where
-        by_offset : (offset : Option ℕ) → offset_of ask.op ≡ offset
-            → placed_step ask.op (step_behind_opening offset) (calm (busy (Doing ask.op Steps.Connect) NearData.Open b.near))
-            ≡ record (calm (busy (opened_job offset ask) NearData.Open b.near)) { owed = written_line (line_of (opened_command offset ask)) }
-        by_offset None is = own_sent ask good.plan (calm (busy (Doing ask.op Steps.Connect) NearData.Open b.near))
-        by_offset (Some at) is = ap (λ o. sends_if (restart_command o) (calm (busy (Doing ask.op Steps.Restart) NearData.Open b.near))) is
-
-    opened_far : Far
-    opened_far = far_linked (linked FarData.Ready false Pendings.Nothing b.far.session) b.far
-
-    peer_is : same_host b.near.here b.far.footing.peer ≡ true
-    peer_is = ap (λ host. same_host host b.far.footing.peer) h.steady.here ∙ own_host b.far.footing.peer
-
-    opens_far : far.data_opened b.near.here (still b.far) ≡ still opened_far
-    unfolding far.data_opened opened_far
-    opens_far =
-        ap (λ s. far.data_opened b.near.here (still (far_linked s b.far))) h.session
-        ∙ ap (λ mine. later (completed (far.opens FarData.Passive mine (still (far_linked (linked FarData.Passive false Pendings.Nothing b.far.session) b.far))))) peer_is
-
-    opened_base : World
-    opened_base = record b { near = opened_near; far = opened_far; link = Opened; came = 0 }
-
-    opened_is : link_opens w ≡ world_at opened_base (Asking (line_of (opened_command ask.offset ask))) (record { held = []; moving = []; owed = written_line (line_of (opened_command ask.offset ask)) })
-    unfolding opened_base
-    opened_is =
-        ap link_opens is
-        ∙ (λ i. record opened_base { near = opens_near i; far = opens_far i; control_to_server = []; control_to_client = [] })
-
-    refused_near : near.data_refused (calm b.near) ≡ calm (leaving NotOpened false b.near)
-    unfolding near.data_refused
-    refused_near = ap (λ v. near.data_refused (calm v)) h.near
-
-    connects : is_connecting (near.wants (calm b.near)) ≡ true
-    unfolding near.wants
-    connects = ap (λ v. is_connecting (near.wants (calm v))) h.near
-
-    refused_base : World
-    refused_base = record b { near = leaving NotOpened false b.near; marks = marked_last Refused b.marks }
-
-    refused_is : link_refused w ≡ world_at refused_base rest no_cut
-    unfolding refused_base
-    refused_is =
-        ap link_refused is
-        ∙ ap (λ (q : Bool). with_mark Refused (refused_by q (world_at b rest no_cut))) connects
-        ∙ ap (λ v. record (world_at b rest no_cut) { near = v; marks = marked_last Refused b.marks }) refused_near
-
-    pub refused_placed : PlacedAt (At (own ++ Refused ∷ [])) (link_refused w)
-    unfolding refused_base
-    refused_placed = placed (own ++ Refused ∷ []) (link_refused w) refused_base rest no_cut (Answers NotOpened PortAside) refused_is (tt, (refl, refl)) (record {
-      near = refl;
-      session = h.session;
-      steady = h.steady;
-      link = h.link;
-      to_server = h.to_server;
-      to_client = h.to_client;
-      came = tt;
-      marked = subst (λ l. length l ≤ 1) (sym (marked_so Refused h.marked)) (omega arith);
-      way_is = refl;
-      fine = refused_link_fares state ask good (own ++ Refused ∷ []) (marked_so Refused h.marked);
-    })
-
-    opened_line : IsLine (line_of (opened_command ask.offset ask))
-    opened_line = by_offset ask.offset refl
-      where
-        by_offset : (o : Option ℕ) → ask.offset ≡ o → IsLine (line_of (opened_command o ask))
-        by_offset None e = carried ask.command good.row.typed good.row.stated
-        by_offset (Some at) e = carried (Commands.Rest at) tt (good.row.few at e)
-
-    opened_at : (stage : Stage) → Stands own stage (Asking (line_of (opened_command ask.offset ask))) opened_base → PlacedAt (At own) (link_opens w)
-    opened_at stage holds =
-        let line : List ℕ = written_line (line_of (opened_command ask.offset ask)) in
-        placed own (link_opens w) opened_base (Asking (line_of (opened_command ask.offset ask))) (record { held = []; moving = []; owed = line }) stage opened_is
-        (opened_line, subst (λ l. FlowsOf line [] l []) (append-nil line) (anew line [] (line_is_some (line_of (opened_command ask.offset ask))))) holds
-
-    pub opened_placed : PlacedAt (At own) (link_opens w)
-    unfolding opened_base opened_near opened_far
-    opened_placed = by_offset ask.offset refl
-      where
-        by_offset : (o : Option ℕ) → ask.offset ≡ o → PlacedAt (At own) (link_opens w)
-        by_offset None e = opened_at (Retrieves true) (record {
-          near = ap (λ o. busy (opened_job o ask) NearData.Open b.near) e;
-          session = ap (λ o. linked FarData.Ready false o b.far.session) (sym (ap offset_pending e));
-          steady = h.steady;
-          link = refl;
-          to_server = h.to_server;
-          to_client = h.to_client;
-          came = refl;
-          marked = h.marked;
-          way_is = ap (λ o. Asking (line_of (opened_command o ask))) e;
-          fine = subst (IsPlacedAt ask.settings) (sym e) tt;
-        })
-        by_offset (Some at) e = opened_at (Restarts at Sent true) (record {
-          near = ap (λ o. busy (opened_job o ask) NearData.Open b.near) e;
-          session = refl;
-          steady = h.steady;
-          link = refl;
-          to_server = h.to_server;
-          to_client = h.to_client;
-          came = refl;
-          marked = h.marked;
-          way_is = ap (λ o. Asking (line_of (opened_command o ask))) e;
-          fine = (e, tt);
-        })

@@ -26,8 +26,9 @@ use Rattle.ftp_agreement.specs.Cut.{Cut, world_at, PlacedAt}
 use Rattle.ftp_agreement.specs.Follows.{Told, Follows}
 use Rattle.ftp_agreement.specs.Runs.{IsFetching, IsFetchingOn, IsTrailing}
 use Rattle.ftp_agreement.specs.Stages as Stages
-use Rattle.ftp_agreement.specs.Stages.{Course, Giving, Given, Ended, Severed, Refusing, Unopened, Unclosed, Closed, Lost, Stage, PortAsked, PortTold, Dials, Restarts, Retrieves, Carries, Answers, Holds, AtFetch, IsLasting}
-use Rattle.ftp_agreement.proofs.FetchServed.{near_form, far_form, leads_still, moves_on, lasting_busy, lasting_untold}
+use Rattle.ftp_agreement.specs.Stages.{Course, Giving, Given, Ended, Severed, Refusing, Unopened, Unclosed, Closed, Lost, Stage, PortAsked, PortTold, Dials, Restarts, Retrieves, Carries, Answers, Holds, AtFetch, IsLasting, Dialled, Ported, PortWanted, PortSaid, PortTaken, PortDenied, Awaits, Unaccepted, Dismissed}
+use Rattle.ftp_agreement.proofs.FetchServed.{near_form, far_form, leads_still, moves_on, lasting_untold}
+use Rattle.ftp_agreement.proofs.FetchWants.{lasting_busy}
 use Rattle.ftp_agreement.proofs.FetchTold.{few_links, closed_is, closed_at, marks_at, reported}
 use Rattle.ftp_agreement.proofs.Items.{state_more, one_told}
 use Rattle.ftp_agreement.proofs.Parting.{lost_near, lost_world, near_fails, busy_lost, told_cut, marks_are_all, near_lost, far_lost, after_busy}
@@ -218,10 +219,21 @@ module _ (read : Reading) (from : State) (begun : List Order) (w : World) (on : 
       by_here (inr (PortAsked closing, h)) lasts = absurd (cc)
       by_here (inr (PortTold port, h)) lasts = record { after = parts_as _ h _ _ h.near refl _ _ h.session _ _ h.link h.to_client refl; table = table_of _ h; few = none_few h.marked }
       by_here (inr (Dials port, h)) lasts = record { after = parts_as _ h _ _ h.near refl _ _ h.session _ _ h.link h.to_client refl; table = table_of _ h; few = none_few h.marked }
-      by_here (inr (Restarts at restart true, h)) lasts = record { after = parts_as _ h _ _ h.near refl _ _ h.session _ _ h.link h.to_client tt; table = table_of _ h; few = none_few h.marked }
-      by_here (inr (Restarts at restart false, h)) lasts = record { after = parts_as _ h _ _ h.near refl _ _ h.session _ _ h.link h.to_client refl; table = table_of _ h; few = one_few _ h.marked }
-      by_here (inr (Retrieves true, h)) lasts = record { after = parts_as _ h _ _ h.near refl _ _ h.session _ _ h.link h.to_client tt; table = table_of _ h; few = none_few h.marked }
-      by_here (inr (Retrieves false, h)) lasts = record { after = parts_as _ h _ _ h.near refl _ _ h.session _ _ h.link h.to_client refl; table = table_of _ h; few = one_few _ h.marked }
+      by_here (inr (PortWanted connection pending, h)) lasts = absurd (cc)
+      by_here (inr (PortSaid port connection pending, h)) lasts = record { after = parts_as _ h _ _ h.near refl _ _ h.session _ _ h.link h.to_client refl; table = table_of _ h; few = none_few h.marked }
+      by_here (inr (PortTaken port true, h)) lasts = absurd (cc)
+      by_here (inr (PortTaken port false, h)) lasts = record { after = parts_as _ h _ _ h.near refl _ _ h.session _ _ h.link h.to_client refl; table = table_of _ h; few = none_few h.marked }
+      by_here (inr (PortDenied port connection, h)) lasts = record { after = parts_as _ h _ _ h.near refl _ _ h.session _ _ h.link h.to_client refl; table = table_of _ h; few = none_few h.marked }
+      by_here (inr (Restarts at restart (Dialled true), h)) lasts = record { after = parts_as _ h _ _ h.near refl _ _ h.session _ _ h.link h.to_client tt; table = table_of _ h; few = none_few h.marked }
+      by_here (inr (Restarts at restart (Dialled false), h)) lasts = record { after = parts_as _ h _ _ h.near refl _ _ h.session _ _ h.link h.to_client refl; table = table_of _ h; few = one_few _ h.marked }
+      by_here (inr (Restarts at restart (Ported port), h)) lasts = record { after = parts_as _ h _ _ h.near refl _ _ h.session _ _ h.link h.to_client refl; table = table_of _ h; few = none_few h.marked }
+      by_here (inr (Retrieves (Dialled true), h)) lasts = record { after = parts_as _ h _ _ h.near refl _ _ h.session _ _ h.link h.to_client tt; table = table_of _ h; few = none_few h.marked }
+      by_here (inr (Retrieves (Dialled false), h)) lasts = record { after = parts_as _ h _ _ h.near refl _ _ h.session _ _ h.link h.to_client refl; table = table_of _ h; few = one_few _ h.marked }
+      by_here (inr (Retrieves (Ported port), h)) lasts = record { after = parts_as _ h _ _ h.near refl _ _ h.session _ _ h.link h.to_client refl; table = table_of _ h; few = none_few h.marked }
+      by_here (inr (Awaits port false, h)) lasts = record { after = parts_as _ h _ _ h.near refl _ _ h.session _ _ h.link h.to_client refl; table = table_of _ h; few = none_few h.marked }
+      by_here (inr (Awaits port true, h)) lasts = record { after = parts_as _ h _ _ h.near refl _ _ h.session _ _ h.link h.to_client refl; table = table_of _ h; few = none_few h.marked }
+      by_here (inr (Unaccepted port, h)) lasts = record { after = parts_as _ h _ _ h.near refl _ _ h.session _ _ h.link h.to_client refl; table = table_of _ h; few = one_few _ h.marked }
+      by_here (inr (Dismissed port why, h)) lasts = record { after = parts_as _ h _ _ h.near refl _ _ h.session _ _ h.link h.to_client refl; table = table_of _ h; few = none_few h.marked }
       by_here (inr (Carries c, h)) lasts = carry_parts c.course c.came c.queue h lasts
       by_here (inr (Answers said leaves, h)) lasts = absurd (cc)
 

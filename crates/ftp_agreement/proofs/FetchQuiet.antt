@@ -21,7 +21,7 @@ use Rattle.ftp_dialogues.proofs.LoginTurns.{no_asking, no_reply}
 use Rattle.ftp_agreement.specs.Cut.{Cut, world_at, PlacedAt}
 use Rattle.ftp_agreement.specs.Runs.{IsFetching, IsFetchingOn, Runs}
 use Rattle.ftp_agreement.specs.Stages as Stages
-use Rattle.ftp_agreement.specs.Stages.{Course, Giving, Given, Ended, Severed, Refusing, Unopened, Unclosed, Closed, Lost, NoReply, OneReply, BothReplies, Sent, Granted, Denied, Stage, PortAsked, PortTold, Dials, Restarts, Retrieves, Carries, Answers, Holds, AtFetch, IsLasting}
+use Rattle.ftp_agreement.specs.Stages.{Course, Giving, Given, Ended, Severed, Refusing, Unopened, Unclosed, Closed, Lost, NoReply, OneReply, BothReplies, Sent, Granted, Denied, Stage, PortAsked, PortTold, Dials, Restarts, Retrieves, Carries, Answers, Holds, AtFetch, IsLasting, at_port, PortWanted, PortSaid, PortTaken, PortDenied, Awaits, Unaccepted, Dismissed}
 use Rattle.ftp_agreement.proofs.FetchData.{given_of}
 use Rattle.ftp_agreement.proofs.FetchServed.{near_form, far_form, moves_on}
 use Rattle.ftp_agreement.proofs.FetchTold.{closed_is}
@@ -117,6 +117,14 @@ module _ (read : Reading) (from : State) (begun : List Order) (w : World) (on : 
       let accepts : far.wants w.far ≡ Want.Accept = ap (λ s. far.wants (record w.far { session = s })) (far_form s.base w seen _ false _ h.session) in
       never (is_gone w.link && is_wanted (near.wants w.near) (far.wants w.far)) (λ i. is_gone (link_is _ h i) && is_wanted (connects i) (accepts i)) still.opened
 
+  -- and so it can where the server connects
+  awaits_open : (port : ℕ) → Stood (Awaits port true) → ⊥
+  unfolding near.wants
+  awaits_open port h =
+      let accepts : near.wants w.near ≡ Want.Accept = ap near.wants (near_form s.base w seen _ _ h.near) in
+      let connects : far.wants w.far ≡ Want.Connect (at_port s.base.near.here port) = ap (λ s. far.wants (record w.far { session = s })) (far_form s.base w seen _ false _ h.session) in
+      never (is_gone w.link && is_wanted (near.wants w.near) (far.wants w.far)) (λ i. is_gone (link_is _ h i) && is_wanted (accepts i) (connects i)) still.opened
+
   carry_moves : (course : Course) (came queue : List ℕ) → Stood (carry course came queue) → Stages.is_passing (carry course came queue) ≡ false → ⊥
   carry_moves (Giving false octet more) came queue h lasts = moves _ h (ap (λ v. is_sound v.standing) h.near) (rows_some _ _ h.way_is)
   carry_moves (Giving true octet more) came queue h lasts = giving_moves octet more came queue h
@@ -140,10 +148,19 @@ module _ (read : Reading) (from : State) (begun : List Order) (w : World) (on : 
   here_moves (inr (PortAsked closing, h)) lasts = absurd (cc)
   here_moves (inr (PortTold port, h)) lasts = moves _ h (ap (λ v. is_sound v.standing) h.near) (rows_some _ _ h.way_is)
   here_moves (inr (Dials port, h)) lasts = dials_open port h
-  here_moves (inr (Restarts at Sent joined, h)) lasts = moves _ h (ap (λ v. is_sound v.standing) h.near) (line_some _ h.way_is)
-  here_moves (inr (Restarts at Granted joined, h)) lasts = moves _ h (ap (λ v. is_sound v.standing) h.near) (rows_some _ _ h.way_is)
-  here_moves (inr (Restarts at (Denied why) joined, h)) lasts = moves _ h (ap (λ v. is_sound v.standing) h.near) (rows_some _ _ h.way_is)
-  here_moves (inr (Retrieves joined, h)) lasts = moves _ h (ap (λ v. is_sound v.standing) h.near) (line_some _ h.way_is)
+  here_moves (inr (PortWanted connection pending, h)) lasts = absurd (cc)
+  here_moves (inr (PortSaid port connection pending, h)) lasts = moves _ h (ap (λ v. is_sound v.standing) h.near) (line_some _ h.way_is)
+  here_moves (inr (PortTaken port true, h)) lasts = absurd (cc)
+  here_moves (inr (PortTaken port false, h)) lasts = moves _ h (ap (λ v. is_sound v.standing) h.near) (rows_some _ _ h.way_is)
+  here_moves (inr (PortDenied port connection, h)) lasts = moves _ h (ap (λ v. is_sound v.standing) h.near) (rows_some _ _ h.way_is)
+  here_moves (inr (Restarts at Sent early, h)) lasts = moves _ h (ap (λ v. is_sound v.standing) h.near) (line_some _ h.way_is)
+  here_moves (inr (Restarts at Granted early, h)) lasts = moves _ h (ap (λ v. is_sound v.standing) h.near) (rows_some _ _ h.way_is)
+  here_moves (inr (Restarts at (Denied why) early, h)) lasts = moves _ h (ap (λ v. is_sound v.standing) h.near) (rows_some _ _ h.way_is)
+  here_moves (inr (Retrieves early, h)) lasts = moves _ h (ap (λ v. is_sound v.standing) h.near) (line_some _ h.way_is)
+  here_moves (inr (Awaits port false, h)) lasts = moves _ h (ap (λ v. is_sound v.standing) h.near) (rows_some _ _ h.way_is)
+  here_moves (inr (Awaits port true, h)) lasts = awaits_open port h
+  here_moves (inr (Unaccepted port, h)) lasts = moves _ h (ap (λ v. is_sound v.standing) h.near) (rows_some _ _ h.way_is)
+  here_moves (inr (Dismissed port why, h)) lasts = moves _ h (ap (λ v. is_sound v.standing) h.near) (rows_some _ _ h.way_is)
   here_moves (inr (Carries c, h)) lasts = carry_moves c.course c.came c.queue h lasts
   here_moves (inr (Answers said leaves, h)) lasts = absurd (cc)
 

@@ -12,11 +12,13 @@ use Rattle.ftp_dialogues.specs.Stage.{Way, Asking, Answering}
 use Rattle.ftp_agreement.specs.Cut.{Cut, Goes, world_at, PlacedAt}
 use Rattle.ftp_agreement.specs.Follows.{Told}
 use Rattle.ftp_agreement.specs.Runs.{IsFetching, IsFetchingOn, Runs}
-use Rattle.ftp_agreement.specs.Stages.{Course, Giving, Given, Ended, Severed, Refusing, Unopened, Unclosed, Closed, Lost, Stage, PortAsked, PortTold, Dials, Restarts, Retrieves, Carries, Answers, Holds, AtFetch, IsLasting}
+use Rattle.ftp_agreement.specs.Stages.{Course, Giving, Given, Ended, Severed, Refusing, Unopened, Unclosed, Closed, Lost, Stage, PortAsked, PortTold, Dials, Restarts, Retrieves, Carries, Answers, Holds, AtFetch, IsLasting, PortWanted, PortSaid, PortTaken, PortDenied, Awaits, Unaccepted, Dismissed, is_passing, is_served, AtServed, IsServed}
 use Rattle.ftp_agreement.proofs.Deliveries.{taken_at}
 use Rattle.ftp_agreement.proofs.FetchData.{AtFlow, flow_pulls, flow_pushes, flow_is}
-use Rattle.ftp_agreement.proofs.FetchEvents.{stage_breaks, stage_ends, opened_placed, refused_placed}
-use Rattle.ftp_agreement.proofs.FetchServed.{Served, dials_or_none, lasting_stays, port_asked_serves, given_closes, refusing_closes}
+use Rattle.ftp_agreement.proofs.FetchEvents.{stage_breaks, stage_ends}
+use Rattle.ftp_agreement.proofs.FetchOpenings.{accepted_placed, unaccepted_placed, opened_placed, refused_placed}
+use Rattle.ftp_agreement.proofs.FetchServed.{Served, lasting_stays, port_asked_serves, port_taken_closes, port_wanted_serves, given_closes, refusing_closes}
+use Rattle.ftp_agreement.proofs.FetchWants.{dials_or_none}
 use Rattle.ftp_agreement.proofs.FetchTold.{answers_served, marks_last}
 use Rattle.ftp_agreement.proofs.FetchTurns.{fetch_goes}
 use Rattle.ftp_agreement.proofs.Keeps.{pulls_to_server, pulls_to_client, pushes_to_server, pushes_to_client}
@@ -49,9 +51,7 @@ module _ (read : Reading) (reads : IsReading read) (from : State) (begun : List 
     marks_are = marks;
     now = f.now;
     sound = f.sound;
-    known = f.known;
     is_ask = f.is_ask;
-    passive = f.passive;
     told = subst (λ reports. Told from f.done f.marks None reports f.now) (sym reports) f.told;
     linked = record { control = control ∙ f.linked.control; cutoff = cutoff ∙ f.linked.cutoff };
     stands = stands;
@@ -98,42 +98,101 @@ module _ (read : Reading) (reads : IsReading read) (from : State) (begun : List 
           served_on w f (port_asked_serves read f.now f.ask f.is_ask.plan f.own closing w f.stands.base f.stands.way (rest_placed _ w f.stands h.way_is) h)
       by_here (inr (PortTold port, h)) e = lasting _ e refl
       by_here (inr (Dials port, h)) e = lasting _ e refl
-      by_here (inr (Restarts at restart joined, h)) e = lasting _ e refl
-      by_here (inr (Retrieves joined, h)) e = lasting _ e refl
+      by_here (inr (PortWanted connection pending, h)) e =
+          served_on w f (port_wanted_serves read f.now f.ask f.is_ask.plan f.own connection pending w f.stands.base f.stands.way (rest_placed _ w f.stands h.way_is) h)
+      by_here (inr (PortSaid port connection pending, h)) e = lasting _ e refl
+      by_here (inr (PortTaken port true, h)) e = served_on w f (port_taken_closes read f.now f.ask f.is_ask.plan f.own port w f.stands h)
+      by_here (inr (PortTaken port false, h)) e = lasting _ e refl
+      by_here (inr (PortDenied port connection, h)) e = lasting _ e refl
+      by_here (inr (Restarts at restart early, h)) e = lasting _ e refl
+      by_here (inr (Retrieves early, h)) e = lasting _ e refl
+      by_here (inr (Awaits port begun, h)) e = lasting _ e refl
+      by_here (inr (Unaccepted port, h)) e = lasting _ e refl
+      by_here (inr (Dismissed port why, h)) e = lasting _ e refl
       by_here (inr (Carries c, h)) e = by_course c.course c.came c.queue h e
       by_here (inr (Answers said leaves, h)) e = answers_served read from begun w f said leaves h
 
   -- ---- octets of the control connection
 
-  goes_of : (w : World) (f : Fetching w) → Goes read (At w f)
-  goes_of w f = fetch_goes read reads f.now f.ask f.is_ask f.sound f.known f.passive f.own
+  abbrev Serves : (w : World) → Fetching w → Way → World → Type 0
+  Serves w f way b = AtServed f.now f.ask read f.own way b
+
+  goes_of : (w : World) (f : Fetching w) → Goes read (Serves w f) (At w f)
+  goes_of w f = fetch_goes read reads f.now f.ask f.is_ask f.sound f.own
 
   no_change : (w : World) → IsKept w w
   no_change w = record { marks = refl; reports = refl; control = refl; cutoff = refl }
 
-  pulled_server : (n : ℕ) (w : World) → Fetching w → Fetching (pulled ControlToServer w n)
-  pulled_server n w f =
-      fetching_moved w (pulled ControlToServer w n) f (record { marks = refl; reports = refl; control = refl; cutoff = refl }) (pulls_to_server read (At w f) (goes_of w f) n w f.stands)
+  -- a world whose octets of the control connection have moved
+  record Serving (w : World) (f : Fetching w) (new : World) : Type 0 where
+    placed : PlacedAt (Serves w f) new
+    kept : IsKept w new
 
-  pulled_client : (n : ℕ) (w : World) → Fetching w → Fetching (pulled ControlToClient w n)
-  pulled_client n w f =
-      fetching_moved w (pulled ControlToClient w n) f (record { marks = refl; reports = refl; control = refl; cutoff = refl }) (pulls_to_client read (At w f) (goes_of w f) n w f.stands)
+  serving_is : (w : World) (f : Fetching w) (u : World) → Serving w f u → Fetching u
+  serving_is w f u m =
+      let s = m.placed in
+      fetching_moved w u f m.kept (record { base = s.base; way = s.way; cut = s.cut; is = s.is; fits = s.fits; here = s.here.0 })
 
-  pushed_server : (n : ℕ) (w : World) → Fetching w → Fetching (pushed read ControlToServer n w)
-  pushed_server n w f =
-      fetching_moved w (pushed read ControlToServer n w) f (record { marks = refl; reports = refl; control = refl; cutoff = refl }) (pushes_to_server read (At w f) (goes_of w f) n w f.stands)
+  -- what outlasts an event is served
+  served_of : (stage : Stage) → is_passing stage ≡ false → is_served stage ≡ true
+  served_of (PortAsked closing) lasts = refl
+  served_of (PortTold port) lasts = refl
+  served_of (Dials port) lasts = refl
+  served_of (PortWanted connection pending) lasts = refl
+  served_of (PortSaid port connection pending) lasts = refl
+  served_of (PortTaken port true) lasts = absurd (cc)
+  served_of (PortTaken port false) lasts = refl
+  served_of (PortDenied port connection) lasts = refl
+  served_of (Restarts at restart early) lasts = refl
+  served_of (Retrieves early) lasts = refl
+  served_of (Awaits port begun) lasts = refl
+  served_of (Unaccepted port) lasts = refl
+  served_of (Dismissed port why) lasts = refl
+  served_of (Carries carry) lasts = refl
+  served_of (Answers said leaves) lasts = refl
 
-  pushed_client : (n : ℕ) (w : World) → Fetching w → Fetching (pushed read ControlToClient n w)
-  pushed_client n w f =
-      fetching_moved w (pushed read ControlToClient n w) f (record { marks = refl; reports = refl; control = refl; cutoff = refl }) (pushes_to_client read (At w f) (goes_of w f) n w f.stands)
+  served_here : (w : World) (f : Fetching w) (way : Way) (b : World) (here : At w f way b) → IsLasting f.now f.ask read f.own way b here → IsServed f.now f.ask read f.own way b here
+  served_here w f way b (inl l) lasts = tt
+  served_here w f way b (inr (stage, h)) lasts = served_of stage lasts
 
-  filled_server : (counts : List ℕ) (w : World) → Fetching w → Fetching (filled ControlToServer w counts)
-  filled_server [] w f = f
-  filled_server (count ∷ counts) w f = filled_server counts (pulled ControlToServer w count) (pulled_server count w f)
+  serving_first : (w : World) (on : IsFetchingOn read from begun w) → Serving w on.fetching w
+  serving_first w on =
+      let s = on.fetching.stands in
+      record {
+        placed = record { base = s.base; way = s.way; cut = s.cut; is = s.is; fits = s.fits; here = (s.here, served_here w on.fetching s.way s.base s.here on.lasts) };
+        kept = no_change w;
+      }
 
-  filled_client : (counts : List ℕ) (w : World) → Fetching w → Fetching (filled ControlToClient w counts)
-  filled_client [] w f = f
-  filled_client (count ∷ counts) w f = filled_client counts (pulled ControlToClient w count) (pulled_client count w f)
+  pulled_server : (n : ℕ) (w : World) (f : Fetching w) (u : World) → Serving w f u → Serving w f (pulled ControlToServer u n)
+  pulled_server n w f u m = record {
+    placed = pulls_to_server read (Serves w f) (At w f) (goes_of w f) n u m.placed;
+    kept = record { marks = m.kept.marks; reports = m.kept.reports; control = m.kept.control; cutoff = m.kept.cutoff };
+  }
+
+  pulled_client : (n : ℕ) (w : World) (f : Fetching w) (u : World) → Serving w f u → Serving w f (pulled ControlToClient u n)
+  pulled_client n w f u m = record {
+    placed = pulls_to_client read (Serves w f) (At w f) (goes_of w f) n u m.placed;
+    kept = record { marks = m.kept.marks; reports = m.kept.reports; control = m.kept.control; cutoff = m.kept.cutoff };
+  }
+
+  pushed_server : (n : ℕ) (w : World) (f : Fetching w) (u : World) → Serving w f u → Fetching (pushed read ControlToServer n u)
+  pushed_server n w f u m =
+      fetching_moved w (pushed read ControlToServer n u) f (record { marks = m.kept.marks; reports = m.kept.reports; control = m.kept.control; cutoff = m.kept.cutoff })
+      (pushes_to_server read (Serves w f) (At w f) (goes_of w f) n u m.placed)
+
+  pushed_client : (n : ℕ) (w : World) (f : Fetching w) (u : World) → Serving w f u → Fetching (pushed read ControlToClient n u)
+  pushed_client n w f u m = serving_is w f (pushed read ControlToClient n u) (record {
+    placed = pushes_to_client read (Serves w f) (At w f) (goes_of w f) n u m.placed;
+    kept = record { marks = m.kept.marks; reports = m.kept.reports; control = m.kept.control; cutoff = m.kept.cutoff };
+  })
+
+  filled_server : (counts : List ℕ) (w : World) (f : Fetching w) (u : World) → Serving w f u → Serving w f (filled ControlToServer u counts)
+  filled_server [] w f u m = m
+  filled_server (count ∷ counts) w f u m = filled_server counts w f (pulled ControlToServer u count) (pulled_server count w f u m)
+
+  filled_client : (counts : List ℕ) (w : World) (f : Fetching w) (u : World) → Serving w f u → Serving w f (filled ControlToClient u counts)
+  filled_client [] w f u m = m
+  filled_client (count ∷ counts) w f u m = filled_client counts w f (pulled ControlToClient u count) (pulled_client count w f u m)
 
   -- what is lent is of no matter
   holds_taken : (w : World) (f : Fetching w) (octets : List ℕ) (stage : Stage) (way : Way) (b : World) → Holds f.now f.ask f.own stage way b
@@ -142,6 +201,7 @@ module _ (read : Reading) (reads : IsReading read) (from : State) (begun : List 
     near = h.near;
     session = h.session;
     steady = h.steady;
+    ready = h.ready;
     link = h.link;
     to_server = h.to_server;
     to_client = h.to_client;
@@ -178,19 +238,47 @@ module _ (read : Reading) (reads : IsReading read) (from : State) (begun : List 
   unfolding fetching_taken fetching_moved fetching_marked
   fetching_on_taken octets w f = record { fetching = fetching_taken octets w f.fetching; lasts = lasts_taken octets w f.fetching f.fetching.stands.here f.lasts }
 
-  pub fetch_delivers_server : (none : Bool) (count : ℕ) (w new : World) → Fetching w → DeliversBy none read ControlToServer count w new → Runs read from begun new
-  fetch_delivers_server true count w new f m = subst (Runs read from begun) (sym m.is) (fetch_after _ (pulled_server m.gave w f))
-  fetch_delivers_server false count w new f d =
-      let full = filled_server d.counts w f in
-      subst (Runs read from begun) (sym d.is)
-      (fetch_after _ (pushed_server d.taken _ (fetching_taken (take d.taken (filled ControlToServer w d.counts).control_to_server) (filled ControlToServer w d.counts) full)))
+  served_taken : (octets : List ℕ) (w : World) (f : Fetching w) (way : Way) (b : World) (here : At w f way b) → IsServed f.now f.ask read f.own way b here
+      → IsServed f.now f.ask read f.own way (record b { taken = octets }) (here_taken w f octets way b here)
+  unfolding here_taken
+  served_taken octets w f way b (inl l) served = served
+  served_taken octets w f way b (inr (stage, h)) served = served
 
-  pub fetch_delivers_client : (none : Bool) (count : ℕ) (w new : World) → Fetching w → DeliversBy none read ControlToClient count w new → Runs read from begun new
-  fetch_delivers_client true count w new f m = subst (Runs read from begun) (sym m.is) (fetch_after _ (pulled_client m.gave w f))
-  fetch_delivers_client false count w new f d =
-      let full = filled_client d.counts w f in
-      subst (Runs read from begun) (sym d.is)
-      (fetch_after _ (pushed_client d.taken _ (fetching_taken (take d.taken (filled ControlToClient w d.counts).control_to_client) (filled ControlToClient w d.counts) full)))
+  serving_taken : (octets : List ℕ) (w : World) (f : Fetching w) (u : World) → Serving w f u → Serving w f (record u { taken = octets })
+  serving_taken octets w f u m =
+      let lends : World → World = λ v. record v { taken = octets } in
+      let s = m.placed in
+      record {
+        placed = record {
+          base = record s.base { taken = octets };
+          way = s.way;
+          cut = s.cut;
+          is = ap lends s.is ∙ taken_at s.base s.way s.cut octets;
+          fits = s.fits;
+          here = (here_taken w f octets s.way s.base s.here.0, served_taken octets w f s.way s.base s.here.0 s.here.1);
+        };
+        kept = record { marks = m.kept.marks; reports = m.kept.reports; control = m.kept.control; cutoff = m.kept.cutoff };
+      }
+
+  pub fetch_delivers_server : (none : Bool) (count : ℕ) (w new : World) → IsFetchingOn read from begun w → DeliversBy none read ControlToServer count w new → Runs read from begun new
+  fetch_delivers_server true count w new on m =
+      let f = on.fetching in
+      subst (Runs read from begun) (sym m.is) (fetch_after _ (serving_is w f _ (pulled_server m.gave w f w (serving_first w on))))
+  fetch_delivers_server false count w new on d =
+      let f = on.fetching in
+      let full = filled_server d.counts w f w (serving_first w on) in
+      let lent = serving_taken (take d.taken (filled ControlToServer w d.counts).control_to_server) w f (filled ControlToServer w d.counts) full in
+      subst (Runs read from begun) (sym d.is) (fetch_after _ (pushed_server d.taken w f _ lent))
+
+  pub fetch_delivers_client : (none : Bool) (count : ℕ) (w new : World) → IsFetchingOn read from begun w → DeliversBy none read ControlToClient count w new → Runs read from begun new
+  fetch_delivers_client true count w new on m =
+      let f = on.fetching in
+      subst (Runs read from begun) (sym m.is) (fetch_after _ (serving_is w f _ (pulled_client m.gave w f w (serving_first w on))))
+  fetch_delivers_client false count w new on d =
+      let f = on.fetching in
+      let full = filled_client d.counts w f w (serving_first w on) in
+      let lent = serving_taken (take d.taken (filled ControlToClient w d.counts).control_to_client) w f (filled ControlToClient w d.counts) full in
+      subst (Runs read from begun) (sym d.is) (fetch_after _ (pushed_client d.taken w f _ lent))
 
   -- ---- octets of the link
 
@@ -305,7 +393,7 @@ module _ (read : Reading) (reads : IsReading read) (from : State) (begun : List 
       by_here : (here : At w f f.stands.way f.stands.base) → IsLasting f.now f.ask read f.own f.stands.way f.stands.base here → Runs read from begun (after_event (link_breaks w))
       by_here (inl l) lasts = absurd (let e : true ≡ false = sym (ap is_gone (sym (base_link w f) ∙ l.link)) ∙ some in cc)
       by_here (inr (stage, h)) lasts =
-          let breaks = stage_breaks read f.now f.ask f.is_ask f.sound f.known f.own stage f.stands.way f.stands.base f.stands.cut f.stands.fits h lasts
+          let breaks = stage_breaks read f.now f.ask f.is_ask f.sound f.own stage f.stands.way f.stands.base f.stands.cut f.stands.fits h lasts
           (ap is_gone (base_link w f) ∙ some) in
           let own : List Mark = f.own ++ Broken f.stands.base.came ∷ [] in
           fetch_after (link_breaks w) (fetching_marked w (link_breaks w) f own marked left.reports left.control left.cutoff
@@ -320,7 +408,7 @@ module _ (read : Reading) (reads : IsReading read) (from : State) (begun : List 
       by_here : (here : At w f f.stands.way f.stands.base) → IsLasting f.now f.ask read f.own f.stands.way f.stands.base here → Runs read from begun (after_event (told DataToClient w))
       by_here (inl l) lasts = absurd (let e : false ≡ true = sym (ap is_closed_by_far (sym (base_link w f) ∙ l.link)) ∙ left in cc)
       by_here (inr (stage, h)) lasts =
-          let ends = stage_ends read f.now f.ask f.is_ask f.sound f.known f.own stage f.stands.way f.stands.base f.stands.cut f.stands.fits h
+          let ends = stage_ends read f.now f.ask f.is_ask f.sound f.own stage f.stands.way f.stands.base f.stands.cut f.stands.fits h
           (ap is_closed_by_far (base_link w f) ∙ left) lasts (base_queue w f ∙ empty) in
           fetch_after (told DataToClient w) (fetching_moved w (told DataToClient w) f (record { marks = refl; reports = refl; control = refl; cutoff = refl })
           (subst (λ u. PlacedAt (At w f) (told DataToClient u)) (sym f.stands.is) ends))
@@ -342,12 +430,17 @@ module _ (read : Reading) (reads : IsReading read) (from : State) (begun : List 
       f : Fetching w
       f = on.fetching
 
-      by_dial : ((port : ℕ) × Holds f.now f.ask f.own (Dials port) f.stands.way f.stands.base) ⊎ (is_asked_for w ≡ false) → Runs read from begun (after_event (link_opens w))
+      by_dial : ((port : ℕ) × Holds f.now f.ask f.own (Dials port) f.stands.way f.stands.base)
+          ⊎ (((port : ℕ) × Holds f.now f.ask f.own (Awaits port true) f.stands.way f.stands.base) ⊎ (is_asked_for w ≡ false)) → Runs read from begun (after_event (link_opens w))
       by_dial (inl (port, h)) =
           let is = rest_placed _ w f.stands h.way_is in
           fetch_after (link_opens w) (fetching_moved w (link_opens w) f (record { marks = refl; reports = refl; control = refl; cutoff = refl })
-          (opened_placed read f.now f.ask f.is_ask f.sound f.known f.own port w f.stands.base f.stands.way f.stands.cut is h))
-      by_dial (inr none) = absurd (let e : true ≡ false = sym asks ∙ none in cc)
+          (opened_placed read f.now f.ask f.is_ask f.sound f.own port w f.stands.base f.stands.way f.stands.cut is h))
+      by_dial (inr (inl (port, h))) =
+          let is = rest_placed _ w f.stands h.way_is in
+          fetch_after (link_opens w) (fetching_moved w (link_opens w) f (record { marks = refl; reports = refl; control = refl; cutoff = refl })
+          (accepted_placed read f.now f.ask f.is_ask f.sound f.own port w f.stands.base f.stands.way f.stands.cut is h))
+      by_dial (inr (inr none)) = absurd (let e : true ≡ false = sym asks ∙ none in cc)
 
   pub fetch_refuses : (w : World) → IsFetchingOn read from begun w → is_asked_for w ≡ true → Runs read from begun (after_event (link_refused w))
   fetch_refuses w on asks = by_dial (dials_or_none read f.now f.ask f.is_ask.plan f.own w f.stands on.lasts)
@@ -358,10 +451,16 @@ module _ (read : Reading) (reads : IsReading read) (from : State) (begun : List 
       left : IsRefusal w (link_refused w)
       left = refuses_by w (is_connecting (near.wants w.near))
 
-      by_dial : ((port : ℕ) × Holds f.now f.ask f.own (Dials port) f.stands.way f.stands.base) ⊎ (is_asked_for w ≡ false) → Runs read from begun (after_event (link_refused w))
+      by_dial : ((port : ℕ) × Holds f.now f.ask f.own (Dials port) f.stands.way f.stands.base)
+          ⊎ (((port : ℕ) × Holds f.now f.ask f.own (Awaits port true) f.stands.way f.stands.base) ⊎ (is_asked_for w ≡ false)) → Runs read from begun (after_event (link_refused w))
       by_dial (inl (port, h)) =
           let is = rest_placed _ w f.stands h.way_is in
           fetch_after (link_refused w) (fetching_marked w (link_refused w) f (f.own ++ Refused ∷ [])
           (left.marks ∙ ap (marked_last Refused) f.marks_are ∙ marks_last Refused f.marks f.own) left.reports left.control left.cutoff
-          (refused_placed read f.now f.ask f.is_ask f.sound f.known f.own port w f.stands.base f.stands.way f.stands.cut is h))
-      by_dial (inr none) = absurd (let e : true ≡ false = sym asks ∙ none in cc)
+          (refused_placed read f.now f.ask f.is_ask f.sound f.own port w f.stands.base f.stands.way f.stands.cut is h))
+      by_dial (inr (inl (port, h))) =
+          let is = rest_placed _ w f.stands h.way_is in
+          fetch_after (link_refused w) (fetching_marked w (link_refused w) f (f.own ++ Refused ∷ [])
+          (left.marks ∙ ap (marked_last Refused) f.marks_are ∙ marks_last Refused f.marks f.own) left.reports left.control left.cutoff
+          (unaccepted_placed read f.now f.ask f.is_ask f.sound f.own port w f.stands.base f.stands.way f.stands.cut is h))
+      by_dial (inr (inr none)) = absurd (let e : true ≡ false = sym asks ∙ none in cc)

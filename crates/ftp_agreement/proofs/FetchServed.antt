@@ -1,20 +1,25 @@
 -- What a world does for its ends behind an event of a download: nothing, or a port is told, a link is closed, a report is taken.
-use Rattle.std.proofs.Common.{◌≡◌, ◌≢◌, ◌⊎◌, inl, inr, ℕ, zero, suc, ◌<◌, ◌≤◌, Bool, true, false, ◌&&◌, ◌||◌, List, [], ◌∷◌, None, refl, sym, ap, subst, ◌∙◌, arith}
+use Rattle.std.proofs.Common.{◌≡◌, ◌≢◌, inl, inr, ℕ, zero, suc, ◌<◌, ◌≤◌, Bool, true, false, ◌||◌, List, [], ◌∷◌, None, refl, sym, ap, subst, ◌∙◌, append-nil, arith}
 use Rattle.ftp_endpoint.specs.Written.{IsTypedHost, IsV4}
 use Rattle.ftp_endpoint.specs.declared.host.Host.{Host}
 use Rattle.ftp_endpoint.specs.declared.host.Host.TheVariants.{V4, V6}
-use Rattle.ftp_ends.specs.Link.{is_v6, is_wanted}
-use Rattle.ftp_ends.specs.declared.link.Wants.{Wants}
+use Rattle.ftp_ends.specs.Link.{is_v6}
 use Rattle.ftp_ends.specs.Reply.{IsWritten, Reply, reply_octets}
 use Rattle.ftp_operation.specs.declared.op.Op.{Op}
 use Rattle.ftp_path.specs.Path.{Names}
 use Rattle.ftp_direct.specs.Direct.{State}
 use Rattle.ftp_direct.specs.declared.refusal.Refusal.{Refusal}
 use Rattle.ftp_client_machine.specs.Calls as near
-use Rattle.ftp_client_machine.specs.Calls.{is_busy_job, report_of, report_of_job}
-use Rattle.ftp_client_machine.specs.Plan.{asks_extended, how_of, is_extended}
+use Rattle.ftp_client_machine.specs.Calls.{report_of, report_of_job}
+use Rattle.ftp_client_machine.specs.Plan.{asks_extended, how_of, is_extended, port_command}
 use Rattle.ftp_client_machine.specs.View.{View as Near, Job}
 use Rattle.ftp_client_machine.specs.declared.client.DataConnection.{DataConnection as NearConnection}
+use Rattle.ftp_server_machine.specs.Replies.{fixed_reply}
+use Rattle.ftp_server_machine.specs.declared.reply.Text.TheVariants as Texts
+use Rattle.ftp_nvt.specs.Lines.{written_line}
+use Rattle.ftp_command.specs.Line.{line_of}
+use Rattle.ftp_dialogues.proofs.Fetching.{port_line_is}
+use Rattle.ftp_agreement.proofs.Keeps.{anew, line_is_some}
 use Rattle.ftp_server_machine.specs.Calls as far
 use Rattle.ftp_server_machine.specs.Machine.{Reading}
 use Rattle.ftp_server_machine.specs.View.{View as Far, Session, Transfer}
@@ -24,18 +29,15 @@ use Rattle.ftp_server_machine.specs.declared.session.DataConnection.TheVariants 
 use Rattle.ftp_server_machine.specs.declared.session.Pending.{Pending}
 use Rattle.ftp_server_machine.specs.declared.session.Pending.TheVariants as Pendings
 use Rattle.ftp_server_machine.proofs.RepliesWritten.{replies_are_written}
-use Rattle.ftp_world.specs.Events.{is_asked_for, is_closed_by_near, is_gone}
 use Rattle.ftp_world.specs.Serving.{near_served, far_served, collected, collected_by, after_event}
-use Rattle.ftp_world.specs.World.{World, Link, Gone, Opened, ClosedByFar, Mark, next_listen, port_at}
-use Rattle.ftp_dialogues.specs.Dialogue.{Passes}
-use Rattle.ftp_dialogues.specs.Fetches.{Ask, HasPlan, busy, giving_of, linked, port_reply, PortIsAsked, asked_of}
+use Rattle.ftp_world.specs.World.{World, Gone, Opened, ClosedByFar, Mark, next_listen, port_at}
+use Rattle.ftp_dialogues.specs.Dialogue.{Passes, is_aside}
+use Rattle.ftp_dialogues.specs.Fetches.{Ask, HasPlan, busy, giving_of, linked, port_reply, Opens, asked_of}
 use Rattle.ftp_dialogues.specs.Login.{IsOnWay}
 use Rattle.ftp_dialogues.specs.Stage.{calm, still, Way, Asking, Answering, rest}
-use Rattle.ftp_agreement.specs.Cut.{Cut, Fits, world_at, PlacedAt}
+use Rattle.ftp_agreement.specs.Cut.{Cut, Flows as FlowsOf, Fits, world_at, PlacedAt}
 use Rattle.ftp_agreement.specs.Stages as Stages
-use Rattle.ftp_agreement.specs.Stages.{Course, Giving, Given, Ended, Severed, Refusing, Unopened, Unclosed, Closed, Lost, Heard, NoReply, OneReply, BothReplies, replies_in, Stage, PortAsked, PortTold, Dials, Restarts, Retrieves, Carries, Answers, is_passing, Holds, AtFetch, IsLasting}
-use Rattle.ftp_agreement.proofs.Events.{and_false, still_data}
-use Rattle.ftp_agreement.proofs.FetchData.{AtFlow, flows}
+use Rattle.ftp_agreement.specs.Stages.{Course, Giving, Given, Ended, Severed, Refusing, Unopened, Unclosed, Closed, Lost, Heard, replies_in, Stage, PortAsked, PortTold, Dials, Restarts, Retrieves, Carries, Answers, is_passing, Holds, AtFetch, IsLasting, Dialled, Ported, at_port, PortWanted, PortSaid, PortTaken, PortDenied, Awaits, Unaccepted, Dismissed}
 use Rattle.ftp_agreement.proofs.FetchLink.{far_linked, fits_more}
 use Rattle.ftp_agreement.proofs.Still.{IsSeen, seen_placed, AreSet, IsStill, still_as, after_as_is, no_octets, logging_set}
 
@@ -87,6 +89,17 @@ giving_rests : (listed : Bool) (octets : List ℕ) (pending : Pending Names) (w 
 giving_rests false octets pending w = refl
 giving_rests true octets pending w = refl
 
+-- nor does a server without a transfer
+aside_rests : (connection : FarConnection Transfer) → is_aside connection ≡ true → (pending : Pending Names) (w : World)
+    → far_served (record w { far = far_linked (linked connection false pending w.far.session) w.far }) ≡ record w { far = far_linked (linked connection false pending w.far.session) w.far }
+aside_rests FarData.Free aside pending w = refl
+aside_rests FarData.Passive aside pending w = refl
+aside_rests (FarData.Active endpoint) aside pending w = refl
+aside_rests FarData.Ready aside pending w = absurd (cc)
+aside_rests (FarData.Asked asked) aside pending w = absurd (cc)
+aside_rests (FarData.Opening transfer way) aside pending w = absurd (cc)
+aside_rests (FarData.Transferring transfer) aside pending w = absurd (cc)
+
 module _ (read : Reading) (state : State) (ask : Ask) (plan : HasPlan ask) (own : List Mark) where
   abbrev At : Way → World → Type 0
   At way b = AtFetch state ask read own way b
@@ -137,17 +150,28 @@ module _ (read : Reading) (state : State) (ask : Ask) (plan : HasPlan ask) (own 
   stage_rests (PortAsked closing) b w way seen h stays = absurd (cc)
   stage_rests (PortTold port) b w way seen h stays = rests_as b w (PortTold port) way seen h _ _ h.near refl (λ w. refl) _ _ h.session (λ w. refl)
   stage_rests (Dials port) b w way seen h stays = rests_as b w (Dials port) way seen h _ _ h.near refl (λ w. refl) _ _ h.session (λ w. refl)
-  stage_rests (Restarts at restart true) b w way seen h stays = rests_as b w (Restarts at restart true) way seen h _ _ h.near refl (λ w. refl) _ _ h.session (λ w. refl)
-  stage_rests (Restarts at restart false) b w way seen h stays = rests_as b w (Restarts at restart false) way seen h _ _ h.near refl (λ w. refl) _ _ h.session (λ w. refl)
-  stage_rests (Retrieves true) b w way seen h stays = rests_as b w (Retrieves true) way seen h _ _ h.near refl (λ w. refl) _ _ h.session (λ w. refl)
-  stage_rests (Retrieves false) b w way seen h stays = rests_as b w (Retrieves false) way seen h _ _ h.near refl (λ w. refl) _ _ h.session (λ w. refl)
+  stage_rests (PortWanted connection pending) b w way seen h stays = absurd (cc)
+  stage_rests (PortSaid port connection pending) b w way seen h stays = rests_as b w (PortSaid port connection pending) way seen h _ _ h.near refl (λ w. refl) _ _ h.session (aside_rests connection h.fine.0 pending)
+  stage_rests (PortTaken port true) b w way seen h stays = absurd (cc)
+  stage_rests (PortTaken port false) b w way seen h stays = rests_as b w (PortTaken port false) way seen h _ _ h.near refl (λ w. refl) _ _ h.session (λ w. refl)
+  stage_rests (PortDenied port connection) b w way seen h stays = rests_as b w (PortDenied port connection) way seen h _ _ h.near refl (λ w. refl) _ _ h.session (aside_rests connection h.fine.0 Pendings.Nothing)
+  stage_rests (Restarts at restart (Dialled true)) b w way seen h stays = rests_as b w (Restarts at restart (Dialled true)) way seen h _ _ h.near refl (λ w. refl) _ _ h.session (λ w. refl)
+  stage_rests (Restarts at restart (Dialled false)) b w way seen h stays = rests_as b w (Restarts at restart (Dialled false)) way seen h _ _ h.near refl (λ w. refl) _ _ h.session (λ w. refl)
+  stage_rests (Restarts at restart (Ported port)) b w way seen h stays = rests_as b w (Restarts at restart (Ported port)) way seen h _ _ h.near refl (λ w. refl) _ _ h.session (λ w. refl)
+  stage_rests (Retrieves (Dialled true)) b w way seen h stays = rests_as b w (Retrieves (Dialled true)) way seen h _ _ h.near refl (λ w. refl) _ _ h.session (λ w. refl)
+  stage_rests (Retrieves (Dialled false)) b w way seen h stays = rests_as b w (Retrieves (Dialled false)) way seen h _ _ h.near refl (λ w. refl) _ _ h.session (λ w. refl)
+  stage_rests (Retrieves (Ported port)) b w way seen h stays = rests_as b w (Retrieves (Ported port)) way seen h _ _ h.near refl (λ w. refl) _ _ h.session (λ w. refl)
+  stage_rests (Awaits port false) b w way seen h stays = rests_as b w (Awaits port false) way seen h _ _ h.near refl (λ w. refl) _ _ h.session (λ w. refl)
+  stage_rests (Awaits port true) b w way seen h stays = rests_as b w (Awaits port true) way seen h _ _ h.near refl (λ w. refl) _ _ h.session (λ w. refl)
+  stage_rests (Unaccepted port) b w way seen h stays = rests_as b w (Unaccepted port) way seen h _ _ h.near refl (λ w. refl) _ _ h.session (λ w. refl)
+  stage_rests (Dismissed port why) b w way seen h stays = rests_as b w (Dismissed port why) way seen h _ _ h.near refl (λ w. refl) _ _ h.session (λ w. refl)
   stage_rests (Carries c) b w way seen h stays = carry_rests c.course c.came c.queue b w way seen h stays
   stage_rests (Answers said leaves) b w way seen h stays = absurd (cc)
 
   -- ---- the login, the settings and the command for a port
 
   abbrev Goal : Near → Far → Type 0
-  Goal n f = PortIsAsked state op ask.settings n f
+  Goal n f = Opens state ask n f
 
   pub moves_on : (way : Way) (n : Near) (f : Far) → IsOnWay read state op (Passes state.table state.table) Goal way n f → way ≢ rest
       → AreSet state.table state.table n f × (report_of_job n.job ≡ None)
@@ -253,6 +277,7 @@ module _ (read : Reading) (state : State) (ask : Ask) (plan : HasPlan ask) (own 
               near = refl;
               session = refl;
               steady = h.steady;
+              ready = h.ready;
               link = refl;
               to_server = h.to_server;
               to_client = h.to_client;
@@ -270,10 +295,157 @@ module _ (read : Reading) (state : State) (ask : Ask) (plan : HasPlan ask) (own 
         cutoff = ap (λ u. u.cutoff) new_is ∙ sym (ap (λ u. u.cutoff) is);
       }
 
-  -- ---- the server closes the link
+  -- ---- the client is told its port
 
-  abbrev Closes : Stage → Way → World → Type 0
-  Closes stage way b = (Stages.far_at state ask stage (is_extended b.near op) ≡ FarData.Free) × (Stages.closing_at state ask stage ≡ true)
+  -- both ends where the client wants one, and where PORT is on its way
+  abbrev wanted_world : FarConnection Transfer → Pending Names → World → World
+  wanted_world connection pending b = record (world_at b rest no_octets) {
+    near = calm (Stages.near_at state ask (PortWanted connection pending) b.near);
+    far = still (far_linked (linked connection false pending b.far.session) b.far);
+    link = Gone;
+  }
+
+  abbrev port_line : World → List ℕ
+  port_line b = line_of (port_command (is_extended b.near op) (at_port b.near.here (port_at b.listens)))
+
+  abbrev said_world : FarConnection Transfer → Pending Names → World → World
+  said_world connection pending b = record (world_at b rest no_octets) {
+    near = record (calm (Stages.near_at state ask (PortSaid (port_at b.listens) connection pending) b.near)) { owed = written_line (port_line b) };
+    far = still (far_linked (linked connection false pending b.far.session) b.far);
+    link = Gone;
+    listens = next_listen b.listens;
+  }
+
+  wanted_served : (connection : FarConnection Transfer) → is_aside connection ≡ true → (pending : Pending Names) (b : World)
+      → after_event (wanted_world connection pending b) ≡ said_world connection pending b
+  unfolding near.wants near.listening
+  wanted_served FarData.Free aside pending b = refl
+  wanted_served FarData.Passive aside pending b = refl
+  wanted_served (FarData.Active endpoint) aside pending b = refl
+  wanted_served FarData.Ready aside pending b = absurd (cc)
+  wanted_served (FarData.Asked asked) aside pending b = absurd (cc)
+  wanted_served (FarData.Opening transfer way) aside pending b = absurd (cc)
+  wanted_served (FarData.Transferring transfer) aside pending b = absurd (cc)
+
+  pub port_wanted_serves : (connection : FarConnection Transfer) (pending : Pending Names) (w : World) (b : World) (way : Way) → w ≡ world_at b rest no_octets
+      → Stands (PortWanted connection pending) way b → Served w (after_event w)
+  port_wanted_serves connection pending w b way is h =
+      let port : ℕ = port_at b.listens in
+      let high : 1024 ≤ port = omega arith in
+      let small : port < 65536 = omega arith in
+      let line : List ℕ = port_line b in
+      let wanted : w ≡ wanted_world connection pending b =
+      is ∙ (λ i. record (world_at b rest no_octets) { near = calm (h.near i); far = still (far_linked (h.session i) b.far); link = h.link i }) in
+      let to : World = record b {
+        near = Stages.near_at state ask (PortSaid port connection pending) b.near;
+        far = far_linked (linked connection false pending b.far.session) b.far;
+        link = Gone;
+        listens = next_listen b.listens;
+      } in
+      let new_is : after_event w ≡ world_at to (Asking line) (record { held = []; moving = []; owed = written_line line }) =
+      ap after_event wanted ∙ wanted_served connection h.fine pending b in
+      record {
+        placed = record {
+          base = to;
+          way = Asking line;
+          cut = record { held = []; moving = []; owed = written_line line };
+          is = new_is;
+          fits = (port_line_is state op port b.near b.far h.steady high small, subst (λ l. FlowsOf (written_line line) [] l []) (append-nil (written_line line)) (anew (written_line line) [] (line_is_some line)));
+          here = inr (
+            PortSaid port connection pending,
+            record {
+              near = refl;
+              session = refl;
+              steady = h.steady;
+              ready = h.ready;
+              link = refl;
+              to_server = h.to_server;
+              to_client = h.to_client;
+              came = tt;
+              marked = h.marked;
+              way_is = refl;
+              fine = (h.fine, (high, small));
+            },
+          );
+        };
+        lasts = refl;
+        marks = ap (λ u. u.marks) new_is ∙ sym (ap (λ u. u.marks) is);
+        reports = ap (λ u. u.reports) new_is ∙ sym (ap (λ u. u.reports) is);
+        control = ap (λ u. u.control) new_is ∙ sym (ap (λ u. u.control) is);
+        cutoff = ap (λ u. u.cutoff) new_is ∙ sym (ap (λ u. u.cutoff) is);
+      }
+
+  -- ---- the server closes a port that it listened at before
+
+  -- behind that
+  abbrev port_base : ℕ → World → World
+  port_base port b = record b { far = far_linked (linked (FarData.Active (at_port b.near.here port)) false Pendings.Nothing b.far.session) b.far; link = Gone }
+
+  port_world : (port : ℕ) (b : World) (rows : List Reply) (c : Cut) → World
+  port_world port b rows c = record (world_at b (Answering rows) c) {
+    far = record (still (far_linked (linked (FarData.Active (at_port b.near.here port)) true Pendings.Nothing b.far.session) b.far)) { owed = c.owed };
+    link = Gone;
+  }
+
+  port_closes : (port : ℕ) (b : World) (rows : List Reply) (c : Cut) → far_served (port_world port b rows c) ≡ world_at (port_base port b) (Answering rows) c
+  unfolding port_world far.data_closed
+  port_closes port b rows c = refl
+
+  port_stays : (port : ℕ) (b : World) (rows : List Reply) (c : Cut) → far_served (world_at (port_base port b) (Answering rows) c) ≡ world_at (port_base port b) (Answering rows) c
+  port_stays port b rows c = refl
+
+  pub port_taken_closes : (port : ℕ) (w : World) → (s : PlacedAt At w) → Stands (PortTaken port true) s.way s.base → Served w (after_event w)
+  unfolding near.wants port_world
+  port_taken_closes port w s h =
+      let seen = seen_placed At w s in
+      let rows : List Reply = fixed_reply Texts.EndpointTaken ∷ [] in
+      let b : World = s.base in
+      let c : Cut = s.cut in
+      let near : near_served w ≡ w = near_rests w _ _ (near_form b w seen _ _ h.near) refl in
+      let none : report_of w.near ≡ None = ap report_of_job (seen.job ∙ ap (λ v. v.job) h.near) in
+      let is : w ≡ world_at b (Answering rows) c = s.is ∙ ap (λ way. world_at b way c) h.way_is in
+      let parts : w ≡ port_world port b rows c =
+      is ∙ (λ i. record (world_at b (Answering rows) c) { far = record (still (far_linked (h.session i) b.far)) { owed = c.owed }; link = h.link i }) in
+      let same : report_of (world_at (port_base port b) (Answering rows) c).near ≡ None = ap (λ u. report_of u.near) (sym is) ∙ none in
+      let new_is : after_event w ≡ world_at (port_base port b) (Answering rows) c =
+      ap (λ u. collected (far_served (far_served (far_served (near_served (near_served u)))))) near
+      ∙ ap (λ u. collected (far_served (far_served (far_served (near_served u))))) near ∙ ap (λ u. collected (far_served (far_served (far_served u)))) near
+      ∙ ap (λ u. collected (far_served (far_served (far_served u)))) parts
+      ∙ ap (λ u. collected (far_served (far_served u))) (port_closes port b rows c) ∙ ap (λ u. collected (far_served u)) (port_stays port b rows c)
+      ∙ ap collected (port_stays port b rows c)
+      ∙ ap (λ o. collected_by o (world_at (port_base port b) (Answering rows) c)) same in
+      record {
+        placed = record {
+          base = port_base port b;
+          way = Answering rows;
+          cut = c;
+          is = new_is;
+          fits = subst (λ way. Fits way c) h.way_is s.fits;
+          here = inr (
+            PortTaken port false,
+            record {
+              near = h.near;
+              session = refl;
+              steady = h.steady;
+              ready = h.ready;
+              link = refl;
+              to_server = h.to_server;
+              to_client = h.to_client;
+              came = tt;
+              marked = h.marked;
+              way_is = refl;
+              fine = tt;
+            },
+          );
+        };
+        lasts = refl;
+        marks = ap (λ u. u.marks) new_is ∙ sym (ap (λ u. u.marks) is);
+        reports = ap (λ u. u.reports) new_is ∙ sym (ap (λ u. u.reports) is);
+        control = ap (λ u. u.control) new_is ∙ sym (ap (λ u. u.control) is);
+        cutoff = ap (λ u. u.cutoff) new_is ∙ sym (ap (λ u. u.cutoff) is);
+      }
+
+  -- ---- the server closes the link
 
   -- the world behind it
   abbrev closed_base : World → World
@@ -341,6 +513,7 @@ module _ (read : Reading) (state : State) (ask : Ask) (plan : HasPlan ask) (own 
         near = h.near;
         session = refl;
         steady = h.steady;
+        ready = h.ready;
         link = refl;
         to_server = h.to_server;
         to_client = h.to_client;
@@ -360,6 +533,7 @@ module _ (read : Reading) (state : State) (ask : Ask) (plan : HasPlan ask) (own 
         near = h.near;
         session = refl;
         steady = h.steady;
+        ready = h.ready;
         link = refl;
         to_server = h.to_server;
         to_client = h.to_client;
@@ -368,177 +542,3 @@ module _ (read : Reading) (state : State) (ask : Ask) (plan : HasPlan ask) (own 
         way_is = refl;
         fine = h.fine;
       })
-
-  -- ---- what is due over the link
-
-  -- octets of it are given or taken, or there are none
-  pub flows_or_none : (w : World) → (s : PlacedAt At w) → IsLasting state ask read own s.way s.base s.here
-      → PlacedAt (AtFlow read state ask plan own) w ⊎ ((far.to_give w.far ≡ []) × (w.data_to_client ≡ []))
-  flows_or_none w s lasts = by_here s.here lasts
-    where
-      seen : IsSeen s.base w
-      seen = seen_placed At w s
-
-      queue_is : w.data_to_client ≡ s.base.data_to_client
-      queue_is = ap (λ u. u.data_to_client) s.is ∙ by_way s.way s.cut
-        where
-          by_way : (way : Way) (c : Cut) → (world_at s.base way c).data_to_client ≡ s.base.data_to_client
-          by_way (Asking line) c = refl
-          by_way (Answering rows) c = refl
-
-      none : (connection : FarConnection Transfer) (pending : Pending Names) → s.base.far.session ≡ linked connection false pending s.base.far.session → far.given_by connection ≡ [] → s.base.data_to_client ≡ []
-          → (far.to_give w.far ≡ []) × (w.data_to_client ≡ [])
-      none connection pending is gives empty = (ap (λ v. far.given_by (far.connection_of v)) (far_form s.base w seen connection false pending is) ∙ gives, queue_is ∙ empty)
-
-      flowing : (course : Course) (came queue : List ℕ) → flows course ≡ true → Stands (carry course came queue) s.way s.base → PlacedAt (AtFlow read state ask plan own) w
-      flowing course came queue is h =
-          record { base = s.base; way = s.way; cut = s.cut; is = s.is; fits = s.fits; here = record { course = course; came = came; queue = queue; flows = is; holds = h } }
-
-      by_course : (course : Course) (came queue : List ℕ) → Stands (carry course came queue) s.way s.base → is_passing (carry course came queue) ≡ false
-          → PlacedAt (AtFlow read state ask plan own) w ⊎ ((far.to_give w.far ≡ []) × (w.data_to_client ≡ []))
-      by_course (Giving begun octet more) came queue h lasts = inl (flowing (Giving begun octet more) came queue refl h)
-      by_course (Given heard left) came queue h lasts = inl (flowing (Given heard left) came queue refl h)
-      by_course (Ended begun true) came queue h lasts = inr (none _ _ h.session refl (h.to_client ∙ h.fine.2))
-      by_course (Ended begun false) came queue h lasts = inr (none _ _ h.session refl (h.to_client ∙ h.fine.1.1))
-      by_course (Severed begun) came queue h lasts = inr (none _ _ h.session refl (h.to_client ∙ h.fine.1.1))
-      by_course (Refusing why Unclosed) came queue h lasts = absurd (cc)
-      by_course (Refusing why Closed) came queue h lasts = inr (none _ _ h.session refl (h.to_client ∙ h.fine.1.1))
-      by_course (Refusing why (Lost clean)) came queue h lasts = inr (none _ _ h.session refl (h.to_client ∙ h.fine.1.1))
-      by_course Unopened came queue h lasts = inr (none _ _ h.session refl (h.to_client ∙ h.fine.1))
-
-      by_here : (here : At s.way s.base) → IsLasting state ask read own s.way s.base here
-          → PlacedAt (AtFlow read state ask plan own) w ⊎ ((far.to_give w.far ≡ []) × (w.data_to_client ≡ []))
-      by_here (inl l) lasts = inr ((still_data w (leads_still s.base w s.way seen l).0).far_gives, queue_is ∙ l.to_client)
-      by_here (inr (PortAsked closing, h)) lasts = absurd (cc)
-      by_here (inr (PortTold port, h)) lasts = inr (none _ _ h.session refl h.to_client)
-      by_here (inr (Dials port, h)) lasts = inr (none _ _ h.session refl h.to_client)
-      by_here (inr (Restarts at restart true, h)) lasts = inr (none _ _ h.session refl h.to_client)
-      by_here (inr (Restarts at restart false, h)) lasts = inr (none _ _ h.session refl h.to_client)
-      by_here (inr (Retrieves true, h)) lasts = inr (none _ _ h.session refl h.to_client)
-      by_here (inr (Retrieves false, h)) lasts = inr (none _ _ h.session refl h.to_client)
-      by_here (inr (Carries c, h)) lasts = by_course c.course c.came c.queue h lasts
-      by_here (inr (Answers said leaves, h)) lasts = absurd (cc)
-
-  -- ---- a link is wanted only where the client dials
-
-  -- what the client wants asks for no link
-  asks_none : (w : World) (job : Job) (connection : NearConnection) → w.near ≡ busy job connection w.near
-      → ((far : Wants) → is_wanted (near.wants (busy job connection w.near)) far ≡ false) → is_asked_for w ≡ false
-  asks_none w job connection is none =
-      ap (λ v. is_gone w.link && is_wanted (near.wants v) (far.wants w.far)) is ∙ ap (λ (b : Bool). is_gone w.link && b) (none (far.wants w.far)) ∙ and_false (is_gone w.link)
-
-  pub dials_or_none : (w : World) → (s : PlacedAt At w) → IsLasting state ask read own s.way s.base s.here
-      → ((port : ℕ) × Stands (Dials port) s.way s.base) ⊎ (is_asked_for w ≡ false)
-  unfolding near.wants
-  dials_or_none w s lasts = by_here s.here lasts
-    where
-      seen : IsSeen s.base w
-      seen = seen_placed At w s
-
-      by_course : (course : Course) (came queue : List ℕ) → Stands (carry course came queue) s.way s.base → is_asked_for w ≡ false
-      by_course (Giving begun octet more) came queue h = asks_none w _ _ (near_form s.base w seen _ _ h.near) (λ far. refl)
-      by_course (Given heard true) came queue h = asks_none w _ _ (near_form s.base w seen _ _ h.near) (λ far. refl)
-      by_course (Given heard false) came queue h = asks_none w _ _ (near_form s.base w seen _ _ h.near) (λ far. refl)
-      by_course (Ended begun clean) came queue h = asks_none w _ _ (near_form s.base w seen _ _ h.near) (λ far. refl)
-      by_course (Severed begun) came queue h = asks_none w _ _ (near_form s.base w seen _ _ h.near) (λ far. refl)
-      by_course (Refusing why Unclosed) came queue h = asks_none w _ _ (near_form s.base w seen _ _ h.near) (λ far. refl)
-      by_course (Refusing why Closed) came queue h = asks_none w _ _ (near_form s.base w seen _ _ h.near) (λ far. refl)
-      by_course (Refusing why (Lost clean)) came queue h = asks_none w _ _ (near_form s.base w seen _ _ h.near) (λ far. refl)
-      by_course Unopened came queue h = asks_none w _ _ (near_form s.base w seen _ _ h.near) (λ far. refl)
-
-      by_here : (here : At s.way s.base) → IsLasting state ask read own s.way s.base here → ((port : ℕ) × Stands (Dials port) s.way s.base) ⊎ (is_asked_for w ≡ false)
-      by_here (inl l) lasts = inr ((still_data w (leads_still s.base w s.way seen l).0).asks)
-      by_here (inr (PortAsked closing, h)) lasts = absurd (cc)
-      by_here (inr (PortTold port, h)) lasts = inr (asks_none w _ _ (near_form s.base w seen _ _ h.near) (λ far. refl))
-      by_here (inr (Dials port, h)) lasts = inl (port, h)
-      by_here (inr (Restarts at restart true, h)) lasts = inr (asks_none w _ _ (near_form s.base w seen _ _ h.near) (λ far. refl))
-      by_here (inr (Restarts at restart false, h)) lasts = inr (asks_none w _ _ (near_form s.base w seen _ _ h.near) (λ far. refl))
-      by_here (inr (Retrieves true, h)) lasts = inr (asks_none w _ _ (near_form s.base w seen _ _ h.near) (λ far. refl))
-      by_here (inr (Retrieves false, h)) lasts = inr (asks_none w _ _ (near_form s.base w seen _ _ h.near) (λ far. refl))
-      by_here (inr (Carries c, h)) lasts = inr (by_course c.course c.came c.queue h)
-      by_here (inr (Answers said leaves, h)) lasts = absurd (cc)
-
-  -- ---- the client is under way, and gives no octets
-
-  pub lasting_busy : (w : World) → (s : PlacedAt At w) → IsLasting state ask read own s.way s.base s.here → is_busy_job w.near.job ≡ true
-  lasting_busy w s lasts = by_here s.here lasts
-    where
-      seen : IsSeen s.base w
-      seen = seen_placed At w s
-
-      busy_with : (job : Job) (connection : NearConnection) → s.base.near ≡ busy job connection s.base.near → is_busy_job job ≡ true → is_busy_job w.near.job ≡ true
-      busy_with job connection is some = ap is_busy_job (seen.job ∙ ap (λ v. v.job) is) ∙ some
-
-      on_way : (way : Way) (n : Near) (f : Far) → IsOnWay read state op (Passes state.table state.table) Goal way n f → way ≢ rest → is_busy_job n.job ≡ true
-      on_way way n f (inl (logging, waiting)) some = ap is_busy_job waiting
-      on_way (Answering []) n f (inr (left, leads)) some = absurd (some refl)
-      on_way (Answering (reply ∷ more)) n f (inr (zero, leads)) some = absurd leads
-      on_way (Asking line) n f (inr (zero, leads)) some = absurd leads
-      on_way (Answering (reply ∷ more)) n f (inr (suc left, leads)) some = leads.0.busy
-      on_way (Asking line) n f (inr (suc left, leads)) some = leads.0.busy
-
-      by_here : (here : At s.way s.base) → IsLasting state ask read own s.way s.base here → is_busy_job w.near.job ≡ true
-      by_here (inl l) lasts = ap is_busy_job seen.job ∙ on_way s.way s.base.near s.base.far l.on l.some
-      by_here (inr (PortAsked closing, h)) lasts = absurd (cc)
-      by_here (inr (PortTold port, h)) lasts = busy_with _ _ h.near refl
-      by_here (inr (Dials port, h)) lasts = busy_with _ _ h.near refl
-      by_here (inr (Restarts at restart joined, h)) lasts = busy_with _ _ h.near refl
-      by_here (inr (Retrieves joined, h)) lasts = busy_with _ _ h.near refl
-      by_here (inr (Carries c, h)) lasts = busy_with _ _ h.near refl
-      by_here (inr (Answers said leaves, h)) lasts = absurd (cc)
-
-  -- the client gives no octets, and has not closed the link
-  pub record GivesNone (w : World) : Type 0 where
-    pub due : near.to_give w.near ≡ []
-    pub queue : w.data_to_server ≡ []
-    pub closed : is_closed_by_near w.link ≡ false
-
-  pub gives_none : (w : World) → (s : PlacedAt At w) → IsLasting state ask read own s.way s.base s.here → GivesNone w
-  gives_none w s lasts = by_here s.here lasts
-    where
-      seen : IsSeen s.base w
-      seen = seen_placed At w s
-
-      by_way : (way : Way) (c : Cut) → ((world_at s.base way c).link ≡ s.base.link) × ((world_at s.base way c).data_to_server ≡ s.base.data_to_server)
-      by_way (Asking line) c = (refl, refl)
-      by_way (Answering rows) c = (refl, refl)
-
-      none_with : (job : Job) (connection : NearConnection) → s.base.near ≡ busy job connection s.base.near → near.to_give (busy job connection w.near) ≡ [] → (link : Link) → s.base.link ≡ link
-          → is_closed_by_near link ≡ false → s.base.data_to_server ≡ [] → GivesNone w
-      none_with job connection near_is none link link_is open_link empty = record {
-        due = ap near.to_give (near_form s.base w seen job connection near_is) ∙ none;
-        queue = ap (λ u. u.data_to_server) s.is ∙ (by_way s.way s.cut).1 ∙ empty;
-        closed = ap is_closed_by_near (ap (λ u. u.link) s.is ∙ (by_way s.way s.cut).0 ∙ link_is) ∙ open_link;
-      }
-
-      by_course : (course : Course) (came queue : List ℕ) → Stands (carry course came queue) s.way s.base → GivesNone w
-      by_course (Giving true octet more) came queue h = none_with _ _ h.near refl _ h.link refl h.to_server
-      by_course (Giving false octet more) came queue h = none_with _ _ h.near refl _ h.link refl h.to_server
-      by_course (Given NoReply true) came queue h = none_with _ _ h.near refl _ h.link refl h.to_server
-      by_course (Given OneReply true) came queue h = none_with _ _ h.near refl _ h.link refl h.to_server
-      by_course (Given BothReplies true) came queue h = none_with _ _ h.near refl _ h.link refl h.to_server
-      by_course (Given NoReply false) came queue h = none_with _ _ h.near refl _ h.link refl h.to_server
-      by_course (Given OneReply false) came queue h = none_with _ _ h.near refl _ h.link refl h.to_server
-      by_course (Given BothReplies false) came queue h = none_with _ _ h.near refl _ h.link refl h.to_server
-      by_course (Ended begun clean) came queue h = none_with _ _ h.near refl _ h.link refl h.to_server
-      by_course (Severed begun) came queue h = none_with _ _ h.near refl _ h.link refl h.to_server
-      by_course (Refusing why Unclosed) came queue h = none_with _ _ h.near refl _ h.link refl h.to_server
-      by_course (Refusing why Closed) came queue h = none_with _ _ h.near refl _ h.link refl h.to_server
-      by_course (Refusing why (Lost clean)) came queue h = none_with _ _ h.near refl _ h.link refl h.to_server
-      by_course Unopened came queue h = none_with _ _ h.near refl _ h.link refl h.to_server
-
-      by_here : (here : At s.way s.base) → IsLasting state ask read own s.way s.base here → GivesNone w
-      by_here (inl l) lasts = record {
-        due = (still_data w (leads_still s.base w s.way seen l).0).near_gives;
-        queue = ap (λ u. u.data_to_server) s.is ∙ (by_way s.way s.cut).1 ∙ l.to_server;
-        closed = ap is_closed_by_near (ap (λ u. u.link) s.is ∙ (by_way s.way s.cut).0 ∙ l.link);
-      }
-      by_here (inr (PortAsked closing, h)) lasts = absurd (cc)
-      by_here (inr (PortTold port, h)) lasts = none_with _ _ h.near refl _ h.link refl h.to_server
-      by_here (inr (Dials port, h)) lasts = none_with _ _ h.near refl _ h.link refl h.to_server
-      by_here (inr (Restarts at restart true, h)) lasts = none_with _ _ h.near refl _ h.link refl h.to_server
-      by_here (inr (Restarts at restart false, h)) lasts = none_with _ _ h.near refl _ h.link refl h.to_server
-      by_here (inr (Retrieves true, h)) lasts = none_with _ _ h.near refl _ h.link refl h.to_server
-      by_here (inr (Retrieves false, h)) lasts = none_with _ _ h.near refl _ h.link refl h.to_server
-      by_here (inr (Carries c, h)) lasts = by_course c.course c.came c.queue h
-      by_here (inr (Answers said leaves, h)) lasts = absurd (cc)

@@ -1,10 +1,11 @@
 -- A download is told, its link is closed, and its report is taken.
-use Rattle.std.proofs.Common.{◌≡◌, inl, inr, ℕ, ◌+◌, ◌≤◌, true, false, List, [], ◌∷◌, ◌++◌, length, None, refl, sym, ap, subst, ◌∙◌, append-nil, arith}
+use Rattle.std.proofs.Common.{◌≡◌, inl, inr, ℕ, ◌+◌, ◌≤◌, Bool, true, false, List, [], ◌∷◌, ◌++◌, length, None, refl, sym, ap, subst, ◌∙◌, append-nil, arith}
 use Rattle.std.specs.Prelude.{if◌then◌else◌}
 use Rattle.std.specs.Option.{is_some}
 use Rattle.ftp_operation.specs.Answer.{Said}
 use Rattle.ftp_operation.specs.declared.op.Op.{Op}
-use Rattle.ftp_representation.specs.declared.representation.Representation.{Representation}
+use Rattle.ftp_path.specs.Path.{Names}
+use Rattle.ftp_server_machine.specs.declared.session.Pending.{Pending}
 use Rattle.ftp_direct.specs.Direct.{State}
 use Rattle.ftp_client_machine.specs.Calls as near
 use Rattle.ftp_client_machine.specs.View.{View as Near}
@@ -25,7 +26,7 @@ use Rattle.ftp_dialogues.specs.Stage.{calm, still, rest}
 use Rattle.ftp_agreement.specs.Cut.{world_at}
 use Rattle.ftp_agreement.specs.Follows.{Told, IsLinked, Follows}
 use Rattle.ftp_agreement.specs.Runs.{IsFetching, IsTrailing, Runs}
-use Rattle.ftp_agreement.specs.Stages.{Leaving, NoLink, PortAside, LinkOpen, LinkLeft, LinkParting, is_to_close, far_leaves, far_parting, link_left, Answers, Fared, Holds}
+use Rattle.ftp_agreement.specs.Stages.{Leaving, LinkOpen, LinkLeft, LinkParting, is_to_close, far_leaves, far_parting, link_left, Answers, Fared, Holds, Aside, pending_left}
 use Rattle.ftp_agreement.proofs.FetchLink.{far_linked}
 use Rattle.ftp_agreement.proofs.Items.{state_more, one_told}
 use Rattle.ftp_agreement.proofs.Phases.{both_longer, follows_after}
@@ -66,13 +67,13 @@ told_fared from done marks reports now ask plan moment own said t fares few =
 
 -- ---- both ends behind it
 
-steady_stands : (now : State) (settings : Representation) (n : Near) (f : Far) → IsSteady now settings (kept n f) → is_aside f.session.connection ≡ true → (connection : FarConnection Transfer)
-    → f.session ≡ linked connection false Pendings.Nothing f.session → Stands now n f
-steady_stands now settings n f steady aside connection session = record {
-  meets = record { peer = steady.peer; here = steady.here; typed = steady.typed; all_ways = steady.all_ways };
+steady_stands : (now : State) (n : Near) (f : Far) → IsSteady now (kept n f) → is_aside f.session.connection ≡ true → (connection : FarConnection Transfer) (pending : Pending Names)
+    → f.session ≡ linked connection false pending f.session → Stands now n f
+steady_stands now n f steady aside connection pending session = record {
+  meets = record { peer = steady.peer; here = steady.here; typed = steady.typed; own = steady.own; family = steady.family; all_ways = steady.all_ways };
   far = record { aside = aside; closing = ap (λ s. s.closing) session; life = ap (λ s. s.life) session };
-  sees = record { table = steady.table; known = steady.access ∙ sym steady.known; root = λ known. steady.root; cwd = steady.cwd };
-  settings = steady.settings_are ∙ sym steady.told;
+  sees = record { table = steady.table; known = steady.access; root = steady.root; cwd = steady.cwd };
+  settings = steady.settings;
   facts = steady.facts;
 }
 
@@ -80,39 +81,45 @@ steady_stands now settings n f steady aside connection session = record {
 abbrev told_at : Said → Leaving → World → World
 told_at said leaves b = record (world_at b rest no_octets) {
   near = calm (leaving said (is_to_close leaves) b.near);
-  far = still (far_linked (linked (far_leaves leaves) (far_parting leaves) Pendings.Nothing b.far.session) b.far);
+  far = still (far_linked (linked (far_leaves leaves) (far_parting leaves) (pending_left leaves) b.far.session) b.far);
   link = link_left leaves;
   data_to_server = [];
   data_to_client = [];
 }
 
-abbrev taken_base : Said → FarConnection Transfer → Link → World → World
-taken_base said connection link b = record b {
+abbrev taken_base : Said → FarConnection Transfer → Pending Names → Link → World → World
+taken_base said connection pending link b = record b {
   near = resting b.near;
-  far = far_linked (linked connection false Pendings.Nothing b.far.session) b.far;
+  far = far_linked (linked connection false pending b.far.session) b.far;
   link = link;
   data_to_server = [];
   data_to_client = [];
   reports = b.reports ++ said ∷ [];
 }
 
-none_served : (said : Said) (b : World) → after_event (told_at said NoLink b) ≡ world_at (taken_base said FarData.Free Gone b) rest no_octets
+aside_served : (said : Said) (closes : Bool) (connection : FarConnection Transfer) → is_aside connection ≡ true → (pending : Pending Names) (b : World)
+    → after_event (told_at said (Aside closes connection pending) b) ≡ world_at (taken_base said connection pending Gone b) rest no_octets
 unfolding near.wants
-none_served said b = refl
+aside_served said true FarData.Free aside pending b = refl
+aside_served said true FarData.Passive aside pending b = refl
+aside_served said true (FarData.Active endpoint) aside pending b = refl
+aside_served said false FarData.Free aside pending b = refl
+aside_served said false FarData.Passive aside pending b = refl
+aside_served said false (FarData.Active endpoint) aside pending b = refl
+aside_served said closes FarData.Ready aside pending b = absurd (cc)
+aside_served said closes (FarData.Asked asked) aside pending b = absurd (cc)
+aside_served said closes (FarData.Opening transfer way) aside pending b = absurd (cc)
+aside_served said closes (FarData.Transferring transfer) aside pending b = absurd (cc)
 
-aside_served : (said : Said) (b : World) → after_event (told_at said PortAside b) ≡ world_at (taken_base said FarData.Passive Gone b) rest no_octets
-unfolding near.wants
-aside_served said b = refl
-
-open_served : (said : Said) (b : World) → after_event (told_at said LinkOpen b) ≡ world_at (taken_base said FarData.Ready ClosedByNear b) rest no_octets
+open_served : (said : Said) (b : World) → after_event (told_at said LinkOpen b) ≡ world_at (taken_base said FarData.Ready Pendings.Nothing ClosedByNear b) rest no_octets
 unfolding near.wants
 open_served said b = refl
 
-left_served : (said : Said) (b : World) → after_event (told_at said LinkLeft b) ≡ world_at (taken_base said FarData.Free Gone b) rest no_octets
+left_served : (said : Said) (b : World) → after_event (told_at said LinkLeft b) ≡ world_at (taken_base said FarData.Free Pendings.Nothing Gone b) rest no_octets
 unfolding near.wants
 left_served said b = refl
 
-parting_served : (said : Said) (b : World) → after_event (told_at said LinkParting b) ≡ world_at (taken_base said FarData.Free Gone b) rest no_octets
+parting_served : (said : Said) (b : World) → after_event (told_at said LinkParting b) ≡ world_at (taken_base said FarData.Free Pendings.Nothing Gone b) rest no_octets
 unfolding near.wants far.data_closed
 parting_served said b = refl
 
@@ -144,11 +151,11 @@ module _ (read : Reading) (from : State) (begun : List Order) (w : World) (f : I
       (subst (λ marks. Told from (f.done ++ Single f.ask.op f.moment ∷ []) marks None (w.reports ++ said ∷ []) f.now) (sym f.marks_are) t)
 
   -- the session is free again
-  freed : (leaves : Leaving) (connection : FarConnection Transfer) → Stood leaves → Fared f.now f.ask f.own said → length f.own ≤ 1 → is_aside connection ≡ true
-      → Follows read from begun (world_at (taken_base said connection Gone b) rest no_octets)
-  freed leaves connection h fares few aside =
+  freed : (leaves : Leaving) (connection : FarConnection Transfer) (pending : Pending Names) → Stood leaves → Fared f.now f.ask f.own said → length f.own ≤ 1 → is_aside connection ≡ true
+      → Follows read from begun (world_at (taken_base said connection pending Gone b) rest no_octets)
+  freed leaves connection pending h fares few aside =
       let is = is_rest leaves h in
-      let new : World = world_at (taken_base said connection Gone b) rest no_octets in
+      let new : World = world_at (taken_base said connection pending Gone b) rest no_octets in
       let told_is : Told from begun new.marks None new.reports f.now =
       subst (λ u. Told from begun u.marks None (u.reports ++ said ∷ []) f.now) is (told_now fares few) in
       record {
@@ -161,29 +168,28 @@ module _ (read : Reading) (from : State) (begun : List Order) (w : World) (f : I
             sound = f.sound;
             told = told_is;
             stands = record {
-              base = taken_base said connection Gone b;
+              base = taken_base said connection pending Gone b;
               way = rest;
               cut = no_octets;
               is = refl;
               fits = (tt, (refl, refl));
-              here = inr (refl, refl, steady_stands f.now f.ask.settings (resting b.near) (far_linked (linked connection false Pendings.Nothing b.far.session) b.far) h.steady aside connection refl);
+              here = inr (refl, refl, steady_stands f.now (resting b.near) (far_linked (linked connection false pending b.far.session) b.far) h.steady aside connection pending refl);
             };
           }),
         );
       }
 
   pub answers_served : (leaves : Leaving) → Stood leaves → Runs read from begun (after_event w)
-  answers_served NoLink h =
-      inl (subst (Follows read from begun) (sym (ap after_event (is_told NoLink h) ∙ none_served said b)) (freed NoLink FarData.Free h h.fine h.marked refl))
-  answers_served PortAside h =
-      inl (subst (Follows read from begun) (sym (ap after_event (is_told PortAside h) ∙ aside_served said b)) (freed PortAside FarData.Passive h h.fine h.marked refl))
+  answers_served (Aside closes connection pending) h =
+      inl (subst (Follows read from begun) (sym (ap after_event (is_told (Aside closes connection pending) h) ∙ aside_served said closes connection h.fine.1 pending b))
+      (freed (Aside closes connection pending) connection pending h h.fine.0 h.marked h.fine.1))
   answers_served LinkLeft h =
-      inl (subst (Follows read from begun) (sym (ap after_event (is_told LinkLeft h) ∙ left_served said b)) (freed LinkLeft FarData.Free h h.fine h.marked refl))
+      inl (subst (Follows read from begun) (sym (ap after_event (is_told LinkLeft h) ∙ left_served said b)) (freed LinkLeft FarData.Free Pendings.Nothing h h.fine h.marked refl))
   answers_served LinkParting h =
-      inl (subst (Follows read from begun) (sym (ap after_event (is_told LinkParting h) ∙ parting_served said b)) (freed LinkParting FarData.Free h h.fine h.marked refl))
+      inl (subst (Follows read from begun) (sym (ap after_event (is_told LinkParting h) ∙ parting_served said b)) (freed LinkParting FarData.Free Pendings.Nothing h h.fine h.marked refl))
   answers_served LinkOpen h =
       let is = is_rest LinkOpen h in
-      let new : World = world_at (taken_base said FarData.Ready ClosedByNear b) rest no_octets in
+      let new : World = world_at (taken_base said FarData.Ready Pendings.Nothing ClosedByNear b) rest no_octets in
       inr (inr (subst (IsTrailing from begun) (sym (ap after_event (is_told LinkOpen h) ∙ open_served said b)) (record {
         done = f.done;
         marks = f.marks;
@@ -201,13 +207,12 @@ module _ (read : Reading) (from : State) (begun : List Order) (w : World) (f : I
         fares = h.fine;
         linked = subst (λ u. IsLinked (record new { control = u.control; cutoff = u.cutoff })) is (record { control = f.linked.control; cutoff = f.linked.cutoff });
         stands = record {
-          base = taken_base said FarData.Ready ClosedByNear b;
+          base = taken_base said FarData.Ready Pendings.Nothing ClosedByNear b;
           way = rest;
           cut = no_octets;
           is = refl;
           fits = (tt, (refl, refl));
           here = record {
-            settings = f.ask.settings;
             near = refl;
             session = refl;
             steady = h.steady;
@@ -300,7 +305,7 @@ module _ (read : Reading) (reads : IsReading read) (from : State) (begun : List 
               cut = no_octets;
               is = refl;
               fits = (tt, (refl, refl));
-              here = inr (refl, refl, steady_stands t.now t.stands.here.settings (resting at.near) (far_linked (linked FarData.Free false Pendings.Nothing at.far.session) at.far) t.stands.here.steady refl FarData.Free refl);
+              here = inr (refl, refl, steady_stands t.now (resting at.near) (far_linked (linked FarData.Free false Pendings.Nothing at.far.session) at.far) t.stands.here.steady refl FarData.Free Pendings.Nothing refl);
             };
           }),
         );

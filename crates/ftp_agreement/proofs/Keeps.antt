@@ -109,9 +109,13 @@ far_held : (read : Reading) (f : Far) (text held more : List ℕ) (octet : ℕ) 
     → hears read (still f) held ≡ only_heard (still f) held
 far_held read f text held more octet is whole = (commands.line_is_heard read text (still f) is refl).cut held more octet whole
 
-module _ (read : Reading) (At : Way → World → Type 0) (goes : Goes read At) where
+module _ (read : Reading) (At After : Way → World → Type 0) (goes : Goes read At After) where
   abbrev pub Keeps : World → Type 0
   Keeps w = PlacedAt At w
+
+  -- behind a turn of the server
+  abbrev pub Leaves : World → Type 0
+  Leaves w = PlacedAt After w
 
   -- ---- octets that move
 
@@ -145,7 +149,7 @@ module _ (read : Reading) (At : Way → World → Type 0) (goes : Goes read At) 
   -- the last octet of a line
   line_heard : (n : ℕ) (b : World) (text : List ℕ) (c : Cut) → IsLine text → Flows (written_line text) c.held (coming c) []
       → IsAll (written_line text) c.held (take n c.moving) (drop n c.moving ++ c.owed) [] → At (Asking text) b
-      → Keeps (pushed read ControlToServer n (world_at b (Asking text) c))
+      → Leaves (pushed read ControlToServer n (world_at b (Asking text) c))
   line_heard n b text c is flow all here =
       let t : FarTurn read b.far text = (goes.asked text b here).0 in
       let empty = both_empty all.more (drop n c.moving ++ c.owed) all.left in
@@ -169,7 +173,7 @@ module _ (read : Reading) (At : Way → World → Type 0) (goes : Goes read At) 
   pushed_coming : (n : ℕ) (c : Cut) → coming c ≡ take n c.moving ++ (drop n c.moving ++ c.owed)
   pushed_coming n c = ap (λ l. l ++ c.owed) (sym (take-append-drop n c.moving)) ∙ append_assoc (take n c.moving) (drop n c.moving) c.owed
 
-  pushes_to_server_at : (n : ℕ) (b : World) (way : Way) (c : Cut) → Fits way c → At way b → Keeps (pushed read ControlToServer n (world_at b way c))
+  pushes_to_server_at : (n : ℕ) (b : World) (way : Way) (c : Cut) → Fits way c → At way b → Leaves (pushed read ControlToServer n (world_at b way c))
   pushes_to_server_at n b (Asking text) c fits here =
       elim (hears_some (written_line text) c.held (take n c.moving) (drop n c.moving ++ c.owed) [] (subst (λ l. Flows (written_line text) c.held l []) (pushed_coming n c) fits.1)) [
         | inl more ↦ record {
@@ -181,15 +185,15 @@ module _ (read : Reading) (At : Way → World → Type 0) (goes : Goes read At) 
               ∙ sym (commands.in_pieces read (still b.far) c.held (take n c.moving))
               ∙ far_held read b.far text (c.held ++ take n c.moving) more.more more.octet fits.0 more.whole);
           fits = (fits.0, more);
-          here = here;
+          here = goes.held (Asking text) b here;
         }
         | inr all ↦ line_heard n b text c fits.0 fits.1 all here
       ]
   pushes_to_server_at n b (Answering rows) c fits here =
-      record { base = b; way = Answering rows; cut = c; is = no_push_to_server read n (world_at b (Answering rows) c) refl; fits = fits; here = here }
+      record { base = b; way = Answering rows; cut = c; is = no_push_to_server read n (world_at b (Answering rows) c) refl; fits = fits; here = goes.held (Answering rows) b here }
 
-  pub pushes_to_server : (n : ℕ) (w : World) → Keeps w → Keeps (pushed read ControlToServer n w)
-  pushes_to_server n w s = subst (λ u. Keeps (pushed read ControlToServer n u)) (sym s.is) (pushes_to_server_at n s.base s.way s.cut s.fits s.here)
+  pub pushes_to_server : (n : ℕ) (w : World) → Keeps w → Leaves (pushed read ControlToServer n w)
+  pushes_to_server n w s = subst (λ u. Leaves (pushed read ControlToServer n u)) (sym s.is) (pushes_to_server_at n s.base s.way s.cut s.fits s.here)
 
   -- ---- replies are heard
 

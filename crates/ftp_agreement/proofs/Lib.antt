@@ -14,11 +14,15 @@ pub mod Downloads
 pub mod Asks
 pub mod Beginning
 pub mod Theorems
+pub mod FetchAsked
+pub mod FetchReplies
 pub mod FetchTurns
 pub mod FetchLink
 pub mod FetchEvents
+pub mod FetchOpenings
 pub mod FetchData
 pub mod FetchServed
+pub mod FetchWants
 pub mod FetchTold
 pub mod FetchRuns
 pub mod FetchParting

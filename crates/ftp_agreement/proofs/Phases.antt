@@ -21,7 +21,8 @@ use Rattle.ftp_dialogues.specs.Dialogue.{Ends, told}
 use Rattle.ftp_dialogues.specs.Login.{AtFree, AtOperation}
 use Rattle.ftp_dialogues.specs.Stage.{calm, Way, rest, Turns}
 use Rattle.ftp_dialogues.proofs.LoginTurns.{free_turns}
-use Rattle.ftp_dialogues.proofs.Refusing.{dialogue-turns, dialogue-sound}
+use Rattle.ftp_dialogues.proofs.Sound.{each-stays-sound}
+use Rattle.ftp_dialogues.proofs.Theorems.{operation-leads}
 use Rattle.ftp_agreement.specs.Cut.{world_at, StandsAt}
 use Rattle.ftp_agreement.specs.Follows.{Told, IsFree, IsUnder, IsLost, IsLinked, IsUnlinked, Phase, Follows}
 use Rattle.ftp_agreement.proofs.Items.{state_more, one_told}
@@ -60,7 +61,7 @@ pub turns_free : (read : Reading) (now : State) → IsReading read → Turns rea
 turns_free read now reads = free_turns read now reads
 
 pub turns_under : (read : Reading) (from : State) (begun : List Order) (w : World) → IsReading read → (u : IsUnder read from begun w) → Turns read (AtOperation read u.now u.op (answer u.now u.op u.moment))
-turns_under read from begun w reads u = dialogue-turns read u.now u.op u.moment reads u.alone u.sent u.sound
+turns_under read from begun w reads u = operation-leads read u.now u.op u.moment reads u.alone u.sent u.sound
 
 -- ---- after an event
 
@@ -90,7 +91,7 @@ rests_behind said next n f ends = inr (
   refl,
   (let idle : Near → Near = λ v. record v { job = Idle } in ap idle ends.near),
   record {
-    meets = record { peer = ends.stands.meets.peer; here = ends.stands.meets.here; typed = ends.stands.meets.typed; all_ways = ends.stands.meets.all_ways };
+    meets = record { peer = ends.stands.meets.peer; here = ends.stands.meets.here; typed = ends.stands.meets.typed; own = ends.stands.meets.own; family = ends.stands.meets.family; all_ways = ends.stands.meets.all_ways };
     far = ends.stands.far;
     sees = ends.stands.sees;
     settings = ends.stands.settings;
@@ -115,7 +116,7 @@ under_ends read from begun w u way ends =
           (ap report_of_job ((seen At w s).job ∙ ap (λ v. v.job) ends.near)),
       record {
         now = (answer u.now u.op u.moment).1;
-        sound = dialogue-sound u.now u.op u.moment u.alone u.sent u.sound;
+        sound = each-stays-sound u.now u.op u.moment u.alone u.sent u.sound;
         told = told_is;
         stands = record {
           base = record b { near = record b.near { job = Idle }; reports = w.reports ++ said ∷ [] };

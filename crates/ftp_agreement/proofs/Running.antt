@@ -1,4 +1,4 @@
--- Every event keeps what follows of operations without a transfer and of passive downloads and listings, and so every list of them.
+-- Every event keeps what follows of operations without a transfer and of downloads and listings, and so every list of them.
 use Rattle.std.proofs.Common.{◌≡◌, ◌⊎◌, inl, inr, ℕ, ◌==◌, List, [], ◌∷◌, ◌++◌, Bool, true, false, not, ◌&&◌, refl, sym, ap, subst, ◌∙◌, append-nil, append_assoc}
 use Rattle.std.specs.Prelude.{IsTrue}
 use Rattle.std.proofs.lemmas.Bool.{and_parts}
@@ -25,7 +25,7 @@ use Rattle.ftp_agreement.proofs.Events.{IsNoBeginning, both_false, happens, lent
 use Rattle.ftp_agreement.proofs.FetchBegins.{begins_fetch}
 use Rattle.ftp_agreement.proofs.FetchParting.{fetch_parts, trailing_parts}
 use Rattle.ftp_agreement.proofs.FetchRuns.{fetching_on_taken, fetch_delivers_server, fetch_delivers_client, fetch_delivers_data, fetch_breaks, fetch_ends, fetch_opens, fetch_refuses}
-use Rattle.ftp_agreement.proofs.FetchServed.{flows_or_none, gives_none, lasting_busy}
+use Rattle.ftp_agreement.proofs.FetchWants.{flows_or_none, gives_none, lasting_busy}
 use Rattle.ftp_agreement.proofs.FetchTold.{closed_is, trailing_ends, trailing_breaks}
 use Rattle.ftp_agreement.proofs.Parting.{begins_lost}
 
@@ -57,7 +57,6 @@ trailing_taken from begun octets w t =
         is = ap lends s.is ∙ taken_at s.base s.way s.cut octets;
         fits = s.fits;
         here = record {
-          settings = s.here.settings;
           near = s.here.near;
           session = s.here.session;
           steady = s.here.steady;
@@ -91,8 +90,8 @@ module _ (read : Reading) (reads : IsReading read) (from : State) where
   -- ---- a download is under way
 
   on_happens : (begun : List Order) (event : Event) (w new : World) → IsNoBeginning event → IsFetchingOn read from begun w → Happens read event w true new → Holds begun new
-  on_happens begun (Deliver ControlToServer count) w new plain on e = fetch_delivers_server read reads from begun _ count _ new (fetching_on_taken read reads from begun [] w on).fetching e.1
-  on_happens begun (Deliver ControlToClient count) w new plain on e = fetch_delivers_client read reads from begun _ count _ new (fetching_on_taken read reads from begun [] w on).fetching e.1
+  on_happens begun (Deliver ControlToServer count) w new plain on e = fetch_delivers_server read reads from begun _ count _ new (fetching_on_taken read reads from begun [] w on) e.1
+  on_happens begun (Deliver ControlToClient count) w new plain on e = fetch_delivers_client read reads from begun _ count _ new (fetching_on_taken read reads from begun [] w on) e.1
   on_happens begun (Deliver DataToServer count) w new plain on e =
       let f = on.fetching in
       let none = gives_none read f.now f.ask f.is_ask.plan f.own w f.stands on.lasts in
@@ -176,17 +175,14 @@ module _ (read : Reading) (reads : IsReading read) (from : State) where
       → Holds (begun ++ Single op moment ∷ []) (after_event (operation_begins op moment u))
   free_begins begun op moment u plain h l f = by_sent (can_be_sent op) refl
     where
-      by_known : (known : Bool) → f.now.known ≡ known → IsAskOf op → Holds (begun ++ Single op moment ∷ []) (after_event (operation_begins op moment u))
-      by_known false unknown o =
-          inl (begins_free read reads from begun op moment u h.unlinked l f
-          (λ sent. inr (record { ask = o.ask; plan = o.good.plan; passive = o.passive; op_is = o.op_is; unknown = unknown })))
-      by_known true known o =
+      by_ask : IsAskOf op → Holds (begun ++ Single op moment ∷ []) (after_event (operation_begins op moment u))
+      by_ask o =
           subst (λ op. Holds (begun ++ Single op moment ∷ []) (after_event (operation_begins op moment u))) (sym o.op_is)
-          (begins_fetch read reads from begun o.ask moment o.good o.passive u h.unlinked l f known)
+          (begins_fetch read reads from begun o.ask moment o.good u h.unlinked l f)
 
       by_plain : can_be_sent op ≡ true → HasNoTransfer op ⊎ IsFetch op → Holds (begun ++ Single op moment ∷ []) (after_event (operation_begins op moment u))
-      by_plain can (inl alone) = inl (begins_free read reads from begun op moment u h.unlinked l f (λ sent. inl alone))
-      by_plain can (inr fetches) = by_known f.now.known refl (ask_of op fetches can)
+      by_plain can (inl alone) = inl (begins_free read reads from begun op moment u h.unlinked l f (λ sent. alone))
+      by_plain can (inr fetches) = by_ask (ask_of op fetches can)
 
       by_sent : (b : Bool) → can_be_sent op ≡ b → Holds (begun ++ Single op moment ∷ []) (after_event (operation_begins op moment u))
       by_sent true can = by_plain can (plain can)

@@ -29,10 +29,10 @@ pub near_wants : (n : Near) → NearWaits n → near.wants n ≡ Want.Nothing
 unfolding near.wants
 near_wants n w = rw (w.closing, w.sound, w.connection) refl
 
-far_unserved : (connection : DataConnection Transfer) (w : World) → is_aside connection ≡ true → far_served_by (far.wants_of connection) w ≡ w
+pub far_unserved : (connection : DataConnection Transfer) (w : World) → is_aside connection ≡ true → far_served_by (far.wants_of connection) w ≡ w
 far_unserved FarData.Free w aside = refl
 far_unserved FarData.Passive w aside = refl
-far_unserved (FarData.Active endpoint) w aside = absurd (cc)
+far_unserved (FarData.Active endpoint) w aside = refl
 far_unserved FarData.Ready w aside = absurd (cc)
 far_unserved (FarData.Asked asked) w aside = absurd (cc)
 far_unserved (FarData.Opening transfer way) w aside = absurd (cc)

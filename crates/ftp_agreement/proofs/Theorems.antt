@@ -1,4 +1,4 @@
--- The claims, for lists whose operations have no transfer or are passive downloads or listings.
+-- The claims, for lists whose operations have no transfer or are downloads or listings.
 use Rattle.std.proofs.Common.{inl, Bool, true, false, List, [], ◌∷◌, ◌++◌, refl, sym, subst}
 use Rattle.ftp_server_machine.specs.Machine.{Reading, IsReading}
 use Rattle.ftp_world.specs.Agreement.{Order, Single, Tries, AreSingle, Agrees, WorldAgrees, Leads, begun_by}

@@ -71,8 +71,9 @@ of_ends At way b = At way b.near b.far
 abbrev pub StandsAt : (Way → Near → Far → Type 0) → World → Type 0
 StandsAt At w = PlacedAt (of_ends At) w
 
--- each turn of an end leads to such a base again
-pub record Goes (read : Reading) (At : Way → World → Type 0) : Type 0 where
-  pub asked : (text : List ℕ) (b : World) → At (Asking text) b → (t : FarTurn read b.far text) × At (Answering t.replies) (record b { far = t.far })
+-- each turn of an end leads to such a base again; behind a turn of the server it may be another, in which more is served before the client is told
+pub record Goes (read : Reading) (At After : Way → World → Type 0) : Type 0 where
+  pub held : (way : Way) (b : World) → At way b → After way b
+  pub asked : (text : List ℕ) (b : World) → At (Asking text) b → (t : FarTurn read b.far text) × After (Answering t.replies) (record b { far = t.far })
   pub told : (reply : Reply) (more : List Reply) (b : World) → At (Answering (reply ∷ more)) b
       → (t : NearTurn b.near reply more) × At (behind t.line more) (record b { near = t.near })

@@ -16,8 +16,7 @@ use Rattle.ftp_server_machine.specs.declared.session.DataConnection.TheVariants 
 use Rattle.ftp_server_machine.specs.declared.session.Life.TheVariants as Lives
 use Rattle.ftp_world.specs.Agreement.{Order, Single, Item, state_after, ItemsHold}
 use Rattle.ftp_world.specs.World.{World, Mark, Stands, Parted, Gone}
-use Rattle.ftp_dialogues.specs.Dialogue.{IsSound}
-use Rattle.ftp_dialogues.specs.Fetches.{IsDialogue}
+use Rattle.ftp_dialogues.specs.Dialogue.{HasNoTransfer, IsSound}
 use Rattle.ftp_dialogues.specs.Login.{AtFree, AtOperation}
 use Rattle.ftp_agreement.specs.Cut.{StandsAt}
 
@@ -46,7 +45,7 @@ pub record IsUnder (read : Reading) (from : State) (begun : List Order) (w : Wor
   pub now : State
   pub sound : IsSound now
   pub told : Told from done marks None w.reports now
-  pub alone : IsDialogue now op
+  pub alone : HasNoTransfer op
   pub sent : can_be_sent op ≡ true
   pub stands : StandsAt (AtOperation read now op (answer now op moment)) w
 

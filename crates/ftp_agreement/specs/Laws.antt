@@ -1,5 +1,6 @@
--- The claims of `ftp_world` for lists of events whose operations have no transfer or are downloads or listings over passive data connections,
--- in every type, structure and mode: deliveries, openings, breaks, refusals and ends of every kind, and operations that can't be sent, among them.
+-- The claims of `ftp_world` for lists of events whose operations have no transfer or are downloads or listings, in every type, structure and
+-- mode, over passive and active data connections: deliveries, openings, breaks, refusals and ends of every kind, and operations that can't be
+-- sent, among them.
 use Rattle.std.specs.Prelude.{◌≡◌, ◌⊎◌, true, List, [], ◌∷◌}
 use Rattle.ftp_operation.specs.Operation.{can_be_sent}
 use Rattle.ftp_world.specs.Agreement.{WorldAgrees, IsDirect, AreHonest}
@@ -9,7 +10,7 @@ use Rattle.ftp_world.specs.Still.{IsStill}
 use Rattle.ftp_dialogues.specs.Dialogue.{HasNoTransfer}
 use Rattle.ftp_dialogues.specs.Fetches.{IsFetch}
 
--- what an event begins has no transfer, is a download or a listing over a passive data connection, or can't be sent
+-- what an event begins has no transfer, is a download or a listing, or can't be sent
 abbrev pub IsPlain : Event → Type 0
 IsPlain (Next op moment) = can_be_sent op ≡ true → HasNoTransfer op ⊎ IsFetch op
 IsPlain (Upload upload moment) = ⊥

@@ -1,7 +1,6 @@
--- What holds after every event of a list whose operations have no transfer or are downloads or listings over passive data connections.
-use Rattle.std.specs.Prelude.{◌≡◌, ◌⊎◌, ℕ, true, false, List, [], ◌∷◌, ◌++◌, None}
+-- What holds after every event of a list whose operations have no transfer or are downloads or listings.
+use Rattle.std.specs.Prelude.{◌≡◌, ◌⊎◌, ℕ, false, List, [], ◌∷◌, ◌++◌, None}
 use Rattle.ftp_operation.specs.Answer.{Said}
-use Rattle.ftp_representation.specs.declared.representation.Representation.{Representation}
 use Rattle.ftp_direct.specs.Direct.{State}
 use Rattle.ftp_server_machine.specs.Machine.{Reading}
 use Rattle.ftp_server_machine.specs.declared.session.DataConnection.TheVariants as FarData
@@ -9,13 +8,13 @@ use Rattle.ftp_server_machine.specs.declared.session.Pending.TheVariants as Pend
 use Rattle.ftp_world.specs.Agreement.{Order, Single}
 use Rattle.ftp_world.specs.World.{World, Mark, ClosedByNear}
 use Rattle.ftp_dialogues.specs.Dialogue.{IsSound, resting}
-use Rattle.ftp_dialogues.specs.Fetches.{Ask, HasPlan, IsAsk, IsPassive, linked, kept, IsSteady}
+use Rattle.ftp_dialogues.specs.Fetches.{Ask, HasPlan, IsAsk, linked, kept, IsSteady}
 use Rattle.ftp_dialogues.specs.Stage.{Way, rest}
 use Rattle.ftp_agreement.specs.Cut.{PlacedAt}
 use Rattle.ftp_agreement.specs.Follows.{Told, IsLinked, Follows}
 use Rattle.ftp_agreement.specs.Stages.{AtFetch, IsLasting, Fared}
 
--- a download is under way, of a login that is known; these are the marks of its link
+-- a download or a listing is under way; these are the marks of its link
 pub record IsFetching (read : Reading) (from : State) (begun : List Order) (w : World) : Type 0 where
   pub done : List Order
   pub marks : List (List Mark)
@@ -26,9 +25,7 @@ pub record IsFetching (read : Reading) (from : State) (begun : List Order) (w : 
   pub marks_are : w.marks ≡ marks ++ own ∷ []
   pub now : State
   pub sound : IsSound now
-  pub known : now.known ≡ true
   pub is_ask : IsAsk ask
-  pub passive : IsPassive ask.how
   pub told : Told from done marks None w.reports now
   pub linked : IsLinked w
   pub stands : PlacedAt (λ way b. AtFetch now ask read own way b) w
@@ -40,10 +37,9 @@ pub record IsFetchingOn (read : Reading) (from : State) (begun : List Order) (w 
 
 -- both ends where the client has closed a link that the server had for no transfer yet
 pub record AtClosed (now : State) (way : Way) (b : World) : Type 0 where
-  pub settings : Representation
   pub near : b.near ≡ resting b.near
   pub session : b.far.session ≡ linked FarData.Ready false Pendings.Nothing b.far.session
-  pub steady : IsSteady now settings (kept b.near b.far)
+  pub steady : IsSteady now (kept b.near b.far)
   pub link : b.link ≡ ClosedByNear
   pub to_server : b.data_to_server ≡ []
   pub to_client : b.data_to_client ≡ []

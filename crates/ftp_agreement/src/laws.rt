@@ -1,8 +1,8 @@
 //! Laws of a session: functions that do nothing, whose contracts are the claims of `ftp_world` for operations without a transfer and
-//! passive downloads and listings.
+//! downloads and listings.
 ghost use Rattle.ftp_agreement.specs.Laws.{PlainAgrees, PlainHeadline, PlainIsAnswered, PlainStillIsQuiet};
 
-/// After every event of every list whose operations have no transfer or are passive downloads or listings, reports and map agree with the operations
+/// After every event of every list whose operations have no transfer or are downloads or listings, reports and map agree with the operations
 /// that were begun.
 pub fn plain_lists_agree()
     ensures { PlainAgrees }

@@ -6,6 +6,8 @@ use Rattle.ftp_command.specs.Argument.{IsName, IsPassword}
 use Rattle.ftp_command.specs.Line.{IsLine, line_of}
 use Rattle.ftp_command.specs.declared.command.Command.{Command}
 use Rattle.ftp_command.specs.declared.command.Command.TheVariants as Commands
+use Rattle.ftp_endpoint.specs.Written.{IsTypedHost}
+use Rattle.ftp_ends.specs.Link.{is_v6}
 use Rattle.ftp_ends.specs.Reply.{Reply}
 use Rattle.ftp_operation.specs.Account.{login_root}
 use Rattle.ftp_operation.specs.declared.op.Op.{Op}
@@ -147,6 +149,8 @@ logs_at state before after n next f new logs is same access = record {
     peer = ap (λ v. v.peer) is ∙ logs.meets.peer;
     here = ap (λ v. v.here) is ∙ logs.meets.here;
     typed = logs.meets.typed;
+    own = subst IsTypedHost (sym (ap (λ v. v.here) is)) logs.meets.own;
+    family = ap (λ v. is_v6 v.here) is ∙ logs.meets.family ∙ sym (ap (λ v. is_v6 v.peer) is);
     all_ways = same.all_ways ∙ logs.meets.all_ways;
   };
   leads_to = logs.leads_to ∙ ap (λ v. direct_start state.table (login_root f.footing.accounts v.user v.pass)) (sym is);
@@ -241,7 +245,7 @@ stands_behind : (state : State) (admitted to_pass : Bool) (n next : Near) (f : F
 stands_behind state admitted to_pass n next f logs same meets = record { meets = meets; far = logs.far; sees = logs.access; settings = logs.settings ∙ sym same; facts = logs.facts }
 
 meets_at_rest : (n : Near) (f : Far) → Meets n f → Meets (resting n) f
-meets_at_rest n f meets = record { peer = meets.peer; here = meets.here; typed = meets.typed; all_ways = meets.all_ways }
+meets_at_rest n f meets = record { peer = meets.peer; here = meets.here; typed = meets.typed; own = meets.own; family = meets.family; all_ways = meets.all_ways }
 
 -- a place of the login that is not the last: its reply is heard, and a line is sent
 record NextPlace (state : State) (n : Near) (f : Far) (reply : Reply) : Type 0 where
@@ -388,13 +392,15 @@ operation_turns read state op Along Goal reads leads_on = record { asked = asked
         by_next none (inl next) =
             (record { near = next.near; line = Some next.line; is = next.is; fine = (next.fine, none) }, inl (next.logging, next.job ∙ waiting))
         by_next none (inr ends) =
-            let on : LeadsBy read Along Goal op n f = leads_on n f (stands_behind state ends.admitted ends.to_pass n n f ends.logs refl ends.logs.meets) in (
+            let on : LeadsBy read Along Goal op n f = leads_on n f (stands_behind state ends.admitted ends.to_pass n n f ends.logs refl ends.logs.meets) in
+            let To : List Reply → Type 0 = λ more. (t : NearTurn n reply more) × At (behind t.line more) t.near f in
+            subst To (sym none) (
               record {
                 near = on.near;
-                line = Some on.text;
+                line = on.line;
                 is = ends.is ∙ ap (λ job. enters_with job (record (calm n) { standing = Standings.Entered; job = job })) waiting
                     ∙ ap (begins op) (entered_is n (Waiting op) ends.logs.connection ends.logs.closing ends.logs.run) ∙ on.begins_so (Waiting op);
-                fine = (on.line, none);
+                fine = on.fine;
               },
               inr (on.left, on.leads),
             )

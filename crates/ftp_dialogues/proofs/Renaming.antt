@@ -98,10 +98,10 @@ module _ (read : Reading) (text new : List ℕ) (reads : IsReading read) (first 
       → Leads read (Passes state.table result.1.table) (Ends result) left (Asking (line_of (Commands.Rnfr text))) (doing (Ops.Rename text new) Steps.Source n) f → To result
   by_source result left leads = record {
     near = doing (Ops.Rename text new) Steps.Source n;
-    text = line_of (Commands.Rnfr text);
+    line = Some (line_of (Commands.Rnfr text));
     left = left;
     begins_so = λ job. refl;
-    line = carried (Commands.Rnfr text) tt first;
+    fine = (carried (Commands.Rnfr text) tt first, refl);
     leads = leads;
   }
 
@@ -176,7 +176,7 @@ module _ (read : Reading) (text new : List ℕ) (reads : IsReading read) (first 
       (carried (Commands.Rnto new) tt second, refl)
       (last_exchange read state.table (Ops.Rename text new) Steps.Last (Commands.Rnto new) result n (with_session noted f) after sent_target later stands.sees.table
       stands.settings stands.facts
-      (record { peer = stands.meets.peer; here = stands.meets.here; typed = stands.meets.typed; all_ways = stands.meets.all_ways }) keeps sees x))
+      (record { peer = stands.meets.peer; here = stands.meets.here; typed = stands.meets.typed; own = stands.meets.own; family = stands.meets.family; all_ways = stands.meets.all_ways }) keeps sees x))
 
   target_refused : (why : Refusal) → state.known ≡ true → source_why state text ≡ None → target_why state text new ≡ Some why → To (Refused (code_of why), state)
   target_refused why known none is =

@@ -68,7 +68,7 @@ last_exchange read before op step command result n f after sent waits table sett
     (record {
       near = refl;
       stands = record {
-        meets = record { peer = meets.peer; here = meets.here; typed = meets.typed; all_ways = keeps.all_ways ∙ meets.all_ways };
+        meets = record { peer = meets.peer; here = meets.here; typed = meets.typed; own = meets.own; family = meets.family; all_ways = keeps.all_ways ∙ meets.all_ways };
         far = later;
         sees = sees;
         settings = keeps.settings ∙ settings;

@@ -26,7 +26,7 @@ use Rattle.ftp_dialogues.specs.Dialogue.{is_aside}
 pub aside_idle : (connection : DataConnection Transfer) → is_aside connection ≡ true → is_connection_busy connection ≡ false
 aside_idle Data.Free aside = refl
 aside_idle Data.Passive aside = refl
-aside_idle (Data.Active endpoint) aside = absurd (cc)
+aside_idle (Data.Active endpoint) aside = refl
 aside_idle Data.Ready aside = absurd (cc)
 aside_idle (Data.Asked asked) aside = absurd (cc)
 aside_idle (Data.Opening transfer way) aside = absurd (cc)

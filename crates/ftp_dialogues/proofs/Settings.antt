@@ -1,9 +1,9 @@
 -- TYPE, STRU and MODE, each only where it differs from what the server accepted last: behind them the server has the settings that an
 -- operation asks for, and the client goes on with the step behind them.
-use Rattle.std.proofs.Common.{◌≡◌, inl, ℕ, suc, Bool, true, false, List, [], ◌∷◌, Some, refl, ap, ◌∙◌}
+use Rattle.std.proofs.Common.{◌≡◌, inl, ℕ, suc, Bool, true, false, List, [], ◌∷◌, Option, Some, refl, ap, ◌∙◌}
 use Rattle.std.specs.Prelude.{if◌then◌else◌}
 use Rattle.ftp_nvt.specs.Lines.{written_line}
-use Rattle.ftp_command.specs.Line.{IsLine, line_of}
+use Rattle.ftp_command.specs.Line.{line_of}
 use Rattle.ftp_command.specs.declared.command.Command.{Command}
 use Rattle.ftp_command.specs.declared.command.Command.TheVariants as Commands
 use Rattle.ftp_operation.specs.declared.op.Op.{Op}
@@ -30,19 +30,19 @@ use Rattle.ftp_server_machine.specs.declared.reply.ReplyKind.TheVariants as Repl
 use Rattle.ftp_server_machine.specs.declared.reply.Text.{Text}
 use Rattle.ftp_server_machine.specs.declared.reply.Text.TheVariants as Texts
 use Rattle.ftp_command.proofs.CarriedLemmas.{carried}
-use Rattle.ftp_dialogues.specs.Stage.{calm, Asking, Leads}
+use Rattle.ftp_dialogues.specs.Stage.{calm, line_octets, IsAlone, behind, Leads}
 use Rattle.ftp_dialogues.specs.Dialogue.{FarWaits, Passes, Stands, resting, doing}
 use Rattle.ftp_dialogues.proofs.ServerTurns.{cleared, decides, decides_known}
 use Rattle.ftp_dialogues.proofs.Exchanges.{IsSent, with_session, exchange}
 
--- the client is placed at a step, and its command leads to the goal
+-- the client is placed at a step, and its command, if it has one, leads to the goal
 pub record LeadsFrom (read : Reading) (Along Goal : Near → Far → Type 0) (op : Op (List ℕ)) (step : Step) (n : Near) (f : Far) : Type 0 where
   pub near : Near
-  pub text : List ℕ
+  pub line : Option (List ℕ)
   pub left : ℕ
-  pub placed_so : (job : Job) → placed op step (record (calm (resting n)) { job = job }) ≡ record (calm near) { owed = written_line text }
-  pub line : IsLine text
-  pub leads : Leads read Along Goal left (Asking text) near f
+  pub placed_so : (job : Job) → placed op step (record (calm (resting n)) { job = job }) ≡ record (calm near) { owed = line_octets line }
+  pub fine : IsAlone line []
+  pub leads : Leads read Along Goal left (behind line []) near f
 
 -- a client with other settings
 abbrev pub near_set : Representation → Near → Near
@@ -58,7 +58,7 @@ far_set settings f = with_session (session_set settings (cleared f)) f
 
 stands_set : (state : State) (settings : Representation) (n : Near) (f : Far) → Stands state n f → Stands state (near_set settings n) (far_set settings f)
 stands_set state settings n f stands = record {
-  meets = record { peer = stands.meets.peer; here = stands.meets.here; typed = stands.meets.typed; all_ways = stands.meets.all_ways };
+  meets = record { peer = stands.meets.peer; here = stands.meets.here; typed = stands.meets.typed; own = stands.meets.own; family = stands.meets.family; all_ways = stands.meets.all_ways };
   far = record { aside = stands.far.aside; closing = stands.far.closing; life = stands.far.life };
   sees = record { table = stands.sees.table; known = stands.sees.known; root = stands.sees.root; cwd = stands.sees.cwd };
   settings = refl;
@@ -79,11 +79,11 @@ module _ (read : Reading) (state : State) (after : Table) (Goal : Near → Far �
       let later : FarWaits (far_set settings f) = record { aside = stands.far.aside; closing = stands.far.closing; life = stands.far.life } in
       record {
         near = doing op step n;
-        text = line_of command;
+        line = Some (line_of command);
         left = suc (suc onward.left);
         placed_so = placed_so;
-        line = carried command sent.typed sent.stated;
-        leads = exchange read Along Goal onward.left command (doing op step n) onward.near (Some onward.text) f (session_set settings (cleared f)) sent stands.far later
+        fine = (carried command sent.typed sent.stated, refl);
+        leads = exchange read Along Goal onward.left command (doing op step n) onward.near onward.line f (session_set settings (cleared f)) sent stands.far later
             (record {
               kind = Replies.Fixed text;
               reply = fixed_reply text;
@@ -94,7 +94,7 @@ module _ (read : Reading) (state : State) (after : Table) (Goal : Near → Far �
             })
             (record { near = record { sound = refl; connection = refl; closing = refl }; far = stands.far; busy = refl; untold = refl; table = inl stands.sees.table })
             (record { near = record { sound = refl; connection = refl; closing = refl }; far = later; busy = refl; untold = refl; table = inl stands.sees.table })
-            (onward.line, refl)
+            onward.fine
             onward.leads;
       }
 

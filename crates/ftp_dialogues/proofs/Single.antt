@@ -63,10 +63,10 @@ module _ (read : Reading) (op : Op (List ℕ)) (accepted : Session → Turn) (si
       → Exchange (own_command op) (doing op Steps.Last n) (told result.0 n) None f after → LeadsTo read state op result n f
   by_exchange result after keeps sees x = record {
     near = doing op Steps.Last n;
-    text = line_of (own_command op);
+    line = Some (line_of (own_command op));
     left = 2;
     begins_so = λ job. single.begins_so job n;
-    line = single.line;
+    fine = (single.line, refl);
     leads = last_exchange read state.table op Steps.Last (own_command op) result n f after single.sent stands.far stands.sees.table stands.settings stands.facts stands.meets keeps sees x;
   }
 

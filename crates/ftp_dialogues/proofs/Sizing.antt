@@ -150,10 +150,10 @@ module _ (read : Reading) (text : List ℕ) (how : How) (reads : IsReading read)
       let T : Said × State → Type 0 = λ r. LeadsFrom read (Passes state.table r.1.table) (Ends r) (Ops.Size text how) Steps.Last n f in
       subst T (sym result_is) (record {
         near = doing (Ops.Size text how) Steps.Last n;
-        text = line_of (Commands.Size text);
+        line = Some (line_of (Commands.Size text));
         left = 2;
         placed_so = λ job. refl;
-        line = carried (Commands.Size text) tt is;
+        fine = (carried (Commands.Size text) tt is, refl);
         leads = last_exchange read state.table (Ops.Size text how) Steps.Last (Commands.Size text) (Number count, state) n f (cleared f) sent stands.far stands.sees.table
             stands.settings stands.facts stands.meets (keeps_cleared f) (sees_cleared state f stands.sees)
             (record {
@@ -169,10 +169,10 @@ module _ (read : Reading) (text : List ℕ) (how : How) (reads : IsReading read)
       let T : Said × State → Type 0 = λ r. LeadsFrom read (Passes state.table r.1.table) (Ends r) (Ops.Size text how) Steps.Last n f in
       subst T (sym result_is) (record {
         near = doing (Ops.Size text how) Steps.Last n;
-        text = line_of (Commands.Size text);
+        line = Some (line_of (Commands.Size text));
         left = 2;
         placed_so = λ job. refl;
-        line = carried (Commands.Size text) tt is;
+        fine = (carried (Commands.Size text) tt is, refl);
         leads = last_exchange read state.table (Ops.Size text how) Steps.Last (Commands.Size text) (chosen (Some why) state (done state (Ops.Size text how) 0)) n f (cleared f) sent stands.far stands.sees.table
             stands.settings stands.facts stands.meets (keeps_cleared f) (sees_cleared state f stands.sees)
             (refused_exchange (Ops.Size text how) Steps.Last (Commands.Size text) why n f refl (size_decided n f stands set (Some why) some));
@@ -183,7 +183,7 @@ module _ (read : Reading) (text : List ℕ) (how : How) (reads : IsReading read)
   size_known result n f stands result_is =
       let on = settings_lead read state result.1.table (Ends result) (Ops.Size text how) reads known (size_settings how) refl
       (λ n f stands set. size_last result n f stands set (refusal state (Ops.Size text how)) refl result_is) n f stands in
-      record { near = on.near; text = on.text; left = on.left; begins_so = on.placed_so; line = on.line; leads = on.leads }
+      record { near = on.near; line = on.line; left = on.left; begins_so = on.placed_so; fine = on.fine; leads = on.leads }
 
 -- ---- a login that is not known: the first command is refused
 
@@ -193,10 +193,10 @@ module _ (read : Reading) (op : Op (List ℕ)) (reads : IsReading read) (state :
       → LeadsFrom read (Passes state.table state.table) (Ends (Refused 530, state)) op step n f
   refused_at step command sent free transfer awaits placed_so = record {
     near = doing op step n;
-    text = line_of command;
+    line = Some (line_of command);
     left = 2;
     placed_so = placed_so;
-    line = carried command sent.typed sent.stated;
+    fine = (carried command sent.typed sent.stated, refl);
     leads = last_exchange read state.table op step command (Refused 530, state) n f (cleared f) sent stands.far stands.sees.table stands.settings stands.facts stands.meets
         (keeps_cleared f) (sees_cleared state f stands.sees)
         (refused_exchange op step command Refusals.NotLoggedIn n f awaits (decides_unknown command f (stands.sees.known ∙ unknown) free transfer));
@@ -236,4 +236,4 @@ size_leads read text how moment reads is state n f stands can = by_known state.k
     by_known false unknown =
         let on = size_unknown read text how reads is state n f stands unknown in
         subst (λ result. LeadsTo read state (Ops.Size text how) result n f) (answer_unknown state (Ops.Size text how) moment can unknown)
-        (record { near = on.near; text = on.text; left = on.left; begins_so = on.placed_so; line = on.line; leads = on.leads })
+        (record { near = on.near; line = on.line; left = on.left; begins_so = on.placed_so; fine = on.fine; leads = on.leads })

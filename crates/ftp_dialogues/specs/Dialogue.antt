@@ -3,6 +3,7 @@
 use Rattle.std.specs.Prelude.{◌≡◌, ◌⊎◌, ℕ, ◌≤◌, Bool, true, false, List, length, Some, None, IsTrue, IsSome}
 use Rattle.std.specs.List.{list_all}
 use Rattle.ftp_endpoint.specs.Written.{IsTypedHost}
+use Rattle.ftp_ends.specs.Link.{is_v6}
 use Rattle.ftp_operation.specs.Answer.{Said}
 use Rattle.ftp_operation.specs.declared.op.Op.{Op}
 use Rattle.ftp_path.specs.Path.{Names, is_name}
@@ -30,9 +31,10 @@ pub record NearWaits (n : Near) : Type 0 where
   pub connection : n.connection ≡ NearData.Free
   pub closing : n.closing ≡ false
 
--- no endpoint is set, or a port is listened at that nobody will open
+-- no endpoint is set, or one that no transfer was asked for, or a port is listened at that nobody will open
 abbrev pub is_aside : DataConnection Transfer → Bool
 is_aside FarData.Free = true
+is_aside (FarData.Active endpoint) = true
 is_aside FarData.Passive = true
 is_aside other = false
 
@@ -70,11 +72,13 @@ resting n = record n { standing = Standings.Entered; job = Idle; run = None; con
 abbrev pub doing : Op (List ℕ) → Step → Near → Near
 doing op step n = record n { standing = Standings.Entered; job = Doing op step; run = None; connection = NearData.Free; closing = false }
 
--- each end is the other's peer, and EPSV ALL was never sent
+-- each end is the other's peer, both are of one family, and EPSV ALL was never sent
 pub record Meets (n : Near) (f : Far) : Type 0 where
   pub peer : n.peer ≡ f.footing.here
   pub here : n.here ≡ f.footing.peer
   pub typed : IsTypedHost f.footing.here
+  pub own : IsTypedHost n.here
+  pub family : is_v6 n.here ≡ is_v6 n.peer
   pub all_ways : f.session.only_extended ≡ false
 
 -- the server is in this state, with all facts in force, and the client knows its settings

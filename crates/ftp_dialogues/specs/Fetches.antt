@@ -1,5 +1,5 @@
--- A download or a listing over a passive data connection: what both ends hold while it is under way (RFC 959, sections 3.2 to 3.5 and
--- 4.1.2; RFC 2428; RFC 3659, sections 5 and 7).
+-- A download or a listing: what both ends hold while it is under way (RFC 959, sections 3.2 to 3.5 and 4.1.2; RFC 2428; RFC 3659,
+-- sections 5 and 7).
 use Rattle.std.specs.Prelude.{◌≡◌, ◌⊎◌, ℕ, ◌<◌, ◌^◌, Bool, true, false, drop, List, [], ◌++◌, codes, decimal, Option, Some, None, if◌then◌else◌}
 use Rattle.std.specs.Option.{unwrap_or}
 use Rattle.ftp_command.specs.Line.{IsStated, IsTyped}
@@ -8,8 +8,9 @@ use Rattle.ftp_command.specs.declared.command.Command.TheVariants as Commands
 use Rattle.ftp_endpoint.specs.Written.{IsTypedHost}
 use Rattle.ftp_endpoint.specs.declared.host.Host.{Host}
 use Rattle.ftp_decoder.specs.Decoder.{no_octets, decoder_of}
+use Rattle.ftp_ends.specs.Link.{is_v6}
 use Rattle.ftp_ends.specs.Reply.{Reply, reply_of}
-use Rattle.ftp_operation.specs.Answer.{Said, Octets, Entries, Names as NameList}
+use Rattle.ftp_operation.specs.Answer.{Said, Octets, Refused, Entries, Names as NameList}
 use Rattle.ftp_operation.specs.Operation.{can_be_sent}
 use Rattle.ftp_operation.specs.declared.op.How.{How}
 use Rattle.ftp_operation.specs.declared.op.Op.{Op}
@@ -50,20 +51,16 @@ use Rattle.ftp_server_machine.specs.declared.session.Pending.{Pending}
 use Rattle.ftp_server_machine.specs.declared.session.Pending.TheVariants as Pendings
 use Rattle.ftp_server_machine.specs.declared.session.Transfer.TheVariants as Transfers
 use Rattle.ftp_world.specs.Outcome.{download_of, fetched, mark_in, upload_of}
-use Rattle.ftp_dialogues.specs.Dialogue.{HasNoTransfer, IsSound}
+use Rattle.ftp_dialogues.specs.Dialogue.{Ends, IsSound, is_aside}
 
 -- ---- what is asked for
 
--- the client opens its link
-abbrev pub IsPassive : How → Type 0
-IsPassive how = how.active ≡ false
-
--- a download of a file or a listing over such a link
+-- a download of a file or a listing
 abbrev pub IsFetch : Op (List ℕ) → Type 0
-IsFetch (Ops.Get text how) = IsPassive how
-IsFetch (Ops.GetFrom text offset how) = IsPassive how
-IsFetch (Ops.List text how) = IsPassive how
-IsFetch (Ops.Names text how) = IsPassive how
+IsFetch (Ops.Get text how) = Unit {0}
+IsFetch (Ops.GetFrom text offset how) = Unit {0}
+IsFetch (Ops.List text how) = Unit {0}
+IsFetch (Ops.Names text how) = Unit {0}
 IsFetch other = ⊥
 
 -- what an operation asks for whose octets come to the client: how its link is opened, the settings that it goes in, the offset of REST,
@@ -167,27 +164,46 @@ kept n f = record {
   only_extended = f.session.only_extended;
 }
 
--- each end is the other's peer; the server is in this state, logged in, with these settings and all facts in force
-pub record IsSteady (state : State) (settings : Representation) (k : Kept) : Type 0 where
+-- each end is the other's peer, both are of one family; the server is in this state, in the settings that the client knows, with all facts in
+-- force
+pub record IsSteady (state : State) (k : Kept) : Type 0 where
   pub peer : k.near_peer ≡ k.far_here
   pub here : k.near_here ≡ k.far_peer
   pub typed : IsTypedHost k.far_here
+  pub own : IsTypedHost k.near_here
+  pub family : is_v6 k.near_here ≡ is_v6 k.near_peer
   pub all_ways : k.only_extended ≡ false
   pub table : k.table ≡ state.table
-  pub known : state.known ≡ true
-  pub access : is_in k.access ≡ true
-  pub root : k.root ≡ state.root
+  pub access : is_in k.access ≡ state.known
+  pub root : state.known ≡ true → k.root ≡ state.root
   pub cwd : k.cwd ≡ state.cwd
-  pub settings_are : k.far_settings ≡ settings
-  pub told : k.near_settings ≡ settings
+  pub settings : k.far_settings ≡ k.near_settings
   pub facts : k.facts ≡ all_facts
 
--- the settings are made, and the server was asked for a port
-pub record PortIsAsked (state : State) (op : Op (List ℕ)) (settings : Representation) (n : Near) (f : Far) : Type 0 where
-  pub near : n ≡ busy (Doing op Steps.Passive) NearData.Free n
+-- ---- where the settings are made
+
+-- the server was asked for a port
+pub record PortIsAsked (state : State) (ask : Ask) (n : Near) (f : Far) : Type 0 where
+  pub near : n ≡ busy (Doing ask.op Steps.Passive) NearData.Free n
   pub closing : Bool
-  pub session : f.session ≡ linked (FarData.Asked (asked_of (is_extended n op))) closing Pendings.Nothing f.session
-  pub steady : IsSteady state settings (kept n f)
+  pub session : f.session ≡ linked (FarData.Asked (asked_of (is_extended n ask.op))) closing Pendings.Nothing f.session
+  pub steady : IsSteady state (kept n f)
+  pub set : n.settings ≡ ask.settings
+  pub known : state.known ≡ true
+
+-- the client wants a port of its own, and the server stands as it did
+pub record PortIsWanted (state : State) (ask : Ask) (n : Near) (f : Far) : Type 0 where
+  pub near : n ≡ busy (Doing ask.op Steps.Listen) NearData.ListenWanted n
+  pub connection : FarConnection Transfer
+  pub aside : is_aside connection ≡ true
+  pub pending : Pending Names
+  pub session : f.session ≡ linked connection false pending f.session
+  pub steady : IsSteady state (kept n f)
+  pub set : state.known ≡ true → n.settings ≡ ask.settings
+
+-- a port is asked for or wanted; or the first command was refused, as nobody is logged in
+abbrev pub Opens : State → Ask → Near → Far → Type 0
+Opens state ask n f = PortIsAsked state ask n f ⊎ PortIsWanted state ask n f ⊎ ((state.known ≡ false) × Ends (Refused 530, state) n f)
 
 -- ---- downloads: what is sent, and why nothing is
 
@@ -306,17 +322,3 @@ pub record IsAsk (ask : Ask) : Type 0 where
   pub plan : HasPlan ask
   pub row : HasRow ask
   pub answer : HasAnswer ask
-
--- ---- operations that are dialogues alone
-
--- what is asked for over such a link is refused before the link is asked for, as nobody is logged in
-pub record IsUnknown (state : State) (op : Op (List ℕ)) : Type 0 where
-  pub ask : Ask
-  pub plan : HasPlan ask
-  pub passive : IsPassive ask.how
-  pub op_is : op ≡ ask.op
-  pub unknown : state.known ≡ false
-
--- it has no transfer, or is refused so
-abbrev pub IsDialogue : State → Op (List ℕ) → Type 0
-IsDialogue state op = HasNoTransfer op ⊎ IsUnknown state op

@@ -1,8 +1,6 @@
 -- What an operation without a transfer leads to, from any state of both ends where nothing is on its way: its answer and the map of the
 -- direct run.
-use Rattle.std.specs.Prelude.{◌≡◌, ℕ, true, List}
-use Rattle.ftp_nvt.specs.Lines.{written_line}
-use Rattle.ftp_command.specs.Line.{IsLine}
+use Rattle.std.specs.Prelude.{◌≡◌, ℕ, true, List, [], Option}
 use Rattle.ftp_operation.specs.Answer.{Said}
 use Rattle.ftp_operation.specs.Operation.{can_be_sent}
 use Rattle.ftp_operation.specs.declared.op.Op.{Op}
@@ -11,17 +9,17 @@ use Rattle.ftp_client_machine.specs.Dialogue.{begins}
 use Rattle.ftp_client_machine.specs.View.{View as Near, Job}
 use Rattle.ftp_server_machine.specs.Machine.{Reading, IsReading}
 use Rattle.ftp_server_machine.specs.View.{View as Far}
-use Rattle.ftp_dialogues.specs.Stage.{calm, Asking, Leads}
+use Rattle.ftp_dialogues.specs.Stage.{calm, line_octets, IsAlone, behind, Leads}
 use Rattle.ftp_dialogues.specs.Dialogue.{Passes, Stands, Ends, IsSound, HasNoTransfer, resting}
 
--- the client begins with a line, and some turns lead to a goal, with something that holds all along
+-- the client begins with a line or with nothing, and some turns lead to a goal, with something that holds all along
 pub record LeadsBy (read : Reading) (Along Goal : Near → Far → Type 0) (op : Op (List ℕ)) (n : Near) (f : Far) : Type 0 where
   pub near : Near
-  pub text : List ℕ
+  pub line : Option (List ℕ)
   pub left : ℕ
-  pub begins_so : (job : Job) → begins op (record (calm (resting n)) { job = job }) ≡ record (calm near) { owed = written_line text }
-  pub line : IsLine text
-  pub leads : Leads read Along Goal left (Asking text) near f
+  pub begins_so : (job : Job) → begins op (record (calm (resting n)) { job = job }) ≡ record (calm near) { owed = line_octets line }
+  pub fine : IsAlone line []
+  pub leads : Leads read Along Goal left (behind line []) near f
 
 -- the goal is this answer and this state, with the map before or behind it all along
 abbrev pub LeadsTo : Reading → State → Op (List ℕ) → Said × State → Near → Far → Type 0
