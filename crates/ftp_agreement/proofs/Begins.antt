@@ -161,6 +161,10 @@ fits_line : (line : Option (List ℕ)) → IsAlone line [] → Fits (behind line
 fits_line None fine = (tt, (refl, refl))
 fits_line (Some text) fine = (fine.0, subst (λ l. Flows (written_line text) [] l []) (append-nil (written_line text)) (anew (written_line text) [] (line_is_some text)))
 
+pub answer_not : (op : Op (List ℕ)) (moment : ℕ) (now : State) → can_be_sent op ≡ false → answer now op moment ≡ (BadOperation, now)
+unfolding answer
+answer_not op moment now cannot = ap (λ (b : Bool). if b then chosen (first_refusal now op) now (done now op moment) else (BadOperation, now)) cannot
+
 module _ (read : Reading) (reads : IsReading read) (from : State) (begun : List Order) (op : Op (List ℕ)) (moment : ℕ) where
   -- ---- one that can be sent
 
@@ -274,20 +278,18 @@ module _ (read : Reading) (reads : IsReading read) (from : State) (begun : List 
       ap after_event begun_is ∙ after_reports u BadOperation still_u refl
       ∙ (λ i. record (left_by w) { near = record w.near { job = sym idle i; run = sym none i } })
 
-  answer_not : (now : State) → can_be_sent op ≡ false → answer now op moment ≡ (BadOperation, now)
-  unfolding answer
-  answer_not now cannot = ap (λ (b : Bool). if b then chosen (first_refusal now op) now (done now op moment) else (BadOperation, now)) cannot
-
-  begins_refused : (w : World) → can_be_sent op ≡ false → IsUnlinked w → IsLinked w → IsFree from begun w → Follows read from (begun ++ Single op moment ∷ []) (after_event (operation_begins op moment w))
-  begins_refused w cannot unlinked linked f =
+  -- such an order has its report at once
+  pub refused_so : (order : Order) (w : World) → can_be_sent op ≡ false → IsUnlinked w → IsLinked w → (f : IsFree from begun w)
+      → Told from (begun ++ order ∷ []) (w.marks ++ [] ∷ []) None (w.reports ++ BadOperation ∷ []) f.now
+      → Follows read from (begun ++ order ∷ []) (after_event (operation_begins op moment w))
+  refused_so order w cannot unlinked linked f told =
       let s = f.stands in
       let new : World = left_by w in
       let lends : World → World = λ u. record u { far = at_moment moment u.far; marks = new.marks; reports = new.reports } in
-      let told = told_whole from begun w.marks w.reports f.now op moment f.told in
-      let free : IsFree from (begun ++ Single op moment ∷ []) new = record {
+      let free : IsFree from (begun ++ order ∷ []) new = record {
         now = f.now;
         sound = f.sound;
-        told = subst (λ done. Told from (begun ++ Single op moment ∷ []) new.marks None (w.reports ++ done.0 ∷ []) done.1) (answer_not f.now cannot) told;
+        told = told;
         stands = record {
           base = record s.base { far = at_moment moment s.base.far; marks = new.marks; reports = new.reports };
           way = s.way;
@@ -297,11 +299,17 @@ module _ (read : Reading) (reads : IsReading read) (from : State) (begun : List 
           here = free_clocked f.now s.way s.base.near s.base.far s.here;
         };
       } in
-      subst (Follows read from (begun ++ Single op moment ∷ [])) (sym (refused_is w cannot f)) (record {
+      subst (Follows read from (begun ++ order ∷ [])) (sym (refused_is w cannot f)) (record {
         unlinked = record { link = unlinked.link; to_server = unlinked.to_server; to_client = unlinked.to_client };
         untold = free_untold from begun w f;
         phase = inl (record { control = linked.control; cutoff = linked.cutoff }, inl free);
       })
+
+  begins_refused : (w : World) → can_be_sent op ≡ false → IsUnlinked w → IsLinked w → IsFree from begun w → Follows read from (begun ++ Single op moment ∷ []) (after_event (operation_begins op moment w))
+  begins_refused w cannot unlinked linked f =
+      let told = told_whole from begun w.marks w.reports f.now op moment f.told in
+      refused_so (Single op moment) w cannot unlinked linked f
+      (subst (λ done. Told from (begun ++ Single op moment ∷ []) (w.marks ++ [] ∷ []) None (w.reports ++ done.0 ∷ []) done.1) (answer_not op moment f.now cannot) told)
 
   pub begins_free : (w : World) → IsUnlinked w → IsLinked w → IsFree from begun w → (can_be_sent op ≡ true → HasNoTransfer op) → Follows read from (begun ++ Single op moment ∷ []) (after_event (operation_begins op moment w))
   begins_free w unlinked linked f alone = by_sent (can_be_sent op) refl

@@ -29,3 +29,4 @@ pub mod FetchParting
 pub mod FetchBegins
 pub mod Running
 pub mod FetchQuiet
+pub mod Unsendable

@@ -276,15 +276,16 @@ module _ (read : Reading) (from : State) (begun : List Order) (op : Op (List ℕ
       let near : near.starts op w.near ≡ with_job (Answered Lost) w.near = starts_lost op w.near l.near.standing in
       λ i. record w { far = far i; near = near i; marks = w.marks ++ [] ∷ [] }
 
-  behind_lost : (w : World) → IsLost from begun w → IsLost from (begun ++ Single op moment ∷ []) (record (begun_lost w) { near = with_job Idle w.near; reports = w.reports ++ Lost ∷ [] })
-  behind_lost w l =
-      let long : length (begun ++ Single op moment ∷ []) ≡ suc (length begun) = length-more begun (Single op moment) in
+  behind_lost : (order : Order) (w : World) → (l : IsLost from begun w) → Told from (begun ++ order ∷ []) (w.marks ++ [] ∷ []) (Some l.cutoff) (w.reports ++ Lost ∷ []) l.now
+      → IsLost from (begun ++ order ∷ []) (record (begun_lost w) { near = with_job Idle w.near; reports = w.reports ++ Lost ∷ [] })
+  behind_lost order w l told =
+      let long : length (begun ++ order ∷ []) ≡ suc (length begun) = length-more begun order in
       record {
         now = l.now;
         cutoff = l.cutoff;
         cut_is = l.cut_is;
         early = omega (arith, l.early, long);
-        told = told_lost from begun w.marks l.cutoff w.reports l.now Nothing op moment l.told tt (inr l.early);
+        told = told;
         near = record { standing = l.near.standing; job = refl; connection = l.near.connection; closing = l.near.closing; owed = l.near.owed };
         far = record { life = l.far.life; closing = l.far.closing; connection = l.far.connection; waiting = l.far.waiting; owed = l.far.owed };
         table = l.table;
@@ -293,17 +294,23 @@ module _ (read : Reading) (from : State) (begun : List Order) (op : Op (List ℕ
         to_client = l.to_client;
       }
 
-  pub begins_lost : (w : World) → IsUnlinked w → IsLost from begun w → Follows read from (begun ++ Single op moment ∷ []) (after_event (operation_begins op moment w))
-  begins_lost w unlinked l =
+  -- such an order has its report at once
+  pub lost_so : (order : Order) (w : World) → IsUnlinked w → (l : IsLost from begun w)
+      → Told from (begun ++ order ∷ []) (w.marks ++ [] ∷ []) (Some l.cutoff) (w.reports ++ Lost ∷ []) l.now
+      → Follows read from (begun ++ order ∷ []) (after_event (operation_begins op moment w))
+  lost_so order w unlinked l told =
       let u : World = begun_lost w in
       let served_u : served u ≡ u = busy_served u l in
       let new : World = record u { near = with_job Idle w.near; reports = w.reports ++ Lost ∷ [] } in
       let is : after_event (operation_begins op moment w) ≡ new = ap after_event (begun_lost_is w l) ∙ ap collected served_u in
-      subst (Follows read from (begun ++ Single op moment ∷ [])) (sym is) (record {
+      subst (Follows read from (begun ++ order ∷ [])) (sym is) (record {
         unlinked = record { link = unlinked.link; to_server = unlinked.to_server; to_client = unlinked.to_client };
         untold = refl;
-        phase = inr (behind_lost w l);
+        phase = inr (behind_lost order w l told);
       })
     where
       busy_served : (u : World) → IsLost from begun w → served (begun_lost w) ≡ begun_lost w
       busy_served u l = lost_is_still (begun_lost w) l.near.standing l.near.closing l.far.life l.far.closing l.control
+
+  pub begins_lost : (w : World) → IsUnlinked w → IsLost from begun w → Follows read from (begun ++ Single op moment ∷ []) (after_event (operation_begins op moment w))
+  begins_lost w unlinked l = lost_so (Single op moment) w unlinked l (told_lost from begun w.marks l.cutoff w.reports l.now Nothing op moment l.told tt (inr l.early))

@@ -8,14 +8,15 @@ use Rattle.ftp_direct.specs.Direct.{State}
 use Rattle.ftp_client_machine.specs.Calls as near
 use Rattle.ftp_server_machine.specs.Calls as far
 use Rattle.ftp_server_machine.specs.Machine.{Reading, IsReading}
-use Rattle.ftp_world.specs.Agreement.{Order, Single, Leads, begun_by}
+use Rattle.ftp_client_machine.specs.Tries.{OverBreaks}
+use Rattle.ftp_world.specs.Agreement.{Order, Single, Tries, Leads, begun_by}
 use Rattle.ftp_ends.specs.Octets.{has_octets}
-use Rattle.ftp_world.specs.Events.{Queue, ControlToServer, ControlToClient, DataToServer, DataToClient, Event, Deliver, Open, Refuse, End, Break, EndControl, Next, Upload, Happens, can_happen, can_begin, operation_begins, is_asked_for, is_gone, is_closed_by_far, is_left_by_near, is_left_by_far}
+use Rattle.ftp_world.specs.Events.{Queue, ControlToServer, ControlToClient, DataToServer, DataToClient, Event, Deliver, Open, Refuse, End, Break, EndControl, Next, Upload, Happens, can_happen, can_begin, operation_begins, upload_begins, is_asked_for, is_gone, is_closed_by_far, is_left_by_near, is_left_by_far}
 use Rattle.ftp_world.specs.Serving.{after_event}
 use Rattle.ftp_world.specs.World.{World}
 use Rattle.ftp_dialogues.specs.Dialogue.{HasNoTransfer}
 use Rattle.ftp_dialogues.specs.Fetches.{IsFetch}
-use Rattle.ftp_agreement.specs.Follows.{IsFree, IsLinked, Phase, Follows}
+use Rattle.ftp_agreement.specs.Follows.{IsFree, IsUnder, IsLinked, Phase, Follows}
 use Rattle.ftp_agreement.specs.Laws.{IsPlain, ArePlain}
 use Rattle.ftp_agreement.specs.Runs.{IsFetchingOn, IsTrailing, Runs}
 use Rattle.ftp_agreement.proofs.Asks.{IsAskOf, ask_of}
@@ -28,6 +29,7 @@ use Rattle.ftp_agreement.proofs.FetchRuns.{fetching_on_taken, fetch_delivers_ser
 use Rattle.ftp_agreement.proofs.FetchWants.{flows_or_none, gives_none, lasting_busy}
 use Rattle.ftp_agreement.proofs.FetchTold.{closed_is, trailing_ends, trailing_breaks}
 use Rattle.ftp_agreement.proofs.Parting.{begins_lost}
+use Rattle.ftp_agreement.proofs.Unsendable.{upload_free, upload_lost}
 
 -- what is lent is of no matter
 trailing_taken : (from : State) (begun : List Order) (octets : List ℕ) (w : World) → IsTrailing from begun w → IsTrailing from begun (record w { taken = octets })
@@ -188,6 +190,18 @@ module _ (read : Reading) (reads : IsReading read) (from : State) where
       by_sent true can = by_plain can (plain can)
       by_sent false cannot = inl (begins_free read reads from begun op moment u h.unlinked l f (λ sent. absurd (let e : true ≡ false = sym sent ∙ cannot in cc)))
 
+  -- nothing begins while an operation is under way
+  under_way : (begun : List Order) (u : World) → IsUnder read from begun u → IsTrue (can_begin u) → ⊥
+  under_way begun u under can = never (can_begin u) (ap (λ (b : Bool). not b && is_gone u.link && not (is_asked_for u)) (under_busy read from begun u under)) can
+
+  fetch_under_way : (begun : List Order) (w : World) → IsFetchingOn read from begun w → IsTrue (can_begin w) → ⊥
+  fetch_under_way begun w on can =
+      let f = on.fetching in
+      never (can_begin w) (ap (λ (b : Bool). not b && is_gone w.link && not (is_asked_for w)) (lasting_busy read f.now f.ask f.is_ask.plan f.own w f.stands on.lasts)) can
+
+  trails_on : (begun : List Order) (w : World) → IsTrailing from begun w → IsTrue (can_begin w) → ⊥
+  trails_on begun w t can = never (can_begin w) (ap can_begin (closed_is read reads from begun w t)) can
+
   next_runs : (begun : List Order) (op : Op (List ℕ)) (moment : ℕ) (w new : World) → IsPlain (Next op moment) → Holds begun w → Happens read (Next op moment) w true new
       → Holds (begun ++ Single op moment ∷ []) new
   next_runs begun op moment w new plain (inl h) e =
@@ -197,13 +211,26 @@ module _ (read : Reading) (reads : IsReading read) (from : State) where
     where
       by_phase : (u : World) → Follows read from begun u → IsTrue (can_begin u) → Phase read from begun u → Holds (begun ++ Single op moment ∷ []) (after_event (operation_begins op moment u))
       by_phase u h can (inl (l, inl f)) = free_begins begun op moment u plain h l f
-      by_phase u h can (inl (l, inr under)) =
-          absurd (never (can_begin u) (ap (λ (b : Bool). not b && is_gone u.link && not (is_asked_for u)) (under_busy read from begun u under)) can)
+      by_phase u h can (inl (l, inr under)) = absurd (under_way begun u under can)
       by_phase u h can (inr l) = inl (begins_lost read from begun op moment u h.unlinked l)
-  next_runs begun op moment w new plain (inr (inl on)) e =
-      let f = on.fetching in
-      absurd (never (can_begin w) (ap (λ (b : Bool). not b && is_gone w.link && not (is_asked_for w)) (lasting_busy read f.now f.ask f.is_ask.plan f.own w f.stands on.lasts)) e.0)
-  next_runs begun op moment w new plain (inr (inr t)) e = absurd (never (can_begin w) (ap can_begin (closed_is read reads from begun w t)) e.0)
+  next_runs begun op moment w new plain (inr (inl on)) e = absurd (fetch_under_way begun w on e.0)
+  next_runs begun op moment w new plain (inr (inr t)) e = absurd (trails_on begun w t e.0)
+
+  -- an upload over breaks that can't be sent
+  upload_runs : (begun : List Order) (upload : OverBreaks) (moment : ℕ) (w new : World) → IsPlain (Upload upload moment) → Holds begun w → Happens read (Upload upload moment) w true new
+      → Holds (begun ++ Tries upload moment ∷ []) new
+  upload_runs begun upload moment w new plain (inl h) e =
+      let u : World = record w { taken = [] } in
+      let hu = lent_again read reads from begun w h in
+      subst (Holds (begun ++ Tries upload moment ∷ [])) (sym e.1) (inl (by_phase u hu e.0 hu.phase))
+    where
+      by_phase : (u : World) → Follows read from begun u → IsTrue (can_begin u) → Phase read from begun u
+          → Follows read from (begun ++ Tries upload moment ∷ []) (after_event (upload_begins upload moment u))
+      by_phase u h can (inl (l, inl f)) = upload_free read reads from begun upload moment plain u h.unlinked l f
+      by_phase u h can (inl (l, inr under)) = absurd (under_way begun u under can)
+      by_phase u h can (inr l) = upload_lost read reads from begun upload moment plain u h.unlinked l
+  upload_runs begun upload moment w new plain (inr (inl on)) e = absurd (fetch_under_way begun w on e.0)
+  upload_runs begun upload moment w new plain (inr (inr t)) e = absurd (trails_on begun w t e.0)
 
   same : (begun : List Order) (w : World) → Holds begun w → Holds (begun ++ []) w
   same begun w h = subst (λ l. Holds l w) (sym (append-nil begun)) h
@@ -216,7 +243,7 @@ module _ (read : Reading) (reads : IsReading read) (from : State) where
   runs_happen begun Break w new plain h e = same begun new (other_happens begun Break w new tt h e)
   runs_happen begun EndControl w new plain h e = same begun new (other_happens begun EndControl w new tt h e)
   runs_happen begun (Next op moment) w new plain h e = next_runs begun op moment w new plain h e
-  runs_happen begun (Upload upload moment) w new plain h e = absurd plain
+  runs_happen begun (Upload upload moment) w new plain h e = upload_runs begun upload moment w new plain h e
 
   none_begun : (event : Event) → begun_by event false ≡ []
   none_begun (Deliver queue count) = refl

@@ -1,15 +1,15 @@
 -- The claims, for lists whose operations have no transfer or are downloads or listings.
-use Rattle.std.proofs.Common.{inl, Bool, true, false, List, [], ◌∷◌, ◌++◌, refl, sym, subst}
+use Rattle.std.proofs.Common.{inl, List, [], refl, subst}
 use Rattle.ftp_server_machine.specs.Machine.{Reading, IsReading}
-use Rattle.ftp_world.specs.Agreement.{Order, Single, Tries, AreSingle, Agrees, WorldAgrees, Leads, begun_by}
+use Rattle.ftp_world.specs.Agreement.{Order, Agrees, WorldAgrees, Leads}
 use Rattle.ftp_world.specs.Claims.{Beginning, IsFair, state_of, world_of}
-use Rattle.ftp_world.specs.Events.{Event, Deliver, Open, Refuse, End, Break, EndControl, Next, Upload}
+use Rattle.ftp_world.specs.Events.{Event}
 use Rattle.ftp_world.specs.World.{World}
 use Rattle.ftp_world.proofs.AgreementLemmas.{unmarked_is_direct}
 use Rattle.ftp_world.proofs.HonestLemmas.{leads_clean}
 use Rattle.ftp_world.proofs.StillLemmas.{quiet_is_still}
 use Rattle.ftp_agreement.specs.Runs.{Runs}
-use Rattle.ftp_agreement.specs.Laws.{IsPlain, ArePlain, PlainAgrees, PlainIsAnswered, PlainHeadline, PlainStillIsQuiet}
+use Rattle.ftp_agreement.specs.Laws.{ArePlain, PlainAgrees, PlainIsAnswered, PlainHeadline, PlainStillIsQuiet}
 use Rattle.ftp_agreement.proofs.Agreeing.{runs_agree}
 use Rattle.ftp_agreement.proofs.Beginning.{begins_follow}
 use Rattle.ftp_agreement.proofs.FetchQuiet.{runs_answered, runs_quiet}
@@ -34,33 +34,11 @@ plain-still-is-quiet read reads b fair events begun w timed leads plain still =
 
 -- ---- the headline
 
-both_single : (first second : List Order) → AreSingle first → AreSingle second → AreSingle (first ++ second)
-both_single [] second one other = other
-both_single (Single op moment ∷ first) second one other = both_single first second one other
-both_single (Tries upload moment ∷ first) second one other = absurd one
-
-event_single : (event : Event) (possible : Bool) → IsPlain event → AreSingle (begun_by event possible)
-event_single (Next op moment) true plain = tt
-event_single (Next op moment) false plain = tt
-event_single (Upload upload moment) possible plain = absurd plain
-event_single (Deliver queue count) possible plain = tt
-event_single Open possible plain = tt
-event_single Refuse possible plain = tt
-event_single (End queue) possible plain = tt
-event_single Break possible plain = tt
-event_single EndControl possible plain = tt
-
-plain_single : (read : Reading) (w : World) (events : List Event) (begun : List Order) (new : World) → ArePlain events → Leads read w events begun new → AreSingle begun
-plain_single read w [] begun new plain leads = subst AreSingle (sym leads.0) tt
-plain_single read w (event ∷ events) begun new plain leads =
-    subst AreSingle (sym leads.4)
-    (both_single (begun_by event leads.0) leads.2 (event_single event leads.0 plain.0) (plain_single read leads.1 events leads.2 new plain.1 leads.5))
-
 pub plain-headline : PlainHeadline
-plain-headline read reads b fair events begun w timed leads plain honest quiet =
+plain-headline read reads b fair events begun w timed leads plain honest single quiet =
     let clean = leads_clean read (world_of b) events begun w honest leads (record { marks = tt; cutoff = refl }) in
     let agree : WorldAgrees (state_of b) begun w = plain-agrees read reads b fair events begun w timed leads plain in
     let done = plain-is-answered read reads b fair events begun w timed leads plain quiet in
-    let direct = unmarked_is_direct (state_of b) begun w.marks w.reports w.far.session.table (plain_single read (world_of b) events begun w plain leads) clean.marks done.reported
+    let direct = unmarked_is_direct (state_of b) begun w.marks w.reports w.far.session.table single clean.marks done.reported
     (subst (λ cutoff. Agrees (state_of b) begun w.marks cutoff w.reports w.far.session.table) clean.cutoff agree) in
     record { reports = direct.0; table = direct.1 }

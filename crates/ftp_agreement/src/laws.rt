@@ -13,7 +13,8 @@ pub fn plain_lists_are_answered()
     ensures { PlainIsAnswered }
 {}
 
-/// On honest connections, once nothing is in flight, reports and map are those of the operations run directly.
+/// On honest connections, where no upload over breaks was begun and once nothing is in flight, reports and map are those of the operations run
+/// directly.
 pub fn plain_lists_are_the_direct_run()
     ensures { PlainHeadline }
 {}
