@@ -1,9 +1,5 @@
--- Lemmas, each file about one part of an event, and then about runs of events.
-pub mod Filling
-pub mod Taking
-pub mod Beginning
-pub mod Marking
-pub mod Whole
-pub mod Resting
+-- Lemmas: runs of events, worlds that are reached, what is known of them, and how settling ends.
 pub mod Running
 pub mod Reaching
+pub mod Agreeing
+pub mod Settling

@@ -1,16 +1,21 @@
 -- A world that is reached, and the one after an event.
-use Rattle.std.proofs.Common.{◌≡◌, ◌∙◌, Bool, true, List, [], ◌∷◌, ◌++◌, refl, sym, subst, Ok, Err}
+use Rattle.std.proofs.Common.{◌≡◌, ◌∙◌, Bool, true, List, [], ◌∷◌, ◌++◌, false, refl, sym, subst, Ok, Err}
 use Rattle.std.proofs.Math.Logic.{∥∥₁_prop, ∥∥₁_elim}
 use Rattle.std.specs.Prelude.{IfOk, OnErr}
 use Rattle.std.specs.declared.result.Result.{Result}
-use Rattle.ftp_world.specs.Claims.{AgreesAlways, Beginning, IsFair, IsTimed, AreTimed, world_of}
+use Rattle.ftp_world.specs.Claims.{Beginning, IsFair, IsTimed, AreTimed, world_of}
 use Rattle.ftp_world.specs.Events.{Happens}
 use Rattle.ftp_world.specs.Events as events
 use Rattle.ftp_world.specs.World.{World}
-use Rattle.ftp_pair.specs.Happening.{AgreesHere, Seen, Reached, IsReached, event_of}
-use Rattle.ftp_pair.specs.Shown.{Steps}
-use Rattle.ftp_pair.specs.declared.event.Event.{Event}
-use Rattle.ftp_pair.specs.declared.event.Event.TheVariants as Given
+use Rattle.ftp_pair_parts.specs.Happening.{IsSmall, Stirs, event_of}
+use Rattle.ftp_pair_parts.specs.Shown.{Steps}
+use Rattle.ftp_pair_parts.specs.declared.event.Event.{Event}
+use Rattle.ftp_pair_parts.specs.declared.event.Event.TheVariants as Given
+use Rattle.ftp_pair_settling.proofs.Steady.{stays_steady}
+use Rattle.ftp_pair_settling.specs.Steady.{IsSteady}
+use Rattle.ftp_pair.specs.Session.{AgreesHere, Seen, Reached, IsReached}
+use Rattle.ftp_server_machine.proofs.LinesDecided.{reading_exists}
+use Rattle.ftp_agreement.proofs.Theorems.{plain-agrees}
 use Rattle.ftp_pair.proofs.Running.{leads_last}
 
 -- every event has a moment in range
@@ -57,11 +62,33 @@ reached_on event (Err e) old new in_time does same was =
 pub reached_calm : (s : Seen) → ∥ IsReached s ∥₁ → s.calm ≡ true → ∥ Reached s.world ∥₁
 reached_calm s was calm = ∥∥₁_elim was ∥∥₁_prop (λ reached. ∣ reached calm ∣₁)
 
--- by the law that there is always agreement, there is in every world that is reached
-pub agrees_here : (w : World) → AgreesAlways → ∥ Reached w ∥₁ → ∥ AgreesHere w ∥₁
-agrees_here w law was = ∥∥₁_elim was ∥∥₁_prop
+-- a small event is timed
+small_timed : (event : events.Event) → IsSmall event → IsTimed event
+small_timed (events.Deliver queue count) small = tt
+small_timed events.Open small = tt
+small_timed (events.End queue) small = tt
+small_timed other small = absurd small
+
+-- after a turn
+pub reached_turn : (result : Bool) (old new : Seen) → (result ≡ true → Stirs old.calm new.calm old.world new.world) → (result ≡ false → new ≡ old) → ∥ IsReached old ∥₁ → ∥ IsReached new ∥₁
+reached_turn true old new does same was =
+    let stirs = does refl in ∥∥₁_elim was ∥∥₁_prop (λ reached. ∣ reached_more stirs.event true old new (small_timed stirs.event stirs.small) stirs.happened reached ∣₁)
+reached_turn false old new does same was = subst (λ s. ∥ IsReached s ∥₁) (sym (same refl)) was
+
+-- a world that is reached is steady
+pub reached_steady : (w : World) → ∥ Reached w ∥₁ → ∥ IsSteady w ∥₁
+reached_steady w was = ∥∥₁_elim was ∥∥₁_prop
+    (λ reached.
+    let so = reached.leads reading_exists.0 reading_exists.1 in
+    ∣ stays_steady reading_exists.0 reading_exists.1 reached.from reached.fair reached.given so.0 w reached.timed so.1 ∣₁)
+
+-- in every world that is reached there is agreement, by the law for the class that is proved
+pub agrees_here : (w : World) → ∥ Reached w ∥₁ → ∥ AgreesHere w ∥₁
+agrees_here w was = ∥∥₁_elim was ∥∥₁_prop
     (λ reached. ∣ record {
       from = reached.from;
-      fair = reached.fair;
-      agrees = λ read reads. let so = reached.leads read reads in (so.0, law read reads reached.from reached.fair reached.given so.0 w reached.timed so.1);
+      given = reached.given;
+      agrees = λ read reads.
+          let so = reached.leads read reads in
+          (so.0, record { fair = reached.fair; timed = reached.timed; leads = so.1 }, λ plain. plain-agrees read reads reached.from reached.fair reached.given so.0 w reached.timed so.1 plain);
     } ∣₁)

@@ -1,6 +1,6 @@
 -- One event after the other.
 use Rattle.std.proofs.Common.{◌≡◌, ◌∙◌, Bool, List, [], ◌∷◌, ◌++◌, map, take, length, refl, sym, ap, subst, append-nil, arith, Ok, Err}
-use Rattle.std.specs.Prelude.{IfOk, OnErr}
+use Rattle.std.specs.Prelude.{OnErr}
 use Rattle.std.proofs.lemmas.List.{map-append}
 use Rattle.std.specs.declared.result.Result.{Result}
 use Rattle.std.specs.Iterator.{Yields}
@@ -10,8 +10,8 @@ use Rattle.ftp_server_machine.specs.Machine.{Reading}
 use Rattle.ftp_world.specs.Agreement.{Leads, Order, begun_by}
 use Rattle.ftp_world.specs.Events.{Event, Happens}
 use Rattle.ftp_world.specs.World.{World}
-use Rattle.ftp_pair.specs.Shown.{Steps}
-use Rattle.ftp_pair.specs.Happening.{Seen, LeadsCalmly, LeadsPartly}
+use Rattle.ftp_pair_parts.specs.Shown.{Steps}
+use Rattle.ftp_pair.specs.Session.{Seen, LeadsCalmly, LeadsPartly}
 
 -- one event more
 pub leads_last : (read : Reading) (given : List Event) (event : Event) (begun : List Order) (possible : Bool) (old mid new : World) → Leads read old given begun mid → Happens read event mid possible new
@@ -54,11 +54,6 @@ take_front f (one ∷ front) rest = ap (λ l. f one ∷ l) (take_front f front r
 pub partly : {S : Type 0} (f : S → Event) (all front rest : List S) (old new : Seen) → all ≡ front ++ rest → LeadsCalmly (map f front) old new → LeadsPartly (map f all) old new
 partly f all front rest old new is leads =
     (length front, subst (λ l. LeadsCalmly l old new) (sym (ap (λ l. take (length front) (map f l)) is ∙ take_front f front rest)) leads)
-
--- an event by another name
-pub stepped : {E : Type 0} {event same : Event} (result : Result Bool E) (was calm : Bool) (old new : World) → event ≡ same
-    → IfOk result (λ possible. Steps was calm (λ read. Happens read event old possible new)) → IfOk result (λ possible. Steps was calm (λ read. Happens read same old possible new))
-stepped result was calm old new is did = subst (λ e. IfOk result (λ possible. Steps was calm (λ read. Happens read e old possible new))) is did
 
 -- a list without length has no items
 no_items : {S : Type 0} (l : List S) → length l ≡ 0 → l ≡ []

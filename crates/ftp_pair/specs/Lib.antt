@@ -1,3 +1,2 @@
--- A world of two ends as code: the world that it is, the events that happen in it, and what was led to.
-pub mod Shown
-pub mod Happening
+-- A world of two ends as code: what it shows, and what a session in it has come to.
+pub mod Session

@@ -1,33 +1,35 @@
 // A world of two ends.
-ghost use Rattle.std.specs.Prelude.{◌≡◌, true, length, map, nat_eq, option_map, IfOk, OnErr, OnOk};
+ghost use Rattle.std.specs.Prelude.{◌≡◌, [], ◌∷◌, true, length, map, nat_eq, option_map, IfErr, IfOk, OnErr, OnOk};
 ghost use Rattle.std.specs.List.{slice_get};
 ghost use Rattle.ftp_operation.specs.Answer.{said_of};
-ghost use Rattle.ftp_world.specs.Claims.{AgreesAlways, Beginning, IsFair, world_of};
+ghost use Rattle.ftp_world.specs.Claims.{Beginning, IsFair, world_of};
 ghost use Rattle.ftp_world.specs.Events.{Happens, IsQuiet};
 ghost use Rattle.ftp_world.specs.World.{world};
-ghost use Rattle.ftp_pair.specs.Happening.{AgreesHere, IsReached, LeadsCalmly, LeadsPartly, Reached, event_of, seen};
-ghost use Rattle.ftp_pair.specs.Shown.{Steps, mark_of};
+ghost use Rattle.ftp_pair_parts.specs.Happening.{event_of};
+ghost use Rattle.ftp_pair_parts.specs.Shown.{HasRoom, Steps, mark_of};
+ghost use Rattle.ftp_pair.specs.Session.{AgreesAfter, AgreesHere, IsReached, LeadsCalmly, LeadsPartly, Reached, seen};
 
-use crate::event::Event;
-use crate::parts::{Control, Link, Mark, Parts};
 use ftp_client_machine::Near;
 use ftp_operation::Answer;
+use ftp_pair_lanes::Mark;
+use ftp_pair_parts::{Event, Parts};
 use ftp_server_machine::Far;
 use ftp_tree::Tree;
 use std::alloc::{AllocError, Allocator};
-use std::marker::{Model, PhantomData};
+use std::marker::Model;
 
 /// A client and a server, and what lies between them (RFC 959, section 2.3).
 #[derive(Drop)]
 pub struct World<A: Allocator + Copy, T: Tree<A>, N: Near<A>, F: Far<A, T>> {
-    parts: Parts<A, T, N, F>,
+    pub(crate) parts: Parts<A, T, N, F>,
     alloc: A,
     ghost reached: { ∥ IsReached (seen N.client F.server parts) ∥₁ },
 }
 
 impl<A: Allocator + Copy, T: Tree<A>, N: Near<A>, F: Far<A, T>> Model for World<A, T, N, F> {
     ghost use Rattle.std.specs.Prelude.{◌<◌};
-    ghost use Rattle.ftp_pair.specs.Happening.{Seen, seen};
+    ghost use Rattle.ftp_pair_parts.specs.Shown.{HasRoom};
+    ghost use Rattle.ftp_pair.specs.Session.{Seen, seen};
     ghost use Rattle.std.specs.Coded.{codes};
     ghost use Rattle.ftp_tree.specs.Store.{table_code};
 
@@ -37,37 +39,21 @@ impl<A: Allocator + Copy, T: Tree<A>, N: Near<A>, F: Far<A, T>> Model for World<
 
     ghost view = { λ w. seen N.client F.server w.parts };
 
-    ghost invariant = { λ w. w.parts.listens < 16384 };
+    ghost invariant = { λ w. (w.parts.listens < 16384) × HasRoom N.client w.parts };
 }
 
 impl<A: Allocator + Copy, T: Tree<A>, N: Near<A>, F: Far<A, T>> World<A, T, N, F> {
-    /// Two ends as they begin, each on the host of the other's peer. Takes no memory.
-    #[tactic(auto, using(crate::proofs::Reaching::reached_first))]
-    pub fn new(alloc: A, near: N, far: F) -> Self
+    /// Two ends as they begin, each on the host of the other's peer. There is room for 4,096 octets in each queue, and for as many that are lent;
+    /// refused that, it hands both ends back.
+    pub fn new(alloc: A, near: N, far: F) -> Result<Self, (N, F)>
         requires fair { (from : Beginning) × IsFair from × (world (N.client near).view (F.server far).view ≡ world_of from) }
-        ensures world { result.world ≡ world (N.client near).view (F.server far).view }
-        ensures calm { result.calm ≡ true }
+        ensures world { IfOk result (λ w. w.world ≡ world (N.client near).view (F.server far).view) }
+        ensures calm { IfOk result (λ w. w.calm ≡ true) }
+        ensures err { IfErr result (λ ends. ends ≡ (near, far)) }
     {
-        World {
-            parts: Parts {
-                near,
-                far,
-                control_to_server: Vec::new(alloc),
-                control_to_client: Vec::new(alloc),
-                data_to_server: Vec::new(alloc),
-                data_to_client: Vec::new(alloc),
-                control: Control::Stands,
-                link: Link::Gone,
-                came: 0,
-                listens: 0,
-                marks: Vec::new(alloc),
-                reports: Vec::new(alloc),
-                cutoff: None,
-                taken: Vec::new(alloc),
-                calm: true,
-                tree: PhantomData,
-            },
-            alloc,
+        match Parts::new(alloc, near, far) {
+            Ok(parts) => Ok(World { parts, alloc }),
+            Err(ends) => Err(ends),
         }
     }
 
@@ -76,7 +62,7 @@ impl<A: Allocator + Copy, T: Tree<A>, N: Near<A>, F: Far<A, T>> World<A, T, N, F
     pub fn is_calm(&self) -> bool
         ensures calm { result ≡ self.now.calm }
         ensures reached { result ≡ true → ∥ Reached self.now.world ∥₁ }
-        ensures agrees { AgreesAlways → result ≡ true → ∥ AgreesHere self.now.world ∥₁ }
+        ensures agrees { result ≡ true → ∥ AgreesHere self.now.world ∥₁ }
     {
         self.parts.calm
     }
@@ -85,6 +71,7 @@ impl<A: Allocator + Copy, T: Tree<A>, N: Near<A>, F: Far<A, T>> World<A, T, N, F
     /// it has changed nothing.
     pub fn step(&mut self, event: Event<A>) -> Result<bool, AllocError>
         ensures does { IfOk result (λ possible. Steps self.old.calm self.new.calm (λ read. Happens read (event_of event) self.old.world possible self.new.world)) }
+        ensures agrees { OnOk result (AgreesAfter (event_of event ∷ []) self.old self.new) }
         ensures err { OnErr result (self.new ≡ self.old) }
     {
         self.parts.step(self.alloc, event)
@@ -93,6 +80,7 @@ impl<A: Allocator + Copy, T: Tree<A>, N: Near<A>, F: Far<A, T>> World<A, T, N, F
     /// The events happen in order, each where it is possible. Refused the room of one, those before it have happened, and no other.
     pub fn run(&mut self, events: Vec<Event<A>>) -> Result<(), AllocError>
         ensures leads { OnOk result (LeadsCalmly (map event_of events.items) self.old self.new) }
+        ensures agrees { OnOk result (AgreesAfter (map event_of events.items) self.old self.new) }
         ensures partly { OnErr result (LeadsPartly (map event_of events.items) self.old self.new) }
     {
         for event in events {
@@ -103,7 +91,8 @@ impl<A: Allocator + Copy, T: Tree<A>, N: Near<A>, F: Far<A, T>> World<A, T, N, F
 
     /// Nothing is in flight: no octet moves, no link opens, and nobody is to be told of an end.
     pub fn is_quiet(&self) -> bool
-        ensures { result ≡ true → IsQuiet self.now.world }
+        ensures quiet { result ≡ true → IsQuiet self.now.world }
+        ensures not { IsQuiet self.now.world → result ≡ true }
     {
         self.parts.is_quiet()
     }
@@ -134,7 +123,7 @@ impl<A: Allocator + Copy, T: Tree<A>, N: Near<A>, F: Far<A, T>> World<A, T, N, F
     pub fn taken(&self) -> &[u8]
         ensures { result.now ≡ self.now.world.taken }
     {
-        &self.parts.taken
+        self.parts.taken.as_slice()
     }
 
     /// The server's tree.

@@ -1,0 +1,131 @@
+-- What is known of a session, by the laws for the class that is proved.
+use Rattle.std.proofs.Common.{◌≡◌, ◌∙◌, Bool, true, List, [], ◌∷◌, ◌++◌, map, refl, sym, ap, subst, append-nil, append_assoc, Ok, Err}
+use Rattle.std.specs.Prelude.{IfOk, OnOk}
+use Rattle.std.specs.declared.result.Result.{Result}
+use Rattle.ftp_agreement.specs.Laws.{ArePlain, IsPlain}
+use Rattle.ftp_agreement.proofs.Theorems.{plain-agrees, plain-headline, plain-is-answered, plain-still-is-quiet}
+use Rattle.ftp_server_machine.specs.Machine.{Reading, IsReading}
+use Rattle.ftp_world.specs.Agreement.{AreHonest, IsHonest, Leads, Order, WorldAgrees, begun_by}
+use Rattle.ftp_world.specs.Claims.{AreTimed, Beginning, IsTimed, world_of, state_of}
+use Rattle.ftp_world.specs.Events as events
+use Rattle.ftp_world.specs.Events.{Event, Happens}
+use Rattle.ftp_world.specs.Still.{IsStill}
+use Rattle.ftp_world.specs.World.{World}
+use Rattle.ftp_pair_parts.specs.Happening.{IsSmall, event_of}
+use Rattle.ftp_pair_parts.specs.Shown.{Steps}
+use Rattle.ftp_pair_parts.specs.declared.event.Event.{Event as Given}
+use Rattle.ftp_pair.specs.Session.{AgreesAfter, AreSmall, IsSettled, LeadsCalmly, LeadsSmall, Seen, Session, Settles}
+use Rattle.ftp_pair.proofs.Reaching.{timed}
+
+-- ---- events behind events
+
+-- they lead on
+pub leads_on : (read : Reading) (front given : List Event) (begun more : List Order) (old mid new : World) → Leads read old front begun mid → Leads read mid given more new
+    → Leads read old (front ++ given) (begun ++ more) new
+leads_on read [] given begun more old mid new leads rest =
+    subst (λ b. Leads read old given (b ++ more) new) (sym leads.0) (subst (λ w. Leads read w given more new) leads.1 rest)
+leads_on read (event ∷ front) given begun more old mid new leads rest = (
+  leads.0,
+  leads.1,
+  leads.2 ++ more,
+  leads.3,
+  ap (λ b. b ++ more) leads.4 ∙ append_assoc (begun_by event leads.0) leads.2 more,
+  leads_on read front given leads.2 more leads.1 mid new leads.5 rest,
+)
+
+-- each of them is timed
+timed_on : (front given : List Event) → AreTimed front → AreTimed given → AreTimed (front ++ given)
+timed_on [] given one other = other
+timed_on (event ∷ front) given one other = (one.0, timed_on front given one.1 other)
+
+-- each is of the class
+plain_on : (front given : List Event) → ArePlain front → ArePlain given → ArePlain (front ++ given)
+plain_on [] given one other = other
+plain_on (event ∷ front) given one other = (one.0, plain_on front given one.1 other)
+
+-- each is honest
+honest_on : (front given : List Event) → AreHonest front → AreHonest given → AreHonest (front ++ given)
+honest_on [] given one other = other
+honest_on (event ∷ front) given one other = (one.0, honest_on front given one.1 other)
+
+-- ---- events by which a world comes to rest
+
+-- a small event is timed, is of the class, and is honest
+small_is : (event : Event) → IsSmall event → IsTimed event × IsPlain event × IsHonest event
+small_is (events.Deliver queue count) small = (tt, tt, tt)
+small_is events.Open small = (tt, tt, tt)
+small_is (events.End queue) small = (tt, tt, tt)
+small_is other small = absurd small
+
+-- so is each of them
+small_timed : (turns : List Event) → AreSmall turns → AreTimed turns
+small_timed [] small = tt
+small_timed (event ∷ turns) small = ((small_is event small.0).0, small_timed turns small.1)
+
+small_plain : (turns : List Event) → AreSmall turns → ArePlain turns
+small_plain [] small = tt
+small_plain (event ∷ turns) small = ((small_is event small.0).1, small_plain turns small.1)
+
+small_honest : (turns : List Event) → AreSmall turns → AreHonest turns
+small_honest [] small = tt
+small_honest (event ∷ turns) small = ((small_is event small.0).2, small_honest turns small.1)
+
+-- ---- a session goes on
+
+-- by more events
+session_on : (read : Reading) (from : Beginning) (before given : List Event) (begun more : List Order) (old new : World) → Session read from before begun old → AreTimed given
+    → Leads read old given more new → Session read from (before ++ given) (begun ++ more) new
+session_on read from before given begun more old new s in_time leads = record {
+  fair = s.fair;
+  timed = timed_on before given s.timed in_time;
+  leads = leads_on read before given begun more (world_of from) old new s.leads leads;
+}
+
+-- and there is agreement
+pub agrees_after : (given : List Event) (old new : Seen) → AreTimed given → LeadsCalmly given old new → AgreesAfter given old new
+agrees_after given old new in_time leads calm read reads from before begun session =
+    let so = (leads calm).1 read reads in
+    let on = session_on read from before given begun so.0 old.world new.world session in_time so.1 in
+    (so.0, on, λ plain. plain-agrees read reads from on.fair (before ++ given) (begun ++ so.0) new.world on.timed on.leads plain)
+
+-- by turns to rest
+pub settles : (old new : Seen) → LeadsSmall old new → (new.calm ≡ true → IsStill new.world) → Settles old new
+settles old new leads still calm read reads from before begun session =
+    let so = (leads calm).1 read reads in
+    let turns : List Event = so.0 in
+    let on : Session read from (before ++ turns) begun new.world =
+    subst (λ b. Session read from (before ++ turns) b new.world) (append-nil begun)
+    (session_on read from before turns begun [] old.world new.world session (small_timed turns so.1) so.2) in
+    (turns, so.1, on, λ plain. at_rest turns so.1 on (plain_on before turns plain (small_plain turns so.1)))
+  where
+    at_rest : (turns : List Event) → AreSmall turns → Session read from (before ++ turns) begun new.world → ArePlain (before ++ turns) → IsSettled from before begun new.world
+    at_rest turns small on plain =
+        let quiet = plain-still-is-quiet read reads from on.fair (before ++ turns) begun new.world on.timed on.leads plain (still calm) in
+        record {
+          agrees = plain-agrees read reads from on.fair (before ++ turns) begun new.world on.timed on.leads plain;
+          quiet = quiet;
+          answered = plain-is-answered read reads from on.fair (before ++ turns) begun new.world on.timed on.leads plain quiet;
+          direct = λ honest single.
+              plain-headline read reads from on.fair (before ++ turns) begun new.world on.timed on.leads plain (honest_on before turns honest (small_honest turns small)) single quiet;
+        }
+
+-- each event that a world is given is timed
+pub all_timed : {A : Type 0} (given : List (Given A)) → AreTimed (map event_of given)
+all_timed [] = tt
+all_timed (event ∷ given) = (timed event, all_timed given)
+
+-- one event alone leads on
+one_leads : (event : Event) (possible : Bool) (old new : Seen) → Steps old.calm new.calm (λ read. Happens read event old.world possible new.world) → LeadsCalmly (event ∷ []) old new
+one_leads event possible old new steps calm =
+    let did = steps calm in (did.0, λ read reads. (begun_by event possible ++ [], (possible, new.world, [], did.1 read reads, refl, (refl, refl))))
+
+-- so after it there is agreement
+pub agrees_step : {A E : Type 0} (event : Given A) (result : Result Bool E) (old new : Seen)
+    → IfOk result (λ possible. Steps old.calm new.calm (λ read. Happens read (event_of event) old.world possible new.world)) → OnOk result (AgreesAfter (event_of event ∷ []) old new)
+agrees_step event (Ok possible) old new did = agrees_after (event_of event ∷ []) old new (timed event, tt) (one_leads (event_of event) possible old new did)
+agrees_step event (Err e) old new did = tt
+
+-- and after a run
+pub agrees_run : {T E : Type 0} (given : List Event) (result : Result T E) (old new : Seen) → AreTimed given → OnOk result (LeadsCalmly given old new) → OnOk result (AgreesAfter given old new)
+agrees_run given (Ok x) old new in_time leads = agrees_after given old new in_time leads
+agrees_run given (Err e) old new in_time leads = tt

@@ -1,0 +1,94 @@
+-- What a session in a world of two ends has come to: from which ends, by which events, and what is known of it then.
+use Rattle.std.specs.Prelude.{◌≡◌, ℕ, Bool, true, List, [], ◌∷◌, ◌++◌, take}
+use Rattle.ftp_agreement.specs.Laws.{ArePlain}
+use Rattle.ftp_client_machine.specs.Failing.{Client}
+use Rattle.ftp_server_machine.specs.Far.{Server}
+use Rattle.ftp_server_machine.specs.Machine.{Reading, IsReading}
+use Rattle.ftp_world.specs.Agreement.{AreHonest, AreSingle, IsDirect, Leads, Order, WorldAgrees}
+use Rattle.ftp_world.specs.Claims.{Beginning, IsAnswered, IsFair, AreTimed, state_of, world_of}
+use Rattle.ftp_world.specs.Events.{Event, IsQuiet}
+use Rattle.ftp_world.specs.World.{World}
+use Rattle.ftp_pair_parts.specs.Happening.{IsSmall}
+use Rattle.ftp_pair_parts.specs.Shown.{shown}
+use Rattle.ftp_pair_parts.specs.declared.parts.Parts.{Parts}
+
+-- a world, and whether nothing failed in it so far: no end was refused memory, and no device failed
+pub record Seen : Type 0 where
+  pub world : World
+  pub calm : Bool
+
+-- what parts show
+abbrev pub seen : {A T N F : Type 0} → (N → Client) → (F → Server) → Parts A T N F → Seen
+seen near far parts = record { world = shown near far parts; calm = parts.calm }
+
+-- ---- what events lead to
+
+-- these events lead from one to the other, where nothing failed, however the server reads its lines
+abbrev pub LeadsCalmly : List Event → Seen → Seen → Type 0
+LeadsCalmly given old new = new.calm ≡ true → (old.calm ≡ true) × ((read : Reading) → IsReading read → (begun : List Order) × Leads read old.world given begun new.world)
+
+-- the first of them do
+abbrev pub LeadsPartly : List Event → Seen → Seen → Type 0
+LeadsPartly given old new = (count : ℕ) × LeadsCalmly (take count given) old new
+
+-- each of these is a delivery of at most 4,096 octets, an opening or an end
+abbrev pub AreSmall : List Event → Type 0
+AreSmall [] = Unit {0}
+AreSmall (event ∷ events) = IsSmall event × AreSmall events
+
+-- some of these lead from one to the other, where nothing failed
+abbrev pub LeadsSmall : Seen → Seen → Type 0
+LeadsSmall old new =
+    new.calm ≡ true → (old.calm ≡ true) × ((read : Reading) → IsReading read → (turns : List Event) × AreSmall turns × Leads read old.world turns [] new.world)
+
+-- ---- where a session comes from
+
+-- two ends that begin fairly, timed events that lead here, and the operations that these began
+pub record Session (read : Reading) (from : Beginning) (given : List Event) (begun : List Order) (w : World) : Type 0 where
+  pub fair : IsFair from
+  pub timed : AreTimed given
+  pub leads : Leads read (world_of from) given begun w
+
+-- timed events lead here from two ends that begin fairly
+pub record Reached (w : World) : Type 0 where
+  pub from : Beginning
+  pub fair : IsFair from
+  pub given : List Event
+  pub timed : AreTimed given
+  pub leads : (read : Reading) → IsReading read → (begun : List Order) × Leads read (world_of from) given begun w
+
+-- so it is where nothing failed
+abbrev pub IsReached : Seen → Type 0
+IsReached s = s.calm ≡ true → Reached s.world
+
+-- ---- what is known then
+
+-- a session that comes to the first world comes to the other by these events, and where each of its events is of the class that is proved, reports
+-- and map agree with what was begun
+abbrev pub AgreesAfter : List Event → Seen → Seen → Type 0
+AgreesAfter given old new =
+    new.calm ≡ true → (read : Reading) → IsReading read → (from : Beginning) (before : List Event) (begun : List Order) → Session read from before begun old.world
+    → (more : List Order) × Session read from (before ++ given) (begun ++ more) new.world
+    × (ArePlain (before ++ given) → WorldAgrees (state_of from) (begun ++ more) new.world)
+
+-- a session at rest: nothing is in flight, each operation begun has its report, and on honest connections, where none is an upload over breaks, all
+-- is as in the direct run
+pub record IsSettled (from : Beginning) (given : List Event) (begun : List Order) (w : World) : Type 0 where
+  pub agrees : WorldAgrees (state_of from) begun w
+  pub quiet : IsQuiet w
+  pub answered : IsAnswered begun w
+  pub direct : AreHonest given → AreSingle begun → IsDirect (state_of from) begun w
+
+-- a session that comes to the first world comes to the other with no operation more, and where each of its events is of the class that is proved,
+-- it is at rest there
+abbrev pub Settles : Seen → Seen → Type 0
+Settles old new =
+    new.calm ≡ true → (read : Reading) → IsReading read → (from : Beginning) (before : List Event) (begun : List Order) → Session read from before begun old.world
+    → (turns : List Event) × AreSmall turns × Session read from (before ++ turns) begun new.world
+    × (ArePlain before → IsSettled from before begun new.world)
+
+-- the reports and the map agree with what was begun, from where it began, where each event was of the class that is proved
+pub record AgreesHere (w : World) : Type 0 where
+  pub from : Beginning
+  pub given : List Event
+  pub agrees : (read : Reading) → IsReading read → (begun : List Order) × Session read from given begun w × (ArePlain given → WorldAgrees (state_of from) begun w)

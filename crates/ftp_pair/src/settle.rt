@@ -1,0 +1,52 @@
+// A world that comes to rest by itself.
+ghost use Rattle.std.specs.Prelude.{◌≡◌, ◌<◌, ◌-◌, true, false, if◌then◌else◌};
+ghost use Rattle.ftp_pair_settling.specs.Steady.{IsSteady};
+ghost use Rattle.ftp_world.specs.Still.{IsStill};
+ghost use Rattle.ftp_pair_parts.specs.Happening.{Stirs};
+ghost use Rattle.ftp_pair.specs.Session.{LeadsSmall, Settles};
+
+use crate::world::World;
+use ftp_client_machine::Near;
+use ftp_server_machine::Far;
+use ftp_tree::Tree;
+use std::alloc::Allocator;
+
+/// How many turns are made at most once something has failed (own choice).
+const TURNS: u64 = 1 << 40;
+
+/// How many turns are left after one: while all is calm none is counted.
+fn left_after(left: u64, calm: bool) -> u64
+    requires { 0 < left }
+    ensures { result ≡ (if calm then left else left - 1) }
+{
+    if calm { left } else { left - 1 }
+}
+
+impl<A: Allocator + Copy, T: Tree<A>, N: Near<A>, F: Far<A, T>> World<A, T, N, F> {
+    /// Octets are delivered, at most 4,096 at once, wanted links open, and ends are told, until nothing of the kind is possible. It always returns:
+    /// where nothing failed, since each turn leaves less to do; once an end was refused memory, or a device failed, after 2^40 turns more at most.
+    /// Takes no memory of its own.
+    pub fn settle(&mut self)
+        ensures leads { LeadsSmall self.old self.new }
+        ensures still { self.new.calm ≡ true → IsStill self.new.world }
+        ensures settles { Settles self.old self.new }
+    {
+        let mut left = TURNS;
+        while left != 0 {
+            if !self.turn() {
+                return;
+            }
+            left = left_after(left, self.is_calm());
+        }
+    }
+
+    /// One turn; it answers whether there was one to make.
+    fn turn(&mut self) -> bool
+        ensures does { result ≡ true → Stirs self.old.calm self.new.calm self.old.world self.new.world }
+        ensures still { result ≡ false → IsStill self.old.world }
+        ensures same { result ≡ false → self.new ≡ self.old }
+        ensures steady { self.old.calm ≡ true → ∥ IsSteady self.old.world ∥₁ }
+    {
+        self.parts.turn()
+    }
+}

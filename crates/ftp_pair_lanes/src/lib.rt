@@ -1,0 +1,8 @@
+//! What lies between a client and a server: octets on their way, and how the two connections stand.
+#![tactic(auto)]
+
+mod between;
+mod lane;
+
+pub use between::{Control, Link, Mark, Queue};
+pub use lane::{Lane, ROOM};

@@ -1,0 +1,9 @@
+-- Lemmas, each file about one part of an event.
+pub mod Filling
+pub mod Taking
+pub mod Busy
+pub mod Beginning
+pub mod Marking
+pub mod Whole
+pub mod Resting
+pub mod Turning

@@ -1,0 +1,9 @@
+use Rattle.std.proofs.Common.{arith}
+use Rattle.ftp_pair_parts.specs.Shown.{shown, queue_of}
+use Rattle.ftp_pair_parts.proofs.Filling.{offers_so}
+use Rattle.ftp_pair_parts.proofs.parts.Parts.carry.Goals as goal
+
+pub returns-else-count-eq0-clause-done : goal.returns-else-count-eq0-clause-done
+returns-else-count-eq0-clause-done g c calm =
+    let offered = c.offer.ensures.done calm in
+    (offered.0, λ read reads. offers_so read (queue_of c.args.queue) c.args.count (shown g.N.Near.client g.F.Far.server c.args.self.now) (shown g.N.Near.client g.F.Far.server c.offer.new.self) (omega (arith, c.if-count-eq0.false)) (offered.1 read reads))

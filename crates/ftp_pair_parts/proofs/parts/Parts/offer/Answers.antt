@@ -1,0 +1,13 @@
+use Rattle.ftp_pair_parts.specs.Shown.{shown, queue_of}
+use Rattle.ftp_pair_parts.proofs.Filling.{offers}
+use Rattle.ftp_pair_parts.proofs.parts.Parts.offer.Goals as goal
+
+pub returns-clause-done : goal.returns-clause-done
+returns-clause-done g c calm =
+    let moved = c.push.ensures.moved calm in
+    let takes = c.push.ensures.takes calm in
+    let filled = c.fill.ensures.filled moved.0 in (
+      filled.0,
+      λ read reads. offers read (queue_of c.args.queue) c.args.count c.push.result (shown g.N.Near.client g.F.Far.server c.args.self.now) (shown g.N.Near.client g.F.Far.server c.fill.new.self) (shown g.N.Near.client g.F.Far.server c.push.new.self)
+          filled.1 (takes.1 read reads) (moved.1 read reads),
+    )

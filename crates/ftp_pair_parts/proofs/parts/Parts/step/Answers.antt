@@ -1,0 +1,29 @@
+use Rattle.std.proofs.Common.{sym, ap}
+use Rattle.ftp_pair_parts.specs.Happening.{event_of}
+use Rattle.ftp_pair_parts.specs.Shown.{shown}
+use Rattle.ftp_pair_parts.proofs.Whole.{stepped, stepped_on}
+use Rattle.ftp_pair_parts.proofs.parts.Parts.step.Goals as goal
+
+pub returns-in-Deliver-clause-ok : goal.returns-in-Deliver-clause-ok
+returns-in-Deliver-clause-ok g c = stepped c.step_deliver.result c.args.self.now.calm c.step_deliver.new.self.calm (shown g.N.Near.client g.F.Far.server c.args.self.now) (shown g.N.Near.client g.F.Far.server c.step_deliver.new.self) (ap event_of (sym c.in-Deliver.is)) c.step_deliver.ensures.ok
+
+pub returns-in-Open-clause-ok : goal.returns-in-Open-clause-ok
+returns-in-Open-clause-ok g c = stepped_on c.step_open.result c.args.self.now.calm c.step_open.new.self.calm (shown g.N.Near.client g.F.Far.server c.args.self.now) (shown g.N.Near.client g.F.Far.server c.step_open.new.self) (ap event_of (sym c.in-Open.is)) c.step_open.ensures.does
+
+pub returns-in-Refuse-clause-ok : goal.returns-in-Refuse-clause-ok
+returns-in-Refuse-clause-ok g c = stepped c.step_refuse.result c.args.self.now.calm c.step_refuse.new.self.calm (shown g.N.Near.client g.F.Far.server c.args.self.now) (shown g.N.Near.client g.F.Far.server c.step_refuse.new.self) (ap event_of (sym c.in-Refuse.is)) c.step_refuse.ensures.ok
+
+pub returns-in-End-clause-ok : goal.returns-in-End-clause-ok
+returns-in-End-clause-ok g c = stepped_on c.step_end.result c.args.self.now.calm c.step_end.new.self.calm (shown g.N.Near.client g.F.Far.server c.args.self.now) (shown g.N.Near.client g.F.Far.server c.step_end.new.self) (ap event_of (sym c.in-End.is)) c.step_end.ensures.does
+
+pub returns-in-Break-clause-ok : goal.returns-in-Break-clause-ok
+returns-in-Break-clause-ok g c = stepped c.step_break.result c.args.self.now.calm c.step_break.new.self.calm (shown g.N.Near.client g.F.Far.server c.args.self.now) (shown g.N.Near.client g.F.Far.server c.step_break.new.self) (ap event_of (sym c.in-Break.is)) c.step_break.ensures.ok
+
+pub returns-in-EndControl-clause-ok : goal.returns-in-EndControl-clause-ok
+returns-in-EndControl-clause-ok g c = stepped_on c.step_end_control.result c.args.self.now.calm c.step_end_control.new.self.calm (shown g.N.Near.client g.F.Far.server c.args.self.now) (shown g.N.Near.client g.F.Far.server c.step_end_control.new.self) (ap event_of (sym c.in-EndControl.is)) c.step_end_control.ensures.does
+
+pub returns-in-Next-clause-ok : goal.returns-in-Next-clause-ok
+returns-in-Next-clause-ok g c = stepped c.step_next.result c.args.self.now.calm c.step_next.new.self.calm (shown g.N.Near.client g.F.Far.server c.args.self.now) (shown g.N.Near.client g.F.Far.server c.step_next.new.self) (ap event_of (sym c.in-Next.is)) c.step_next.ensures.ok
+
+pub returns-in-Upload-clause-ok : goal.returns-in-Upload-clause-ok
+returns-in-Upload-clause-ok g c = stepped c.step_upload.result c.args.self.now.calm c.step_upload.new.self.calm (shown g.N.Near.client g.F.Far.server c.args.self.now) (shown g.N.Near.client g.F.Far.server c.step_upload.new.self) (ap event_of (sym c.in-Upload.is)) c.step_upload.ensures.ok

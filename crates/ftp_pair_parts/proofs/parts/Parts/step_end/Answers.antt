@@ -1,0 +1,13 @@
+use Rattle.std.proofs.Common.{sym, ◌∙◌}
+use Rattle.ftp_pair_parts.specs.Shown.{shown, queue_of}
+use Rattle.ftp_pair_parts.proofs.Whole.{was_told}
+use Rattle.ftp_pair_parts.proofs.parts.Parts.step_end.Goals as goal
+
+pub returns-clause-does : goal.returns-clause-does
+returns-clause-does g c calm =
+    let served = c.finish.ensures.moved calm in
+    let done = c.tell.ensures.moved served.0 in (
+      sym c.lend_none.ensures.calm ∙ done.0,
+      λ read reads. was_told read (queue_of c.args.queue) (shown g.N.Near.client g.F.Far.server c.args.self.now) (shown g.N.Near.client g.F.Far.server c.lend_none.new.self) (shown g.N.Near.client g.F.Far.server c.tell.new.self) (shown g.N.Near.client g.F.Far.server c.finish.new.self)
+          (sym c.can_end.ensures ∙ c.if-not-can_end.false) c.lend_none.ensures.moved done.1 served.1,
+    )

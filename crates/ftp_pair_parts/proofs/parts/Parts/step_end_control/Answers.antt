@@ -1,0 +1,12 @@
+use Rattle.std.proofs.Common.{sym, ◌∙◌}
+use Rattle.ftp_pair_parts.specs.Shown.{shown}
+use Rattle.ftp_pair_parts.proofs.Whole.{was_cut}
+use Rattle.ftp_pair_parts.proofs.parts.Parts.step_end_control.Goals as goal
+
+pub returns-clause-does : goal.returns-clause-does
+returns-clause-does g c calm =
+    let served = c.finish.ensures.moved calm in (
+      sym c.lend_none.ensures.calm ∙ sym c.end_control.ensures.calm ∙ served.0,
+      λ read reads. was_cut read (shown g.N.Near.client g.F.Far.server c.args.self.now) (shown g.N.Near.client g.F.Far.server c.lend_none.new.self) (shown g.N.Near.client g.F.Far.server c.end_control.new.self) (shown g.N.Near.client g.F.Far.server c.finish.new.self)
+          (sym c.is_joined.ensures ∙ c.if-not-is_joined.false) c.lend_none.ensures.moved c.end_control.ensures.moved served.1,
+    )

@@ -1,0 +1,13 @@
+use Rattle.std.proofs.Common.{sym, ◌∙◌}
+use Rattle.ftp_pair_parts.specs.Shown.{shown}
+use Rattle.ftp_pair_parts.proofs.Whole.{declined}
+use Rattle.ftp_pair_parts.proofs.parts.Parts.step_refuse.Goals as goal
+
+pub returns-clause-ok : goal.returns-clause-ok
+returns-clause-ok g c calm =
+    let served = c.finish.ensures.moved calm in
+    let done = c.refuse_link.ensures.moved served.0 in (
+      sym c.ready_marked.ensures.calm ∙ done.0,
+      λ read reads. declined read (shown g.N.Near.client g.F.Far.server c.args.self.now) (shown g.N.Near.client g.F.Far.server c.ready_marked.new.self) (shown g.N.Near.client g.F.Far.server c.refuse_link.new.self) (shown g.N.Near.client g.F.Far.server c.finish.new.self)
+          (sym c.is_asked_for.ensures ∙ c.if-not-is_asked_for.false) c.in_ok-ready_marked.ensures.ok done.1 served.1,
+    )

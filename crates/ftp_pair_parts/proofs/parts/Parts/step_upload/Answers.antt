@@ -1,0 +1,17 @@
+use Rattle.std.proofs.Common.{sym, ◌∙◌}
+use Rattle.ftp_client_machine.specs.Tries.{over_breaks}
+use Rattle.ftp_pair_parts.specs.Shown.{shown}
+use Rattle.ftp_pair_parts.proofs.Beginning.{uploaded}
+use Rattle.ftp_pair_parts.proofs.parts.Parts.step_upload.Goals as goal
+
+pub returns-clause-ok : goal.returns-clause-ok
+returns-clause-ok g c calm =
+    let served = c.finish.ensures.moved calm in
+    let noted = c.note.ensures.moved served.0 in
+    let free = c.start_upload.ensures.begun c.if-not-start_upload.false in
+    let begun = free.1 noted.0 in (
+      sym c.make_room.ensures.calm ∙ begun.0,
+      λ read reads. uploaded read (over_breaks c.args.path c.args.octets c.args.how) c.args.moment.seconds (shown g.N.Near.client g.F.Far.server c.args.self.now) (shown g.N.Near.client g.F.Far.server c.make_room.new.self)
+          (shown g.N.Near.client g.F.Far.server c.start_upload.new.self) (shown g.N.Near.client g.F.Far.server c.note.new.self) (shown g.N.Near.client g.F.Far.server c.finish.new.self)
+          (sym c.is_unlinked.ensures ∙ c.if-not-is_unlinked.false) c.make_room.ensures.same free.0 begun.1 noted.1 served.1,
+    )

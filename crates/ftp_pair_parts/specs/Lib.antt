@@ -1,0 +1,3 @@
+-- A world of two ends as code: the world that it is, the events that happen in it.
+pub mod Shown
+pub mod Happening

@@ -1,0 +1,37 @@
+// Items for which there is room, and counts.
+ghost use Rattle.std.specs.Prelude.{◌≡◌, ◌+◌, ◌<◌, ◌++◌, vec_len, vec_capacity, true, [], ◌∷◌};
+ghost use Rattle.ftp_world.specs.World.{counted};
+
+use ftp_server_machine::Counts;
+use std::alloc::Allocator;
+
+/// Adds an item, for which there is room.
+pub(crate) fn keep<A: Allocator, T: Drop>(items: &mut Vec<T, A>, item: T)
+    requires { vec_len items.old < vec_capacity items.old }
+    ensures { items.new.items ≡ items.old.items ++ item ∷ [] }
+{
+    if items.push(item).is_err() {
+        unreachable!()
+    }
+}
+
+/// Whether all was calm, and a count has not moved.
+pub(crate) fn stays(calm: bool, old: u64, new: u64) -> bool
+    ensures { result ≡ true → (calm ≡ true) × (new ≡ old) }
+{
+    calm && new == old
+}
+
+/// Whether all was calm, and neither count has moved.
+pub(crate) fn both_stay(calm: bool, old: Counts, new: Counts) -> bool
+    ensures { result ≡ true → (calm ≡ true) × (new ≡ old) }
+{
+    calm && new == old
+}
+
+/// So many more octets are counted, so far as a count goes.
+pub(crate) fn count_on(came: u64, more: usize) -> u64
+    ensures { result ≡ counted (came + more) }
+{
+    came.saturating_add(more as u64)
+}

@@ -1,0 +1,80 @@
+// How a world begins.
+ghost use Rattle.std.specs.Prelude.{◌≡◌, ◌<◌, [], IfOk, IfErr, true, vec_len, vec_capacity};
+ghost use Rattle.ftp_world.specs.World.{world};
+ghost use Rattle.ftp_pair_parts.specs.Shown.{shown, HasRoom};
+
+use crate::parts::Parts;
+use ftp_client_machine::Near;
+use ftp_operation::Answer;
+use ftp_pair_lanes::{Control, Lane, Link};
+use ftp_server_machine::Far;
+use ftp_tree::Tree;
+use std::alloc::{AllocError, Allocator};
+use std::marker::PhantomData;
+
+/// What a world has room for from the start: octets of each queue, those that are lent, and a report.
+#[derive(Drop)]
+struct Room<A: Allocator> {
+    control_to_server: Lane<A>,
+    control_to_client: Lane<A>,
+    data_to_server: Lane<A>,
+    data_to_client: Lane<A>,
+    taken: Lane<A>,
+    reports: Vec<Answer<A>, A>,
+}
+
+impl<A: Allocator + Copy> Room<A> {
+    fn new(alloc: A) -> Result<Room<A>, AllocError>
+        ensures to_server { IfOk result (λ room. room.control_to_server.octets.items ≡ []) }
+        ensures to_client { IfOk result (λ room. room.control_to_client.octets.items ≡ []) }
+        ensures up { IfOk result (λ room. room.data_to_server.octets.items ≡ []) }
+        ensures down { IfOk result (λ room. room.data_to_client.octets.items ≡ []) }
+        ensures lent { IfOk result (λ room. room.taken.octets.items ≡ []) }
+        ensures none { IfOk result (λ room. room.reports.items ≡ []) }
+        ensures report { IfOk result (λ room. vec_len room.reports < vec_capacity room.reports) }
+    {
+        let mut reports = Vec::new(alloc);
+        reports.reserve(1)?;
+        Ok(Room {
+            control_to_server: Lane::new(alloc)?,
+            control_to_client: Lane::new(alloc)?,
+            data_to_server: Lane::new(alloc)?,
+            data_to_client: Lane::new(alloc)?,
+            taken: Lane::new(alloc)?,
+            reports,
+        })
+    }
+}
+
+impl<A: Allocator + Copy, T: Tree<A>, N: Near<A>, F: Far<A, T>> Parts<A, T, N, F> {
+    /// Two ends as they begin, with room for 4,096 octets in each queue and of those that are lent, and for a report. Refused that, it hands both back.
+    pub fn new(alloc: A, near: N, far: F) -> Result<Self, (N, F)>
+        ensures ok { IfOk result (λ parts. shown N.client F.server parts ≡ world (N.client near).view (F.server far).view) }
+        ensures calm { IfOk result (λ parts. parts.calm ≡ true) }
+        ensures few { IfOk result (λ parts. parts.listens ≡ 0) }
+        ensures report { IfOk result (λ parts. HasRoom N.client parts) }
+        ensures err { IfErr result (λ ends. ends ≡ (near, far)) }
+    {
+        let Ok(room) = Room::new(alloc) else {
+            return Err((near, far));
+        };
+        Ok(Parts {
+            near,
+            far,
+            control_to_server: room.control_to_server,
+            control_to_client: room.control_to_client,
+            data_to_server: room.data_to_server,
+            data_to_client: room.data_to_client,
+            control: Control::Stands,
+            link: Link::Gone,
+            came: 0,
+            listens: 0,
+            marks: Vec::new(alloc),
+            reports: room.reports,
+            cutoff: None,
+            taken: room.taken,
+            calm: true,
+            tree: PhantomData,
+        })
+    }
+}

@@ -1,0 +1,26 @@
+// What a world is made of.
+use ftp_operation::Answer;
+use ftp_pair_lanes::{Control, Lane, Link, Mark};
+use std::alloc::Allocator;
+use std::marker::PhantomData;
+
+/// Two ends, and what lies between them. `calm` is true while neither end was refused memory and no device failed.
+#[derive(Drop)]
+pub struct Parts<A: Allocator, T, N: Drop, F: Drop> {
+    pub near: N,
+    pub far: F,
+    pub control_to_server: Lane<A>,
+    pub control_to_client: Lane<A>,
+    pub data_to_server: Lane<A>,
+    pub data_to_client: Lane<A>,
+    pub control: Control,
+    pub link: Link,
+    pub came: u64,
+    pub listens: u16,
+    pub marks: Vec<Vec<Mark, A>, A>,
+    pub reports: Vec<Answer<A>, A>,
+    pub cutoff: Option<usize>,
+    pub taken: Lane<A>,
+    pub calm: bool,
+    pub tree: PhantomData<T>,
+}

@@ -1,0 +1,108 @@
+// The first octets of a queue are offered to its receiver.
+ghost use Rattle.std.specs.Prelude.{◌≡◌, ◌≤◌, vec_capacity};
+ghost use Rattle.ftp_server_machine.specs.Machine.{Reading, IsReading};
+ghost use Rattle.ftp_world.specs.Events.{pushed, taking, Takes, ControlToServer, ControlToClient, DataToServer, DataToClient};
+ghost use Rattle.ftp_pair_parts.specs.Shown.{shown, Calmly, HasRoom, queue_of};
+
+use crate::counts::{both_stay, count_on, stays};
+use crate::parts::Parts;
+use ftp_client_machine::Near;
+use ftp_pair_lanes::Queue;
+use ftp_server_machine::Far;
+use ftp_tree::Tree;
+use std::alloc::Allocator;
+
+impl<A: Allocator, T: Tree<A>, N: Near<A>, F: Far<A, T>> Parts<A, T, N, F> {
+    pub(crate) fn push_control_to_client(&mut self, most: usize) -> usize
+        requires room { most ≤ vec_capacity self.old.taken.octets }
+        ensures moved { Calmly self.old self.new ((read : Reading) → IsReading read → shown N.client F.server self.new ≡ pushed read ControlToClient result (taking ControlToClient result (shown N.client F.server self.old))) }
+        ensures report { HasRoom N.client self.old → HasRoom N.client self.new }
+        ensures few { self.new.listens ≡ self.old.listens }
+        ensures takes { Calmly self.old self.new ((read : Reading) → IsReading read → Takes read ControlToClient most (shown N.client F.server self.old) result) }
+    {
+        let limit = self.control_to_client.len().min(most);
+        let refusals = self.near.refusals();
+        let taken = self.near.hear(&self.control_to_client.as_slice()[..limit]);
+        self.taken.clear();
+        self.taken
+            .append(&self.control_to_client.as_slice()[..taken]);
+        self.control_to_client.drop_front(taken);
+        self.calm = stays(self.calm, refusals, self.near.refusals());
+        taken
+    }
+
+    #[tactic(auto, using(crate::proofs::Taking::heard_front))]
+    pub(crate) fn push_control_to_server(&mut self, most: usize) -> usize
+        requires room { most ≤ vec_capacity self.old.taken.octets }
+        ensures moved { Calmly self.old self.new ((read : Reading) → IsReading read → shown N.client F.server self.new ≡ pushed read ControlToServer result (taking ControlToServer result (shown N.client F.server self.old))) }
+        ensures report { HasRoom N.client self.old → HasRoom N.client self.new }
+        ensures few { self.new.listens ≡ self.old.listens }
+        ensures takes { Calmly self.old self.new ((read : Reading) → IsReading read → Takes read ControlToServer most (shown N.client F.server self.old) result) }
+    {
+        let limit = self.control_to_server.len().min(most);
+        let counts = self.far.counts();
+        let taken = self.far.hear(&self.control_to_server.as_slice()[..limit]);
+        self.taken.clear();
+        self.taken
+            .append(&self.control_to_server.as_slice()[..taken]);
+        self.control_to_server.drop_front(taken);
+        self.calm = both_stay(self.calm, counts, self.far.counts());
+        taken
+    }
+
+    #[tactic(auto, using(crate::proofs::Busy::receives_busy))]
+    pub(crate) fn push_data_to_client(&mut self, most: usize) -> usize
+        requires room { most ≤ vec_capacity self.old.taken.octets }
+        ensures moved { Calmly self.old self.new ((read : Reading) → IsReading read → shown N.client F.server self.new ≡ pushed read DataToClient result (taking DataToClient result (shown N.client F.server self.old))) }
+        ensures report { HasRoom N.client self.old → HasRoom N.client self.new }
+        ensures few { self.new.listens ≡ self.old.listens }
+        ensures takes { Calmly self.old self.new ((read : Reading) → IsReading read → Takes read DataToClient most (shown N.client F.server self.old) result) }
+    {
+        let limit = self.data_to_client.len().min(most);
+        let refusals = self.near.refusals();
+        let taken = self
+            .near
+            .data_hear(&self.data_to_client.as_slice()[..limit]);
+        self.taken.clear();
+        self.taken.append(&self.data_to_client.as_slice()[..taken]);
+        self.data_to_client.drop_front(taken);
+        self.came = count_on(self.came, taken);
+        self.calm = stays(self.calm, refusals, self.near.refusals());
+        taken
+    }
+
+    #[tactic(auto, using(crate::proofs::Taking::heard_front))]
+    pub(crate) fn push_data_to_server(&mut self, most: usize) -> usize
+        requires room { most ≤ vec_capacity self.old.taken.octets }
+        ensures moved { Calmly self.old self.new ((read : Reading) → IsReading read → shown N.client F.server self.new ≡ pushed read DataToServer result (taking DataToServer result (shown N.client F.server self.old))) }
+        ensures report { HasRoom N.client self.old → HasRoom N.client self.new }
+        ensures few { self.new.listens ≡ self.old.listens }
+        ensures takes { Calmly self.old self.new ((read : Reading) → IsReading read → Takes read DataToServer most (shown N.client F.server self.old) result) }
+    {
+        let limit = self.data_to_server.len().min(most);
+        let counts = self.far.counts();
+        let taken = self.far.data_hear(&self.data_to_server.as_slice()[..limit]);
+        self.taken.clear();
+        self.taken.append(&self.data_to_server.as_slice()[..taken]);
+        self.data_to_server.drop_front(taken);
+        self.came = count_on(self.came, taken);
+        self.calm = both_stay(self.calm, counts, self.far.counts());
+        taken
+    }
+
+    /// The first octets of a queue, so many at most, are offered to its receiver.
+    pub(crate) fn push(&mut self, queue: Queue, most: usize) -> usize
+        requires room { most ≤ vec_capacity self.old.taken.octets }
+        ensures moved { Calmly self.old self.new ((read : Reading) → IsReading read → shown N.client F.server self.new ≡ pushed read (queue_of queue) result (taking (queue_of queue) result (shown N.client F.server self.old))) }
+        ensures takes { Calmly self.old self.new ((read : Reading) → IsReading read → Takes read (queue_of queue) most (shown N.client F.server self.old) result) }
+        ensures report { HasRoom N.client self.old → HasRoom N.client self.new }
+        ensures few { self.new.listens ≡ self.old.listens }
+    {
+        match queue {
+            Queue::ControlToServer => self.push_control_to_server(most),
+            Queue::ControlToClient => self.push_control_to_client(most),
+            Queue::DataToServer => self.push_data_to_server(most),
+            Queue::DataToClient => self.push_data_to_client(most),
+        }
+    }
+}

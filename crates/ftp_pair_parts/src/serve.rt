@@ -1,0 +1,167 @@
+// What a world does for its ends after each event: a wanted close is done, a wanted listen gets its port, and an end that leaves has left.
+ghost use Rattle.std.specs.Prelude.{◌≡◌, ◌<◌};
+ghost use Rattle.ftp_world.specs.Serving.{near_served, near_closes, near_listens, left_by_near, far_served, far_closes, far_listens, left_by_far, served};
+ghost use Rattle.ftp_world.specs.World.{gone, parted};
+ghost use Rattle.ftp_pair_parts.specs.Shown.{shown, Calmly, HasRoom};
+
+use crate::counts::{both_stay, stays};
+use crate::parts::Parts;
+use ftp_client_machine::Near;
+use ftp_ends::Wants;
+use ftp_pair_lanes::{Control, Link};
+use ftp_server_machine::Far;
+use ftp_tree::Tree;
+use std::alloc::Allocator;
+
+/// The first port that is listened at (own choice).
+const FIRST_PORT: u16 = 49152;
+
+/// How many ports there are (own choice).
+const PORTS: u16 = 16384;
+
+impl<A: Allocator, T: Tree<A>, N: Near<A>, F: Far<A, T>> Parts<A, T, N, F> {
+    pub(crate) fn serve_near(&mut self)
+        requires { self.old.listens < 16384 }
+        ensures moved { Calmly self.old self.new (shown N.client F.server self.new ≡ near_served (shown N.client F.server self.old)) }
+        ensures few { self.new.listens < 16384 }
+        ensures report { HasRoom N.client self.old → HasRoom N.client self.new }
+    {
+        match self.near.wants() {
+            Wants::CloseData => self.near_closes(),
+            Wants::Listen => self.near_listens(),
+            Wants::CloseAll => self.near_leaves(),
+            _ => {}
+        }
+    }
+
+    #[tactic(auto, using(crate::proofs::Busy::data_closed_busy))]
+    fn near_closes(&mut self)
+        ensures moved { Calmly self.old self.new (shown N.client F.server self.new ≡ near_closes (shown N.client F.server self.old)) }
+        ensures few { self.new.listens ≡ self.old.listens }
+        ensures report { HasRoom N.client self.old → HasRoom N.client self.new }
+    {
+        self.near.data_closed();
+        match self.link {
+            Link::Opened => self.link = Link::ClosedByNear,
+            Link::ClosedByFar => self.lose_link(),
+            _ => {}
+        }
+    }
+
+    #[tactic(auto, using(crate::proofs::Busy::listening_busy))]
+    fn near_listens(&mut self)
+        requires { self.old.listens < 16384 }
+        ensures moved { Calmly self.old self.new (shown N.client F.server self.new ≡ near_listens (shown N.client F.server self.old)) }
+        ensures few { self.new.listens < 16384 }
+        ensures report { HasRoom N.client self.old → HasRoom N.client self.new }
+    {
+        let refusals = self.near.refusals();
+        self.near.listening(FIRST_PORT + self.listens % PORTS);
+        self.listens = (self.listens + 1) % PORTS;
+        self.calm = stays(self.calm, refusals, self.near.refusals());
+    }
+
+    fn near_leaves(&mut self)
+        ensures moved { Calmly self.old self.new (shown N.client F.server self.new ≡ left_by_near (shown N.client F.server self.old).control (shown N.client F.server self.old)) }
+        ensures few { self.new.listens ≡ self.old.listens }
+        ensures report { HasRoom N.client self.old → HasRoom N.client self.new }
+    {
+        match self.control {
+            Control::Stands => self.control = Control::LeftByNear,
+            Control::LeftByFar => self.part(),
+            _ => {}
+        }
+    }
+
+    pub(crate) fn lose_link(&mut self)
+        ensures moved { shown N.client F.server self.new ≡ gone (shown N.client F.server self.old) }
+        ensures calm { self.new.calm ≡ self.old.calm }
+        ensures few { self.new.listens ≡ self.old.listens }
+        ensures report { HasRoom N.client self.old → HasRoom N.client self.new }
+    {
+        self.link = Link::Gone;
+        self.data_to_server.clear();
+        self.data_to_client.clear();
+    }
+
+    pub(crate) fn part(&mut self)
+        ensures moved { shown N.client F.server self.new ≡ parted (shown N.client F.server self.old) }
+        ensures calm { self.new.calm ≡ self.old.calm }
+        ensures few { self.new.listens ≡ self.old.listens }
+        ensures report { HasRoom N.client self.old → HasRoom N.client self.new }
+    {
+        self.control = Control::Parted;
+        self.control_to_server.clear();
+        self.control_to_client.clear();
+    }
+
+    pub(crate) fn serve_far(&mut self)
+        requires { self.old.listens < 16384 }
+        ensures moved { Calmly self.old self.new (shown N.client F.server self.new ≡ far_served (shown N.client F.server self.old)) }
+        ensures few { self.new.listens < 16384 }
+        ensures report { HasRoom N.client self.old → HasRoom N.client self.new }
+    {
+        match self.far.wants() {
+            Wants::CloseData => self.far_closes(),
+            Wants::Listen => self.far_listens(),
+            Wants::CloseAll => self.far_leaves(),
+            _ => {}
+        }
+    }
+
+    #[tactic(auto, unfolding(ftp_server_machine::specs::Calls::data_closed))]
+    fn far_closes(&mut self)
+        ensures moved { Calmly self.old self.new (shown N.client F.server self.new ≡ far_closes (shown N.client F.server self.old)) }
+        ensures few { self.new.listens ≡ self.old.listens }
+        ensures report { HasRoom N.client self.old → HasRoom N.client self.new }
+    {
+        let counts = self.far.counts();
+        self.far.data_closed();
+        self.calm = both_stay(self.calm, counts, self.far.counts());
+        match self.link {
+            Link::Opened => self.link = Link::ClosedByFar,
+            Link::ClosedByNear => self.lose_link(),
+            _ => {}
+        }
+    }
+
+    #[tactic(auto, unfolding(ftp_server_machine::specs::Calls::listening))]
+    fn far_listens(&mut self)
+        requires { self.old.listens < 16384 }
+        ensures moved { Calmly self.old self.new (shown N.client F.server self.new ≡ far_listens (shown N.client F.server self.old)) }
+        ensures few { self.new.listens < 16384 }
+        ensures report { HasRoom N.client self.old → HasRoom N.client self.new }
+    {
+        let counts = self.far.counts();
+        self.far.listening(FIRST_PORT + self.listens % PORTS);
+        self.listens = (self.listens + 1) % PORTS;
+        self.calm = both_stay(self.calm, counts, self.far.counts());
+    }
+
+    fn far_leaves(&mut self)
+        ensures moved { Calmly self.old self.new (shown N.client F.server self.new ≡ left_by_far (shown N.client F.server self.old).control (shown N.client F.server self.old)) }
+        ensures few { self.new.listens ≡ self.old.listens }
+        ensures report { HasRoom N.client self.old → HasRoom N.client self.new }
+    {
+        match self.control {
+            Control::Stands => self.control = Control::LeftByFar,
+            Control::LeftByNear => self.part(),
+            _ => {}
+        }
+    }
+
+    /// A close, then a port, then leaving, of each end.
+    pub(crate) fn serve(&mut self)
+        requires { self.old.listens < 16384 }
+        ensures moved { Calmly self.old self.new (shown N.client F.server self.new ≡ served (shown N.client F.server self.old)) }
+        ensures few { self.new.listens < 16384 }
+        ensures report { HasRoom N.client self.old → HasRoom N.client self.new }
+    {
+        self.serve_near();
+        self.serve_near();
+        self.serve_near();
+        self.serve_far();
+        self.serve_far();
+        self.serve_far();
+    }
+}

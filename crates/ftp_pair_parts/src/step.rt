@@ -1,0 +1,77 @@
+// One event, and what follows each: what is wanted is served, and the report is taken.
+ghost use Rattle.std.specs.Prelude.{◌≡◌, ◌<◌, vec_capacity, IfOk, OnErr};
+ghost use Rattle.ftp_world.specs.Events.{Happens, lends_none};
+ghost use Rattle.ftp_world.specs.Serving.{after_event, collected};
+ghost use Rattle.ftp_pair_parts.specs.Happening.{event_of};
+ghost use Rattle.ftp_pair_parts.specs.Shown.{shown, Calmly, HasRoom, Steps};
+
+use crate::counts::keep;
+use crate::event::Event;
+use crate::parts::Parts;
+use ftp_client_machine::Near;
+use ftp_server_machine::Far;
+use ftp_tree::Tree;
+use std::alloc::{AllocError, Allocator};
+
+impl<A: Allocator, T: Tree<A>, N: Near<A>, F: Far<A, T>> Parts<A, T, N, F> {
+    /// An event happens where it is possible; it answers whether it was. The room that it takes is made first.
+    pub fn step(&mut self, alloc: A, event: Event<A>) -> Result<bool, AllocError>
+        requires ports { self.old.listens < 16384 }
+        requires report { HasRoom N.client self.old }
+        ensures ok { IfOk result (λ possible. Steps self.old.calm self.new.calm (λ read. Happens read (event_of event) (shown N.client F.server self.old) possible (shown N.client F.server self.new))) }
+        ensures err { OnErr result ((shown N.client F.server self.new ≡ shown N.client F.server self.old) × (self.new.calm ≡ self.old.calm)) }
+        ensures few { self.new.listens < 16384 }
+        ensures report { HasRoom N.client self.new }
+    {
+        match event {
+            Event::Deliver(queue, count) => self.step_deliver(queue, count),
+            Event::Open => Ok(self.step_open()),
+            Event::Refuse => self.step_refuse(),
+            Event::End(queue) => Ok(self.step_end(queue)),
+            Event::Break => self.step_break(),
+            Event::EndControl => Ok(self.step_end_control()),
+            Event::Next(op, moment) => self.step_next(alloc, op, moment),
+            Event::Upload(path, octets, how, moment) => {
+                self.step_upload(alloc, path, octets, how, moment)
+            }
+        }
+    }
+
+    /// No octets are lent any longer.
+    pub(crate) fn lend_none(&mut self)
+        ensures moved { shown N.client F.server self.new ≡ lends_none (shown N.client F.server self.old) }
+        ensures same { self.new ≡ record self.old { taken = self.new.taken } }
+        ensures lent { vec_capacity self.new.taken.octets ≡ vec_capacity self.old.taken.octets }
+        ensures calm { self.new.calm ≡ self.old.calm }
+        ensures report { HasRoom N.client self.old → HasRoom N.client self.new }
+        ensures few { self.new.listens ≡ self.old.listens }
+    {
+        self.taken.clear();
+    }
+
+    /// What is wanted after an event is served, and the report is taken.
+    pub(crate) fn finish(&mut self)
+        requires ports { self.old.listens < 16384 }
+        requires report { HasRoom N.client self.old }
+        ensures moved { Calmly self.old self.new (shown N.client F.server self.new ≡ after_event (shown N.client F.server self.old)) }
+        ensures few { self.new.listens < 16384 }
+        ensures report { HasRoom N.client self.new }
+    {
+        self.serve();
+        self.collect();
+    }
+
+    /// The report of the client is taken, if there is one.
+    #[tactic(auto, using(crate::proofs::Beginning::none_told, crate::proofs::Beginning::told_is_busy, crate::proofs::Busy::taken_is_free))]
+    fn collect(&mut self)
+        requires report { HasRoom N.client self.old }
+        ensures moved { shown N.client F.server self.new ≡ collected (shown N.client F.server self.old) }
+        ensures report { HasRoom N.client self.new }
+        ensures calm { self.new.calm ≡ self.old.calm }
+        ensures few { self.new.listens ≡ self.old.listens }
+    {
+        if let Some(answer) = self.near.report() {
+            keep(&mut self.reports, answer);
+        }
+    }
+}
