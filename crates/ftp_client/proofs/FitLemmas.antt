@@ -8,23 +8,23 @@ use Rattle.ftp_operation.specs.declared.op.Op.{Op}
 use Rattle.ftp_endpoint.specs.Written.{IsTypedHost}
 use Rattle.ftp_endpoint.specs.declared.host.Host.{Host}
 use Rattle.ftp_ends.specs.Limits.{block_limit, held_limit}
-use Rattle.ftp_client_bounds.proofs.NearLemmas.{near_stays_fit}
-use Rattle.ftp_client_bounds.proofs.Theorems.{fit_holds_little, start_is_fit}
-use Rattle.ftp_client_bounds.specs.Fit.{IsFit, IsCalmAt, IsTied}
-use Rattle.ftp_client_bounds.specs.Losses.{NearIsFit}
-use Rattle.ftp_client_machine.specs.Calls.{is_busy, starts, uploads}
-use Rattle.ftp_client_machine.specs.Failing.{Client, Holds, HoldsIfRoom, starts_short, uploads_short}
-use Rattle.ftp_client_machine.specs.Held.{held}
-use Rattle.ftp_client_machine.specs.Tries.{over_breaks}
-use Rattle.ftp_client_machine.specs.View.{View, client, Transferring, Transfer, Flow}
-use Rattle.ftp_client_machine.specs.declared.client.DataConnection.{DataConnection}
-use Rattle.ftp_client_machine.specs.declared.client.DataConnection.TheVariants as Data
-use Rattle.ftp_client_machine.specs.declared.client.Standing.{Standing}
-use Rattle.ftp_client_machine.specs.declared.client.Standing.TheVariants as Stands
-use Rattle.ftp_client_dialogue.specs.Client.{job_of, view_of}
-use Rattle.ftp_client_dialogue.specs.declared.dialogue.Dialogue.{Dialogue}
-use Rattle.ftp_client_dialogue.specs.declared.place.Place.{Place}
-use Rattle.ftp_client_dialogue.specs.declared.place.Place.TheVariants as Places
+use Rattle.ftp_client_laws.proofs.NearLemmas.{near_stays_fit}
+use Rattle.ftp_client_laws.proofs.Theorems.{fit_holds_little, start_is_fit}
+use Rattle.ftp_client_laws.specs.Fit.{IsFit, IsCalmAt, IsTied}
+use Rattle.ftp_client_laws.specs.Losses.{NearIsFit}
+use Rattle.ftp_client_model.specs.Calls.{is_busy, starts, uploads}
+use Rattle.ftp_client_model.specs.Failing.{Client, Holds, HoldsIfRoom, starts_short, uploads_short}
+use Rattle.ftp_client_model.specs.Held.{held}
+use Rattle.ftp_client_model.specs.Tries.{over_breaks}
+use Rattle.ftp_client_model.specs.View.{View, client, Transferring, Transfer, Flow}
+use Rattle.ftp_client_model.specs.declared.client.ClientLink.{ClientLink}
+use Rattle.ftp_client_model.specs.declared.client.ClientLink.TheVariants as Data
+use Rattle.ftp_client_model.specs.declared.client.Standing.{Standing}
+use Rattle.ftp_client_model.specs.declared.client.Standing.TheVariants as Stands
+use Rattle.ftp_client_session.specs.Client.{job_of, view_of}
+use Rattle.ftp_client_session.specs.declared.dialogue.Dialogue.{Dialogue}
+use Rattle.ftp_client_session.specs.declared.task.Task.{Task}
+use Rattle.ftp_client_session.specs.declared.task.Task.TheVariants as Places
 use Rattle.ftp_operation.specs.declared.op.How.{How}
 use Rattle.ftp_client.specs.Counted.{StaysFit, counted_of, unseen}
 use Rattle.ftp_client.specs.declared.counted.Counted.{Counted}
@@ -38,7 +38,7 @@ calm_alike Stands.Pass op one other k = k
 calm_alike Stands.Entered op one other k = k
 calm_alike (Stands.Failed failure) op one other k = k
 
-tied_alike : (connection : DataConnection) (op : Op (List ℕ)) (one other : Transfer) → IsTied connection (Transferring op one) → IsTied connection (Transferring op other)
+tied_alike : (connection : ClientLink) (op : Op (List ℕ)) (one other : Transfer) → IsTied connection (Transferring op one) → IsTied connection (Transferring op other)
 tied_alike Data.Free op one other k = k
 tied_alike Data.ListenWanted op one other k = k
 tied_alike (Data.Listening port) op one other k = k
@@ -47,7 +47,7 @@ tied_alike (Data.Accepting port) op one other k = k
 tied_alike Data.Open op one other k = k
 tied_alike (Data.Over ending) op one other k = k
 
-fit_by : (A F : Type 0) (one other : Op (List ℕ) → F → Flow) (op : Op (List ℕ)) (place : Place A F) (v : View)
+fit_by : (A F : Type 0) (one other : Op (List ℕ) → F → Flow) (op : Op (List ℕ)) (place : Task A F) (v : View)
     → (let w : View = record v { job = job_of one op place } in IsFit w) → (let w : View = record v { job = job_of other op place } in IsFit w)
 fit_by A F one other op Places.Idle v k = k
 fit_by A F one other op Places.Waiting v k = k

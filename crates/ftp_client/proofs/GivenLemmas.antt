@@ -1,10 +1,10 @@
 -- Octets of the data connection that are given.
 use Rattle.std.proofs.Common.{◌≡◌, ℕ, refl, ap}
-use Rattle.ftp_client_machine.specs.Calls.{gives_data, goes_by}
-use Rattle.ftp_client_machine.specs.Dialogue.{carries_on}
-use Rattle.ftp_client_machine.specs.View.{View, Job, Idle, Waiting, Doing, Transferring, Told, failed_job}
+use Rattle.ftp_client_model.specs.Calls.{gives_data, goes_by}
+use Rattle.ftp_client_model.specs.Dialogue.{carries_on}
+use Rattle.ftp_client_model.specs.View.{View, Job, Idle, Waiting, Doing, Transferring, Told, failed_job}
 use Rattle.ftp_operation.specs.Answer.{Memory}
-use Rattle.ftp_client_dialogue.specs.Client.{job_went, shorted}
+use Rattle.ftp_client_session.specs.Client.{job_went, shorted}
 
 goes_on_by : (count : ℕ) (job : Job) (v : View) → (let w : View = record v { job = job_went count job } in let u : View = record v { job = job } in carries_on w ≡ goes_by count job u)
 goes_on_by count Idle v = refl

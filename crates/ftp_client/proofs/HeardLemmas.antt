@@ -5,8 +5,8 @@ use Rattle.std.specs.declared.result.Result.{Result}
 use Rattle.std.specs.declared.result.Result.TheVariants.{Ok, Err}
 use Rattle.std.proofs.Math.Seq.{take-suc}
 use Rattle.std.specs.Prelude.{IsTrue}
-use Rattle.ftp_client_machine.specs.Calls.{hears, hears_octet, may_hear, MayHear}
-use Rattle.ftp_client_machine.specs.View.{View}
+use Rattle.ftp_client_model.specs.Calls.{hears, hears_octet, may_hear, MayHear}
+use Rattle.ftp_client_model.specs.View.{View}
 
 pub hears_one : (v : View) (front : List ℕ) (octet : ℕ) → hears v (front ++ octet ∷ []) ≡ hears_octet (hears v front) octet
 hears_one v [] octet = refl

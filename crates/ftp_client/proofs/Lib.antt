@@ -1,3 +1,4 @@
+pub mod ReplyLemmas
 pub mod HeardLemmas
 pub mod GivenLemmas
 pub mod FitLemmas

@@ -1,8 +1,8 @@
 -- How a client is seen by its calls.
 use Rattle.std.specs.Prelude.{ℕ, List}
 use Rattle.ftp_operation.specs.declared.op.Op.{Op}
-use Rattle.ftp_client_machine.specs.Failing.{Client as Seen}
-use Rattle.ftp_client_machine.specs.View.{Flow}
+use Rattle.ftp_client_model.specs.Failing.{Client as Seen}
+use Rattle.ftp_client_model.specs.View.{Flow}
 use Rattle.ftp_client.specs.Counted.{counted_of}
 use Rattle.ftp_client.specs.declared.client.Client.{Client}
 

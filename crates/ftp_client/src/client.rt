@@ -3,17 +3,17 @@ ghost use Rattle.std.specs.Prelude.{◌≡◌, ◌+◌, ◌<◌, ◌≤◌, IfEr
 ghost use Rattle.std.specs.List.{AllByRecursion};
 ghost use Rattle.ftp_endpoint.specs.Written.{IsTypedHost};
 ghost use Rattle.ftp_ends.specs.Limits.{block_limit, held_limit};
-ghost use Rattle.ftp_client_machine.specs.Held.{held};
-ghost use Rattle.ftp_client_machine.specs.View as view;
+ghost use Rattle.ftp_client_model.specs.Held.{held};
+ghost use Rattle.ftp_client_model.specs.View as view;
 ghost use Rattle.ftp_client.specs.Counted.{StaysFit};
 
 use crate::counted::Counted;
+use ftp_client_steps::ClientTransfer;
 use ftp_endpoint::Host;
-use ftp_judging::Carries;
 use ftp_operation::Login;
 use std::alloc::Allocator;
 
-/// A client. `F` is what a transfer carries; its calls are those of the trait `Near` of `ftp_client_machine`.
+/// A client. `F` is what a transfer carries; its calls are those of the trait `Near` of `ftp_client_model`.
 #[derive(Drop)]
 pub struct Client<A: Allocator, F: Drop> {
     pub(crate) counted: Counted<A, F>,
@@ -21,7 +21,7 @@ pub struct Client<A: Allocator, F: Drop> {
     ghost fit: { ∥ StaysFit counted ∥₁ },
 }
 
-impl<A: Allocator + Clone, F: Carries<A>> Client<A, F> {
+impl<A: Allocator + Clone, F: ClientTransfer<A>> Client<A, F> {
     ghost use Rattle.ftp_client.specs.Calls.{client_of};
 
     /// A client of this login, on this host, of the server on its peer's host. Refused memory, it hands the login back.

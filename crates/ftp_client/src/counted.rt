@@ -4,21 +4,20 @@ ghost use Rattle.ftp_operation.specs.Answer.{said_of};
 ghost use Rattle.ftp_operation.specs.declared.op.Op.{Op as AnyOp};
 ghost use Rattle.ftp_ends.specs.Limits.{held_limit};
 ghost use Rattle.ftp_ends.specs.Octets.{has_octets};
-ghost use Rattle.ftp_client_machine.specs.Calls.{control_end, data_closed, data_end, data_fault, data_opened, data_refused, gives_control, gives_data, handed_back, is_busy, listen_refused, listening, may_hear, may_receive, report_of, reports, starts, to_give, uploads, wants};
-ghost use Rattle.ftp_client_machine.specs.Failing.{HearsIfRoom, Holds, HoldsIfRoom, ReceivesIfRoom, data_end_short, data_fault_short, data_opened_short, data_refused_short, listen_refused_short, listening_short, short, starts_short, uploads_short};
-ghost use Rattle.ftp_client_machine.specs.Held.{held};
-ghost use Rattle.ftp_client_machine.specs.Tries.{over_breaks};
-ghost use Rattle.ftp_client_machine.specs.View as view;
+ghost use Rattle.ftp_client_model.specs.Calls.{control_end, data_closed, data_end, data_fault, data_opened, data_refused, gives_control, gives_data, handed_back, is_busy, listen_refused, listening, may_hear, may_receive, report_of, reports, starts, to_give, uploads, wants};
+ghost use Rattle.ftp_client_model.specs.Failing.{HearsIfRoom, Holds, HoldsIfRoom, ReceivesIfRoom, data_end_short, data_fault_short, data_opened_short, data_refused_short, listen_refused_short, listening_short, short, starts_short, uploads_short};
+ghost use Rattle.ftp_client_model.specs.Held.{held};
+ghost use Rattle.ftp_client_model.specs.Tries.{over_breaks};
+ghost use Rattle.ftp_client_model.specs.View as view;
 
-use ftp_client_dialogue::Dialogue;
-use ftp_client_machine::client::Failure;
-use ftp_client_replies::{
-    data_end, data_fault, data_opened, data_refused, hear_octet, listen_refused, listening,
-};
+use crate::link::{data_end, data_fault, data_opened, data_refused, listen_refused, listening};
+use crate::reply::hear_octet;
+use ftp_client_model::client::Failure;
+use ftp_client_session::Dialogue;
+use ftp_client_steps::ClientTransfer;
 use ftp_endpoint::Host;
 use ftp_ends::Wants;
 use ftp_facts::Text;
-use ftp_judging::Carries;
 use ftp_operation::{Answer, How, Login, Op};
 use std::alloc::Allocator;
 
@@ -30,7 +29,7 @@ pub struct Counted<A: Allocator, F: Drop> {
     pub(crate) refusals: u64,
 }
 
-impl<A: Allocator + Clone, F: Carries<A>> Counted<A, F> {
+impl<A: Allocator + Clone, F: ClientTransfer<A>> Counted<A, F> {
     ghost use Rattle.ftp_client.specs.Counted.{counted_of};
 
     /// A client of this login, on this host, of the server on its peer's host. Refused memory, it hands the login back.
@@ -128,7 +127,7 @@ impl<A: Allocator + Clone, F: Carries<A>> Counted<A, F> {
     }
 
     /// The control connection ended.
-    #[tactic(auto, unfolding(ftp_client_machine::specs::Calls::control_end))]
+    #[tactic(auto, unfolding(ftp_client_model::specs::Calls::control_end))]
     pub(crate) fn control_end(&mut self)
         ensures { Holds (counted_of F.flow self.old) (counted_of F.flow self.new) (control_end (counted_of F.flow self.old).view) }
     {

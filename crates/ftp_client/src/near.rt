@@ -1,14 +1,14 @@
 // A client is the client's end of a session.
 use crate::client::Client;
-use ftp_client_machine::Near;
+use ftp_client_model::Near;
+use ftp_client_steps::ClientTransfer;
 use ftp_endpoint::Host;
 use ftp_ends::Wants;
 use ftp_facts::Text;
-use ftp_judging::Carries;
 use ftp_operation::{Answer, How, Op};
 use std::alloc::Allocator;
 
-impl<A: Allocator + Clone, F: Carries<A>> Near<A> for Client<A, F> {
+impl<A: Allocator + Clone, F: ClientTransfer<A>> Near<A> for Client<A, F> {
     ghost use Rattle.ftp_client.specs.Calls.{client_of};
 
     ghost client = { client_of F.flow };

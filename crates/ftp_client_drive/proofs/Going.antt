@@ -7,8 +7,8 @@ use Rattle.ftp_operation.specs.declared.answer.Answer.{Answer}
 use Rattle.ftp_control.proofs.Fronts.{AppendsFront-none}
 use Rattle.ftp_control.specs.Beginning.{AppendsFront}
 use Rattle.ftp_control.specs.declared.pieces.Failed.{Failed}
-use Rattle.ftp_client_machine.specs.Calls.{gives_control}
-use Rattle.ftp_client_machine.specs.Failing.{Holds}
+use Rattle.ftp_client_model.specs.Calls.{gives_control}
+use Rattle.ftp_client_model.specs.Failing.{Holds}
 use Rattle.ftp_client_drive.specs.Deeds.{Read, Ended, Gives, IsCut, Stand}
 use Rattle.ftp_client_drive.specs.Driving.{Answers, Fails, Flushes, Goes, Leads, Settles}
 use Rattle.ftp_client_drive.proofs.Leading.{fails_here, fails_then, leads_on, leads_then, settled_leads}

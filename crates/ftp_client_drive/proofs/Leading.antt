@@ -3,7 +3,7 @@ use Rattle.std.proofs.Common.{List, [], ◌∷◌, ◌++◌, refl, sym, ap, subs
 use Rattle.std.proofs.KnownBytes.{Appends-nil, Keeps-refl}
 use Rattle.std.specs.Io.KnownBytes.{Appends}
 use Rattle.ftp_control.proofs.Fronts.{AppendsFront-none}
-use Rattle.ftp_client_machine.specs.Failing.{Client}
+use Rattle.ftp_client_model.specs.Failing.{Client}
 use Rattle.ftp_client_drive.specs.Deeds.{Call, Called, Deed, Said, Other, Done, Led, Stand, OwesNothing}
 use Rattle.ftp_client_drive.specs.Driving.{Breaks, Fails, Leads, Quietly, Settles}
 

@@ -4,7 +4,7 @@ use Rattle.std.proofs.KnownBytes.{Appends-nil, Appends-trans, Consumes-nil, Cons
 use Rattle.std.specs.Io.KnownBytes.{Appends, Consumes}
 use Rattle.ftp_control.proofs.Fronts.{Appends-then-front}
 use Rattle.ftp_operation.specs.Answer as Answers
-use Rattle.ftp_client_machine.specs.Failing.{Client}
+use Rattle.ftp_client_model.specs.Failing.{Client}
 use Rattle.ftp_client_drive.specs.Deeds.{Deed, Heard, Said, Read, Ended, Other, Closed, Report, Called, Led, Stand, heard_in, read_in, said_in, with_client}
 use Rattle.ftp_client_drive.specs.Driving.{BrokeOff, Drove, Fails, GivesUp, Tells}
 

@@ -3,12 +3,12 @@ use Rattle.std.proofs.Common.{◌≡◌, ◌∙◌, ℕ, ◌≤◌, [], ◌++◌
 use Rattle.std.specs.Prelude.{true, false}
 use Rattle.std.proofs.lemmas.List.{length-take-le, take-append-drop}
 use Rattle.ftp_operation.specs.Answer.{Said, Lost}
-use Rattle.ftp_client_machine.specs.Calls.{control_end, data_closed, gives_control, is_sound, report_of, report_of_job}
-use Rattle.ftp_client_machine.specs.Failing.{Client, HearsIfRoom, Holds}
-use Rattle.ftp_client_machine.specs.View.{View, Job, Idle, Waiting, Doing, Transferring, Told, failed_job, fails_by}
-use Rattle.ftp_client_machine.specs.declared.client.Failure.TheVariants as Failures
-use Rattle.ftp_client_machine.specs.declared.client.Standing.{Standing}
-use Rattle.ftp_client_machine.specs.declared.client.Standing.TheVariants as Stands
+use Rattle.ftp_client_model.specs.Calls.{control_end, data_closed, gives_control, is_sound, report_of, report_of_job}
+use Rattle.ftp_client_model.specs.Failing.{Client, HearsIfRoom, Holds}
+use Rattle.ftp_client_model.specs.View.{View, Job, Idle, Waiting, Doing, Transferring, Told, failed_job, fails_by}
+use Rattle.ftp_client_model.specs.declared.client.Failure.TheVariants as Failures
+use Rattle.ftp_client_model.specs.declared.client.Standing.{Standing}
+use Rattle.ftp_client_model.specs.declared.client.Standing.TheVariants as Stands
 use Rattle.ftp_client_drive.specs.Deeds.{Call, Called, Closed, Heard, IsCut, Other, Report, Stand, with_client}
 use Rattle.ftp_client_drive.specs.Driving.{GivesUp, Leads, Settles, Tells, is_under_way}
 use Rattle.ftp_client_drive.proofs.Leading.{leads_by, leads_then}

@@ -1,6 +1,6 @@
 -- A client beside its control connection, of values of the program.
 use Rattle.std.specs.Prelude.{ℕ, List, Option}
-use Rattle.ftp_client_machine.specs.Failing.{Client}
+use Rattle.ftp_client_model.specs.Failing.{Client}
 use Rattle.ftp_control.specs.Unheard.{left_of, unheard_of, written_of}
 use Rattle.ftp_control.specs.declared.control.Control.{Control}
 use Rattle.ftp_client_drive.specs.Deeds.{Stand}

@@ -3,8 +3,8 @@ use Rattle.std.specs.Prelude.{◌≡◌, ℕ, List, [], ◌∷◌, ◌++◌, len
 use Rattle.std.specs.Io.KnownBytes.{Appends, Consumes, IsAtEnd}
 use Rattle.ftp_endpoint.specs.declared.host.Host.{Host}
 use Rattle.ftp_operation.specs.Answer as Answers
-use Rattle.ftp_client_machine.specs.Calls.{control_end, data_closed, data_end, data_fault, data_opened, data_refused, gives_control, gives_data, listen_refused, listening, report_of, reports}
-use Rattle.ftp_client_machine.specs.Failing.{Client, HearsIfRoom, Holds, HoldsIfRoom, ReceivesIfRoom, data_end_short, data_fault_short, data_opened_short, data_refused_short, listen_refused_short, listening_short, short}
+use Rattle.ftp_client_model.specs.Calls.{control_end, data_closed, data_end, data_fault, data_opened, data_refused, gives_control, gives_data, listen_refused, listening, report_of, reports}
+use Rattle.ftp_client_model.specs.Failing.{Client, HearsIfRoom, Holds, HoldsIfRoom, ReceivesIfRoom, data_end_short, data_fault_short, data_opened_short, data_refused_short, listen_refused_short, listening_short, short}
 
 -- a client beside its control connection: what is left to be read of it, what was read and is not heard yet, and what was written
 -- to it, where a reader or a writer tells that

@@ -7,9 +7,9 @@ use Rattle.ftp_operation.specs.Answer.{Said, Lost, said_of}
 use Rattle.ftp_operation.specs.declared.answer.Answer.{Answer}
 use Rattle.ftp_control.specs.Beginning.{AppendsFront}
 use Rattle.ftp_control.specs.declared.pieces.Failed.{Failed}
-use Rattle.ftp_client_machine.specs.Calls.{is_sound}
-use Rattle.ftp_client_machine.specs.Failing.{Client}
-use Rattle.ftp_client_machine.specs.View.{Job, Idle, Waiting, Doing, Transferring, Told}
+use Rattle.ftp_client_model.specs.Calls.{is_sound}
+use Rattle.ftp_client_model.specs.Failing.{Client}
+use Rattle.ftp_client_model.specs.View.{Job, Idle, Waiting, Doing, Transferring, Told}
 use Rattle.ftp_client_drive.specs.Deeds.{Deed, Other, Closed, Report, Called, Calls, Gives, IsCut, Led, OwesNothing, Stand, heard_in, read_in, said_in, with_client}
 
 -- deeds led from here to there

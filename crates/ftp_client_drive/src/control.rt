@@ -4,7 +4,7 @@ ghost use Rattle.ftp_control.specs.Unheard.{unheard_of};
 ghost use Rattle.ftp_client_drive.specs.Beside.{beside};
 ghost use Rattle.ftp_client_drive.specs.Driving.{Flushes, Goes, GoesSettled};
 
-use ftp_client_machine::Near;
+use ftp_client_model::Near;
 use ftp_control::{Control, Failed, TURNS};
 use std::alloc::Allocator;
 use std::io::{Read, Write};

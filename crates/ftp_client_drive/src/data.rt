@@ -1,9 +1,9 @@
 // A data connection, and room for its octets.
 ghost use Rattle.std.specs.Prelude.{◌≡◌, ◌≢◌};
-ghost use Rattle.ftp_client_machine.specs.Calls.{wants};
+ghost use Rattle.ftp_client_model.specs.Calls.{wants};
 ghost use Rattle.ftp_client_drive.specs.Driving.{Quietly};
 
-use ftp_client_machine::Near;
+use ftp_client_model::Near;
 use ftp_control::{DATA_PIECE, DataConnection, For, Halt, Ports, Ready, Rest};
 use ftp_ends::Wants;
 use std::alloc::Allocator;

@@ -9,7 +9,7 @@ ghost use Rattle.ftp_client_drive.specs.Deeds.{Called, Closed};
 
 use crate::control::{flush, hear, read};
 use crate::data::{Data, is_spoken_first};
-use ftp_client_machine::Near;
+use ftp_client_model::Near;
 use ftp_control::{Accepted, Control, Failed, Halt, Ports, TURNS};
 use ftp_endpoint::Endpoint;
 use ftp_ends::Wants;

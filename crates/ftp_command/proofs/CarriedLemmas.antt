@@ -9,14 +9,14 @@ use Rattle.std.proofs.lemmas.List.Sums.{sum_by-cons}
 use Rattle.ftp_command.proofs.PathLemmas.{path_plain, path_short}
 use Rattle.ftp_path.specs.Path.{IsPathText, is_path_octet}
 use Rattle.ftp_command.specs.Argument.{IsPassword}
-use Rattle.ftp_login.specs.Login.{is_login_octet}
+use Rattle.ftp_path.specs.Login.{is_login_octet}
 use Rattle.ftp_command.specs.Line.{spaced, line_of, is_no_feed, IsWords, IsLine, IsStated, IsTyped}
 use Rattle.ftp_command.specs.declared.command.Command.{Command}
 use Rattle.ftp_command.specs.declared.command.Command.TheVariants as command
-use Rattle.ftp_representation.specs.declared.representation.Kind.TheVariants.{Ascii, Image}
-use Rattle.ftp_representation.specs.declared.representation.Mode.TheVariants.{Stream, Block}
+use Rattle.ftp_settings.specs.declared.representation.Kind.TheVariants.{Ascii, Image}
+use Rattle.ftp_settings.specs.declared.representation.Mode.TheVariants.{Stream, Block}
 use Rattle.ftp_command.specs.declared.command.Passive.TheVariants.{Any, Ipv4, Ipv6, Only}
-use Rattle.ftp_representation.specs.declared.representation.Structure.TheVariants.{File, Record}
+use Rattle.ftp_settings.specs.declared.representation.Structure.TheVariants.{File, Record}
 use Rattle.ftp_endpoint.specs.Written.{numbers_text, six_of, six_text, hex, groups_of, address_text, extended_text, IsV4, IsTypedHost, IsTypedEndpoint}
 use Rattle.ftp_endpoint.specs.declared.endpoint.Endpoint.{Endpoint}
 use Rattle.ftp_endpoint.specs.declared.host.Host.{Host}

@@ -17,10 +17,10 @@ use Rattle.ftp_command.specs.Line.{IsStated, IsTyped, line_of, spaced, tail_of}
 use Rattle.ftp_command.specs.Verb.{Names, letters}
 use Rattle.ftp_command.specs.declared.command.Command.{Command}
 use Rattle.ftp_command.specs.declared.command.Command.TheVariants as command
-use Rattle.ftp_representation.specs.declared.representation.Kind.TheVariants.{Ascii, Image}
-use Rattle.ftp_representation.specs.declared.representation.Mode.TheVariants.{Stream, Block}
+use Rattle.ftp_settings.specs.declared.representation.Kind.TheVariants.{Ascii, Image}
+use Rattle.ftp_settings.specs.declared.representation.Mode.TheVariants.{Stream, Block}
 use Rattle.ftp_command.specs.declared.command.Passive.TheVariants.{Any, Ipv4, Ipv6, Only}
-use Rattle.ftp_representation.specs.declared.representation.Structure.TheVariants.{File, Record}
+use Rattle.ftp_settings.specs.declared.representation.Structure.TheVariants.{File, Record}
 use Rattle.ftp_command.specs.declared.verb.Verb.{Verb}
 use Rattle.ftp_command.specs.declared.verb.Verb.TheVariants as verb
 use Rattle.ftp_command.proofs.ArgumentLemmas.{without-done}

@@ -3,8 +3,8 @@ use Rattle.std.proofs.Common.{◌≡◌, inl, inr, ℕ, List, [], Option, None, 
 use Rattle.ftp_command.specs.Argument.{IsOtherKind, IsOtherName, SaysKind, SaysLocal, SaysLongest, SaysSizes}
 use Rattle.ftp_endpoint.specs.Number.{behind_digits}
 use Rattle.ftp_command.specs.Verb.{SameLetters}
-use Rattle.ftp_representation.specs.declared.representation.Kind.{Kind}
-use Rattle.ftp_representation.specs.declared.representation.Kind.TheVariants.{Ascii, Image}
+use Rattle.ftp_settings.specs.declared.representation.Kind.{Kind}
+use Rattle.ftp_settings.specs.declared.representation.Kind.TheVariants.{Ascii, Image}
 
 -- no type: none of the names, and no local size
 pub no_kind : (text : List ℕ) → (SaysKind text Ascii → ⊥) → (SameLetters text (codes "I") → ⊥) → ((bits : ℕ) → SaysLocal text bits → ⊥) → (value : Kind) → SaysKind text value → ⊥

@@ -2,15 +2,15 @@
 use Rattle.std.specs.Prelude.{◌≡◌, ◌≢◌, ◌⊎◌, ◌≤◌, ℕ, zero, suc, Bool, false, not, ◌==◌, ◌&&◌, if◌then◌else◌, List, [], ◌∷◌, length, drop, IsTrue, Option, Some, None, codes}
 use Rattle.std.specs.Char.{is_ascii_alphabetic, to_ascii_lowercase}
 use Rattle.std.specs.List.{list_all, prefix_len, before_first, after_first}
-use Rattle.ftp_login.specs.Login.{is_login_octet, login_limit}
-use Rattle.ftp_representation.specs.declared.representation.Kind.{Kind}
-use Rattle.ftp_representation.specs.declared.representation.Kind.TheVariants.{Ascii, Image}
-use Rattle.ftp_representation.specs.declared.representation.Mode.{Mode}
-use Rattle.ftp_representation.specs.declared.representation.Mode.TheVariants.{Stream, Block}
+use Rattle.ftp_path.specs.Login.{is_login_octet, login_limit}
+use Rattle.ftp_settings.specs.declared.representation.Kind.{Kind}
+use Rattle.ftp_settings.specs.declared.representation.Kind.TheVariants.{Ascii, Image}
+use Rattle.ftp_settings.specs.declared.representation.Mode.{Mode}
+use Rattle.ftp_settings.specs.declared.representation.Mode.TheVariants.{Stream, Block}
 use Rattle.ftp_command.specs.declared.command.Passive.{Passive}
 use Rattle.ftp_command.specs.declared.command.Passive.TheVariants.{Any, Ipv4, Ipv6, Only}
-use Rattle.ftp_representation.specs.declared.representation.Structure.{Structure}
-use Rattle.ftp_representation.specs.declared.representation.Structure.TheVariants.{File, Record}
+use Rattle.ftp_settings.specs.declared.representation.Structure.{Structure}
+use Rattle.ftp_settings.specs.declared.representation.Structure.TheVariants.{File, Record}
 use Rattle.ftp_endpoint.specs.Number.{SaysNumber, front_digits, behind_digits}
 use Rattle.ftp_path.specs.Path.{IsPathText}
 use Rattle.ftp_command.specs.Verb.{SameLetters}

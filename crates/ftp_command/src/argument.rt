@@ -3,7 +3,7 @@ ghost use Rattle.std.specs.Prelude.{◌≡◌, ◌↔◌, ◌≤◌, IsTrue, len
 ghost use Rattle.std.specs.List.{list_all, position_or_len, prefix_len};
 ghost use Rattle.ftp_command.specs.Argument.{IsBlank, IsName, IsPassword, argument, begins_with, behind_word, hyphen, is_space, trimmed, without_options, word};
 
-use ftp_login::{LOGIN_LIMIT, are_login_octets};
+use ftp_path::{LOGIN_LIMIT, are_login_octets};
 
 /// Cuts a line at its first SP: the word, and the argument, which is empty where there is no SP.
 pub(crate) fn split_line(line: &[u8]) -> (&[u8], &[u8])

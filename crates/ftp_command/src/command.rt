@@ -1,7 +1,7 @@
 // A command as a value, generic in how it holds a text.
 
 use ftp_endpoint::Endpoint;
-use ftp_representation::{Kind, Mode, Structure};
+use ftp_settings::{Kind, Mode, Structure};
 
 /// What EPSV asks for: an endpoint of any family, of one, or that no other command opens one (RFC 2428, section 3).
 #[derive(Clone, Copy, Debug, PartialEq, Eq)]

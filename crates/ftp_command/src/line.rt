@@ -6,11 +6,11 @@ ghost use Rattle.ftp_path.specs.Path.{IsPathText};
 ghost use Rattle.ftp_endpoint.specs.Written.{IsV4, extended_text, six_text};
 
 use crate::command::{Command, Passive};
-use crate::text::Text;
+use crate::text::Argument;
 use crate::verb::Verb;
 use arrayvec::ArrayVec;
 use ftp_endpoint::{Endpoint, write_extended, write_six};
-use ftp_representation::{Kind, Mode, Structure};
+use ftp_settings::{Kind, Mode, Structure};
 use itoa::Buffer;
 use std::alloc::Allocator;
 
@@ -20,7 +20,7 @@ pub const LINE_LIMIT: usize = 1024;
 type Line = ArrayVec<u8, LINE_LIMIT>;
 
 /// The line of a command that one stands for.
-pub(crate) fn line_of<A: Allocator>(command: &Command<Text<A>>) -> Line
+pub(crate) fn line_of<A: Allocator>(command: &Command<Argument<A>>) -> Line
     requires { IsStated command.now }
     ensures { result.items ≡ line_text command.now }
 {
@@ -30,7 +30,7 @@ pub(crate) fn line_of<A: Allocator>(command: &Command<Text<A>>) -> Line
     line
 }
 
-fn command_verb<A: Allocator>(command: &Command<Text<A>>) -> Verb
+fn command_verb<A: Allocator>(command: &Command<Argument<A>>) -> Verb
     ensures { result ≡ verb_of command.now }
 {
     match command {
@@ -76,7 +76,7 @@ fn command_verb<A: Allocator>(command: &Command<Text<A>>) -> Verb
 }
 
 // What is behind the verb: nothing, or SP and the argument.
-fn put_tail<A: Allocator>(command: &Command<Text<A>>, line: &mut Line)
+fn put_tail<A: Allocator>(command: &Command<Argument<A>>, line: &mut Line)
     requires stated { IsStated command.now }
     requires room { length line.old.items ≤ 4 }
     ensures { line.new.items ≡ line.old.items ++ tail_of command.now }

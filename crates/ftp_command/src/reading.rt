@@ -14,7 +14,7 @@ use crate::argument::{drop_options, is_blank, is_name, is_password, split_line, 
 use crate::command::Command;
 use crate::fault::CommandFault;
 use crate::setting::{extended, kind, mode, passive, sizes, structure};
-use crate::text::Text;
+use crate::text::Argument;
 use crate::verb::{Verb, verb_of};
 use ftp_endpoint::{Endpoint, number, six_numbers};
 use ftp_path::is_path_text;
@@ -25,7 +25,7 @@ use std::alloc::Allocator;
 /// The word before the first SP names the verb, in capitals or small letters; all octets behind that SP are the
 /// argument. Each fault stands for one reply: see `CommandFault`. Memory is asked for last, and only for the text that a
 /// command holds.
-pub fn read<A: Allocator>(alloc: A, line: &[u8]) -> Result<Command<Text<A>>, CommandFault>
+pub fn read<A: Allocator>(alloc: A, line: &[u8]) -> Result<Command<Argument<A>>, CommandFault>
     ensures says { IfOk result (λ command. Says line.now command) }
     ensures refuses { IfErr result (λ fault. (fault ≡ CommandFault.Memory) ⊎ Refuses line.now fault) }
     ensures refused { (fault : CommandFault) → Refuses line.now fault → result ≡ Err fault }
@@ -35,7 +35,7 @@ pub fn read<A: Allocator>(alloc: A, line: &[u8]) -> Result<Command<Text<A>>, Com
     read_line(alloc, line)
 }
 
-fn read_line<A: Allocator>(alloc: A, line: &[u8]) -> Result<Command<Text<A>>, CommandFault>
+fn read_line<A: Allocator>(alloc: A, line: &[u8]) -> Result<Command<Argument<A>>, CommandFault>
     ensures says { IfOk result (λ command. Says line.now command) }
     ensures refuses { IfErr result (λ fault. ((fault ≡ CommandFault.Memory) × SaysText line.now) ⊎ Refuses line.now fault) }
 {
@@ -51,7 +51,7 @@ fn read_argument<A: Allocator>(
     alloc: A,
     verb: Verb,
     argument: &[u8],
-) -> Result<Command<Text<A>>, CommandFault>
+) -> Result<Command<Argument<A>>, CommandFault>
     ensures says { IfOk result (λ command. (verb_of command ≡ verb) × Argues argument.now command) }
     ensures refuses { IfErr result (λ fault. ((fault ≡ CommandFault.Memory) × NeedsCopy argument.now verb) ⊎ Declined argument.now verb fault) }
 {
@@ -138,7 +138,7 @@ fn space(text: &[u8]) -> Result<(u64, Option<u64>), CommandFault>
 }
 
 // A path text.
-fn path<A: Allocator>(alloc: A, argument: &[u8]) -> Result<Text<A>, CommandFault>
+fn path<A: Allocator>(alloc: A, argument: &[u8]) -> Result<Argument<A>, CommandFault>
     ensures ok { IfOk result (λ text. (argument.now ≡ text) × IsPathText text) }
     ensures err { IfErr result (λ fault. ((fault ≡ CommandFault.Memory) × IsPathText argument.now) ⊎ ((fault ≡ CommandFault.BadArgument) × (¬ IsPathText argument.now))) }
 {
@@ -149,7 +149,7 @@ fn path<A: Allocator>(alloc: A, argument: &[u8]) -> Result<Text<A>, CommandFault
 }
 
 // A user name.
-fn name<A: Allocator>(alloc: A, argument: &[u8]) -> Result<Text<A>, CommandFault>
+fn name<A: Allocator>(alloc: A, argument: &[u8]) -> Result<Argument<A>, CommandFault>
     ensures ok { IfOk result (λ text. (argument.now ≡ text) × IsName text) }
     ensures err { IfErr result (λ fault. ((fault ≡ CommandFault.Memory) × IsName argument.now) ⊎ ((fault ≡ CommandFault.BadArgument) × (¬ IsName argument.now))) }
 {
@@ -160,7 +160,7 @@ fn name<A: Allocator>(alloc: A, argument: &[u8]) -> Result<Text<A>, CommandFault
 }
 
 // A password.
-fn password<A: Allocator>(alloc: A, argument: &[u8]) -> Result<Text<A>, CommandFault>
+fn password<A: Allocator>(alloc: A, argument: &[u8]) -> Result<Argument<A>, CommandFault>
     ensures ok { IfOk result (λ text. (argument.now ≡ text) × IsPassword text) }
     ensures err { IfErr result (λ fault. ((fault ≡ CommandFault.Memory) × IsPassword argument.now) ⊎ ((fault ≡ CommandFault.BadArgument) × (¬ IsPassword argument.now))) }
 {
@@ -171,7 +171,7 @@ fn password<A: Allocator>(alloc: A, argument: &[u8]) -> Result<Text<A>, CommandF
 }
 
 // Words, of one octet or more.
-fn words<A: Allocator>(alloc: A, text: &[u8]) -> Result<Text<A>, CommandFault>
+fn words<A: Allocator>(alloc: A, text: &[u8]) -> Result<Argument<A>, CommandFault>
     ensures ok { IfOk result (λ words. (text.now ≡ words) × (1 ≤ length words)) }
     ensures err { IfErr result (λ fault. ((fault ≡ CommandFault.Memory) × (1 ≤ length text.now)) ⊎ ((fault ≡ CommandFault.BadArgument) × (¬ (1 ≤ length text.now)))) }
 {
@@ -182,7 +182,7 @@ fn words<A: Allocator>(alloc: A, text: &[u8]) -> Result<Text<A>, CommandFault>
 }
 
 // Words, or nothing.
-fn words_or_none<A: Allocator>(alloc: A, text: &[u8]) -> Result<Option<Text<A>>, CommandFault>
+fn words_or_none<A: Allocator>(alloc: A, text: &[u8]) -> Result<Option<Argument<A>>, CommandFault>
     ensures ok { IfOk result (λ words. SaysTextOrNone text.now words) }
     ensures err { IfErr result (λ fault. (fault ≡ CommandFault.Memory) × (1 ≤ length text.now)) }
 {
@@ -196,7 +196,7 @@ fn words_or_none<A: Allocator>(alloc: A, text: &[u8]) -> Result<Option<Text<A>>,
 }
 
 // A path text, or nothing.
-fn path_or_none<A: Allocator>(alloc: A, text: &[u8]) -> Result<Option<Text<A>>, CommandFault>
+fn path_or_none<A: Allocator>(alloc: A, text: &[u8]) -> Result<Option<Argument<A>>, CommandFault>
     ensures ok { IfOk result (λ path. SaysPathOrNone text.now path) }
     ensures err { IfErr result (λ fault. ((fault ≡ CommandFault.Memory) × IsPathText text.now) ⊎ ((fault ≡ CommandFault.BadArgument) × (¬ ((text.now ≡ []) ⊎ IsPathText text.now)))) }
 {
@@ -213,11 +213,11 @@ fn path_or_none<A: Allocator>(alloc: A, text: &[u8]) -> Result<Option<Text<A>>, 
 }
 
 // A copy of an argument.
-fn own<A: Allocator>(alloc: A, octets: &[u8]) -> Result<Text<A>, CommandFault>
+fn own<A: Allocator>(alloc: A, octets: &[u8]) -> Result<Argument<A>, CommandFault>
     ensures ok { IfOk result (λ text. octets.now ≡ text) }
     ensures err { IfErr result (λ fault. fault ≡ CommandFault.Memory) }
 {
-    match Text::new(alloc, octets) {
+    match Argument::new(alloc, octets) {
         Ok(text) => Ok(text),
         Err(_) => Err(CommandFault::Memory),
     }

@@ -8,7 +8,7 @@ ghost use Rattle.ftp_command.specs.declared.command.Passive.{Passive};
 use crate::command::Passive;
 use crate::fault::CommandFault;
 use ftp_endpoint::{Endpoint, EndpointFault, after, extended_endpoint, number, split_digits};
-use ftp_representation::{Kind, Mode, Structure};
+use ftp_settings::{Kind, Mode, Structure};
 
 /// Reads the parameter of TYPE (RFC 959, section 4.1.2).
 pub(crate) fn kind(text: &[u8]) -> Result<Kind, CommandFault>

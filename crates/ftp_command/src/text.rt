@@ -6,11 +6,11 @@ use std::marker::Model;
 
 /// A text that a command owns: a path, a name, a password or the words of an argument.
 #[derive(Drop)]
-pub struct Text<A: Allocator> {
+pub struct Argument<A: Allocator> {
     octets: Vec<u8, A>,
 }
 
-impl<A: Allocator> Model for Text<A> {
+impl<A: Allocator> Model for Argument<A> {
     ghost use Rattle.std.specs.Prelude.{ℕ, List};
 
     ghost Value = { List ℕ };
@@ -18,20 +18,20 @@ impl<A: Allocator> Model for Text<A> {
     ghost view = { λ t. t.octets.items };
 }
 
-impl<A: Allocator> Text<A> {
+impl<A: Allocator> Argument<A> {
     /// A copy of these octets; only memory can be refused.
-    pub fn new(alloc: A, octets: &[u8]) -> Result<Text<A>, AllocError>
+    pub fn new(alloc: A, octets: &[u8]) -> Result<Argument<A>, AllocError>
         ensures { IfOk result (λ text. text ≡ octets.now) }
     {
         let octets = Vec::from_slice(alloc, octets)?;
-        Ok(Text { octets })
+        Ok(Argument { octets })
     }
 
     /// The text of a vector's octets, with no copy.
-    pub fn from_vec(octets: Vec<u8, A>) -> Text<A>
+    pub fn from_vec(octets: Vec<u8, A>) -> Argument<A>
         ensures { result ≡ octets.items }
     {
-        Text { octets }
+        Argument { octets }
     }
 
     /// The octets, lent.

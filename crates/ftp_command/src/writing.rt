@@ -11,7 +11,7 @@ use crate::argument::{begins_option, is_name, is_password, trim};
 use crate::command::Command;
 use crate::fault::CommandFault;
 use crate::line::{LINE_LIMIT, line_of};
-use crate::text::Text;
+use crate::text::Argument;
 use ftp_endpoint::{Host, NUMBER_LIMIT};
 use ftp_path::is_path_text;
 use std::alloc::Allocator;
@@ -21,7 +21,7 @@ use std::alloc::Allocator;
 /// BadArgument: no line stands for the value, as a path of no octet, or a host of IPv6 in PORT. Memory: a growth was
 /// refused. After either, `out` is as it was.
 pub fn write<A: Allocator, B: Allocator>(
-    command: &Command<Text<A>>,
+    command: &Command<Argument<A>>,
     out: &mut Vec<u8, B>,
 ) -> Result<(), CommandFault>
     ensures ok { OnOk result (IsStated command.now × (out.new.items ≡ out.old.items ++ line_text command.now)) }
@@ -40,7 +40,7 @@ pub fn write<A: Allocator, B: Allocator>(
 }
 
 // Whether a line stands for a command.
-fn is_stated<A: Allocator>(command: &Command<Text<A>>) -> bool
+fn is_stated<A: Allocator>(command: &Command<Argument<A>>) -> bool
     ensures { IsTrue result ↔ IsStated command.now }
 {
     match command {

@@ -8,7 +8,7 @@ use Rattle.ftp_repr.specs.Signs.{wire_row}
 use Rattle.ftp_repr.specs.Skipping.{IsPlace, Skips}
 use Rattle.ftp_repr.specs.declared.skipping.Skipped.TheVariants.{Within, Left, Inside}
 use Rattle.ftp_repr.proofs.SkipLemmas.{goes_up, place_once, row_append, within_stays, inside_stays}
-use Rattle.ftp_representation.specs.declared.representation.Kind.{Kind}
+use Rattle.ftp_settings.specs.declared.representation.Kind.{Kind}
 use Rattle.ftp_direct.specs.Direct.{place_in, size_in}
 use Rattle.ftp_direct.specs.Laws.{OffsetsLead}
 use Rattle.ftp_direct.proofs.SizeLemmas.{size_piece}

@@ -6,8 +6,8 @@ use Rattle.std.proofs.lemmas.List.{length-take, length-drop}
 use Rattle.std.proofs.Math.Seq.{take-add}
 use Rattle.ftp_repr.specs.Ascii.{asc, ascii_octet}
 use Rattle.ftp_repr.specs.Signs.{wire_octets, wire_row}
-use Rattle.ftp_representation.specs.declared.representation.Kind.{Kind}
-use Rattle.ftp_representation.specs.declared.representation.Kind.TheVariants.{Ascii, Image}
+use Rattle.ftp_settings.specs.declared.representation.Kind.{Kind}
+use Rattle.ftp_settings.specs.declared.representation.Kind.TheVariants.{Ascii, Image}
 use Rattle.ftp_direct.specs.Direct.{size_in}
 
 image_len : (octets : List ℕ) → length (flat_map (wire_octets Image) octets) ≡ length octets

@@ -9,10 +9,10 @@ use Rattle.ftp_tree.specs.Tree.{Node, Dir, File, Table, node_at, octets_or_none,
 use Rattle.ftp_tree.specs.declared.fault.TreeFault.{TreeFault}
 use Rattle.ftp_tree.specs.declared.fault.TreeFault.TheVariants as Faults
 use Rattle.ftp_repr.specs.Ascii.{asc}
-use Rattle.ftp_representation.specs.declared.representation.Kind.{Kind}
-use Rattle.ftp_representation.specs.declared.representation.Kind.TheVariants.{Ascii, Image}
-use Rattle.ftp_representation.specs.declared.representation.Structure.{Structure}
-use Rattle.ftp_representation.specs.declared.representation.Structure.TheVariants as Structures
+use Rattle.ftp_settings.specs.declared.representation.Kind.{Kind}
+use Rattle.ftp_settings.specs.declared.representation.Kind.TheVariants.{Ascii, Image}
+use Rattle.ftp_settings.specs.declared.representation.Structure.{Structure}
+use Rattle.ftp_settings.specs.declared.representation.Structure.TheVariants as Structures
 use Rattle.ftp_operation.specs.declared.op.How.{How}
 use Rattle.ftp_operation.specs.declared.op.Op.{Op}
 use Rattle.ftp_operation.specs.declared.op.Op.TheVariants as Ops

@@ -3,7 +3,7 @@ use Rattle.std.specs.Prelude.{◌≡◌, ◌↔◌, ℕ, Bool, List, [], Some}
 use Rattle.ftp_path.specs.Path.{Names}
 use Rattle.ftp_tree.specs.Tree.{Table, under, with_part}
 use Rattle.ftp_repr.specs.Skipping.{IsPlace}
-use Rattle.ftp_representation.specs.declared.representation.Kind.{Kind}
+use Rattle.ftp_settings.specs.declared.representation.Kind.{Kind}
 use Rattle.ftp_operation.specs.declared.op.Op.{Op}
 use Rattle.ftp_operation.specs.Answer.{Said}
 use Rattle.ftp_direct.specs.Direct.{State, answers, place_in, standing}

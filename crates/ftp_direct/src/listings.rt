@@ -13,7 +13,7 @@ ghost use Rattle.ftp_direct.specs.Run.{Gives};
 
 use crate::nodes::{absent_fault, directory_fault, is_file};
 use crate::refusal::{Refusal, find, tell};
-use ftp_facts::{Entry, Kind, Text};
+use ftp_facts::{Entry, EntryKind, Text};
 use ftp_operation::{Answer, How, Op, is_number};
 use ftp_tree::{Path, Tree, TreeFault};
 use std::alloc::{AllocError, Allocator};
@@ -121,7 +121,7 @@ fn entry<A: Allocator + Clone, T: Tree<A>>(
         let perm = Text::copy_of(alloc.clone()?, dir_perm(path))?;
         return Ok(Entry {
             name,
-            kind: Some(Kind::Dir),
+            kind: Some(EntryKind::Dir),
             size: None,
             modify: None,
             perm: Some(perm),
@@ -130,7 +130,7 @@ fn entry<A: Allocator + Clone, T: Tree<A>>(
     let perm = Text::copy_of(alloc.clone()?, b"adfrw")?;
     Ok(Entry {
         name,
-        kind: Some(Kind::File),
+        kind: Some(EntryKind::File),
         size: size_fact(tree, root, path),
         modify: tree.stamp(root, path),
         perm: Some(perm),

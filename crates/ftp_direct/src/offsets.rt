@@ -7,7 +7,7 @@ use crate::nodes::len_at;
 use crate::refusal::Refusal;
 use ftp_operation::How;
 use ftp_repr::{Skipped, skip};
-use ftp_representation::{Kind, Structure};
+use ftp_settings::{Kind, Structure};
 use ftp_tree::{Path, Tree};
 use std::alloc::Allocator;
 

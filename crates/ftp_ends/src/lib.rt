@@ -2,7 +2,9 @@
 //! what an end wants of the connections (RFC 959, sections 2.3, 3.2 and 4.2).
 #![tactic(auto)]
 
+mod host;
 pub mod laws;
 mod link;
 
+pub use host::{is_same_host, is_v6};
 pub use link::Wants;

@@ -6,8 +6,8 @@ use Rattle.std.proofs.lemmas.List.Elements.{All-cons, All-nil, All-append, All-f
 use Rattle.std.specs.Str.Parse.{AllDigits, digits_value}
 use Rattle.std.proofs.lemmas.Str.Parse.{IsNumeralModel, not_in_digits}
 use Rattle.std.proofs.lemmas.Fmt.{digits_decimal, digits_value-decimal, length-decimal-le, decimal_nonempty}
-use Rattle.ftp_facts.specs.declared.entry.Kind.{Kind}
-use Rattle.ftp_facts.specs.declared.entry.Kind.TheVariants.{File, Dir, CurrentDir, ParentDir, Other}
+use Rattle.ftp_facts.specs.declared.entry.EntryKind.{EntryKind}
+use Rattle.ftp_facts.specs.declared.entry.EntryKind.TheVariants.{File, Dir, CurrentDir, ParentDir, Other}
 use Rattle.ftp_facts.specs.declared.entry.Entry.{Entry}
 use Rattle.ftp_facts.specs.declared.moment.Moment.{Moment}
 use Rattle.ftp_facts.specs.Moment.{two_digits, four_digits, date_digits, time_digits, moment_digits, moment_value, WritesMoment}
@@ -66,7 +66,7 @@ lacks_decimal c n lt apart =
     All-from_get_or (λ each. each ≢ c) (decimal n) 0 (not_in_digits own (decimal n) c (digits_decimal own n lt) apart)
 
 -- each value of an entry can stand in a fact
-kind_value : {A : Type 0} (kind : Option (Kind A)) → ((word : List ℕ) → kind ≡ Some (Other word) → IsOtherWord word) → ForSome (option_map word_of kind) IsValue
+kind_value : {A : Type 0} (kind : Option (EntryKind A)) → ((word : List ℕ) → kind ≡ Some (Other word) → IsOtherWord word) → ForSome (option_map word_of kind) IsValue
 kind_value None fits = λ text e. cc
 kind_value (Some File) fits = λ text e. let same : text ≡ file_word = cc in rw same (lacks_by space file_word refl, lacks_by semicolon file_word refl)
 kind_value (Some Dir) fits = λ text e. let same : text ≡ dir_word = cc in rw same (lacks_by space dir_word refl, lacks_by semicolon dir_word refl)
@@ -148,7 +148,7 @@ values line name kind size modify perm k s m p is =
     }
 
 -- the word of a type names it, a decimal number is a size, and the digits of a moment say it
-kind_said : {A : Type 0} (kind : Option (Kind A)) → ((word : List ℕ) → kind ≡ Some (Other word) → IsOtherWord word) → option_map word_of kind ≡ option_map kind_word (option_map word_of kind)
+kind_said : {A : Type 0} (kind : Option (EntryKind A)) → ((word : List ℕ) → kind ≡ Some (Other word) → IsOtherWord word) → option_map word_of kind ≡ option_map kind_word (option_map word_of kind)
 kind_said None fits = refl
 kind_said (Some File) fits = refl
 kind_said (Some Dir) fits = refl

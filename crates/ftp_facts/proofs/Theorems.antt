@@ -7,8 +7,8 @@ use Rattle.ftp_endpoint.specs.Number.{IsShort}
 use Rattle.ftp_path.specs.Path.{IsPathText}
 use Rattle.ftp_facts.specs.declared.fault.FactFault.{FactFault}
 use Rattle.ftp_facts.specs.declared.fault.FactFault.TheVariants.{NoSpace, BadFact, BadMoment, Memory, BadName}
-use Rattle.ftp_facts.specs.declared.entry.Kind.{Kind}
-use Rattle.ftp_facts.specs.declared.entry.Kind.TheVariants.{File, Dir, CurrentDir, ParentDir, Other}
+use Rattle.ftp_facts.specs.declared.entry.EntryKind.{EntryKind}
+use Rattle.ftp_facts.specs.declared.entry.EntryKind.TheVariants.{File, Dir, CurrentDir, ParentDir, Other}
 use Rattle.ftp_facts.specs.declared.entry.Entry.{Entry}
 use Rattle.ftp_facts.specs.declared.moment.Moment.{Moment}
 use Rattle.ftp_facts.specs.Entry.{IsSized, IsSound, Refuses, SaysEntry, SaysListed, listed_of, word_of}
@@ -21,7 +21,7 @@ use Rattle.ftp_facts.proofs.ListedLemmas.{entry_says}
 use Rattle.ftp_facts.proofs.MomentLemmas.{Moment-same}
 
 -- the type that a value names
-kind_at : {A : Type 0} → List ℕ → Kind A
+kind_at : {A : Type 0} → List ℕ → EntryKind A
 kind_at value =
     if is_word value file_word then File
     else (if is_word value dir_word then Dir
@@ -29,7 +29,7 @@ kind_at value =
     else (if is_word value parent_word then ParentDir else Other value)))
 
 -- a type is the one that its word names
-kind_is : {A : Type 0} (kind : Kind A) → ((word : List ℕ) → kind ≡ Other word → IsOtherWord word) → kind ≡ kind_at (word_of kind)
+kind_is : {A : Type 0} (kind : EntryKind A) → ((word : List ℕ) → kind ≡ Other word → IsOtherWord word) → kind ≡ kind_at (word_of kind)
 unfolding kind_at
 kind_is File fits = refl
 kind_is Dir fits = refl
@@ -37,7 +37,7 @@ kind_is CurrentDir fits = refl
 kind_is ParentDir fits = refl
 kind_is (Other word) fits = let other = fits word refl in rw (other.1, other.2, other.3, other.4) refl
 
-kinds_same : {A : Type 0} (k l : Option (Kind A)) → ((word : List ℕ) → k ≡ Some (Other word) → IsOtherWord word) → ((word : List ℕ) → l ≡ Some (Other word) → IsOtherWord word)
+kinds_same : {A : Type 0} (k l : Option (EntryKind A)) → ((word : List ℕ) → k ≡ Some (Other word) → IsOtherWord word) → ((word : List ℕ) → l ≡ Some (Other word) → IsOtherWord word)
     → option_map word_of k ≡ option_map word_of l → k ≡ l
 kinds_same None None a b e = refl
 kinds_same None (Some l) a b e = absurd (let f : false ≡ true = ap is_some e in cc)

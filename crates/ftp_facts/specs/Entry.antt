@@ -4,8 +4,8 @@ use Rattle.std.specs.Option.{ForSome, option_copied}
 use Rattle.ftp_facts.specs.declared.fault.FactFault.{FactFault}
 use Rattle.ftp_facts.specs.declared.fault.FactFault.TheVariants.{NoSpace, BadFact, BadMoment, Memory, BadName}
 use Rattle.ftp_facts.specs.declared.moment.Moment.{Moment}
-use Rattle.ftp_facts.specs.declared.entry.Kind.{Kind}
-use Rattle.ftp_facts.specs.declared.entry.Kind.TheVariants.{File, Dir, CurrentDir, ParentDir, Other}
+use Rattle.ftp_facts.specs.declared.entry.EntryKind.{EntryKind}
+use Rattle.ftp_facts.specs.declared.entry.EntryKind.TheVariants.{File, Dir, CurrentDir, ParentDir, Other}
 use Rattle.ftp_facts.specs.declared.entry.Entry.{Entry}
 use Rattle.ftp_facts.specs.declared.reading.Seen.{Seen}
 use Rattle.ftp_endpoint.specs.Number.{IsShort}
@@ -36,7 +36,7 @@ NoParts line BadFact =
 NoParts line other = ⊥
 
 -- the word of a type
-abbrev pub word_of : {A : Type 0} → Kind A → List ℕ
+abbrev pub word_of : {A : Type 0} → EntryKind A → List ℕ
 word_of File = file_word
 word_of Dir = dir_word
 word_of CurrentDir = current_word

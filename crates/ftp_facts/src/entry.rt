@@ -4,14 +4,14 @@ ghost use Rattle.std.specs.Option.{ForSome};
 ghost use Rattle.ftp_endpoint.specs.Number.{IsShort};
 ghost use Rattle.ftp_path.specs.Path.{IsPathText};
 ghost use Rattle.ftp_facts.specs.Fact.{IsValue, IsOtherWord};
-ghost use Rattle.ftp_facts.specs.declared.entry.Kind.TheVariants.{Other};
+ghost use Rattle.ftp_facts.specs.declared.entry.EntryKind.TheVariants.{Other};
 
 use crate::{Moment, Text};
 use std::alloc::Allocator;
 
 /// The type of an entry (RFC 3659, section 7.5.1).
 #[derive(Debug, Drop)]
-pub enum Kind<A: Allocator> {
+pub enum EntryKind<A: Allocator> {
     /// A file.
     File,
     /// A directory.
@@ -29,7 +29,7 @@ pub enum Kind<A: Allocator> {
 pub struct Entry<A: Allocator> {
     /// A path text.
     pub name: Text<A>,
-    pub kind: Option<Kind<A>>,
+    pub kind: Option<EntryKind<A>>,
     /// In octets.
     pub size: Option<u64>,
     pub modify: Option<Moment>,

@@ -15,7 +15,7 @@ mod text;
 mod writing;
 
 pub use cutting::cut_at;
-pub use entry::{Entry, Kind};
+pub use entry::{Entry, EntryKind};
 pub use fault::FactFault;
 pub use moment::{Moment, moment_of_text, moment_text};
 pub use reading::read_entry;

@@ -6,11 +6,11 @@ ghost use Rattle.ftp_facts.specs.Value.{number_value};
 ghost use Rattle.ftp_facts.specs.Moment.{moment_value};
 ghost use Rattle.ftp_facts.specs.Listed.{fact_value, kind_word};
 ghost use Rattle.ftp_facts.specs.Entry.{CanBeKept, HasParts, NoParts, Refuses, SaysEntry, SaysListed, listed_in, listed_of, word_of};
-ghost use Rattle.ftp_facts.specs.declared.entry.Kind.TheVariants.{Other};
+ghost use Rattle.ftp_facts.specs.declared.entry.EntryKind.TheVariants.{Other};
 
 use crate::cutting::cut_at;
 use crate::facts::{is_word, value_of};
-use crate::{Entry, FactFault, Kind, Moment, Text, moment_of_text};
+use crate::{Entry, EntryKind, FactFault, Moment, Text, moment_of_text};
 use ftp_endpoint::number;
 use ftp_path::is_path_text;
 use std::alloc::{AllocError, Allocator};
@@ -140,7 +140,7 @@ fn keep<A: Allocator + Clone>(alloc: A, seen: Seen<'_>) -> Result<Entry<A>, Allo
 fn keep_kind<A: Allocator + Clone>(
     alloc: &A,
     word: Option<&[u8]>,
-) -> Result<Option<Kind<A>>, AllocError>
+) -> Result<Option<EntryKind<A>>, AllocError>
     requires { ForSome (option_copied word) IsValue }
     ensures word { IfOk result (λ kind. option_map word_of kind ≡ option_map kind_word (option_copied word.entry)) }
     ensures fits { IfOk result (λ kind. (other : List ℕ) → kind ≡ Some (Other other) → IsOtherWord other) }
@@ -151,21 +151,21 @@ fn keep_kind<A: Allocator + Clone>(
     }
 }
 
-fn kind_of<A: Allocator + Clone>(alloc: &A, word: &[u8]) -> Result<Kind<A>, AllocError>
+fn kind_of<A: Allocator + Clone>(alloc: &A, word: &[u8]) -> Result<EntryKind<A>, AllocError>
     requires { IsValue word.now }
     ensures word { IfOk result (λ kind. word_of kind ≡ kind_word word.now) }
     ensures fits { IfOk result (λ kind. (other : List ℕ) → kind ≡ Other other → IsOtherWord other) }
 {
     if is_word(word, b"file") {
-        Ok(Kind::File)
+        Ok(EntryKind::File)
     } else if is_word(word, b"dir") {
-        Ok(Kind::Dir)
+        Ok(EntryKind::Dir)
     } else if is_word(word, b"cdir") {
-        Ok(Kind::CurrentDir)
+        Ok(EntryKind::CurrentDir)
     } else if is_word(word, b"pdir") {
-        Ok(Kind::ParentDir)
+        Ok(EntryKind::ParentDir)
     } else {
-        Ok(Kind::Other(Text::copy_of(alloc.clone()?, word)?))
+        Ok(EntryKind::Other(Text::copy_of(alloc.clone()?, word)?))
     }
 }
 

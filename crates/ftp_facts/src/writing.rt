@@ -3,7 +3,7 @@ ghost use Rattle.std.specs.Prelude.{◌≡◌, ◌∷◌, ◌++◌, [], option_m
 ghost use Rattle.ftp_facts.specs.Fact.{given, facts_text, space, equals, semicolon};
 ghost use Rattle.ftp_facts.specs.Entry.{word_of, digits_of, entry_line, GoesOn};
 
-use crate::{Entry, FactFault, Kind, Moment, Text, moment_text};
+use crate::{Entry, EntryKind, FactFault, Moment, Text, moment_text};
 use itoa::Buffer;
 use std::alloc::{AllocError, Allocator};
 
@@ -42,7 +42,7 @@ fn append_entry<A: Allocator, B: Allocator>(
 }
 
 fn append_kind<A: Allocator, B: Allocator>(
-    kind: &Option<Kind<A>>,
+    kind: &Option<EntryKind<A>>,
     out: &mut Vec<u8, B>,
 ) -> Result<(), AllocError>
     ensures fact { OnOk result (out.new.items ≡ out.old.items
@@ -120,14 +120,14 @@ fn append_fact<B: Allocator>(
     out.extend_from_slice(b";")
 }
 
-fn word<A: Allocator>(kind: &Kind<A>) -> &[u8]
+fn word<A: Allocator>(kind: &EntryKind<A>) -> &[u8]
     ensures { result.now ≡ word_of kind.now }
 {
     match kind {
-        Kind::File => b"file",
-        Kind::Dir => b"dir",
-        Kind::CurrentDir => b"cdir",
-        Kind::ParentDir => b"pdir",
-        Kind::Other(word) => word.as_slice(),
+        EntryKind::File => b"file",
+        EntryKind::Dir => b"dir",
+        EntryKind::CurrentDir => b"cdir",
+        EntryKind::ParentDir => b"pdir",
+        EntryKind::Other(word) => word.as_slice(),
     }
 }

@@ -3,18 +3,18 @@ use Rattle.std.proofs.Common.{◌≡◌, ℕ, ◌+◌, ◌-◌, ◌<◌, ◌≤�
 use Rattle.std.specs.List.{AllByRecursion}
 use Rattle.std.proofs.Math.Seq.{take-add}
 use Rattle.std.proofs.lemmas.List.{take-map, take-take, length-take-le, length-map}
-use Rattle.ftp_machine.specs.Machine.{after, gives}
-use Rattle.ftp_machine.proofs.MachineLemmas.{after-append, gives-append}
+use Rattle.ftp_cutting.specs.Machine.{after, gives}
+use Rattle.ftp_cutting.proofs.MachineLemmas.{after-append, gives-append}
 use Rattle.ftp_mode.specs.declared.deframer.Deframer.{Deframer}
 use Rattle.ftp_mode.specs.declared.deframer.Bite.{Bite}
 use Rattle.ftp_mode.specs.declared.step.Part.{Part}
 use Rattle.ftp_mode.specs.declared.fault.FrameFault.{FrameFault}
 use Rattle.ftp_mode.specs.declared.deframer.State.{State}
 use Rattle.ftp_mode.specs.declared.deframer.State.TheVariants.{Plain, Outside, Inside, Ended}
-use Rattle.ftp_framer.specs.Said.{Said, says, octets_said}
+use Rattle.ftp_mode.specs.Said.{Said, says, octets_said}
 use Rattle.ftp_repr.specs.Signs.{octet}
-use Rattle.ftp_framer.specs.Block.{ends_of}
-use Rattle.ftp_framer.specs.Count.{count_on}
+use Rattle.ftp_mode.specs.Block.{ends_of}
+use Rattle.ftp_mode.specs.Count.{count_on}
 use Rattle.ftp_mode.specs.Reading.{Reading, IsGoing, going, Place, plain, outside, inside, after_block, reader}
 use Rattle.ftp_mode.specs.Deframing.{reading_of, reading, owed, last_marker, gave_said, part_said, Moves, Bites, Refuses, Fails, Hears, SaysLast}
 use Rattle.ftp_mode.proofs.ReaderRuns.{run_after, run_gives, plain_runs, outside_runs, ended_after, ended_gives, short_after, short_gives, full_after, full_gives}

@@ -1,21 +1,21 @@
 -- The reader over a wire that was cut or stands in no text.
 use Rattle.std.proofs.Common.{◌≡◌, ℕ, ◌+◌, ◌-◌, ◌<◌, ◌≤◌, ◌^◌, inl, inr, List, [], ◌∷◌, ◌++◌, length, false, ◌==◌, ltb, refl, ap, sym, subst, ◌∙◌, arith, append-nil, length-append}
 use Rattle.std.proofs.lemmas.Bool.{eqb-false, ltb-false, false≢true}
-use Rattle.ftp_machine.specs.Machine.{after, gives}
-use Rattle.ftp_representation.specs.declared.representation.Structure.{Structure}
-use Rattle.ftp_representation.specs.declared.representation.Structure.TheVariants.{File, Record}
+use Rattle.ftp_cutting.specs.Machine.{after, gives}
+use Rattle.ftp_settings.specs.declared.representation.Structure.{Structure}
+use Rattle.ftp_settings.specs.declared.representation.Structure.TheVariants.{File, Record}
 use Rattle.ftp_repr.proofs.AsciiLemmas.{decided}
-use Rattle.ftp_representation.specs.declared.representation.Mode.{Mode}
-use Rattle.ftp_representation.specs.declared.representation.Mode.TheVariants.{Stream, Block as Blocks}
+use Rattle.ftp_settings.specs.declared.representation.Mode.{Mode}
+use Rattle.ftp_settings.specs.declared.representation.Mode.TheVariants.{Stream, Block as Blocks}
 use Rattle.ftp_mode.specs.declared.fault.FrameFault.{FrameFault}
 use Rattle.ftp_mode.specs.declared.fault.FrameFault.TheVariants.{BadEscape, Suspect, BadMarker}
-use Rattle.ftp_framer.specs.Said.{Said, octets_said}
-use Rattle.ftp_framer.specs.Stream.{is_code, code_said}
-use Rattle.ftp_framer.specs.Block.{count_of}
+use Rattle.ftp_mode.specs.Said.{Said, octets_said}
+use Rattle.ftp_mode.specs.Stream.{is_code, code_said}
+use Rattle.ftp_mode.specs.Block.{count_of}
 use Rattle.ftp_mode.specs.Units.{units_octets, units_said}
 use Rattle.ftp_mode.specs.Fault.{is_no_length, Begins, IsBadEscape, IsSuspect, IsBadLength, IsBadOctet, IsFault}
 use Rattle.ftp_mode.specs.Front.{IsCutHeader, IsCutData, IsCutMarker, IsCut}
-use Rattle.ftp_framer.specs.Count.{count_on, next}
+use Rattle.ftp_mode.specs.Count.{count_on, next}
 use Rattle.ftp_mode.specs.Reading.{Reading, going, failed, outside, escaped, at_head, at_high, at_low, inside, marking, first_place, start, reader}
 use Rattle.ftp_mode.specs.Deframing.{Moves}
 use Rattle.ftp_mode.proofs.ReaderRuns.{short_after, short_gives, failed_after, failed_gives}

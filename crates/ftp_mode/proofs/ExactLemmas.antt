@@ -1,19 +1,19 @@
 -- The reader fails, ends and settles exactly where whole wires say so.
 use Rattle.std.proofs.Common.{◌≡◌, ℕ, ◌+◌, ◌<◌, ◌^◌, ◌⊎◌, inl, inr, List, [], ◌∷◌, ◌++◌, length, false, refl, ap, sym, subst, ◌∙◌, arith, append-nil}
 use Rattle.std.proofs.lemmas.Bool.{false≢true}
-use Rattle.ftp_machine.specs.Machine.{after, gives}
+use Rattle.ftp_cutting.specs.Machine.{after, gives}
 use Rattle.ftp_repr.specs.Signs.{end_file}
-use Rattle.ftp_representation.specs.declared.representation.Structure.{Structure}
-use Rattle.ftp_representation.specs.declared.representation.Structure.TheVariants.{File, Record}
-use Rattle.ftp_representation.specs.declared.representation.Mode.{Mode}
-use Rattle.ftp_representation.specs.declared.representation.Mode.TheVariants.{Stream, Block as Blocks}
+use Rattle.ftp_settings.specs.declared.representation.Structure.{Structure}
+use Rattle.ftp_settings.specs.declared.representation.Structure.TheVariants.{File, Record}
+use Rattle.ftp_settings.specs.declared.representation.Mode.{Mode}
+use Rattle.ftp_settings.specs.declared.representation.Mode.TheVariants.{Stream, Block as Blocks}
 use Rattle.ftp_mode.specs.declared.fault.FrameFault.{FrameFault}
 use Rattle.ftp_mode.specs.declared.fault.FrameFault.TheVariants.{BadEscape, Suspect, BadMarker, EndedEarly}
-use Rattle.ftp_framer.specs.Said.{Said, says, octets_said}
+use Rattle.ftp_mode.specs.Said.{Said, says, octets_said}
 use Rattle.ftp_mode.specs.Units.{units_octets, units_said, IsText, Reads}
 use Rattle.ftp_mode.specs.Fault.{Begins, IsFault}
 use Rattle.ftp_mode.specs.Front.{IsCut, IsOpen, Front}
-use Rattle.ftp_framer.specs.Count.{count_on, next}
+use Rattle.ftp_mode.specs.Count.{count_on, next}
 use Rattle.ftp_mode.specs.Reading.{Reading, going, failed, Place, plain, ended, is_complete_at, is_complete, first_place, start, at_end, reader}
 use Rattle.ftp_mode.specs.Deframing.{Moves}
 use Rattle.ftp_mode.specs.Laws.{ReadsTo}

@@ -1,26 +1,26 @@
 -- The laws of the reader over whole files, for each mode, type and structure.
 use Rattle.std.proofs.Common.{◌≡◌, ℕ, ◌+◌, ◌<◌, ◌^◌, List, [], ◌∷◌, ◌++◌, map, length, refl, ap, sym, subst, ◌∙◌, append_assoc, append-nil}
-use Rattle.ftp_machine.specs.Machine.{gives, IsFront}
+use Rattle.ftp_cutting.specs.Machine.{gives, IsFront}
 use Rattle.ftp_repr.specs.Signs.{Sign, octet, wire_octets, signs_of}
-use Rattle.ftp_representation.specs.Representation.{Form}
+use Rattle.ftp_settings.specs.Representation.{Form}
 use Rattle.ftp_repr.specs.Content.{content}
-use Rattle.ftp_representation.specs.declared.representation.Kind.{Kind}
-use Rattle.ftp_representation.specs.declared.representation.Structure.{Structure}
-use Rattle.ftp_representation.specs.declared.representation.Structure.TheVariants.{File, Record}
-use Rattle.ftp_machine.proofs.MachineLemmas.{gives-front}
+use Rattle.ftp_settings.specs.declared.representation.Kind.{Kind}
+use Rattle.ftp_settings.specs.declared.representation.Structure.{Structure}
+use Rattle.ftp_settings.specs.declared.representation.Structure.TheVariants.{File, Record}
+use Rattle.ftp_cutting.proofs.MachineLemmas.{gives-front}
 use Rattle.ftp_repr.proofs.SignLemmas.{whole-signs_of, signs_of-cons}
 use Rattle.ftp_repr.proofs.ContentLemmas.{content-signs_of, content_front}
-use Rattle.ftp_representation.specs.declared.representation.Mode.{Mode}
-use Rattle.ftp_representation.specs.declared.representation.Mode.TheVariants.{Stream, Block as Blocks}
-use Rattle.ftp_framer.specs.Said.{Said, says, marker, file_signs}
-use Rattle.ftp_framer.specs.Block.{marked_text}
+use Rattle.ftp_settings.specs.declared.representation.Mode.{Mode}
+use Rattle.ftp_settings.specs.declared.representation.Mode.TheVariants.{Stream, Block as Blocks}
+use Rattle.ftp_mode.specs.Said.{Said, says, marker, file_signs}
+use Rattle.ftp_mode.specs.Block.{marked_text}
 use Rattle.ftp_mode.specs.Units.{Reads}
 use Rattle.ftp_mode.specs.Reading.{start, reader}
-use Rattle.ftp_framer.specs.Wire.{wire, image_file}
+use Rattle.ftp_mode.specs.Wire.{wire, image_file}
 use Rattle.ftp_mode.specs.Laws.{unsaid_end, settled_content, ended_content, EndsItself}
 use Rattle.ftp_mode.proofs.ExactLemmas.{reads_to}
 use Rattle.ftp_mode.proofs.TextLemmas.{row_said, file-row_said, record_is_text, IsPlainRow, plain_says, rows_are_text, text_is}
-use Rattle.ftp_framer.proofs.LawLemmas.{image_signs}
+use Rattle.ftp_mode.proofs.WrittenLemmas.{image_signs}
 use Rattle.ftp_mode.proofs.MarkedText.{marked_says}
 
 -- in file structure a file is octets and the end of file

@@ -1,3 +1,8 @@
+pub mod FramingLemmas
+pub mod RunLemmas
+pub mod WriterLemmas
+pub mod MarkLemmas
+pub mod WrittenLemmas
 pub mod ReaderRuns
 pub mod BiteLemmas
 pub mod MoveLemmas

@@ -5,15 +5,15 @@ use Rattle.std.specs.Fmt.{decimal}
 use Rattle.std.proofs.lemmas.Fmt.{decimal_by_steps, decimal_nonempty, length-decimal-le}
 use Rattle.std.proofs.lemmas.List.{take-append-drop, map-append}
 use Rattle.ftp_repr.specs.Signs.{Sign, octet, end_file}
-use Rattle.ftp_representation.specs.declared.representation.Structure.{Structure}
-use Rattle.ftp_representation.specs.declared.representation.Mode.TheVariants.{Block as Blocks}
-use Rattle.ftp_framer.specs.Said.{Said, says, marker, octets_said, file_signs}
-use Rattle.ftp_representation.specs.Marker.{is_marker_octet, IsMarker}
-use Rattle.ftp_framer.specs.Marker.{to_place, places}
-use Rattle.ftp_framer.specs.Block.{Block, IsBlock, count_of, marker_text, data_text, marks_text, marked_text}
+use Rattle.ftp_settings.specs.declared.representation.Structure.{Structure}
+use Rattle.ftp_settings.specs.declared.representation.Mode.TheVariants.{Block as Blocks}
+use Rattle.ftp_mode.specs.Said.{Said, says, marker, octets_said, file_signs}
+use Rattle.ftp_settings.specs.Marker.{is_marker_octet, IsMarker}
+use Rattle.ftp_mode.specs.Marker.{to_place, places}
+use Rattle.ftp_mode.specs.Block.{Block, IsBlock, count_of, marker_text, data_text, marks_text, marked_text}
 use Rattle.ftp_mode.specs.Units.{whole, IsText}
 use Rattle.ftp_mode.proofs.TextLemmas.{text_is, text_more, blocks_more, blocks_last}
-use Rattle.ftp_framer.proofs.MarkLemmas.{plain_row}
+use Rattle.ftp_mode.proofs.MarkLemmas.{plain_row}
 
 -- a decimal number is a marker
 digit_good : (n : ℕ) → n < 10 → is_marker_octet (48 + n) ≡ true

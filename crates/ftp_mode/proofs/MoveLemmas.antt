@@ -2,14 +2,14 @@
 use Rattle.std.proofs.Common.{◌≡◌, ℕ, ◌+◌, ◌-◌, ◌<◌, ◌≤◌, List, [], ◌∷◌, ◌++◌, length, Bool, true, false, ◌==◌, ltb, lt-ltb, le-ltb, if◌then◌else◌, refl, ap, sym, ◌∙◌, arith, append_assoc, append-nil, length-append}
 use Rattle.std.specs.List.{AllByRecursion}
 use Rattle.std.proofs.lemmas.Bool.{ne_eqb}
-use Rattle.ftp_machine.specs.Machine.{after, gives}
-use Rattle.ftp_machine.proofs.MachineLemmas.{after-append, gives-append}
+use Rattle.ftp_cutting.specs.Machine.{after, gives}
+use Rattle.ftp_cutting.proofs.MachineLemmas.{after-append, gives-append}
 use Rattle.ftp_mode.specs.declared.fault.FrameFault.TheVariants.{BadMarker}
-use Rattle.ftp_framer.specs.Said.{Said, marker, octets_said}
-use Rattle.ftp_representation.specs.Marker.{is_marker_octet, IsMarker}
-use Rattle.ftp_framer.specs.Block.{Block, block_octets, block_said, IsBlock, has, count_of, ends_of}
+use Rattle.ftp_mode.specs.Said.{Said, marker, octets_said}
+use Rattle.ftp_settings.specs.Marker.{is_marker_octet, IsMarker}
+use Rattle.ftp_mode.specs.Block.{Block, block_octets, block_said, IsBlock, has, count_of, ends_of}
 use Rattle.ftp_mode.specs.Fault.{is_no_length}
-use Rattle.ftp_framer.specs.Count.{count_on, next}
+use Rattle.ftp_mode.specs.Count.{count_on, next}
 use Rattle.ftp_mode.specs.Reading.{Reading, going, failed, Place, at_head, at_low, inside, marking, after_block, is_complete_at, place_step, place_out, reader}
 use Rattle.ftp_mode.specs.Deframing.{Moves}
 use Rattle.ftp_mode.proofs.ReaderRuns.{full_after, full_gives, failed_after, failed_gives}

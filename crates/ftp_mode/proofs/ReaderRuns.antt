@@ -2,12 +2,12 @@
 use Rattle.std.proofs.Common.{◌≡◌, ℕ, ◌-◌, ◌<◌, List, [], ◌∷◌, ◌++◌, length, true, false, ◌==◌, refl, ap, sym, ◌∙◌, arith, append-nil}
 use Rattle.std.specs.List.{AllByRecursion}
 use Rattle.std.proofs.lemmas.Bool.{ne_eqb}
-use Rattle.ftp_machine.specs.Machine.{after, gives}
+use Rattle.ftp_cutting.specs.Machine.{after, gives}
 use Rattle.ftp_repr.specs.Signs.{octet}
 use Rattle.ftp_mode.specs.declared.fault.FrameFault.{FrameFault}
-use Rattle.ftp_framer.specs.Said.{says, octets_said}
-use Rattle.ftp_framer.specs.Block.{ends_of}
-use Rattle.ftp_framer.specs.Count.{count_on, next}
+use Rattle.ftp_mode.specs.Said.{says, octets_said}
+use Rattle.ftp_mode.specs.Block.{ends_of}
+use Rattle.ftp_mode.specs.Count.{count_on, next}
 use Rattle.ftp_mode.specs.Reading.{going, failed, Place, plain, outside, inside, ended, after_block, place_step, place_out, reader}
 
 count_next : (n c d : ℕ) (w : List ℕ) → count_on (next n) (length (d ∷ w)) ≡ count_on n (length (c ∷ d ∷ w))

@@ -3,15 +3,15 @@ use Rattle.std.proofs.Common.{◌≡◌, ℕ, zero, suc, ◌-◌, ◌/◌, ◌%�
 use Rattle.std.proofs.lemmas.Bool.{eqb-true, false≢true}
 use Rattle.std.proofs.lemmas.List.{take-append-drop, map-append}
 use Rattle.ftp_repr.specs.Signs.{Sign, octet, end_record, end_file}
-use Rattle.ftp_representation.specs.declared.representation.Structure.{Structure}
-use Rattle.ftp_representation.specs.declared.representation.Structure.TheVariants.{Record}
+use Rattle.ftp_settings.specs.declared.representation.Structure.{Structure}
+use Rattle.ftp_settings.specs.declared.representation.Structure.TheVariants.{Record}
 use Rattle.ftp_repr.proofs.AsciiLemmas.{decided}
 use Rattle.ftp_repr.proofs.SignLemmas.{IsWhole}
-use Rattle.ftp_representation.specs.declared.representation.Mode.{Mode}
-use Rattle.ftp_representation.specs.declared.representation.Mode.TheVariants.{Stream, Block as Blocks}
-use Rattle.ftp_framer.specs.Said.{Said, says, octets_said, file_signs}
-use Rattle.ftp_framer.specs.Stream.{escaped_octet, plain_text, record_text}
-use Rattle.ftp_framer.specs.Block.{Block, block_said, IsBlock, has, count_of, ends_of, block_text, blocks_text, data_text, rows_text}
+use Rattle.ftp_settings.specs.declared.representation.Mode.{Mode}
+use Rattle.ftp_settings.specs.declared.representation.Mode.TheVariants.{Stream, Block as Blocks}
+use Rattle.ftp_mode.specs.Said.{Said, says, octets_said, file_signs}
+use Rattle.ftp_mode.specs.Stream.{escaped_octet, plain_text, record_text}
+use Rattle.ftp_mode.specs.Block.{Block, block_said, IsBlock, has, count_of, ends_of, block_text, blocks_text, data_text, rows_text}
 use Rattle.ftp_mode.specs.Units.{WireUnit, one, escape, whole, unit_octets, unit_said, unit_ends, IsUnit, GoesOn, units_octets, units_said, IsText}
 
 -- one more unit in front of a text

@@ -1,6 +1,6 @@
 -- What a deframer made of a piece.
 use Rattle.std.specs.Prelude.{◌≡◌, ℕ, ◌+◌, ◌-◌, ◌<◌, ◌≤◌, ◌⊎◌, List, [], ◌∷◌, ◌++◌, length, take}
-use Rattle.ftp_machine.specs.Machine.{after, gives}
+use Rattle.ftp_cutting.specs.Machine.{after, gives}
 use Rattle.ftp_repr.specs.Signs.{end_record, end_file}
 use Rattle.ftp_mode.specs.declared.fault.FrameFault.{FrameFault}
 use Rattle.ftp_mode.specs.declared.step.Part.{Part}
@@ -15,7 +15,7 @@ use Rattle.ftp_mode.specs.declared.deframer.Gave.{Gave}
 use Rattle.ftp_mode.specs.declared.deframer.Gave.TheVariants.{Nothing as GaveNothing, Octets as GaveOctets, Marker as GaveMarker}
 use Rattle.ftp_mode.specs.declared.deframer.Bite.{Bite}
 use Rattle.ftp_mode.specs.declared.deframer.Deframer.{Deframer}
-use Rattle.ftp_framer.specs.Said.{Said, says, marker, octets_said}
+use Rattle.ftp_mode.specs.Said.{Said, says, marker, octets_said}
 use Rattle.ftp_mode.specs.Reading.{Reading, IsGoing, going, failed, plain, outside, escaped, at_head, at_high, at_low, inside, marking, ended, reader, read_step, read_out}
 
 -- what a part says, where this is the last marker

@@ -1,19 +1,19 @@
 -- The first unit of a wire that stands in no text.
 use Rattle.std.specs.Prelude.{◌≡◌, ℕ, ◌+◌, ◌<◌, ◌⊎◌, List, ◌∷◌, ◌++◌, length, Bool, true, false, ◌||◌, ◌==◌, nat_lt}
 use Rattle.std.specs.List.{AllByRecursion}
-use Rattle.ftp_representation.specs.declared.representation.Structure.{Structure}
-use Rattle.ftp_representation.specs.declared.representation.Structure.TheVariants.{File, Record}
-use Rattle.ftp_representation.specs.declared.representation.Mode.{Mode}
-use Rattle.ftp_representation.specs.declared.representation.Mode.TheVariants.{Stream, Block as Blocks}
+use Rattle.ftp_settings.specs.declared.representation.Structure.{Structure}
+use Rattle.ftp_settings.specs.declared.representation.Structure.TheVariants.{File, Record}
+use Rattle.ftp_settings.specs.declared.representation.Mode.{Mode}
+use Rattle.ftp_settings.specs.declared.representation.Mode.TheVariants.{Stream, Block as Blocks}
 use Rattle.ftp_mode.specs.declared.fault.FrameFault.{FrameFault}
 use Rattle.ftp_mode.specs.declared.fault.FrameFault.TheVariants.{BadEscape, Suspect, BadMarker}
-use Rattle.ftp_framer.specs.Stream.{is_code}
-use Rattle.ftp_framer.specs.Block.{has, count_of}
-use Rattle.ftp_representation.specs.Marker.{is_marker_octet}
-use Rattle.ftp_representation.specs.declared.marker.TheConstants.{MARKER_LIMIT}
+use Rattle.ftp_mode.specs.Stream.{is_code}
+use Rattle.ftp_mode.specs.Block.{has, count_of}
+use Rattle.ftp_settings.specs.Marker.{is_marker_octet}
+use Rattle.ftp_settings.specs.declared.marker.TheConstants.{MARKER_LIMIT}
 use Rattle.ftp_mode.specs.Units.{WireUnit, GoesOn, units_octets}
-use Rattle.ftp_framer.specs.declared.descriptor.TheConstants.{SUSPECTED_ERRORS, RESTART_MARKER}
-use Rattle.ftp_framer.specs.declared.escape.TheConstants.{ESCAPE}
+use Rattle.ftp_mode.specs.declared.descriptor.TheConstants.{SUSPECTED_ERRORS, RESTART_MARKER}
+use Rattle.ftp_mode.specs.declared.escape.TheConstants.{ESCAPE}
 
 -- own choice: an escape octet before an octet that is no code, at the place of that octet
 pub record IsBadEscape (place : ℕ) (w : List ℕ) (fault : FrameFault) : Type 0 where

@@ -1,18 +1,18 @@
 -- What a wire settles that was cut: its longest row of whole units.
 use Rattle.std.specs.Prelude.{◌≡◌, ℕ, ◌<◌, ◌⊎◌, List, [], ◌∷◌, ◌++◌, length, true, false}
 use Rattle.std.specs.List.{AllByRecursion}
-use Rattle.ftp_representation.specs.declared.representation.Structure.{Structure}
-use Rattle.ftp_representation.specs.declared.representation.Structure.TheVariants.{File, Record}
-use Rattle.ftp_representation.specs.declared.representation.Mode.{Mode}
-use Rattle.ftp_representation.specs.declared.representation.Mode.TheVariants.{Stream, Block as Blocks}
+use Rattle.ftp_settings.specs.declared.representation.Structure.{Structure}
+use Rattle.ftp_settings.specs.declared.representation.Structure.TheVariants.{File, Record}
+use Rattle.ftp_settings.specs.declared.representation.Mode.{Mode}
+use Rattle.ftp_settings.specs.declared.representation.Mode.TheVariants.{Stream, Block as Blocks}
 use Rattle.ftp_mode.specs.declared.fault.FrameFault.{FrameFault}
-use Rattle.ftp_framer.specs.Said.{Said, octets_said}
-use Rattle.ftp_framer.specs.Block.{has, count_of}
-use Rattle.ftp_representation.specs.Marker.{is_marker_octet}
+use Rattle.ftp_mode.specs.Said.{Said, octets_said}
+use Rattle.ftp_mode.specs.Block.{has, count_of}
+use Rattle.ftp_settings.specs.Marker.{is_marker_octet}
 use Rattle.ftp_mode.specs.Units.{WireUnit, GoesOn, units_octets, units_said, IsText}
 use Rattle.ftp_mode.specs.Fault.{is_no_length, IsFault}
-use Rattle.ftp_framer.specs.declared.descriptor.TheConstants.{SUSPECTED_ERRORS, RESTART_MARKER}
-use Rattle.ftp_framer.specs.declared.escape.TheConstants.{ESCAPE}
+use Rattle.ftp_mode.specs.declared.descriptor.TheConstants.{SUSPECTED_ERRORS, RESTART_MARKER}
+use Rattle.ftp_mode.specs.declared.escape.TheConstants.{ESCAPE}
 
 -- a cut header: a descriptor without suspected errors, and perhaps half of the count
 abbrev pub IsCutHeader : List ℕ → Type 0

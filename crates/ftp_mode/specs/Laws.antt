@@ -1,14 +1,14 @@
 -- What the reader makes of whole wires.
 use Rattle.std.specs.Prelude.{◌≡◌, ℕ, List, [], ◌∷◌, ◌++◌}
-use Rattle.ftp_machine.specs.Machine.{after, gives}
+use Rattle.ftp_cutting.specs.Machine.{after, gives}
 use Rattle.ftp_repr.specs.Signs.{end_file}
-use Rattle.ftp_representation.specs.Representation.{Form}
+use Rattle.ftp_settings.specs.Representation.{Form}
 use Rattle.ftp_repr.specs.Content.{content}
-use Rattle.ftp_representation.specs.declared.representation.Structure.{Structure}
-use Rattle.ftp_representation.specs.declared.representation.Structure.TheVariants.{File, Record}
-use Rattle.ftp_representation.specs.declared.representation.Mode.{Mode}
-use Rattle.ftp_representation.specs.declared.representation.Mode.TheVariants.{Stream, Block as Blocks}
-use Rattle.ftp_framer.specs.Said.{Said, says, file_signs}
+use Rattle.ftp_settings.specs.declared.representation.Structure.{Structure}
+use Rattle.ftp_settings.specs.declared.representation.Structure.TheVariants.{File, Record}
+use Rattle.ftp_settings.specs.declared.representation.Mode.{Mode}
+use Rattle.ftp_settings.specs.declared.representation.Mode.TheVariants.{Stream, Block as Blocks}
+use Rattle.ftp_mode.specs.Said.{Said, says, file_signs}
 use Rattle.ftp_mode.specs.Reading.{start, is_complete, reader}
 
 -- the end of file that only the end of the connection says

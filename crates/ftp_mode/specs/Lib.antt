@@ -1,3 +1,11 @@
+pub mod Said
+pub mod Stream
+pub mod Marker
+pub mod Block
+pub mod Wire
+pub mod Count
+pub mod Writing
+pub mod Framing
 pub mod Units
 pub mod Front
 pub mod Fault

@@ -1,22 +1,22 @@
 -- The reader of a wire, octet by octet. The laws tie it to what whole wires read as.
 use Rattle.std.specs.Prelude.{ℕ, ◌-◌, List, [], ◌∷◌, ◌++◌, Bool, true, false, if◌then◌else◌, ◌&&◌, ◌==◌, nat_lt, length, IsTrue}
-use Rattle.ftp_machine.specs.Machine.{Machine}
+use Rattle.ftp_cutting.specs.Machine.{Machine}
 use Rattle.ftp_repr.specs.Signs.{octet}
-use Rattle.ftp_representation.specs.declared.representation.Structure.{Structure}
-use Rattle.ftp_representation.specs.declared.representation.Structure.TheVariants.{File, Record}
-use Rattle.ftp_representation.specs.declared.representation.Mode.{Mode}
-use Rattle.ftp_representation.specs.declared.representation.Mode.TheVariants.{Stream, Block as Blocks}
+use Rattle.ftp_settings.specs.declared.representation.Structure.{Structure}
+use Rattle.ftp_settings.specs.declared.representation.Structure.TheVariants.{File, Record}
+use Rattle.ftp_settings.specs.declared.representation.Mode.{Mode}
+use Rattle.ftp_settings.specs.declared.representation.Mode.TheVariants.{Stream, Block as Blocks}
 use Rattle.ftp_mode.specs.declared.fault.FrameFault.{FrameFault}
 use Rattle.ftp_mode.specs.declared.fault.FrameFault.TheVariants.{BadEscape, Suspect, BadMarker, EndedEarly}
-use Rattle.ftp_framer.specs.Said.{Said, says, marker}
-use Rattle.ftp_framer.specs.Stream.{is_code, code_said, code_ends}
-use Rattle.ftp_representation.specs.Marker.{is_marker_octet}
-use Rattle.ftp_representation.specs.declared.marker.TheConstants.{MARKER_LIMIT}
-use Rattle.ftp_framer.specs.Block.{has, count_of, ends_of}
-use Rattle.ftp_framer.specs.Count.{next}
+use Rattle.ftp_mode.specs.Said.{Said, says, marker}
+use Rattle.ftp_mode.specs.Stream.{is_code, code_said, code_ends}
+use Rattle.ftp_settings.specs.Marker.{is_marker_octet}
+use Rattle.ftp_settings.specs.declared.marker.TheConstants.{MARKER_LIMIT}
+use Rattle.ftp_mode.specs.Block.{has, count_of, ends_of}
+use Rattle.ftp_mode.specs.Count.{next}
 use Rattle.ftp_mode.specs.Fault.{is_no_length}
-use Rattle.ftp_framer.specs.declared.descriptor.TheConstants.{END_OF_FILE, SUSPECTED_ERRORS, RESTART_MARKER}
-use Rattle.ftp_framer.specs.declared.escape.TheConstants.{ESCAPE}
+use Rattle.ftp_mode.specs.declared.descriptor.TheConstants.{END_OF_FILE, SUSPECTED_ERRORS, RESTART_MARKER}
+use Rattle.ftp_mode.specs.declared.escape.TheConstants.{ESCAPE}
 
 -- where in a text the next octet stands
 pub data Place : Type 0 where

@@ -2,15 +2,15 @@
 use Rattle.std.specs.Prelude.{◌≡◌, ℕ, List, [], ◌∷◌, ◌++◌, Bool, true, false, ◌==◌}
 use Rattle.std.specs.List.{flat_map, AllByRecursion}
 use Rattle.ftp_repr.specs.Signs.{octet, end_file}
-use Rattle.ftp_representation.specs.declared.representation.Structure.{Structure}
-use Rattle.ftp_representation.specs.declared.representation.Structure.TheVariants.{File, Record}
-use Rattle.ftp_representation.specs.declared.representation.Mode.{Mode}
-use Rattle.ftp_representation.specs.declared.representation.Mode.TheVariants.{Stream, Block as Blocks}
-use Rattle.ftp_framer.specs.Said.{Said, says, octets_said}
-use Rattle.ftp_framer.specs.Stream.{is_code, code_said, code_ends}
-use Rattle.ftp_framer.specs.Block.{Block, block_octets, block_said, IsBlock, has}
-use Rattle.ftp_framer.specs.declared.descriptor.TheConstants.{END_OF_FILE}
-use Rattle.ftp_framer.specs.declared.escape.TheConstants.{ESCAPE}
+use Rattle.ftp_settings.specs.declared.representation.Structure.{Structure}
+use Rattle.ftp_settings.specs.declared.representation.Structure.TheVariants.{File, Record}
+use Rattle.ftp_settings.specs.declared.representation.Mode.{Mode}
+use Rattle.ftp_settings.specs.declared.representation.Mode.TheVariants.{Stream, Block as Blocks}
+use Rattle.ftp_mode.specs.Said.{Said, says, octets_said}
+use Rattle.ftp_mode.specs.Stream.{is_code, code_said, code_ends}
+use Rattle.ftp_mode.specs.Block.{Block, block_octets, block_said, IsBlock, has}
+use Rattle.ftp_mode.specs.declared.descriptor.TheConstants.{END_OF_FILE}
+use Rattle.ftp_mode.specs.declared.escape.TheConstants.{ESCAPE}
 
 -- an octet, an escape octet and its code, or a block
 pub data WireUnit : Type 0 where

@@ -1,17 +1,17 @@
 ghost use Rattle.std.specs.Prelude.{◌≡◌, ◌≢◌, ◌+◌, ◌<◌, ◌≤◌, ◌⊎◌, ◌++◌, ℕ, List, [], ◌∷◌, ◌-◌, ◌^◌, ◌↔◌, min, length, take, drop, IfOk, IfErr, OnOk, OnErr, IsOk, IsTrue, IsFalse, true, IfSome, IfNone, slice_index};
-ghost use Rattle.ftp_framer.specs.Block.{ends_of};
-ghost use Rattle.ftp_framer.specs.Count.{count_on};
+ghost use Rattle.ftp_mode.specs.Block.{ends_of};
+ghost use Rattle.ftp_mode.specs.Count.{count_on};
 ghost use Rattle.ftp_mode.specs.Reading.{Reading, start, at_end, broken_state, going, failed, after_block, is_complete};
 ghost use Rattle.ftp_mode.specs.Deframing.{reading, owed, last_marker, part_said, gave_said, Hears, Fails, Bites, Reads, Refuses, IsControl};
 
+use crate::Mode;
+use crate::descriptor::{END_OF_FILE, END_OF_RECORD, RESTART_MARKER, SUSPECTED_ERRORS};
+use crate::escape::{BOTH_CODE, ESCAPE, FILE_CODE, RECORD_CODE};
 use crate::fault::FrameFault;
 use crate::step::{FaultAt, Part, Step};
 use arrayvec::ArrayVec;
-use ftp_framer::Mode;
-use ftp_framer::descriptor::{END_OF_FILE, END_OF_RECORD, RESTART_MARKER, SUSPECTED_ERRORS};
-use ftp_framer::escape::{BOTH_CODE, ESCAPE, FILE_CODE, RECORD_CODE};
 use ftp_repr::{Structure, first_ff};
-use ftp_representation::{MARKER_LIMIT, is_marker_octet};
+use ftp_settings::{MARKER_LIMIT, is_marker_octet};
 
 /// Where in a text the next octet stands.
 #[derive(Clone, Copy, Debug, PartialEq, Eq)]

@@ -1,22 +1,22 @@
 //! What holds of whole files and wires, in each mode, type and structure.
 
 ghost use Rattle.std.specs.Prelude.{◌≡◌, ◌+◌, ◌<◌, ◌^◌, ◌++◌, ◌↔◌, ℕ, List, map, length};
-ghost use Rattle.ftp_machine.specs.Machine.{IsFront, after, gives};
+ghost use Rattle.ftp_cutting.specs.Machine.{IsFront, after, gives};
 ghost use Rattle.ftp_repr.specs.Signs.{Sign, signs_of};
-ghost use Rattle.ftp_representation.specs.Representation.{Form};
-ghost use Rattle.ftp_representation.specs.declared.representation.Structure.{Structure};
-ghost use Rattle.ftp_representation.specs.declared.representation.Structure.TheVariants.{File};
-ghost use Rattle.ftp_representation.specs.declared.representation.Mode.{Mode};
-ghost use Rattle.ftp_representation.specs.declared.representation.Mode.TheVariants.{Block};
+ghost use Rattle.ftp_settings.specs.Representation.{Form};
+ghost use Rattle.ftp_settings.specs.declared.representation.Structure.{Structure};
+ghost use Rattle.ftp_settings.specs.declared.representation.Structure.TheVariants.{File};
+ghost use Rattle.ftp_settings.specs.declared.representation.Mode.{Mode};
+ghost use Rattle.ftp_settings.specs.declared.representation.Mode.TheVariants.{Block};
 ghost use Rattle.ftp_mode.specs.declared.fault.FrameFault.{FrameFault};
 ghost use Rattle.ftp_mode.specs.declared.fault.FrameFault.TheVariants.{EndedEarly};
-ghost use Rattle.ftp_framer.specs.Said.{Said, says, file_signs};
-ghost use Rattle.ftp_framer.specs.Block.{marked_text};
+ghost use Rattle.ftp_mode.specs.Said.{Said, says, file_signs};
+ghost use Rattle.ftp_mode.specs.Block.{marked_text};
 ghost use Rattle.ftp_mode.specs.Units.{Reads};
 ghost use Rattle.ftp_mode.specs.Fault.{IsFault};
 ghost use Rattle.ftp_mode.specs.Front.{Front};
 ghost use Rattle.ftp_mode.specs.Reading.{reader, start, failed, at_end};
-ghost use Rattle.ftp_framer.specs.Wire.{wire, image_file};
+ghost use Rattle.ftp_mode.specs.Wire.{wire, image_file};
 ghost use Rattle.ftp_mode.specs.Laws.{ReadsTo, settled_content, ended_content, EndsItself};
 
 /// The text of a file reads as its signs, whatever follows it where it ends by itself.

@@ -1,13 +1,18 @@
-//! The octets of a data connection to items, in any pieces, without IO: stream mode and block mode with restart markers
-//! (RFC 959, sections 3.4 and 3.5). The way to the wire is `ftp_framer`'s, and what holds of both stands here.
+//! Modes and restart markers, without IO: items to octets of the wire, and the wire in pieces to items (RFC 959, sections 3.4 and 3.5).
 #![tactic(auto)]
 
 mod deframer;
+pub mod descriptor;
+pub mod escape;
 mod fault;
+mod framer;
 pub mod laws;
+mod pouring;
 mod step;
+pub mod written;
 
 pub use deframer::Deframer;
 pub use fault::FrameFault;
-pub use ftp_framer::{Framer, Mode, Written};
+pub use framer::{Framer, Manner, Written};
+pub use ftp_settings::Mode;
 pub use step::{FaultAt, Part, Step};

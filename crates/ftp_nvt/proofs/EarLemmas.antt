@@ -5,8 +5,8 @@ use Rattle.ftp_nvt.specs.Lines.{NvtEvent, owed, Lacks, lines_added, events_behin
 use Rattle.ftp_nvt.specs.Telnet.{TelnetUnit, data_octet, option, is_verb, place_from, units_from, place_behind, unit_ended, bare_of, owed_of, bare}
 use Rattle.ftp_nvt.specs.LineBuffer.{HasRead, Reads}
 use Rattle.ftp_nvt.specs.Ear.{limit_of, HasHeard, Hears}
-use Rattle.ftp_nvt.specs.declared.telnet.Place.{Place}
-use Rattle.ftp_nvt.specs.declared.telnet.Place.TheVariants as At
+use Rattle.ftp_nvt.specs.declared.telnet.TelnetState.{TelnetState}
+use Rattle.ftp_nvt.specs.declared.telnet.TelnetState.TheVariants as At
 use Rattle.ftp_nvt.specs.declared.line.LineBuffer.{LineBuffer}
 use Rattle.ftp_nvt.specs.declared.ear.Ear.{Ear}
 use Rattle.ftp_nvt.proofs.BufferLemmas.{Reads-nil}
@@ -110,7 +110,7 @@ option_hears old new verb octet added is leads same answers =
     (λ before grown. ap (λ l. l ++ map owed (owed_of (option verb octet)) ++ []) grown ∙ append-nil (map owed (owed_of (option verb octet))) ∙ sym answers)
 
 -- an octet that gives no bare octet and no answer at this place
-abbrev IsQuiet : Place → ℕ → Type 0
+abbrev IsQuiet : TelnetState → ℕ → Type 0
 IsQuiet at octet = (flat_map bare_of (unit_ended at octet) ≡ []) × (flat_map owed_of (unit_ended at octet) ≡ [])
 
 quiet_command : (octet : ℕ) → (octet == 255) ≡ false → IsQuiet At.Command octet
@@ -133,7 +133,7 @@ quiet_end octet =
 quiet_start : (octet : ℕ) → octet ≡ 255 → IsQuiet At.Between octet
 quiet_start octet is = let P : ℕ → Type 0 = λ o. IsQuiet At.Between o in subst P (sym is) (refl, refl)
 
-quiet_at : {A : Type 0} (old new : Ear A) (octet : ℕ) (at : Place) → old.place ≡ at → IsQuiet at octet → new.place ≡ place_behind old.place octet → new.line ≡ old.line
+quiet_at : {A : Type 0} (old new : Ear A) (octet : ℕ) (at : TelnetState) → old.place ≡ at → IsQuiet at octet → new.place ≡ place_behind old.place octet → new.line ≡ old.line
     → Hears old (octet ∷ []) [] new
 quiet_at old new octet at is quiet leads same =
     quiet_hears old new octet leads same (ap (λ p. flat_map bare_of (unit_ended p octet)) is ∙ quiet.0) (ap (λ p. flat_map owed_of (unit_ended p octet)) is ∙ quiet.1)

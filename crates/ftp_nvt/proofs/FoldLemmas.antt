@@ -6,11 +6,11 @@ use Rattle.ftp_nvt.specs.Lines.{NvtEvent, line, owed, cut, last_octet, text_behi
 use Rattle.ftp_nvt.specs.Telnet.{TelnetUnit, data_octet, option, subnegotiation, command, place_behind, unit_ended, units_from, units, is_verb, bare_of, owed_of}
 use Rattle.ftp_nvt.specs.declared.line.Stage.{Stage}
 use Rattle.ftp_nvt.specs.declared.line.Stage.TheVariants.{Inside, AfterReturn}
-use Rattle.ftp_nvt.specs.declared.telnet.Place.{Place}
-use Rattle.ftp_nvt.specs.declared.telnet.Place.TheVariants as At
+use Rattle.ftp_nvt.specs.declared.telnet.TelnetState.{TelnetState}
+use Rattle.ftp_nvt.specs.declared.telnet.TelnetState.TheVariants as At
 use Rattle.ftp_nvt.proofs.CutLemmas.{decided, no_leb, lines-append-octet, text_behind-append, last_octet-append, rest-append-octet, text_of-return, rest-nil}
 use Rattle.ftp_nvt.proofs.LineLemmas.{lines_added-is, lines_added-nil, events_behind-append}
-use Rattle.ftp_machine.specs.Machine.{after, gives}
+use Rattle.ftp_cutting.specs.Machine.{after, gives}
 use Rattle.ftp_nvt.specs.Fold.{Unfinished, no_line, past_limit, skipping, text_with, longer, ended_text, within_step, within_out, line_step, line_out, liner, unit_says, ear, EarGivesEvents}
 
 -- ---- the unfinished line
@@ -180,7 +180,7 @@ unit_said limit u before (command c) h = let n = none_said limit u before [] h i
 -- ---- octets
 
 -- an octet ends no unit, or one
-pub ends : (place : Place) (c : ℕ) → (unit_ended place c ≡ []) ⊎ ((unit : TelnetUnit) × (unit_ended place c ≡ unit ∷ []))
+pub ends : (place : TelnetState) (c : ℕ) → (unit_ended place c ≡ []) ⊎ ((unit : TelnetUnit) × (unit_ended place c ≡ unit ∷ []))
 ends At.Between c =
     elim (decided (c == 255)) [
       | inl e ↦ inl (rw e refl)
@@ -222,7 +222,7 @@ say_one limit u before unit h =
     let P : List ℕ → Type 0 = λ l. StandsBehind limit (after (liner limit) u l) (before ++ l) in
     record { stands = subst P (sym (append-nil (bare_of unit))) s.stands; says = ap (λ l. l ++ []) s.says }
 
-pub say_all : (limit : ℕ) (u : Unfinished) (before : List ℕ) (place : Place) (c : ℕ) → StandsBehind limit u before → SayAll limit u before (unit_ended place c)
+pub say_all : (limit : ℕ) (u : Unfinished) (before : List ℕ) (place : TelnetState) (c : ℕ) → StandsBehind limit u before → SayAll limit u before (unit_ended place c)
 say_all limit u before place c h =
     let P : List TelnetUnit → Type 0 = λ us. SayAll limit u before us in
     elim (ends place c) [
@@ -230,7 +230,7 @@ say_all limit u before place c h =
       | inr e ↦ subst P (sym e.1) (say_one limit u before e.0 h)
     ]
 
-ear_gives : (limit : ℕ) (place : Place) (u : Unfinished) (before octets : List ℕ) → StandsBehind limit u before
+ear_gives : (limit : ℕ) (place : TelnetState) (u : Unfinished) (before octets : List ℕ) → StandsBehind limit u before
     → gives (ear limit) (record { place = place; line = u }) octets ≡ events_behind limit before (units_from place octets)
 ear_gives limit place u before [] h = refl
 ear_gives limit place u before (c ∷ cs) h =

@@ -9,9 +9,9 @@ use Rattle.ftp_nvt.specs.Ear.{limit_of}
 use Rattle.ftp_nvt.specs.declared.ear.Ear.{Ear as Reader}
 use Rattle.ftp_nvt.specs.declared.line.Stage.{Stage}
 use Rattle.ftp_nvt.specs.declared.line.Stage.TheVariants.{Start, Inside, AfterReturn, Past}
-use Rattle.ftp_nvt.specs.declared.telnet.Place.{Place}
-use Rattle.ftp_nvt.specs.declared.telnet.Place.TheVariants as At
-use Rattle.ftp_machine.specs.Machine.{after}
+use Rattle.ftp_nvt.specs.declared.telnet.TelnetState.{TelnetState}
+use Rattle.ftp_nvt.specs.declared.telnet.TelnetState.TheVariants as At
+use Rattle.ftp_cutting.specs.Machine.{after}
 use Rattle.ftp_nvt.specs.Fold.{Unfinished, no_line, liner, line_at, Ear, quiet, ear, ReaderIsEar}
 use Rattle.ftp_nvt.proofs.FoldLemmas.{Stands, StandsBehind, same_line, stands_nil, say_all, first_stands}
 
@@ -44,11 +44,11 @@ bare-append [] vs = refl
 bare-append (u ∷ us) vs = ap (λ l. bare_of u ++ l) (bare-append us vs) ∙ sym (append_assoc (bare_of u) (flat_map bare_of us) (flat_map bare_of vs))
 
 -- where octets lead an ear
-record Leads (limit : ℕ) (e : Ear) (at : Place) (before : List ℕ) : Type 0 where
+record Leads (limit : ℕ) (e : Ear) (at : TelnetState) (before : List ℕ) : Type 0 where
   place : e.place ≡ at
   stands : StandsBehind limit e.line before
 
-leads : (limit : ℕ) (at : Place) (u : Unfinished) (before octets : List ℕ) → StandsBehind limit u before
+leads : (limit : ℕ) (at : TelnetState) (u : Unfinished) (before octets : List ℕ) → StandsBehind limit u before
     → Leads limit (after (ear limit) (record { place = at; line = u }) octets) (place_from at octets) (before ++ flat_map bare_of (units_from at octets))
 leads limit at u before [] h =
     let P : List ℕ → Type 0 = λ l. StandsBehind limit u l in record { place = refl; stands = subst P (sym (append-nil before)) h }
@@ -62,7 +62,7 @@ leads limit at u before (c ∷ cs) h =
     let P : List ℕ → Type 0 = λ l. StandsBehind limit (after (ear limit) (record { place = at; line = u }) (c ∷ cs)).line l in
     record { place = rest.place; stands = subst P same rest.stands }
 
-pub same_ear : (p q : Place) (u v : Unfinished) → p ≡ q → u ≡ v → (let a : Ear = record { place = p; line = u } in let b : Ear = record { place = q; line = v } in a ≡ b)
+pub same_ear : (p q : TelnetState) (u v : Unfinished) → p ≡ q → u ≡ v → (let a : Ear = record { place = p; line = u } in let b : Ear = record { place = q; line = v } in a ≡ b)
 same_ear p q u v e f i = record { place = e i; line = f i }
 
 pub reader_is_ear : {A : Type 0} (reader : Reader A) → ReaderIsEar reader

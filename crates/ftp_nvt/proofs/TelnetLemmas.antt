@@ -4,14 +4,14 @@ use Rattle.std.specs.List.{flat_map}
 use Rattle.std.proofs.lemmas.Grind.{flat_map-append}
 use Rattle.ftp_nvt.specs.Lines.{Lacks}
 use Rattle.ftp_nvt.specs.Telnet.{data_octet, place_behind, unit_ended, place_from, units_from, units, place, bare_of, bare}
-use Rattle.ftp_nvt.specs.declared.telnet.Place.{Place}
-use Rattle.ftp_nvt.specs.declared.telnet.Place.TheVariants as At
+use Rattle.ftp_nvt.specs.declared.telnet.TelnetState.{TelnetState}
+use Rattle.ftp_nvt.specs.declared.telnet.TelnetState.TheVariants as At
 
-pub place_from-append : (at : Place) (xs ys : List ℕ) → place_from at (xs ++ ys) ≡ place_from (place_from at xs) ys
+pub place_from-append : (at : TelnetState) (xs ys : List ℕ) → place_from at (xs ++ ys) ≡ place_from (place_from at xs) ys
 place_from-append at [] ys = refl
 place_from-append at (octet ∷ xs) ys = place_from-append (place_behind at octet) xs ys
 
-pub units_from-append : (at : Place) (xs ys : List ℕ) → units_from at (xs ++ ys) ≡ units_from at xs ++ units_from (place_from at xs) ys
+pub units_from-append : (at : TelnetState) (xs ys : List ℕ) → units_from at (xs ++ ys) ≡ units_from at xs ++ units_from (place_from at xs) ys
 units_from-append at [] ys = refl
 units_from-append at (octet ∷ xs) ys =
     ap (λ l. unit_ended at octet ++ l) (units_from-append (place_behind at octet) xs ys)

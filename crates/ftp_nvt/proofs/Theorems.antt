@@ -6,8 +6,8 @@ use Rattle.std.proofs.Math.Seq.{take-append_seam}
 use Rattle.ftp_nvt.specs.Telnet.{TelnetUnit, data_octet, option, subnegotiation, command, is_verb, Content, octet_alone, behind_command, IsContent, content_text, IsUnit, place_behind, unit_ended, place_from, units_from, units, place, bare_of, owed_of, bare, owed_answers}
 use Rattle.ftp_nvt.specs.Lines.{NvtEvent, line, too_long, owed, Lacks, cut, text_behind, text_of, without_return, said_early, lines, lines_added, events_behind, events, settled, written_octet, written_line}
 use Rattle.ftp_nvt.specs.Laws.{lines_in, answers_in}
-use Rattle.ftp_nvt.specs.declared.telnet.Place.{Place}
-use Rattle.ftp_nvt.specs.declared.telnet.Place.TheVariants as At
+use Rattle.ftp_nvt.specs.declared.telnet.TelnetState.{TelnetState}
+use Rattle.ftp_nvt.specs.declared.telnet.TelnetState.TheVariants as At
 use Rattle.ftp_nvt.proofs.CutLemmas.{decided, all_append, cut_behind, cut-nil, cut-append, cut-append-inside, last_octet-append, lines_of, lines-cut, lines_after, lines-append, lines-nil, rest-append-octet, rest-nil}
 use Rattle.ftp_nvt.proofs.TelnetLemmas.{bare-data}
 use Rattle.ftp_nvt.proofs.LineLemmas.{lines_added-is, lines-grow, events_behind-data, events_after, events-append}
@@ -148,12 +148,12 @@ unit_is_read subnegotiation text more is =
 unit_is_read (command octet) text more is = ap (λ l. units_from At.Between (l ++ more)) is.3 ∙ units_of_command octet more is.0 is.1 is.2
 
 -- none of these octets ends a unit
-abbrev Quiet : Place → List ℕ → Type 0
+abbrev Quiet : TelnetState → List ℕ → Type 0
 Quiet at [] = Unit {0}
 Quiet at (octet ∷ octets) = (unit_ended at octet ≡ []) × Quiet (place_behind at octet) octets
 
 -- a front of octets whose last alone ends a unit
-quiet_front : (at : Place) (front : List ℕ) (octet : ℕ) (back text : List ℕ) (last : ℕ) → front ++ octet ∷ back ≡ text ++ last ∷ [] → Quiet at text → units_from at front ≡ []
+quiet_front : (at : TelnetState) (front : List ℕ) (octet : ℕ) (back text : List ℕ) (last : ℕ) → front ++ octet ∷ back ≡ text ++ last ∷ [] → Quiet at text → units_from at front ≡ []
 quiet_front at [] octet back text last same quiet = refl
 quiet_front at (first ∷ front) octet back [] last same quiet =
     absurd (let n : length (front ++ octet ∷ back) ≡ 0 = ap (λ l. length (drop 1 l)) same in omega (arith, length-append front (octet ∷ back)))

@@ -10,9 +10,9 @@ use Rattle.ftp_nvt.specs.declared.ear.Ear.{Ear as Reader}
 use Rattle.ftp_nvt.specs.declared.line.Stage.{Stage}
 use Rattle.ftp_nvt.specs.declared.line.Stage.TheVariants.{Start, Inside, AfterReturn, Past}
 use Rattle.ftp_nvt.specs.declared.line.TheConstants.{NUL, LF, CR}
-use Rattle.ftp_nvt.specs.declared.telnet.Place.{Place}
-use Rattle.ftp_nvt.specs.declared.telnet.Place.TheVariants as At
-use Rattle.ftp_machine.specs.Machine.{Machine, after, gives}
+use Rattle.ftp_nvt.specs.declared.telnet.TelnetState.{TelnetState}
+use Rattle.ftp_nvt.specs.declared.telnet.TelnetState.TheVariants as At
+use Rattle.ftp_cutting.specs.Machine.{Machine, after, gives}
 
 -- ---- the unfinished line
 
@@ -74,7 +74,7 @@ liner limit = record { step = λ u octet. line_step limit u.stage u octet; out =
 
 -- where in a Telnet unit and in a line the reader is
 pub record Ear : Type 0 where
-  pub place : Place
+  pub place : TelnetState
   pub line : Unfinished
 
 -- nothing was heard

@@ -1,8 +1,8 @@
 -- The Telnet octets of a control connection: a row of units (RFC 854; RFC 1123, section 4.1.2.12).
 use Rattle.std.specs.Prelude.{◌≡◌, ℕ, List, [], ◌∷◌, ◌++◌, Bool, true, false, ◌==◌, ◌&&◌, nat_le, if◌then◌else◌}
 use Rattle.std.specs.List.{flat_map, AllByRecursion}
-use Rattle.ftp_nvt.specs.declared.telnet.Place.{Place}
-use Rattle.ftp_nvt.specs.declared.telnet.Place.TheVariants as At
+use Rattle.ftp_nvt.specs.declared.telnet.TelnetState.{TelnetState}
+use Rattle.ftp_nvt.specs.declared.telnet.TelnetState.TheVariants as At
 use Rattle.ftp_nvt.specs.declared.telnet.TheConstants.{IAC, SB, SE, WILL, WONT, DO, DONT}
 
 -- a unit: a data octet, IAC with a verb and an option, a whole subnegotiation, or any other octet behind IAC;
@@ -42,7 +42,7 @@ IsUnit (command octet) text =
     ((octet == IAC) ≡ false) × ((octet == SB) ≡ false) × (is_verb octet ≡ false) × (text ≡ IAC ∷ octet ∷ [])
 
 -- where in a unit one more octet leads
-abbrev pub place_behind : Place → ℕ → Place
+abbrev pub place_behind : TelnetState → ℕ → TelnetState
 place_behind At.Between octet = if octet == IAC then At.Command else At.Between
 place_behind At.Command octet = if octet == SB then At.Inside else (if is_verb octet then At.Option octet else At.Between)
 place_behind (At.Option verb) octet = At.Between
@@ -50,7 +50,7 @@ place_behind At.Inside octet = if octet == IAC then At.InsideCommand else At.Ins
 place_behind At.InsideCommand octet = if octet == SE then At.Between else At.Inside
 
 -- the unit that one more octet ends, if it ends one
-abbrev pub unit_ended : Place → ℕ → List TelnetUnit
+abbrev pub unit_ended : TelnetState → ℕ → List TelnetUnit
 unit_ended At.Between octet = if octet == IAC then [] else data_octet octet ∷ []
 unit_ended At.Command octet =
     if octet == IAC then data_octet IAC ∷ []
@@ -60,12 +60,12 @@ unit_ended At.Inside octet = []
 unit_ended At.InsideCommand octet = if octet == SE then subnegotiation ∷ [] else []
 
 -- where in a unit octets end
-abbrev pub place_from : Place → List ℕ → Place
+abbrev pub place_from : TelnetState → List ℕ → TelnetState
 place_from at [] = at
 place_from at (octet ∷ octets) = place_from (place_behind at octet) octets
 
 -- the units that octets end
-abbrev pub units_from : Place → List ℕ → List TelnetUnit
+abbrev pub units_from : TelnetState → List ℕ → List TelnetUnit
 units_from at [] = []
 units_from at (octet ∷ octets) = unit_ended at octet ++ units_from (place_behind at octet) octets
 
@@ -74,7 +74,7 @@ unfoldable pub units : List ℕ → List TelnetUnit
 units octets = units_from At.Between octets
 
 -- where in a unit a row of octets ends
-unfoldable pub place : List ℕ → Place
+unfoldable pub place : List ℕ → TelnetState
 place octets = place_from At.Between octets
 
 -- the octet of a unit that belongs to a line

@@ -1,17 +1,17 @@
 ghost use Rattle.std.specs.Prelude.{◌≡◌, ◌≢◌, ◌<◌, ◌≤◌, ◌∷◌, [], length, take, slice_index, IfOk, IfErr};
 
-use crate::event::{Event, Heard};
+use crate::event::{Event, Fed};
 use crate::fault::NvtFault;
 use crate::line::LineBuffer;
 use crate::run::run_before_command;
-use crate::telnet::{IAC, Place, answer};
+use crate::telnet::{IAC, TelnetState, answer};
 use std::alloc::Allocator;
 
 /// Hears the lines of a control connection in its octets, however they are cut into pieces, and which answers
 /// its Telnet octets are owed (RFC 854; RFC 959, section 4).
 #[derive(Drop)]
 pub struct Ear<A: Allocator> {
-    place: Place,
+    place: TelnetState,
     line: LineBuffer<A>,
 }
 
@@ -29,7 +29,7 @@ impl<A: Allocator> Ear<A> {
     {
         let line = LineBuffer::new(alloc, limit).map_err(|_| NvtFault::Memory)?;
         Ok(Ear {
-            place: Place::Between,
+            place: TelnetState::Between,
             line,
         })
     }
@@ -38,7 +38,7 @@ impl<A: Allocator> Ear<A> {
     /// room that `new` took is that of the limit, and stays.
     ///
     /// A line is lent by `line` until the next call. Octets behind those taken are for the next call.
-    pub fn feed(&mut self, piece: &[u8]) -> Heard
+    pub fn feed(&mut self, piece: &[u8]) -> Fed
         ensures within { result.taken ≤ length piece.now }
         ensures hears { Hears self.old (take result.taken piece.now)
             (event_list result.event (line_of self.new)) self.new }
@@ -53,10 +53,10 @@ impl<A: Allocator> Ear<A> {
             taken += heard.taken;
             match heard.event {
                 Event::More => {}
-                event => return Heard { taken, event },
+                event => return Fed { taken, event },
             }
         }
-        Heard {
+        Fed {
             taken,
             event: Event::More,
         }
@@ -78,7 +78,7 @@ impl<A: Allocator> Ear<A> {
     }
 
     // Takes a run of octets that settles nothing, or one octet.
-    fn bite(&mut self, piece: &[u8]) -> Heard
+    fn bite(&mut self, piece: &[u8]) -> Fed
         requires { 0 < length piece.now }
         ensures within { result.taken ≤ length piece.now }
         ensures hears { Hears self.old (take result.taken piece.now)
@@ -88,26 +88,26 @@ impl<A: Allocator> Ear<A> {
         let octet = piece[0];
         if octet != IAC {
             match self.place {
-                Place::Between => return self.line.bite(piece),
-                Place::Inside => return self.skip(piece),
+                TelnetState::Between => return self.line.bite(piece),
+                TelnetState::Inside => return self.skip(piece),
                 _ => {}
             }
         }
         let event = self.octet(octet);
-        Heard { taken: 1, event }
+        Fed { taken: 1, event }
     }
 
     // Skips octets of a subnegotiation in front of the next IAC.
-    fn skip(&mut self, piece: &[u8]) -> Heard
+    fn skip(&mut self, piece: &[u8]) -> Fed
         requires some { 0 < length piece.now }
         requires content { slice_index piece.now 0 ≢ IAC }
-        requires place { self.old.place ≡ Place.Inside }
+        requires place { self.old.place ≡ TelnetState.Inside }
         ensures within { result.taken ≤ length piece.now }
         ensures hears { Hears self.old (take result.taken piece.now)
             (event_list result.event (line_of self.new)) self.new }
         ensures some { 0 < result.taken }
     {
-        Heard {
+        Fed {
             taken: run_before_command(piece),
             event: Event::More,
         }
@@ -115,20 +115,20 @@ impl<A: Allocator> Ear<A> {
 
     // Takes one octet that belongs to no line, or ends a doubled 255.
     fn octet(&mut self, octet: u8) -> Event
-        requires { (self.old.place ≡ Place.Between) → octet ≡ IAC }
+        requires { (self.old.place ≡ TelnetState.Between) → octet ≡ IAC }
         ensures { Hears self.old (octet ∷ []) (event_list result (line_of self.new)) self.new }
     {
         let place = self.place;
         self.place = place.behind(octet);
         match place {
-            Place::Command => {
+            TelnetState::Command => {
                 if octet == IAC {
                     return self.line.doubled();
                 }
                 Event::More
             }
-            Place::Option(verb) => answer(verb, octet),
-            Place::Between | Place::Inside | Place::InsideCommand => Event::More,
+            TelnetState::Option(verb) => answer(verb, octet),
+            TelnetState::Between | TelnetState::Inside | TelnetState::InsideCommand => Event::More,
         }
     }
 }

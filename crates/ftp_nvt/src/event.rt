@@ -13,7 +13,7 @@ pub enum Event {
 
 /// How many octets of a piece were taken, and what they settled.
 #[derive(Clone, Copy, Debug, PartialEq, Eq)]
-pub struct Heard {
+pub struct Fed {
     pub taken: usize,
     pub event: Event,
 }

@@ -21,7 +21,7 @@ pub const IAC: u8 = 255;
 
 /// Where in a unit of Telnet octets an ear stands (RFC 854).
 #[derive(Clone, Copy, Debug, PartialEq, Eq)]
-pub enum Place {
+pub enum TelnetState {
     /// At the start of a unit.
     Between,
     /// Behind IAC.
@@ -34,23 +34,23 @@ pub enum Place {
     InsideCommand,
 }
 
-impl Place {
+impl TelnetState {
     /// The place behind one more octet.
-    pub(crate) fn behind(self, octet: u8) -> Place
+    pub(crate) fn behind(self, octet: u8) -> TelnetState
         ensures { result ≡ place_behind self octet }
     {
         match self {
-            Place::Between if octet == IAC => Place::Command,
-            Place::Between | Place::Option(_) => Place::Between,
-            Place::Command => match octet {
-                SB => Place::Inside,
-                WILL..=DONT => Place::Option(octet),
-                _ => Place::Between,
+            TelnetState::Between if octet == IAC => TelnetState::Command,
+            TelnetState::Between | TelnetState::Option(_) => TelnetState::Between,
+            TelnetState::Command => match octet {
+                SB => TelnetState::Inside,
+                WILL..=DONT => TelnetState::Option(octet),
+                _ => TelnetState::Between,
             },
-            Place::Inside if octet == IAC => Place::InsideCommand,
-            Place::Inside => Place::Inside,
-            Place::InsideCommand if octet == SE => Place::Between,
-            Place::InsideCommand => Place::Inside,
+            TelnetState::Inside if octet == IAC => TelnetState::InsideCommand,
+            TelnetState::Inside => TelnetState::Inside,
+            TelnetState::InsideCommand if octet == SE => TelnetState::Between,
+            TelnetState::InsideCommand => TelnetState::Inside,
         }
     }
 }

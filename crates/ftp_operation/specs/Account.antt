@@ -3,7 +3,7 @@ use Rattle.std.specs.Prelude.{ℕ, ◌&&◌, ◌||◌, ◌==◌, Bool, true, not
 use Rattle.std.specs.List.{find, list_all, list_any}
 use Rattle.std.specs.Option.{option_map}
 use Rattle.std.specs.Cmp.Lexicographic.{pointwise}
-pub use Rattle.ftp_login.specs.Login.{is_user, is_password}
+pub use Rattle.ftp_path.specs.Login.{is_user, is_password}
 use Rattle.ftp_path.specs.Path.{Names, is_within}
 use Rattle.ftp_operation.specs.declared.account.Account.{Account as Held}
 use Rattle.ftp_operation.specs.declared.account.AccountsFault.{AccountsFault}

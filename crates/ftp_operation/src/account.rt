@@ -5,9 +5,8 @@ ghost use Rattle.std.specs.Option.{option_map};
 ghost use Rattle.ftp_operation.specs.Account.{accounts_refusal, are_apart, are_distinct, has_nested, has_user, is_below, is_open, is_password, is_user, knows, login_root, open_root, passes};
 
 use ftp_facts::Text;
-use ftp_login::{is_password, is_user};
-use ftp_path::Path;
 use ftp_path::key::is_within;
+use ftp_path::{Path, is_password, is_user};
 use std::alloc::Allocator;
 use std::marker::Model;
 

@@ -1,5 +1,5 @@
 // What a user asks of a server.
-use ftp_representation::Representation;
+use ftp_settings::Representation;
 
 /// How a transfer goes: the representation (RFC 959, sections 3.1 and 3.4) and the data connection.
 #[derive(Clone, Copy, Debug, PartialEq, Eq)]

@@ -2,15 +2,15 @@
 use Rattle.std.proofs.Common.{◌≡◌, ◌∙◌, Bool, true, List, [], ◌∷◌, ◌++◌, map, refl, sym, ap, subst, append-nil, append_assoc, Ok, Err}
 use Rattle.std.specs.Prelude.{IfOk, OnOk}
 use Rattle.std.specs.declared.result.Result.{Result}
-use Rattle.ftp_agreement.specs.Laws.{ArePlain, IsPlain}
-use Rattle.ftp_agreement.proofs.Theorems.{plain-agrees, plain-headline, plain-is-answered, plain-still-is-quiet}
-use Rattle.ftp_server_machine.specs.Machine.{Reading, IsReading}
-use Rattle.ftp_world.specs.Agreement.{AreHonest, IsHonest, Leads, Order, WorldAgrees, begun_by}
-use Rattle.ftp_world.specs.Claims.{AreTimed, Beginning, IsTimed, world_of, state_of}
-use Rattle.ftp_world.specs.Events as events
-use Rattle.ftp_world.specs.Events.{Event, Happens}
-use Rattle.ftp_world.specs.Still.{IsStill}
-use Rattle.ftp_world.specs.World.{World}
+use Rattle.ftp_pair_agreement.specs.Laws.{ArePlain, IsPlain}
+use Rattle.ftp_pair_agreement.proofs.Theorems.{plain-agrees, plain-headline, plain-is-answered, plain-still-is-quiet}
+use Rattle.ftp_server_model.specs.Machine.{Reading, IsReading}
+use Rattle.ftp_pair_world.specs.Agreement.{AreHonest, IsHonest, Leads, Order, WorldAgrees, begun_by}
+use Rattle.ftp_pair_world.specs.Claims.{AreTimed, Beginning, IsTimed, world_of, state_of}
+use Rattle.ftp_pair_world.specs.Events as events
+use Rattle.ftp_pair_world.specs.Events.{Event, Happens}
+use Rattle.ftp_pair_world.specs.Still.{IsStill}
+use Rattle.ftp_pair_world.specs.World.{World}
 use Rattle.ftp_pair_parts.specs.Happening.{IsSmall, event_of}
 use Rattle.ftp_pair_parts.specs.Shown.{Steps}
 use Rattle.ftp_pair_parts.specs.declared.event.Event.{Event as Given}

@@ -6,10 +6,10 @@ use Rattle.std.specs.declared.result.Result.{Result}
 use Rattle.std.specs.Iterator.{Yields}
 use Rattle.std.specs.Vec.Iter.{into_iter_items, into_iter_steps}
 use Rattle.std.specs.declared.vec.IntoIter.{IntoIter}
-use Rattle.ftp_server_machine.specs.Machine.{Reading}
-use Rattle.ftp_world.specs.Agreement.{Leads, Order, begun_by}
-use Rattle.ftp_world.specs.Events.{Event, Happens}
-use Rattle.ftp_world.specs.World.{World}
+use Rattle.ftp_server_model.specs.Machine.{Reading}
+use Rattle.ftp_pair_world.specs.Agreement.{Leads, Order, begun_by}
+use Rattle.ftp_pair_world.specs.Events.{Event, Happens}
+use Rattle.ftp_pair_world.specs.World.{World}
 use Rattle.ftp_pair_parts.specs.Shown.{Steps}
 use Rattle.ftp_pair.specs.Session.{Seen, LeadsCalmly, LeadsPartly}
 

@@ -4,11 +4,11 @@ use Rattle.std.specs.Prelude.{if◌then◌else◌}
 use Rattle.ftp_pair_settling.specs.Steady.{IsSteady}
 use Rattle.ftp_pair_settling.specs.Turns.{IsTurn, Turned}
 use Rattle.ftp_pair_settling.proofs.Looping.{falls, tall}
-use Rattle.ftp_server_machine.specs.Machine.{Reading}
-use Rattle.ftp_world.specs.Agreement.{Leads, Order, begun_by}
-use Rattle.ftp_world.specs.Events as events
-use Rattle.ftp_world.specs.Events.{Event, Happens}
-use Rattle.ftp_world.specs.World.{World}
+use Rattle.ftp_server_model.specs.Machine.{Reading}
+use Rattle.ftp_pair_world.specs.Agreement.{Leads, Order, begun_by}
+use Rattle.ftp_pair_world.specs.Events as events
+use Rattle.ftp_pair_world.specs.Events.{Event, Happens}
+use Rattle.ftp_pair_world.specs.World.{World}
 use Rattle.ftp_pair_parts.specs.Happening.{IsSmall, Stirs}
 use Rattle.ftp_pair.specs.Session.{AreSmall, LeadsSmall, Seen}
 

@@ -1,13 +1,13 @@
 -- What a session in a world of two ends has come to: from which ends, by which events, and what is known of it then.
 use Rattle.std.specs.Prelude.{◌≡◌, ℕ, Bool, true, List, [], ◌∷◌, ◌++◌, take}
-use Rattle.ftp_agreement.specs.Laws.{ArePlain}
-use Rattle.ftp_client_machine.specs.Failing.{Client}
-use Rattle.ftp_server_machine.specs.Far.{Server}
-use Rattle.ftp_server_machine.specs.Machine.{Reading, IsReading}
-use Rattle.ftp_world.specs.Agreement.{AreHonest, AreSingle, IsDirect, Leads, Order, WorldAgrees}
-use Rattle.ftp_world.specs.Claims.{Beginning, IsAnswered, IsFair, AreTimed, state_of, world_of}
-use Rattle.ftp_world.specs.Events.{Event, IsQuiet}
-use Rattle.ftp_world.specs.World.{World}
+use Rattle.ftp_pair_agreement.specs.Laws.{ArePlain}
+use Rattle.ftp_client_model.specs.Failing.{Client}
+use Rattle.ftp_server_model.specs.Far.{Server}
+use Rattle.ftp_server_model.specs.Machine.{Reading, IsReading}
+use Rattle.ftp_pair_world.specs.Agreement.{AreHonest, AreSingle, IsDirect, Leads, Order, WorldAgrees}
+use Rattle.ftp_pair_world.specs.Claims.{Beginning, IsAnswered, IsFair, AreTimed, state_of, world_of}
+use Rattle.ftp_pair_world.specs.Events.{Event, IsQuiet}
+use Rattle.ftp_pair_world.specs.World.{World}
 use Rattle.ftp_pair_parts.specs.Happening.{IsSmall}
 use Rattle.ftp_pair_parts.specs.Shown.{shown}
 use Rattle.ftp_pair_parts.specs.declared.parts.Parts.{Parts}

@@ -1,13 +1,13 @@
 // A world that comes to rest by itself.
 ghost use Rattle.std.specs.Prelude.{◌≡◌, ◌<◌, ◌-◌, true, false, if◌then◌else◌};
 ghost use Rattle.ftp_pair_settling.specs.Steady.{IsSteady};
-ghost use Rattle.ftp_world.specs.Still.{IsStill};
+ghost use Rattle.ftp_pair_world.specs.Still.{IsStill};
 ghost use Rattle.ftp_pair_parts.specs.Happening.{Stirs};
 ghost use Rattle.ftp_pair.specs.Session.{LeadsSmall, Settles};
 
 use crate::world::World;
-use ftp_client_machine::Near;
-use ftp_server_machine::Far;
+use ftp_client_model::Near;
+use ftp_server_model::Far;
 use ftp_tree::Tree;
 use std::alloc::Allocator;
 

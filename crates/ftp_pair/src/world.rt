@@ -2,18 +2,18 @@
 ghost use Rattle.std.specs.Prelude.{◌≡◌, [], ◌∷◌, true, length, map, nat_eq, option_map, IfErr, IfOk, OnErr, OnOk};
 ghost use Rattle.std.specs.List.{slice_get};
 ghost use Rattle.ftp_operation.specs.Answer.{said_of};
-ghost use Rattle.ftp_world.specs.Claims.{Beginning, IsFair, world_of};
-ghost use Rattle.ftp_world.specs.Events.{Happens, IsQuiet};
-ghost use Rattle.ftp_world.specs.World.{world};
+ghost use Rattle.ftp_pair_world.specs.Claims.{Beginning, IsFair, world_of};
+ghost use Rattle.ftp_pair_world.specs.Events.{Happens, IsQuiet};
+ghost use Rattle.ftp_pair_world.specs.World.{world};
 ghost use Rattle.ftp_pair_parts.specs.Happening.{event_of};
 ghost use Rattle.ftp_pair_parts.specs.Shown.{HasRoom, Steps, mark_of};
 ghost use Rattle.ftp_pair.specs.Session.{AgreesAfter, AgreesHere, IsReached, LeadsCalmly, LeadsPartly, Reached, seen};
 
-use ftp_client_machine::Near;
+use ftp_client_model::Near;
 use ftp_operation::Answer;
 use ftp_pair_lanes::Mark;
 use ftp_pair_parts::{Event, Parts};
-use ftp_server_machine::Far;
+use ftp_server_model::Far;
 use ftp_tree::Tree;
 use std::alloc::{AllocError, Allocator};
 use std::marker::Model;

@@ -2,14 +2,14 @@
 use Rattle.std.proofs.Common.{◌≡◌, ◌∙◌, ℕ, Bool, true, false, not, ◌&&◌, Some, None, refl, sym, ap}
 use Rattle.std.specs.Prelude.{IsTrue, is_some}
 use Rattle.ftp_operation.specs.Answer.{Said}
-use Rattle.ftp_client_machine.specs.Tries.{OverBreaks}
-use Rattle.ftp_server_machine.specs.Machine.{Reading}
-use Rattle.ftp_world.specs.Serving.{after_event}
-use Rattle.ftp_client_machine.specs.Calls.{uploads, report_of, report_of_job, reports, reported_by, is_busy, is_busy_job, handed_back}
-use Rattle.ftp_world.specs.Events.{Happens, Upload, begun_at, lends_none, can_begin, is_gone, is_asked_for}
-use Rattle.ftp_world.specs.World.{World}
+use Rattle.ftp_client_model.specs.Tries.{OverBreaks}
+use Rattle.ftp_server_model.specs.Machine.{Reading}
+use Rattle.ftp_pair_world.specs.Serving.{after_event}
+use Rattle.ftp_client_model.specs.Calls.{uploads, report_of, report_of_job, reports, reported_by, is_busy, is_busy_job, handed_back}
+use Rattle.ftp_pair_world.specs.Events.{Happens, Upload, begun_at, lends_none, can_begin, is_gone, is_asked_for}
+use Rattle.ftp_pair_world.specs.World.{World}
 use Rattle.ftp_pair_parts.specs.Shown.{is_unlinked}
-use Rattle.ftp_client_machine.specs.View.{View, Job, Idle, Waiting, Doing, Transferring, Told}
+use Rattle.ftp_client_model.specs.View.{View, Job, Idle, Waiting, Doing, Transferring, Told}
 
 -- an operation without a report: nothing is taken
 none_by : (job : Job) (v : View) → report_of_job job ≡ None → reported_by job v ≡ v

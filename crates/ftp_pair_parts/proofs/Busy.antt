@@ -3,11 +3,11 @@ use Rattle.std.proofs.Common.{◌≡◌, ℕ, List, take, Some, refl, sym, subst
 use Rattle.std.proofs.lemmas.Bool.{cases_lt}
 use Rattle.std.specs.Prelude.{false, ◌≢◌}
 use Rattle.ftp_endpoint.specs.declared.host.Host.{Host}
-use Rattle.ftp_client_machine.specs.Busy.{BusyBefore}
-use Rattle.ftp_client_machine.specs.Calls.{is_busy, report_of, report_of_job, reports, reported_by, gives_control, control_end, listening, data_opened, data_end, data_fault, data_closed, gives_data}
-use Rattle.ftp_client_machine.specs.Failing.{Client, Holds, HoldsIfRoom, HearsIfRoom, ReceivesIfRoom, listening_short, data_opened_short, data_end_short, data_fault_short, short}
-use Rattle.ftp_client_machine.specs.View.{View, Job, Idle, Waiting, Doing, Transferring, Told}
-use Rattle.ftp_client_machine.proofs.BusyLemmas.{only_begins_busy}
+use Rattle.ftp_client_model.specs.Busy.{BusyBefore}
+use Rattle.ftp_client_model.specs.Calls.{is_busy, report_of, report_of_job, reports, reported_by, gives_control, control_end, listening, data_opened, data_end, data_fault, data_closed, gives_data}
+use Rattle.ftp_client_model.specs.Failing.{Client, Holds, HoldsIfRoom, HearsIfRoom, ReceivesIfRoom, listening_short, data_opened_short, data_end_short, data_fault_short, short}
+use Rattle.ftp_client_model.specs.View.{View, Job, Idle, Waiting, Doing, Transferring, Told}
+use Rattle.ftp_client_model.proofs.BusyLemmas.{only_begins_busy}
 use Rattle.ftp_operation.specs.Answer.{Said}
 
 -- a client that is another is busy where that one is

@@ -2,14 +2,14 @@
 use Rattle.std.proofs.Common.{◌≡◌, ℕ, suc, ◌-◌, ◌<◌, ◌≤◌, ◌&&◌, Bool, true, false, List, [], ◌∷◌, ◌++◌, length, refl, sym, ap, subst, ◌∙◌, append-nil, append_assoc, arith}
 use Rattle.std.specs.Prelude.{◌==◌, nat_eq, nat_lt, not, min, vec_capacity, IsTrue}
 use Rattle.std.proofs.lemmas.Bool.Decides.{nat_tests}
-use Rattle.ftp_world.specs.Events.{Queue, pulled, filled, Fills, Gives, Moves, due, in_queue, can_happen, Happens}
+use Rattle.ftp_pair_world.specs.Events.{Queue, pulled, filled, Fills, Gives, Moves, due, in_queue, can_happen, Happens}
 use Rattle.ftp_ends.specs.Octets.{has_octets}
-use Rattle.ftp_world.specs.World.{World}
-use Rattle.ftp_server_machine.specs.Machine.{Reading}
-use Rattle.ftp_world.specs.Events.{Takes, taking, pushed, Deliver, Delivers, DeliversBy, lends_none}
-use Rattle.ftp_world.specs.Serving.{after_event}
-use Rattle.ftp_client_machine.specs.Failing.{Client}
-use Rattle.ftp_server_machine.specs.Far.{Server}
+use Rattle.ftp_pair_world.specs.World.{World}
+use Rattle.ftp_server_model.specs.Machine.{Reading}
+use Rattle.ftp_pair_world.specs.Events.{Takes, taking, pushed, Deliver, Delivers, DeliversBy, lends_none}
+use Rattle.ftp_pair_world.specs.Serving.{after_event}
+use Rattle.ftp_client_model.specs.Failing.{Client}
+use Rattle.ftp_server_model.specs.Far.{Server}
 use Rattle.ftp_pair_parts.specs.declared.parts.Parts.{Parts}
 use Rattle.ftp_pair_lanes.specs.declared.between.Queue.{Queue as Lane}
 use Rattle.ftp_pair_lanes.specs.declared.between.Queue.TheVariants as Lanes

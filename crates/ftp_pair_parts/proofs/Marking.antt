@@ -1,8 +1,8 @@
 -- Marks, and what becomes of a link that has them.
 use Rattle.std.proofs.Common.{◌≡◌, length, Bool, true, false, List, [], ◌∷◌, ◌++◌, map, refl, sym, ap, ◌∙◌}
 use Rattle.std.proofs.lemmas.List.{length-map, map-append}
-use Rattle.ftp_world.specs.Events.{broken_by, refused_by, lends_none}
-use Rattle.ftp_world.specs.World.{World, Mark, Link, Gone, Opened, ClosedByNear, ClosedByFar, gone, marked_last, with_mark}
+use Rattle.ftp_pair_world.specs.Events.{broken_by, refused_by, lends_none}
+use Rattle.ftp_pair_world.specs.World.{World, Mark, Link, Gone, Opened, ClosedByNear, ClosedByFar, gone, marked_last, with_mark}
 
 -- the last of some has one mark more
 marked_behind : (mark : Mark) (front : List (List Mark)) (last : List Mark) → marked_last mark (front ++ last ∷ []) ≡ front ++ (last ++ mark ∷ []) ∷ []

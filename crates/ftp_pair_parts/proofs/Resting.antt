@@ -2,10 +2,10 @@
 use Rattle.std.proofs.Common.{◌≡◌, ℕ, ◌&&◌, ◌||◌, not, Bool, true, false, length, refl}
 use Rattle.std.specs.Prelude.{◌==◌, nat_lt}
 use Rattle.ftp_ends.specs.Octets.{has_octets}
-use Rattle.ftp_world.specs.Events.{Queue, ControlToServer, ControlToClient, DataToServer, DataToClient, Open, Deliver, End, IsQuiet, can_happen, due, in_queue, is_asked_for, may_take}
-use Rattle.ftp_world.specs.Still.{IsAtRest, IsStill}
-use Rattle.ftp_world.specs.World.{World}
-use Rattle.ftp_world.proofs.StillLemmas.{resting_is_still}
+use Rattle.ftp_pair_world.specs.Events.{Queue, ControlToServer, ControlToClient, DataToServer, DataToClient, Open, Deliver, End, IsQuiet, can_happen, due, in_queue, is_asked_for, may_take}
+use Rattle.ftp_pair_world.specs.Still.{IsAtRest, IsStill}
+use Rattle.ftp_pair_world.specs.World.{World}
+use Rattle.ftp_pair_world.proofs.StillLemmas.{resting_is_still}
 use Rattle.ftp_pair_parts.specs.Shown.{NoneEnds, NoneFlows, all_rest, all_told, is_quiet, rests}
 
 -- ---- tests

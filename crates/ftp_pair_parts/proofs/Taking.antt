@@ -2,13 +2,13 @@
 use Rattle.std.proofs.Common.{◌≡◌, ℕ, zero, suc, ◌<◌, ◌≤◌, Bool, List, [], ◌∷◌, ◌++◌, length, take, drop, refl, sym, ap, subst, ◌∙◌, arith}
 use Rattle.std.specs.Prelude.{min, IsTrue}
 use Rattle.std.proofs.lemmas.List.{length-take, take-take}
-use Rattle.ftp_client_machine.specs.Calls as near
-use Rattle.ftp_server_machine.specs.Machine as machine
-use Rattle.ftp_server_machine.specs.Machine.{Reading, hears_octet}
-use Rattle.ftp_server_machine.specs.View.{View as Far}
-use Rattle.ftp_server_machine.specs.Calls as far
-use Rattle.ftp_world.specs.Events.{Queue, ControlToServer, ControlToClient, DataToServer, DataToClient, Takes, in_queue, may_take, pushed, taking}
-use Rattle.ftp_world.specs.World.{World}
+use Rattle.ftp_client_model.specs.Calls as near
+use Rattle.ftp_server_model.specs.Machine as machine
+use Rattle.ftp_server_model.specs.Machine.{Reading, hears_octet}
+use Rattle.ftp_server_model.specs.View.{View as Far}
+use Rattle.ftp_server_model.specs.Calls as far
+use Rattle.ftp_pair_world.specs.Events.{Queue, ControlToServer, ControlToClient, DataToServer, DataToClient, Takes, in_queue, may_take, pushed, taking}
+use Rattle.ftp_pair_world.specs.World.{World}
 use Rattle.ftp_ends.specs.Octets.{has_octets}
 
 -- an octet is there

@@ -3,11 +3,11 @@ use Rattle.std.proofs.Common.{◌≡◌, Bool, true, ap, subst, ◌∙◌}
 use Rattle.std.specs.Prelude.{IsTrue, IfOk}
 use Rattle.std.specs.declared.result.Result.{Result}
 use Rattle.ftp_ends.specs.Link.{is_connecting}
-use Rattle.ftp_client_machine.specs.Calls as near
-use Rattle.ftp_server_machine.specs.Machine.{Reading}
-use Rattle.ftp_world.specs.Events.{Event, Queue, Happens, Open, Break, Refuse, End, EndControl, can_happen, ends_control, broken_by, link_opens, refused_by, told, lends_none}
-use Rattle.ftp_world.specs.Serving.{after_event}
-use Rattle.ftp_world.specs.World.{World, Broken, Refused, gone, with_mark}
+use Rattle.ftp_client_model.specs.Calls as near
+use Rattle.ftp_server_model.specs.Machine.{Reading}
+use Rattle.ftp_pair_world.specs.Events.{Event, Queue, Happens, Open, Break, Refuse, End, EndControl, can_happen, ends_control, broken_by, link_opens, refused_by, told, lends_none}
+use Rattle.ftp_pair_world.specs.Serving.{after_event}
+use Rattle.ftp_pair_world.specs.World.{World, Broken, Refused, gone, with_mark}
 use Rattle.ftp_pair_parts.specs.Shown.{Steps}
 use Rattle.ftp_pair_parts.proofs.Marking.{break_marked, refuse_marked}
 

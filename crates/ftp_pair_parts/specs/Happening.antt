@@ -1,9 +1,9 @@
 -- The events that a world is given, and those by which it comes to rest, as theorems speak of them.
 use Rattle.std.specs.Prelude.{◌≤◌, true, Bool}
-use Rattle.ftp_client_machine.specs.Tries.{over_breaks}
-use Rattle.ftp_world.specs.Events as events
-use Rattle.ftp_world.specs.Events.{Happens}
-use Rattle.ftp_world.specs.World.{World}
+use Rattle.ftp_client_model.specs.Tries.{over_breaks}
+use Rattle.ftp_pair_world.specs.Events as events
+use Rattle.ftp_pair_world.specs.Events.{Happens}
+use Rattle.ftp_pair_world.specs.World.{World}
 use Rattle.ftp_pair_parts.specs.Shown.{Steps, queue_of}
 use Rattle.ftp_pair_parts.specs.declared.event.Event.{Event}
 use Rattle.ftp_pair_parts.specs.declared.event.Event.TheVariants as Given

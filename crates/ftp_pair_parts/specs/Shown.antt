@@ -2,15 +2,15 @@
 use Rattle.std.specs.Prelude.{◌≡◌, ℕ, ◌<◌, Bool, true, false, not, ◌&&◌, List, map, ◌==◌, ◌++◌, vec_len, vec_capacity, IsTrue}
 use Rattle.ftp_operation.specs.Answer.{said_of}
 use Rattle.ftp_ends.specs.Octets.{has_octets}
-use Rattle.ftp_client_machine.specs.Calls.{is_busy}
-use Rattle.ftp_client_machine.specs.Failing.{Client}
-use Rattle.ftp_server_machine.specs.Far.{Server}
-use Rattle.ftp_server_machine.specs.Machine.{Reading, IsReading}
-use Rattle.ftp_world.specs.World as world
-use Rattle.ftp_world.specs.World.{World}
-use Rattle.ftp_world.specs.Events as events
-use Rattle.ftp_world.specs.Events.{pushed, filled, Fills, is_gone, is_asked_for, Takes, taking, DeliversBy}
-use Rattle.ftp_world.specs.Serving.{after_event}
+use Rattle.ftp_client_model.specs.Calls.{is_busy}
+use Rattle.ftp_client_model.specs.Failing.{Client}
+use Rattle.ftp_server_model.specs.Far.{Server}
+use Rattle.ftp_server_model.specs.Machine.{Reading, IsReading}
+use Rattle.ftp_pair_world.specs.World as world
+use Rattle.ftp_pair_world.specs.World.{World}
+use Rattle.ftp_pair_world.specs.Events as events
+use Rattle.ftp_pair_world.specs.Events.{pushed, filled, Fills, is_gone, is_asked_for, Takes, taking, DeliversBy}
+use Rattle.ftp_pair_world.specs.Serving.{after_event}
 use Rattle.ftp_pair_lanes.specs.declared.between.Control.{Control}
 use Rattle.ftp_pair_lanes.specs.declared.between.Control.TheVariants as Controls
 use Rattle.ftp_pair_lanes.specs.declared.between.Link.{Link}

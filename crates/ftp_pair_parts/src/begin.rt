@@ -1,18 +1,18 @@
 // The next operation.
 ghost use Rattle.std.specs.Prelude.{◌≡◌, ◌<◌, [], true, false, vec_len, vec_capacity, IfOk, OnErr, OnOk};
-ghost use Rattle.ftp_client_machine.specs.Calls.{is_busy, starts, uploads};
-ghost use Rattle.ftp_client_machine.specs.Tries.{over_breaks};
-ghost use Rattle.ftp_server_machine.specs.Calls.{clocked};
-ghost use Rattle.ftp_world.specs.Events.{Happens, Next, Upload, begun_at, lends_none};
+ghost use Rattle.ftp_client_model.specs.Calls.{is_busy, starts, uploads};
+ghost use Rattle.ftp_client_model.specs.Tries.{over_breaks};
+ghost use Rattle.ftp_server_model.specs.Calls.{clocked};
+ghost use Rattle.ftp_pair_world.specs.Events.{Happens, Next, Upload, begun_at, lends_none};
 ghost use Rattle.ftp_pair_parts.specs.Shown.{shown, Calmly, HasRoom, Steps, is_unlinked};
 
 use crate::counts::{both_stay, keep, stays};
 use crate::parts::Parts;
-use ftp_client_machine::Near;
+use ftp_client_model::Near;
 use ftp_facts::{Moment, Text};
 use ftp_operation::{How, Op};
 use ftp_pair_lanes::{Link, Mark};
-use ftp_server_machine::Far;
+use ftp_server_model::Far;
 use ftp_tree::Tree;
 use std::alloc::{AllocError, Allocator};
 
@@ -149,7 +149,7 @@ impl<A: Allocator, T: Tree<A>, N: Near<A>, F: Far<A, T>> Parts<A, T, N, F> {
     }
 
     /// The server's clock is set.
-    #[tactic(auto, unfolding(ftp_server_machine::specs::Calls::clocked))]
+    #[tactic(auto, unfolding(ftp_server_model::specs::Calls::clocked))]
     fn set_clock(&mut self, moment: Moment)
         ensures moved { Calmly self.old self.new (shown N.client F.server self.new ≡ record (shown N.client F.server self.old) { far = clocked moment.seconds (shown N.client F.server self.old).far }) }
         ensures marks { self.new.marks ≡ self.old.marks }

@@ -1,8 +1,8 @@
 // Items for which there is room, and counts.
 ghost use Rattle.std.specs.Prelude.{◌≡◌, ◌+◌, ◌<◌, ◌++◌, vec_len, vec_capacity, true, [], ◌∷◌};
-ghost use Rattle.ftp_world.specs.World.{counted};
+ghost use Rattle.ftp_pair_world.specs.World.{counted};
 
-use ftp_server_machine::Counts;
+use ftp_server_model::Counts;
 use std::alloc::Allocator;
 
 /// Adds an item, for which there is room.

@@ -1,13 +1,13 @@
 // A delivery: a queue is filled, and its first octets are offered.
 ghost use Rattle.std.specs.Prelude.{◌≡◌, ◌+◌, ◌<◌, ◌≤◌, true, false, vec_capacity, IfOk, IsTrue, OnErr, OnOk};
-ghost use Rattle.ftp_server_machine.specs.Machine.{Reading, IsReading};
-ghost use Rattle.ftp_world.specs.Events.{can_happen, Deliver, Happens, filled};
+ghost use Rattle.ftp_server_model.specs.Machine.{Reading, IsReading};
+ghost use Rattle.ftp_pair_world.specs.Events.{can_happen, Deliver, Happens, filled};
 ghost use Rattle.ftp_pair_parts.specs.Shown.{shown, Calmly, FillsTo, HasRoom, Offers, Carries, Steps, queue_of, len_of, room_of};
 
 use crate::parts::Parts;
-use ftp_client_machine::Near;
+use ftp_client_model::Near;
 use ftp_pair_lanes::{Queue, ROOM};
-use ftp_server_machine::Far;
+use ftp_server_model::Far;
 use ftp_tree::Tree;
 use std::alloc::{AllocError, Allocator};
 

@@ -1,13 +1,13 @@
 // The end of the control connection, and ends that are told that the other has closed.
 ghost use Rattle.std.specs.Prelude.{◌≡◌, ◌<◌};
-ghost use Rattle.ftp_world.specs.Events.{Happens, EndControl, End, DataToServer, DataToClient, ends_control, told, is_closed, can_happen, lends_none};
+ghost use Rattle.ftp_pair_world.specs.Events.{Happens, EndControl, End, DataToServer, DataToClient, ends_control, told, is_closed, can_happen, lends_none};
 ghost use Rattle.ftp_pair_parts.specs.Shown.{shown, Calmly, HasRoom, Steps, queue_of};
 
 use crate::counts::{both_stay, stays};
 use crate::parts::Parts;
-use ftp_client_machine::Near;
+use ftp_client_model::Near;
 use ftp_pair_lanes::{Control, Link, Queue};
-use ftp_server_machine::Far;
+use ftp_server_model::Far;
 use ftp_tree::Tree;
 use std::alloc::Allocator;
 
@@ -103,7 +103,7 @@ impl<A: Allocator, T: Tree<A>, N: Near<A>, F: Far<A, T>> Parts<A, T, N, F> {
         }
     }
 
-    #[tactic(auto, unfolding(ftp_server_machine::specs::Calls::data_end))]
+    #[tactic(auto, unfolding(ftp_server_model::specs::Calls::data_end))]
     pub(crate) fn tell_data_to_server(&mut self)
         ensures moved { Calmly self.old self.new (shown N.client F.server self.new ≡ told DataToServer (shown N.client F.server self.old)) }
         ensures report { HasRoom N.client self.old → HasRoom N.client self.new }

@@ -1,18 +1,18 @@
 // Links that open, are refused, or break, and the marks of the two last.
 ghost use Rattle.std.specs.Prelude.{◌≡◌, ◌<◌, ◌++◌, [], ◌∷◌, map, true, false, vec_len, vec_capacity, IfOk, OnErr, OnOk};
-ghost use Rattle.ftp_client_machine.specs.Calls as near;
+ghost use Rattle.ftp_client_model.specs.Calls as near;
 ghost use Rattle.ftp_ends.specs.Link.{is_connecting, is_wanted};
-ghost use Rattle.ftp_server_machine.specs.Calls as far;
-ghost use Rattle.ftp_world.specs.Events.{Happens, Open, Break, Refuse, broken_by, refused_by, can_happen, is_asked_for, link_opens, lends_none};
-ghost use Rattle.ftp_world.specs.World.{gone, marked_last, with_mark};
+ghost use Rattle.ftp_server_model.specs.Calls as far;
+ghost use Rattle.ftp_pair_world.specs.Events.{Happens, Open, Break, Refuse, broken_by, refused_by, can_happen, is_asked_for, link_opens, lends_none};
+ghost use Rattle.ftp_pair_world.specs.World.{gone, marked_last, with_mark};
 ghost use Rattle.ftp_pair_parts.specs.Shown.{shown, Calmly, HasRoom, Steps, link_of, mark_of};
 
 use crate::counts::{both_stay, keep, stays};
 use crate::parts::Parts;
-use ftp_client_machine::Near;
+use ftp_client_model::Near;
 use ftp_ends::Wants;
 use ftp_pair_lanes::{Link, Mark};
-use ftp_server_machine::Far;
+use ftp_server_model::Far;
 use ftp_tree::Tree;
 use std::alloc::{AllocError, Allocator};
 
@@ -80,7 +80,7 @@ impl<A: Allocator, T: Tree<A>, N: Near<A>, F: Far<A, T>> Parts<A, T, N, F> {
         true
     }
 
-    #[tactic(auto, unfolding(ftp_server_machine::specs::Calls::data_opened), using(crate::proofs::Busy::data_opened_busy))]
+    #[tactic(auto, unfolding(ftp_server_model::specs::Calls::data_opened), using(crate::proofs::Busy::data_opened_busy))]
     pub(crate) fn open_link(&mut self)
         ensures moved { Calmly self.old self.new (shown N.client F.server self.new ≡ link_opens (shown N.client F.server self.old)) }
         ensures report { HasRoom N.client self.old → HasRoom N.client self.new }
@@ -154,7 +154,7 @@ impl<A: Allocator, T: Tree<A>, N: Near<A>, F: Far<A, T>> Parts<A, T, N, F> {
         self.calm = stays(self.calm, refusals, self.near.refusals());
     }
 
-    #[tactic(auto, unfolding(ftp_server_machine::specs::Calls::data_refused))]
+    #[tactic(auto, unfolding(ftp_server_model::specs::Calls::data_refused))]
     fn refuse_far(&mut self)
         ensures moved { Calmly self.old self.new (shown N.client F.server self.new ≡ refused_by false (shown N.client F.server self.old)) }
         ensures reports { self.new.reports ≡ self.old.reports }
@@ -227,7 +227,7 @@ impl<A: Allocator, T: Tree<A>, N: Near<A>, F: Far<A, T>> Parts<A, T, N, F> {
         self.calm = stays(self.calm, refusals, self.near.refusals());
     }
 
-    #[tactic(auto, unfolding(ftp_server_machine::specs::Calls::data_fault))]
+    #[tactic(auto, unfolding(ftp_server_model::specs::Calls::data_fault))]
     fn fault_far(&mut self)
         ensures moved { Calmly self.old self.new (shown N.client F.server self.new ≡ record (shown N.client F.server self.old) { far = far.data_fault (F.server self.old.far).view }) }
         ensures report { HasRoom N.client self.old → HasRoom N.client self.new }

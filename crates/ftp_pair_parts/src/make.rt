@@ -1,13 +1,13 @@
 // How a world begins.
 ghost use Rattle.std.specs.Prelude.{◌≡◌, ◌<◌, [], IfOk, IfErr, true, vec_len, vec_capacity};
-ghost use Rattle.ftp_world.specs.World.{world};
+ghost use Rattle.ftp_pair_world.specs.World.{world};
 ghost use Rattle.ftp_pair_parts.specs.Shown.{shown, HasRoom};
 
 use crate::parts::Parts;
-use ftp_client_machine::Near;
+use ftp_client_model::Near;
 use ftp_operation::Answer;
 use ftp_pair_lanes::{Control, Lane, Link};
-use ftp_server_machine::Far;
+use ftp_server_model::Far;
 use ftp_tree::Tree;
 use std::alloc::{AllocError, Allocator};
 use std::marker::PhantomData;

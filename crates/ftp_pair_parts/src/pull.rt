@@ -1,13 +1,13 @@
 // One output call of a sender fills its queue.
 ghost use Rattle.std.specs.Prelude.{◌≡◌, ◌+◌, ◌≤◌, vec_len, vec_capacity};
-ghost use Rattle.ftp_world.specs.Events.{pulled, due, Gives, ControlToServer, ControlToClient, DataToServer, DataToClient};
+ghost use Rattle.ftp_pair_world.specs.Events.{pulled, due, Gives, ControlToServer, ControlToClient, DataToServer, DataToClient};
 ghost use Rattle.ftp_pair_parts.specs.Shown.{shown, Calmly, HasRoom, queue_of, len_of, room_of};
 
 use crate::counts::{both_stay, stays};
 use crate::parts::Parts;
-use ftp_client_machine::Near;
+use ftp_client_model::Near;
 use ftp_pair_lanes::{Queue, ROOM};
-use ftp_server_machine::Far;
+use ftp_server_model::Far;
 use ftp_tree::Tree;
 use std::alloc::Allocator;
 
@@ -30,7 +30,7 @@ impl<A: Allocator, T: Tree<A>, N: Near<A>, F: Far<A, T>> Parts<A, T, N, F> {
         given
     }
 
-    #[tactic(auto, unfolding(ftp_server_machine::specs::Calls::gives_control))]
+    #[tactic(auto, unfolding(ftp_server_model::specs::Calls::gives_control))]
     pub(crate) fn pull_control_to_client(&mut self, most: usize) -> usize
         requires few { most ≤ 4096 }
         requires room { vec_len self.old.control_to_client.octets + most ≤ vec_capacity self.old.control_to_client.octets }
@@ -70,7 +70,7 @@ impl<A: Allocator, T: Tree<A>, N: Near<A>, F: Far<A, T>> Parts<A, T, N, F> {
         given
     }
 
-    #[tactic(auto, unfolding(ftp_server_machine::specs::Calls::gives_data))]
+    #[tactic(auto, unfolding(ftp_server_model::specs::Calls::gives_data))]
     pub(crate) fn pull_data_to_client(&mut self, most: usize) -> usize
         requires few { most ≤ 4096 }
         requires room { vec_len self.old.data_to_client.octets + most ≤ vec_capacity self.old.data_to_client.octets }

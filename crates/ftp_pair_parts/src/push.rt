@@ -1,14 +1,14 @@
 // The first octets of a queue are offered to its receiver.
 ghost use Rattle.std.specs.Prelude.{◌≡◌, ◌≤◌, vec_capacity};
-ghost use Rattle.ftp_server_machine.specs.Machine.{Reading, IsReading};
-ghost use Rattle.ftp_world.specs.Events.{pushed, taking, Takes, ControlToServer, ControlToClient, DataToServer, DataToClient};
+ghost use Rattle.ftp_server_model.specs.Machine.{Reading, IsReading};
+ghost use Rattle.ftp_pair_world.specs.Events.{pushed, taking, Takes, ControlToServer, ControlToClient, DataToServer, DataToClient};
 ghost use Rattle.ftp_pair_parts.specs.Shown.{shown, Calmly, HasRoom, queue_of};
 
 use crate::counts::{both_stay, count_on, stays};
 use crate::parts::Parts;
-use ftp_client_machine::Near;
+use ftp_client_model::Near;
 use ftp_pair_lanes::Queue;
-use ftp_server_machine::Far;
+use ftp_server_model::Far;
 use ftp_tree::Tree;
 use std::alloc::Allocator;
 

@@ -1,13 +1,13 @@
 // What a queue is asked, whichever it is, and whether nothing is in flight.
 ghost use Rattle.std.specs.Prelude.{◌≡◌, true};
 ghost use Rattle.ftp_ends.specs.Octets.{has_octets};
-ghost use Rattle.ftp_world.specs.Events.{IsQuiet, due, may_take};
+ghost use Rattle.ftp_pair_world.specs.Events.{IsQuiet, due, may_take};
 ghost use Rattle.ftp_pair_parts.specs.Shown.{shown, all_rest, all_told, is_quiet, queue_of, len_of, rests};
 
 use crate::parts::Parts;
-use ftp_client_machine::Near;
+use ftp_client_model::Near;
 use ftp_pair_lanes::Queue;
-use ftp_server_machine::Far;
+use ftp_server_model::Far;
 use ftp_tree::Tree;
 use std::alloc::Allocator;
 

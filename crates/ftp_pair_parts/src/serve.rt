@@ -1,15 +1,15 @@
 // What a world does for its ends after each event: a wanted close is done, a wanted listen gets its port, and an end that leaves has left.
 ghost use Rattle.std.specs.Prelude.{◌≡◌, ◌<◌};
-ghost use Rattle.ftp_world.specs.Serving.{near_served, near_closes, near_listens, left_by_near, far_served, far_closes, far_listens, left_by_far, served};
-ghost use Rattle.ftp_world.specs.World.{gone, parted};
+ghost use Rattle.ftp_pair_world.specs.Serving.{near_served, near_closes, near_listens, left_by_near, far_served, far_closes, far_listens, left_by_far, served};
+ghost use Rattle.ftp_pair_world.specs.World.{gone, parted};
 ghost use Rattle.ftp_pair_parts.specs.Shown.{shown, Calmly, HasRoom};
 
 use crate::counts::{both_stay, stays};
 use crate::parts::Parts;
-use ftp_client_machine::Near;
+use ftp_client_model::Near;
 use ftp_ends::Wants;
 use ftp_pair_lanes::{Control, Link};
-use ftp_server_machine::Far;
+use ftp_server_model::Far;
 use ftp_tree::Tree;
 use std::alloc::Allocator;
 
@@ -109,7 +109,7 @@ impl<A: Allocator, T: Tree<A>, N: Near<A>, F: Far<A, T>> Parts<A, T, N, F> {
         }
     }
 
-    #[tactic(auto, unfolding(ftp_server_machine::specs::Calls::data_closed))]
+    #[tactic(auto, unfolding(ftp_server_model::specs::Calls::data_closed))]
     fn far_closes(&mut self)
         ensures moved { Calmly self.old self.new (shown N.client F.server self.new ≡ far_closes (shown N.client F.server self.old)) }
         ensures few { self.new.listens ≡ self.old.listens }
@@ -125,7 +125,7 @@ impl<A: Allocator, T: Tree<A>, N: Near<A>, F: Far<A, T>> Parts<A, T, N, F> {
         }
     }
 
-    #[tactic(auto, unfolding(ftp_server_machine::specs::Calls::listening))]
+    #[tactic(auto, unfolding(ftp_server_model::specs::Calls::listening))]
     fn far_listens(&mut self)
         requires { self.old.listens < 16384 }
         ensures moved { Calmly self.old self.new (shown N.client F.server self.new ≡ far_listens (shown N.client F.server self.old)) }

@@ -1,15 +1,15 @@
 // One event, and what follows each: what is wanted is served, and the report is taken.
 ghost use Rattle.std.specs.Prelude.{◌≡◌, ◌<◌, vec_capacity, IfOk, OnErr};
-ghost use Rattle.ftp_world.specs.Events.{Happens, lends_none};
-ghost use Rattle.ftp_world.specs.Serving.{after_event, collected};
+ghost use Rattle.ftp_pair_world.specs.Events.{Happens, lends_none};
+ghost use Rattle.ftp_pair_world.specs.Serving.{after_event, collected};
 ghost use Rattle.ftp_pair_parts.specs.Happening.{event_of};
 ghost use Rattle.ftp_pair_parts.specs.Shown.{shown, Calmly, HasRoom, Steps};
 
 use crate::counts::keep;
 use crate::event::Event;
 use crate::parts::Parts;
-use ftp_client_machine::Near;
-use ftp_server_machine::Far;
+use ftp_client_model::Near;
+use ftp_server_model::Far;
 use ftp_tree::Tree;
 use std::alloc::{AllocError, Allocator};
 

@@ -1,14 +1,14 @@
 // One turn of a world that comes to rest by itself: what is possible is found first, and then happens.
 ghost use Rattle.std.specs.Prelude.{◌≡◌, ◌<◌, true, false, IfSome, IfNone, IsTrue};
-ghost use Rattle.ftp_world.specs.Events.{can_happen, Deliver, End, Happens};
-ghost use Rattle.ftp_world.specs.Still.{IsStill};
+ghost use Rattle.ftp_pair_world.specs.Events.{can_happen, Deliver, End, Happens};
+ghost use Rattle.ftp_pair_world.specs.Still.{IsStill};
 ghost use Rattle.ftp_pair_parts.specs.Happening.{turn_of, Stirs};
 ghost use Rattle.ftp_pair_parts.specs.Shown.{shown, HasRoom, NoneEnds, NoneFlows, Steps, queue_of};
 
 use crate::parts::Parts;
-use ftp_client_machine::Near;
+use ftp_client_model::Near;
 use ftp_pair_lanes::{Queue, ROOM};
-use ftp_server_machine::Far;
+use ftp_server_model::Far;
 use ftp_tree::Tree;
 use std::alloc::Allocator;
 

@@ -9,35 +9,35 @@ use Rattle.ftp_nvt.specs.Telnet.{TelnetUnit, data_octet, option, owed_of, place_
 use Rattle.ftp_nvt.specs.declared.line.Stage.{Stage}
 use Rattle.ftp_nvt.specs.declared.line.Stage.TheVariants as Lined
 use Rattle.ftp_nvt.specs.declared.line.TheConstants.{LF, CR}
-use Rattle.ftp_nvt.specs.declared.telnet.Place.{Place}
-use Rattle.ftp_nvt.specs.declared.telnet.Place.TheVariants as At
+use Rattle.ftp_nvt.specs.declared.telnet.TelnetState.{TelnetState}
+use Rattle.ftp_nvt.specs.declared.telnet.TelnetState.TheVariants as At
 use Rattle.ftp_nvt.specs.declared.telnet.TheConstants.{IAC, WONT, DONT}
 use Rattle.ftp_ends.specs.Ear.{Ear, Unfinished, ear_out, ear_step, line_out, unit_says, within_out}
 use Rattle.ftp_ends.specs.Reply.{Reply, reply_octets}
 use Rattle.ftp_reply.specs.Reply.{written}
 use Rattle.ftp_reply.specs.Reader.{line_heard}
-use Rattle.ftp_client_machine.specs.Calls.{event_taken, events_taken, hears, hears_octet, is_sound, may_hear, reply_limit}
-use Rattle.ftp_client_machine.specs.View.{View}
+use Rattle.ftp_client_model.specs.Calls.{event_taken, events_taken, hears, hears_octet, is_sound, may_hear, reply_limit}
+use Rattle.ftp_client_model.specs.View.{View}
 use Rattle.ftp_pair_settling.specs.Steady.{AskNothing, NoneAsked}
-use Rattle.ftp_client_machine.proofs.ClientBounds.{Low, both, same, strange_low}
-use Rattle.ftp_client_machine.proofs.ClientCalls.{line_low}
+use Rattle.ftp_client_model.proofs.ClientBounds.{Low, both, same, strange_low}
+use Rattle.ftp_client_model.proofs.ClientCalls.{line_low}
 use Rattle.ftp_pair_settling.proofs.NearApart.{events_keep}
 use Rattle.ftp_pair_settling.proofs.NearApart as keeps
 
 -- ---- rows
 
 -- octets that ask nothing, and more of them
-asked_append : (a b : List ℕ) (at : Place) → NoneAsked at a → NoneAsked (place_from at a) b → NoneAsked at (a ++ b)
+asked_append : (a b : List ℕ) (at : TelnetState) → NoneAsked at a → NoneAsked (place_from at a) b → NoneAsked at (a ++ b)
 asked_append [] b at x y = y
 asked_append (octet ∷ a) b at x y = (x.0, asked_append a b (place_behind at octet) x.1 y)
 
 -- a front of such octets
-pub asked_front : (a b : List ℕ) (at : Place) → NoneAsked at (a ++ b) → NoneAsked at a
+pub asked_front : (a b : List ℕ) (at : TelnetState) → NoneAsked at (a ++ b) → NoneAsked at a
 asked_front [] b at x = tt
 asked_front (octet ∷ a) b at x = (x.0, asked_front a b (place_behind at octet) x.1)
 
 -- where octets end, and more of them
-pub place_append : (a b : List ℕ) (at : Place) → place_from at (a ++ b) ≡ place_from (place_from at a) b
+pub place_append : (a b : List ℕ) (at : TelnetState) → place_from at (a ++ b) ≡ place_from (place_from at a) b
 place_append [] b at = refl
 place_append (octet ∷ a) b at = place_append a b (place_behind at octet)
 
@@ -46,7 +46,7 @@ abbrev pub Calm : List ℕ → Type 0
 Calm octets = AskNothing At.Between octets
 
 -- such octets behind others
-pub ask_more : (at : Place) (a b : List ℕ) → AskNothing at a → Calm b → AskNothing at (a ++ b)
+pub ask_more : (at : TelnetState) (a b : List ℕ) → AskNothing at a → Calm b → AskNothing at (a ++ b)
 ask_more at a b x c = record {
   none = asked_append a b at x.none (subst (λ place. NoneAsked place b) (sym x.rest) c.none);
   rest = place_append a b at ∙ ap (λ place. place_from place b) x.rest ∙ c.rest;

@@ -6,32 +6,32 @@ use Rattle.ftp_endpoint.specs.declared.host.Host.{Host}
 use Rattle.ftp_ends.specs.Link.{is_accepting, is_connecting, is_wanted, same_host}
 use Rattle.ftp_ends.specs.declared.link.Wants.{Wants}
 use Rattle.ftp_ends.specs.declared.link.Wants.TheVariants as Want
-use Rattle.ftp_client_machine.specs.Calls as near
-use Rattle.ftp_client_machine.specs.Calls.{is_sound}
-use Rattle.ftp_client_machine.specs.View.{View as Near}
-use Rattle.ftp_server_machine.specs.Bounds as far_left
-use Rattle.ftp_server_machine.specs.Calls as far
-use Rattle.ftp_server_machine.specs.Calls.{connection_of, is_done, opened_step, opens, wants_of}
-use Rattle.ftp_server_machine.specs.Machine.{Reading}
-use Rattle.ftp_server_machine.specs.View.{View as Far, Transfer as FarTransfer}
-use Rattle.ftp_server_machine.specs.declared.session.DataConnection.{DataConnection}
-use Rattle.ftp_server_machine.specs.declared.session.DataConnection.TheVariants as Data
-use Rattle.ftp_server_machine.specs.declared.session.Transfer.TheVariants as Transfers
-use Rattle.ftp_server_machine.specs.declared.session.Way.TheVariants as Ways
+use Rattle.ftp_client_model.specs.Calls as near
+use Rattle.ftp_client_model.specs.Calls.{is_sound}
+use Rattle.ftp_client_model.specs.View.{View as Near}
+use Rattle.ftp_server_model.specs.Bounds as far_left
+use Rattle.ftp_server_model.specs.Calls as far
+use Rattle.ftp_server_model.specs.Calls.{connection_of, is_done, opened_step, opens, wants_of}
+use Rattle.ftp_server_model.specs.Machine.{Reading}
+use Rattle.ftp_server_model.specs.View.{View as Far, Transfer as FarTransfer}
+use Rattle.ftp_server_model.specs.declared.session.ServerLink.{ServerLink}
+use Rattle.ftp_server_model.specs.declared.session.ServerLink.TheVariants as Data
+use Rattle.ftp_server_model.specs.declared.session.Transfer.TheVariants as Transfers
+use Rattle.ftp_server_model.specs.declared.session.Way.TheVariants as Ways
 use Rattle.ftp_ends.specs.Octets.{has_octets}
-use Rattle.ftp_world.specs.Events.{Queue, ControlToServer, ControlToClient, DataToServer, DataToClient, Deliver, DeliversBy, Fills, Gives, MayTakeFrom, Takes, can_happen, due, filled, in_queue, is_asked_for, is_closed_by_far, is_closed_by_near, is_gone, link_opens, may_take, pulled, pushed, taking, told}
-use Rattle.ftp_world.specs.Settling.{left_in, ends_to_client, ends_to_server}
-use Rattle.ftp_world.specs.World.{World, Link, ClosedByNear, ClosedByFar}
+use Rattle.ftp_pair_world.specs.Events.{Queue, ControlToServer, ControlToClient, DataToServer, DataToClient, Deliver, DeliversBy, Fills, Gives, MayTakeFrom, Takes, can_happen, due, filled, in_queue, is_asked_for, is_closed_by_far, is_closed_by_near, is_gone, link_opens, may_take, pulled, pushed, taking, told}
+use Rattle.ftp_pair_world.specs.Settling.{left_in, ends_to_client, ends_to_server}
+use Rattle.ftp_pair_world.specs.World.{World, Link, ClosedByNear, ClosedByFar}
 use Rattle.ftp_pair_settling.specs.Steady.{AreApart, AsksNothing, NearIsApart}
 use Rattle.ftp_pair_settling.proofs.Moving.{Less, Pushes, control_in, data_in, file_in, fill_apart, fill_asks, fill_less, gives_few, pull_apart, pull_less, replies_in, served_behind}
-use Rattle.ftp_server_machine.proofs.ServerBounds.{completed_lowers}
-use Rattle.ftp_server_machine.proofs.ServerBounds as fars
+use Rattle.ftp_server_model.proofs.ServerBounds.{completed_lowers}
+use Rattle.ftp_server_model.proofs.ServerBounds as fars
 use Rattle.ftp_pair_settling.proofs.FarCallsApart.{data_opened_apart, hears_apart, receives_apart}
 use Rattle.ftp_pair_settling.proofs.FarLow.{later_cases}
 use Rattle.ftp_pair_settling.proofs.Possible.{taken_can}
 use Rattle.ftp_pair_settling.proofs.NearApart as keeps
-use Rattle.ftp_client_machine.proofs.ClientBounds.{positive}
-use Rattle.ftp_client_machine.proofs.ClientCalls.{calls_lower}
+use Rattle.ftp_client_model.proofs.ClientBounds.{positive}
+use Rattle.ftp_client_model.proofs.ClientCalls.{calls_lower}
 use Rattle.ftp_pair_settling.proofs.Order.{falls_most, falls_then, le_then, not_less}
 
 -- ---- a delivery
@@ -151,7 +151,7 @@ no_link (inl is) = absurd (cc)
 no_link (inr is) = absurd (cc)
 
 -- the server goes on, and less is to begin
-opens_falls : (connection : DataConnection FarTransfer) (peer : Bool) (v : Far) → v.session.connection ≡ connection → Links (wants_of connection) → far_left.to_begin (opens connection peer v) < far_left.to_begin v
+opens_falls : (connection : ServerLink FarTransfer) (peer : Bool) (v : Far) → v.session.connection ≡ connection → Links (wants_of connection) → far_left.to_begin (opens connection peer v) < far_left.to_begin v
 opens_falls Data.Passive true v is links = let two : far_left.stages_left v.session.connection ≡ 2 = ap far_left.stages_left is in omega (arith, two)
 opens_falls Data.Passive false v is links = let two : far_left.stages_left v.session.connection ≡ 2 = ap far_left.stages_left is in omega (arith, two)
 opens_falls (Data.Opening transfer Ways.Accept) true v is links = let two : far_left.stages_left v.session.connection ≡ 2 = ap far_left.stages_left is in omega (arith, two)
@@ -165,7 +165,7 @@ step_falls : (host : Host) (v : Far) → v.session.closing ≡ false → Links (
 step_falls host v is links =
     let peer : Bool = same_host host v.footing.peer in
     let found : connection_of v.session ≡ v.session.connection = ap (λ (b : Bool). if b then Data.Free else v.session.connection) is in
-    let P : DataConnection FarTransfer → Type 0 = λ connection. far_left.to_begin (opens connection peer v) < far_left.to_begin v in
+    let P : ServerLink FarTransfer → Type 0 = λ connection. far_left.to_begin (opens connection peer v) < far_left.to_begin v in
     let less = subst P (sym found) (opens_falls v.session.connection peer v refl links) in
     let low = completed_lowers 0 (opens (connection_of v.session) peer v) (opens (connection_of v.session) peer v) (fars.same (opens (connection_of v.session) peer v)) in
     omega (arith, less, low.begins)

@@ -1,9 +1,9 @@
 -- Each run of deliveries, openings and ends from a steady world ends: five numbers of which the first that changes is less cannot fall for ever.
 use Rattle.std.proofs.Common.{◌≡◌, inl, inr, ℕ, zero, suc, ◌<◌, true, refl, sym, subst, arith}
 use mathlib.Core.Path.{ap, fun_ext}
-use Rattle.ftp_server_machine.specs.Machine.{Reading}
-use Rattle.ftp_world.specs.Settling.{Falls, Left, left_in}
-use Rattle.ftp_world.specs.World.{World}
+use Rattle.ftp_server_model.specs.Machine.{Reading}
+use Rattle.ftp_pair_world.specs.Settling.{Falls, Left, left_in}
+use Rattle.ftp_pair_world.specs.World.{World}
 use Rattle.ftp_pair_settling.specs.Laws.{SteadyEnds}
 use Rattle.ftp_pair_settling.specs.Steady.{IsSteady}
 use Rattle.ftp_pair_settling.specs.Turns.{Ends, ends}

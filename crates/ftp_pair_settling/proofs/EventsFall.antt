@@ -1,11 +1,11 @@
 -- Each delivery, opening and end lowers the first number that it changes: all of them together.
 use Rattle.std.proofs.Common.{◌≡◌, Bool, true, false, ◌==◌, ◌&&◌, refl, sym, subst}
 use Rattle.std.specs.Prelude.{not}
-use Rattle.ftp_server_machine.specs.Machine.{Reading}
-use Rattle.ftp_world.specs.Claims.{IsSettling}
+use Rattle.ftp_server_model.specs.Machine.{Reading}
+use Rattle.ftp_pair_world.specs.Claims.{IsSettling}
 use Rattle.ftp_ends.specs.Octets.{has_octets}
-use Rattle.ftp_world.specs.Events.{Queue, ControlToServer, ControlToClient, DataToServer, DataToClient, Event, Deliver, Open, End, Does, can_happen, due, in_queue, is_closed, is_left_by_far, is_left_by_near, lends_none, link_opens, told}
-use Rattle.ftp_world.specs.World.{World, Control, LeftByNear, LeftByFar}
+use Rattle.ftp_pair_world.specs.Events.{Queue, ControlToServer, ControlToClient, DataToServer, DataToClient, Event, Deliver, Open, End, Does, can_happen, due, in_queue, is_closed, is_left_by_far, is_left_by_near, lends_none, link_opens, told}
+use Rattle.ftp_pair_world.specs.World.{World, Control, LeftByNear, LeftByFar}
 use Rattle.ftp_pair_settling.specs.Laws.{EventsFall}
 use Rattle.ftp_pair_settling.specs.Steady.{AreApart, AsksNothing}
 use Rattle.ftp_pair_settling.proofs.Moving.{Less, served_behind}

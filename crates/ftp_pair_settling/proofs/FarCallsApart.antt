@@ -2,26 +2,26 @@
 use Rattle.std.proofs.Common.{◌≡◌, ℕ, List, [], ◌∷◌, Bool, true, false, Option, Some, None, refl, sym, ap, subst, ◌∙◌}
 use Rattle.std.proofs.lemmas.Bool.{cond_both}
 use Rattle.ftp_endpoint.specs.declared.host.Host.{Host}
-use Rattle.ftp_decoder.specs.Decoder.{Decoder, fault_of, octet_says, read_on}
+use Rattle.ftp_wire.specs.Decoder.{Decoder, fault_of, octet_says, read_on}
 use Rattle.ftp_ends.specs.Ear.{ear_out, ear_step}
 use Rattle.ftp_ends.specs.Link.{same_host}
-use Rattle.ftp_framer.specs.Said.{Said, says}
+use Rattle.ftp_mode.specs.Said.{Said, says}
 use Rattle.ftp_mode.specs.declared.fault.FrameFault.{FrameFault}
 use Rattle.ftp_nvt.specs.Lines.{NvtEvent, line, too_long, owed}
 use Rattle.ftp_path.specs.Path.{Names}
-use Rattle.ftp_server_machine.specs.Calls.{clock_step, clocked, connection_of, control_end, control_step, data_end, data_fault, data_opened, data_refused, end_step, break_step, ends, breaks, given_step, gives_control, gives_data, opened_step, opens, receives, receives_octet, refused_step, refuses, takes_all, takes_data, takes_given, takes_octet, takes_said, with_connection}
-use Rattle.ftp_server_machine.specs.Endpoint.{disconnected, forgotten, is_standing}
-use Rattle.ftp_server_machine.specs.Machine.{Reading, abort_said, aborted, aborts, heard_event, heard_events, heard_line, hears, hears_octet, is_abort}
-use Rattle.ftp_server_machine.specs.View.{Transfer, View, line_limit}
-use Rattle.ftp_server_machine.specs.declared.heard.Heard.{Heard}
-use Rattle.ftp_server_machine.specs.declared.heard.Heard.TheVariants.{TooLong}
-use Rattle.ftp_server_machine.specs.declared.session.DataConnection.{DataConnection}
-use Rattle.ftp_server_machine.specs.declared.session.DataConnection.TheVariants as Data
-use Rattle.ftp_server_machine.specs.declared.session.Transfer.TheVariants as Transfers
-use Rattle.ftp_server_machine.specs.declared.session.Way.TheVariants as Ways
+use Rattle.ftp_server_model.specs.Calls.{clock_step, clocked, connection_of, control_end, control_step, data_end, data_fault, data_opened, data_refused, end_step, break_step, ends, breaks, given_step, gives_control, gives_data, opened_step, opens, receives, receives_octet, refused_step, refuses, takes_all, takes_data, takes_given, takes_octet, takes_said, with_connection}
+use Rattle.ftp_server_model.specs.Endpoint.{disconnected, forgotten, is_standing}
+use Rattle.ftp_server_model.specs.Machine.{Reading, abort_said, aborted, aborts, heard_event, heard_events, heard_line, hears, hears_octet, is_abort}
+use Rattle.ftp_server_model.specs.View.{Transfer, View, line_limit}
+use Rattle.ftp_server_model.specs.declared.heard.HeardLine.{HeardLine}
+use Rattle.ftp_server_model.specs.declared.heard.HeardLine.TheVariants.{TooLong}
+use Rattle.ftp_server_model.specs.declared.session.ServerLink.{ServerLink}
+use Rattle.ftp_server_model.specs.declared.session.ServerLink.TheVariants as Data
+use Rattle.ftp_server_model.specs.declared.session.Transfer.TheVariants as Transfers
+use Rattle.ftp_server_model.specs.declared.session.Way.TheVariants as Ways
 use Rattle.ftp_pair_settling.specs.Steady.{FarIsApart}
 use Rattle.ftp_pair_settling.proofs.FarLinesApart.{completed_apart, forgotten_apart, later_apart}
-use Rattle.ftp_server_machine.proofs.ServerBounds.{break_gone, end_gone}
+use Rattle.ftp_server_model.proofs.ServerBounds.{break_gone, end_gone}
 
 -- no close is wanted
 abbrev Open : View → Type 0
@@ -32,7 +32,7 @@ open_apart : (v : View) → Open v → FarIsApart v
 open_apart v is closing = absurd (cc)
 
 -- a call that is another where a close is wanted
-by_closing : (v : View) (f : DataConnection Transfer → View → View) → FarIsApart v → f Data.Free v ≡ v → (Open v → FarIsApart (f v.session.connection v)) → FarIsApart (f (connection_of v.session) v)
+by_closing : (v : View) (f : ServerLink Transfer → View → View) → FarIsApart v → f Data.Free v ≡ v → (Open v → FarIsApart (f v.session.connection v)) → FarIsApart (f (connection_of v.session) v)
 by_closing v f a free found = cond_both v.session.closing _ _ (λ connection. FarIsApart (f connection v)) (λ is. subst FarIsApart (sym free) a) found
 
 -- no connection, so none stands
@@ -42,7 +42,7 @@ free_apart v is closing = ap is_standing is
 -- ---- control octets
 
 -- what ABOR ends
-aborts_apart : (connection : DataConnection Transfer) (v : View) → FarIsApart v → FarIsApart (aborts connection v)
+aborts_apart : (connection : ServerLink Transfer) (v : View) → FarIsApart v → FarIsApart (aborts connection v)
 aborts_apart (Data.Transferring transfer) v a = free_apart (aborts (Data.Transferring transfer) v) (break_gone v.footing.moment transfer (forgotten v.session))
 aborts_apart (Data.Opening transfer way) v a = forgotten_apart v.session
 aborts_apart connection v a = a
@@ -52,7 +52,7 @@ aborted_apart : (v : View) → FarIsApart v → FarIsApart (aborted v)
 aborted_apart v a = later_apart (abort_said (aborts v.session.connection v)) (aborts_apart v.session.connection v a)
 
 -- a line that was heard
-line_apart : (heard : Heard (List ℕ)) (v : View) → FarIsApart v → FarIsApart (heard_line heard v)
+line_apart : (heard : HeardLine (List ℕ)) (v : View) → FarIsApart v → FarIsApart (heard_line heard v)
 line_apart heard v a = cond_both (is_abort heard v) _ _ FarIsApart (λ is. aborted_apart v a) (λ is. later_apart (record v { waiting = Some heard }) a)
 
 -- an event of the ear
@@ -89,7 +89,7 @@ clocked_apart moment v a = later_apart (clock_step moment v) a
 -- ---- an upload
 
 -- a record of an upload wants no close
-said_open : (connection : DataConnection Transfer) (said : Said) (v : View) → (takes_said connection said v).session.closing ≡ v.session.closing
+said_open : (connection : ServerLink Transfer) (said : Said) (v : View) → (takes_said connection said v).session.closing ≡ v.session.closing
 said_open (Data.Transferring (Transfers.Upload path keep d)) (says sign) v = refl
 said_open connection said v = refl
 
@@ -105,7 +105,7 @@ takes_octet_apart None path keep d said v is =
 takes_octet_apart (Some fault) path keep d said v is = forgotten_apart v.session
 
 -- an octet of the link
-takes_data_apart : (connection : DataConnection Transfer) (octet : ℕ) (v : View) → Open v → FarIsApart (takes_data connection octet v)
+takes_data_apart : (connection : ServerLink Transfer) (octet : ℕ) (v : View) → Open v → FarIsApart (takes_data connection octet v)
 takes_data_apart (Data.Transferring (Transfers.Upload path keep d)) octet v is = takes_octet_apart (fault_of (read_on d octet)) path keep (read_on d octet) (octet_says d octet) v is
 takes_data_apart connection octet v is = open_apart v is
 
@@ -124,7 +124,7 @@ receives_apart (octet ∷ octets) v a = receives_apart octets (receives_octet v 
 -- ---- octets that are given
 
 -- octets that were given want no close
-takes_given_open : (connection : DataConnection Transfer) (count : ℕ) (v : View) → (takes_given connection count v).session.closing ≡ v.session.closing
+takes_given_open : (connection : ServerLink Transfer) (count : ℕ) (v : View) → (takes_given connection count v).session.closing ≡ v.session.closing
 takes_given_open (Data.Transferring (Transfers.Download rest)) count v = refl
 takes_given_open connection count v = refl
 
@@ -140,7 +140,7 @@ gives_data_apart count v a =
 -- ---- the data connection opens, ends, or is not had
 
 -- a link that opens
-opens_apart : (connection : DataConnection Transfer) (is_peer : Bool) (v : View) → Open v → FarIsApart (opens connection is_peer v)
+opens_apart : (connection : ServerLink Transfer) (is_peer : Bool) (v : View) → Open v → FarIsApart (opens connection is_peer v)
 opens_apart Data.Passive true v is = open_apart (opens Data.Passive true v) is
 opens_apart Data.Passive false v is = forgotten_apart v.session
 opens_apart (Data.Opening transfer Ways.Accept) true v is = open_apart (opens (Data.Opening transfer Ways.Accept) true v) is
@@ -157,7 +157,7 @@ data_opened_apart host v a =
     (by_closing v (λ connection u. opens connection (same_host host v.footing.peer) u) a refl (opens_apart v.session.connection (same_host host v.footing.peer) v)))
 
 -- a link that is refused
-refuses_apart : (connection : DataConnection Transfer) (v : View) → Open v → FarIsApart (refuses connection v)
+refuses_apart : (connection : ServerLink Transfer) (v : View) → Open v → FarIsApart (refuses connection v)
 refuses_apart Data.Passive v is = forgotten_apart v.session
 refuses_apart (Data.Opening transfer way) v is = forgotten_apart v.session
 refuses_apart connection v is = open_apart v is
@@ -168,7 +168,7 @@ unfolding data_refused
 data_refused_apart v a = later_apart (refused_step v) (by_closing v refuses a refl (refuses_apart v.session.connection v))
 
 -- a link that the client has closed
-ends_apart : (connection : DataConnection Transfer) (v : View) → Open v → FarIsApart (ends connection v)
+ends_apart : (connection : ServerLink Transfer) (v : View) → Open v → FarIsApart (ends connection v)
 ends_apart Data.Ready v is = λ closing. refl
 ends_apart (Data.Transferring transfer) v is = free_apart (ends (Data.Transferring transfer) v) (end_gone v.footing.moment transfer (disconnected v.session))
 ends_apart connection v is = open_apart v is
@@ -179,7 +179,7 @@ unfolding data_end
 data_end_apart v a = later_apart (end_step v) (by_closing v ends a refl (ends_apart v.session.connection v))
 
 -- a link that breaks
-breaks_apart : (connection : DataConnection Transfer) (v : View) → Open v → FarIsApart (breaks connection v)
+breaks_apart : (connection : ServerLink Transfer) (v : View) → Open v → FarIsApart (breaks connection v)
 breaks_apart Data.Ready v is = λ closing. refl
 breaks_apart (Data.Transferring transfer) v is = free_apart (breaks (Data.Transferring transfer) v) (break_gone v.footing.moment transfer (disconnected v.session))
 breaks_apart connection v is = open_apart v is

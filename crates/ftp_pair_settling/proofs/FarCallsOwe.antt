@@ -3,10 +3,10 @@ use Rattle.std.proofs.Common.{inl, inr, ℕ, List, [], ◌∷◌, ◌++◌, map,
 use Rattle.std.specs.List.{flat_map}
 use Rattle.std.proofs.lemmas.Bool.{cond_both}
 use Rattle.ftp_endpoint.specs.declared.host.Host.{Host}
-use Rattle.ftp_decoder.specs.Decoder.{Decoder, fault_of, octet_says, read_on}
+use Rattle.ftp_wire.specs.Decoder.{Decoder, fault_of, octet_says, read_on}
 use Rattle.ftp_ends.specs.Ear.{Ear, Unfinished, ear_out, ear_step, line_out, unit_says, within_out}
 use Rattle.ftp_ends.specs.Link.{same_host}
-use Rattle.ftp_framer.specs.Said.{Said, says, marker}
+use Rattle.ftp_mode.specs.Said.{Said, says, marker}
 use Rattle.ftp_mode.specs.declared.fault.FrameFault.{FrameFault}
 use Rattle.ftp_nvt.proofs.FoldLemmas.{ends}
 use Rattle.ftp_nvt.specs.Lines.{NvtEvent, line, too_long, owed}
@@ -16,18 +16,18 @@ use Rattle.ftp_nvt.specs.declared.line.Stage.TheVariants as Lined
 use Rattle.ftp_nvt.specs.declared.line.TheConstants.{LF}
 use Rattle.ftp_nvt.specs.declared.telnet.TheConstants.{DO, WILL}
 use Rattle.ftp_path.specs.Path.{Names}
-use Rattle.ftp_server_machine.specs.Calls.{clock_step, clocked, close_step, connection_of, data_closed, data_end, data_fault, data_opened, data_refused, end_step, break_step, ends as far_ends, breaks, gives_data, listening, listening_step, listening_turn, opens, receives, receives_octet, refused_step, refuses, takes_all, takes_data, takes_given, takes_octet, takes_said, with_connection}
-use Rattle.ftp_server_machine.specs.Endpoint.{disconnected, forgotten}
-use Rattle.ftp_server_machine.specs.Machine.{Ending, Reading, abort_said, aborted, aborts, at_break, at_end, completed, concluded, heard_event, heard_events, heard_line, hears, hears_octet, is_abort, later}
-use Rattle.ftp_server_machine.specs.Replies.{fixed_reply, mark_reply}
-use Rattle.ftp_server_machine.specs.View.{Transfer, View, line_limit}
-use Rattle.ftp_server_machine.specs.declared.heard.Heard.{Heard}
-use Rattle.ftp_server_machine.specs.declared.heard.Heard.TheVariants.{TooLong}
-use Rattle.ftp_server_machine.specs.declared.reply.Text.TheVariants as Texts
-use Rattle.ftp_server_machine.specs.declared.session.DataConnection.{DataConnection}
-use Rattle.ftp_server_machine.specs.declared.session.DataConnection.TheVariants as Data
-use Rattle.ftp_server_machine.specs.declared.session.Transfer.TheVariants as Transfers
-use Rattle.ftp_server_machine.specs.declared.session.Way.TheVariants as Ways
+use Rattle.ftp_server_model.specs.Calls.{clock_step, clocked, close_step, connection_of, data_closed, data_end, data_fault, data_opened, data_refused, end_step, break_step, ends as far_ends, breaks, gives_data, listening, listening_step, listening_turn, opens, receives, receives_octet, refused_step, refuses, takes_all, takes_data, takes_given, takes_octet, takes_said, with_connection}
+use Rattle.ftp_server_model.specs.Endpoint.{disconnected, forgotten}
+use Rattle.ftp_server_model.specs.Machine.{Ending, Reading, abort_said, aborted, aborts, at_break, at_end, completed, concluded, heard_event, heard_events, heard_line, hears, hears_octet, is_abort, later}
+use Rattle.ftp_server_model.specs.Replies.{fixed_reply, mark_reply}
+use Rattle.ftp_server_model.specs.View.{Transfer, View, line_limit}
+use Rattle.ftp_server_model.specs.declared.heard.HeardLine.{HeardLine}
+use Rattle.ftp_server_model.specs.declared.heard.HeardLine.TheVariants.{TooLong}
+use Rattle.ftp_server_model.specs.declared.reply.FixedReply.TheVariants as Texts
+use Rattle.ftp_server_model.specs.declared.session.ServerLink.{ServerLink}
+use Rattle.ftp_server_model.specs.declared.session.ServerLink.TheVariants as Data
+use Rattle.ftp_server_model.specs.declared.session.Transfer.TheVariants as Transfers
+use Rattle.ftp_server_model.specs.declared.session.Way.TheVariants as Ways
 use Rattle.ftp_pair_settling.proofs.Asking.{Calm, calm_dont, calm_wont}
 use Rattle.ftp_pair_settling.proofs.FarLinesOwe.{Grows, completed_grows, grows_none, grows_then, later_grows, said_grows, turned_grows}
 
@@ -46,7 +46,7 @@ ending_grows ending v = said_grows (fixed_reply ending.1) v _ refl
 -- ---- control octets
 
 -- what ABOR ends
-aborts_grows : (connection : DataConnection Transfer) (v : View) → Grows v (aborts connection v)
+aborts_grows : (connection : ServerLink Transfer) (v : View) → Grows v (aborts connection v)
 aborts_grows (Data.Transferring transfer) v = ending_grows (at_break v.footing.moment transfer (forgotten v.session)) v
 aborts_grows (Data.Opening transfer way) v = said_grows (fixed_reply Texts.NoConnection) v _ refl
 aborts_grows connection v = same v
@@ -58,7 +58,7 @@ aborted_grows v =
     then_later v (abort_said u) (grows_then v u (abort_said u) (aborts_grows v.session.connection v) (said_grows (fixed_reply Texts.AbortDone) u _ refl))
 
 -- a line that was heard
-line_grows : (heard : Heard (List ℕ)) (v : View) → Grows v (heard_line heard v)
+line_grows : (heard : HeardLine (List ℕ)) (v : View) → Grows v (heard_line heard v)
 line_grows heard v =
     cond_both (is_abort heard v) _ _ (Grows v) (λ is. aborted_grows v)
     (λ is. let g = later_grows (record v { waiting = Some heard }) in record { more = g.more; calm = g.calm; is = g.is })
@@ -148,7 +148,7 @@ listening_grows port v = then_later v (listening_step port v) (turned_grows (lis
 -- ---- the octets of the data connection
 
 -- a record of an upload
-said_more : (connection : DataConnection Transfer) (said : Said) (v : View) → Grows v (takes_said connection said v)
+said_more : (connection : ServerLink Transfer) (said : Said) (v : View) → Grows v (takes_said connection said v)
 said_more (Data.Transferring (Transfers.Upload path keep d)) (says sign) v = grows_none v _ refl
 said_more (Data.Transferring (Transfers.Upload path keep d)) (marker text) v = said_grows (mark_reply text _) v _ refl
 said_more connection said v = same v
@@ -168,7 +168,7 @@ takes_octet_grows None path keep d said v =
 takes_octet_grows (Some fault) path keep d said v = said_grows (fixed_reply Texts.LocalFault) v _ refl
 
 -- an octet of the link
-takes_data_grows : (connection : DataConnection Transfer) (octet : ℕ) (v : View) → Grows v (takes_data connection octet v)
+takes_data_grows : (connection : ServerLink Transfer) (octet : ℕ) (v : View) → Grows v (takes_data connection octet v)
 takes_data_grows (Data.Transferring (Transfers.Upload path keep d)) octet v = takes_octet_grows (fault_of (read_on d octet)) path keep (read_on d octet) (octet_says d octet) v
 takes_data_grows connection octet v = same v
 
@@ -183,7 +183,7 @@ receives_grows [] v = same v
 receives_grows (octet ∷ octets) v = grows_then v (receives_octet v octet) (receives (receives_octet v octet) octets) (received_grows v octet) (receives_grows octets (receives_octet v octet))
 
 -- octets were given
-given_grows : (connection : DataConnection Transfer) (count : ℕ) (v : View) → Grows v (takes_given connection count v)
+given_grows : (connection : ServerLink Transfer) (count : ℕ) (v : View) → Grows v (takes_given connection count v)
 given_grows (Data.Transferring (Transfers.Download rest)) count v = grows_none v _ refl
 given_grows (Data.Transferring (Transfers.Listing rest)) count v = grows_none v _ refl
 given_grows connection count v = same v
@@ -198,7 +198,7 @@ gives_data_grows count v =
 -- ---- the data connection
 
 -- a link opens
-opens_grows : (connection : DataConnection Transfer) (peer : Bool) (v : View) → Grows v (opens connection peer v)
+opens_grows : (connection : ServerLink Transfer) (peer : Bool) (v : View) → Grows v (opens connection peer v)
 opens_grows Data.Passive true v = grows_none v _ refl
 opens_grows Data.Passive false v = grows_none v _ refl
 opens_grows (Data.Opening transfer Ways.Accept) true v = grows_none v _ refl
@@ -214,7 +214,7 @@ data_opened_grows host v =
     then_later v (completed u) (grows_then v u (completed u) (opens_grows (connection_of v.session) (same_host host v.footing.peer) v) (completed_grows u))
 
 -- a link is refused
-refuses_grows : (connection : DataConnection Transfer) (v : View) → Grows v (refuses connection v)
+refuses_grows : (connection : ServerLink Transfer) (v : View) → Grows v (refuses connection v)
 refuses_grows Data.Passive v = grows_none v _ refl
 refuses_grows (Data.Opening transfer way) v = said_grows (fixed_reply Texts.NoConnection) v _ refl
 refuses_grows connection v = same v
@@ -225,7 +225,7 @@ unfolding data_refused
 data_refused_grows v = then_later v (refused_step v) (refuses_grows (connection_of v.session) v)
 
 -- the client has closed the link
-ends_grows : (connection : DataConnection Transfer) (v : View) → Grows v (far_ends connection v)
+ends_grows : (connection : ServerLink Transfer) (v : View) → Grows v (far_ends connection v)
 ends_grows Data.Ready v = grows_none v _ refl
 ends_grows (Data.Transferring transfer) v = ending_grows (at_end v.footing.moment transfer (disconnected v.session)) v
 ends_grows connection v = same v
@@ -236,7 +236,7 @@ unfolding data_end
 data_end_grows v = then_later v (end_step v) (ends_grows (connection_of v.session) v)
 
 -- the link breaks
-breaks_grows : (connection : DataConnection Transfer) (v : View) → Grows v (breaks connection v)
+breaks_grows : (connection : ServerLink Transfer) (v : View) → Grows v (breaks connection v)
 breaks_grows Data.Ready v = grows_none v _ refl
 breaks_grows (Data.Transferring transfer) v = ending_grows (at_break v.footing.moment transfer (disconnected v.session)) v
 breaks_grows connection v = same v

@@ -14,30 +14,30 @@ use Rattle.ftp_operation.specs.declared.op.Op.{Op}
 use Rattle.ftp_operation.specs.declared.op.Op.TheVariants as Ops
 use Rattle.ftp_path.specs.Path.{Names}
 use Rattle.ftp_tree.specs.Tree.{node_at}
-use Rattle.ftp_server_machine.specs.Act.{act, decided, forgets, is_allowed, is_transfer}
-use Rattle.ftp_server_machine.specs.Endpoint.{epsv, forgotten, is_standing, is_taken, pasv, port, takes}
-use Rattle.ftp_server_machine.specs.Entries.{option_facts}
-use Rattle.ftp_server_machine.specs.Login.{admits, checked, pass, user_named}
-use Rattle.ftp_server_machine.specs.Machine.{completed, given_out, is_idle, later, obeyed, turned, waited}
-use Rattle.ftp_server_machine.specs.Replies.{Turn}
-use Rattle.ftp_server_machine.specs.Setting.{choose, is_utf8_on}
-use Rattle.ftp_server_machine.specs.Transfer.{begin, rests, transfer_starts}
-use Rattle.ftp_server_machine.specs.View.{Accounts, Footing, Session, Transfer, View, as_direct, direct_of}
-use Rattle.ftp_server_machine.specs.Ask.{has_size}
-use Rattle.ftp_server_machine.specs.Walk.{performs, rnto, unless}
-use Rattle.ftp_server_machine.specs.declared.reply.ReplyKind.{ReplyKind}
-use Rattle.ftp_server_machine.specs.declared.reply.ReplyKind.TheVariants as Replies
-use Rattle.ftp_server_machine.specs.declared.reply.Text.TheVariants as Texts
-use Rattle.ftp_server_machine.specs.declared.heard.Heard.{Heard}
-use Rattle.ftp_server_machine.specs.declared.heard.Heard.TheVariants.{Asks}
-use Rattle.ftp_server_machine.specs.declared.session.Access.{Access}
-use Rattle.ftp_server_machine.specs.declared.session.Access.TheVariants.{AwaitsPass}
-use Rattle.ftp_server_machine.specs.declared.session.DataConnection.{DataConnection}
-use Rattle.ftp_server_machine.specs.declared.session.DataConnection.TheVariants as Data
-use Rattle.ftp_server_machine.specs.declared.session.Facts.{Facts}
-use Rattle.ftp_server_machine.specs.declared.session.Pending.{Pending}
-use Rattle.ftp_server_machine.specs.declared.session.Pending.TheVariants as Pendings
-use Rattle.ftp_server_machine.specs.declared.session.Transfer.TheVariants as Transfers
+use Rattle.ftp_server_model.specs.Act.{act, decided, forgets, is_allowed, is_transfer}
+use Rattle.ftp_server_model.specs.Endpoint.{epsv, forgotten, is_standing, is_taken, pasv, port, takes}
+use Rattle.ftp_server_model.specs.Entries.{option_facts}
+use Rattle.ftp_server_model.specs.Login.{admits, checked, pass, user_named}
+use Rattle.ftp_server_model.specs.Machine.{completed, given_out, is_idle, later, obeyed, turned, waited}
+use Rattle.ftp_server_model.specs.Replies.{Turn}
+use Rattle.ftp_server_model.specs.Setting.{choose, is_utf8_on}
+use Rattle.ftp_server_model.specs.Transfer.{begin, rests, transfer_starts}
+use Rattle.ftp_server_model.specs.View.{Accounts, Footing, Session, Transfer, View, as_direct, direct_of}
+use Rattle.ftp_server_model.specs.Ask.{has_size}
+use Rattle.ftp_server_model.specs.Walk.{performs, rnto, unless}
+use Rattle.ftp_server_model.specs.declared.reply.ReplyKind.{ReplyKind}
+use Rattle.ftp_server_model.specs.declared.reply.ReplyKind.TheVariants as Replies
+use Rattle.ftp_server_model.specs.declared.reply.FixedReply.TheVariants as Texts
+use Rattle.ftp_server_model.specs.declared.heard.HeardLine.{HeardLine}
+use Rattle.ftp_server_model.specs.declared.heard.HeardLine.TheVariants.{Asks}
+use Rattle.ftp_server_model.specs.declared.session.Access.{Access}
+use Rattle.ftp_server_model.specs.declared.session.Access.TheVariants.{AwaitsPass}
+use Rattle.ftp_server_model.specs.declared.session.ServerLink.{ServerLink}
+use Rattle.ftp_server_model.specs.declared.session.ServerLink.TheVariants as Data
+use Rattle.ftp_server_model.specs.declared.session.Facts.{Facts}
+use Rattle.ftp_server_model.specs.declared.session.Pending.{Pending}
+use Rattle.ftp_server_model.specs.declared.session.Pending.TheVariants as Pendings
+use Rattle.ftp_server_model.specs.declared.session.Transfer.TheVariants as Transfers
 use Rattle.ftp_pair_settling.specs.Steady.{FarIsApart}
 
 -- of a session: while its close is wanted, nothing of it stands
@@ -108,7 +108,7 @@ choose_apart (Some facts) s a = a
 choose_apart None s a = a
 
 -- a transfer begins on what there is of a connection
-begin_apart : (connection : DataConnection Transfer) (transfer : Transfer) (s : Session) → s.connection ≡ connection → Apart s → Kept (begin connection transfer s)
+begin_apart : (connection : ServerLink Transfer) (transfer : Transfer) (s : Session) → s.connection ≡ connection → Apart s → Kept (begin connection transfer s)
 begin_apart (Data.Active endpoint) transfer s is a = λ closing. refl
 begin_apart Data.Passive transfer s is a = λ closing. let none = a closing in let one : is_standing s.connection ≡ true = ap is_standing is in absurd (cc)
 begin_apart Data.Ready transfer s is a = λ closing. let none = a closing in let one : is_standing s.connection ≡ true = ap is_standing is in absurd (cc)
@@ -164,13 +164,13 @@ forgets_apart : (c : Command (List ℕ)) (s : Session) → Apart s → Apart (fo
 forgets_apart c s a = cond_both (is_transfer c) _ _ Apart (λ is. forgotten_apart s) (λ is. a)
 
 -- a line, whatever it says
-decided_apart : (footing : Footing) (heard : Heard (List ℕ)) (pending : Pending Names) (s : Session) → Apart s → Kept (decided footing heard pending s)
+decided_apart : (footing : Footing) (heard : HeardLine (List ℕ)) (pending : Pending Names) (s : Session) → Apart s → Kept (decided footing heard pending s)
 decided_apart footing (Asks c) pending s a =
     cond_both (is_allowed c s) _ _ Kept (λ is. act_apart footing c pending s a) (λ is. forgets_apart c s a)
 decided_apart footing heard pending s a = a
 
 -- a download or a listing whose last octet was given
-given_out_apart : (connection : DataConnection Transfer) (v : View) → FarIsApart v → FarIsApart (given_out connection v)
+given_out_apart : (connection : ServerLink Transfer) (v : View) → FarIsApart v → FarIsApart (given_out connection v)
 given_out_apart (Data.Transferring (Transfers.Download [])) v a = forgotten_apart v.session
 given_out_apart (Data.Transferring (Transfers.Listing [])) v a = forgotten_apart v.session
 given_out_apart connection v a = a
@@ -180,14 +180,14 @@ pub completed_apart : (v : View) → FarIsApart v → FarIsApart (completed v)
 completed_apart v a = given_out_apart v.session.connection v a
 
 -- a line is acted on
-obeyed_apart : (heard : Heard (List ℕ)) (v : View) → FarIsApart v → FarIsApart (obeyed heard v)
+obeyed_apart : (heard : HeardLine (List ℕ)) (v : View) → FarIsApart v → FarIsApart (obeyed heard v)
 unfolding obeyed
 obeyed_apart heard v a =
     completed_apart (turned (decided v.footing heard v.session.pending (record v.session { pending = Pendings.Nothing })) v)
     (decided_apart v.footing heard v.session.pending (record v.session { pending = Pendings.Nothing }) a)
 
 -- a line that waits
-waited_apart : (waiting : Option (Heard (List ℕ))) (v : View) → FarIsApart v → FarIsApart (waited waiting v)
+waited_apart : (waiting : Option (HeardLine (List ℕ))) (v : View) → FarIsApart v → FarIsApart (waited waiting v)
 waited_apart None v a = a
 waited_apart (Some heard) v a = cond_both (is_idle v) _ _ FarIsApart (λ is. obeyed_apart heard (record v { waiting = None }) a) (λ is. a)
 

@@ -2,22 +2,22 @@
 use Rattle.std.proofs.Common.{◌≡◌, ℕ, List, [], ◌++◌, Option, Some, None, refl, sym, ap, subst, ◌∙◌, take, drop, append-nil, append_assoc}
 use Rattle.std.proofs.lemmas.Bool.{cond_both}
 use Rattle.std.proofs.lemmas.List.{take-append-drop}
-use Rattle.ftp_nvt.specs.declared.telnet.Place.{Place}
+use Rattle.ftp_nvt.specs.declared.telnet.TelnetState.{TelnetState}
 use Rattle.ftp_ends.specs.Reply.{Reply, reply_octets}
-use Rattle.ftp_server_machine.specs.Act.{decided}
-use Rattle.ftp_server_machine.specs.Calls.{control_step, gives_control}
-use Rattle.ftp_server_machine.specs.Machine.{completed, given_out, is_idle, later, obeyed, turned, waited}
-use Rattle.ftp_server_machine.specs.Replies.{Turn, fixed_reply, octets_if_any, reply_said, said_octets}
-use Rattle.ftp_server_machine.specs.View.{Transfer, View}
-use Rattle.ftp_server_machine.specs.declared.heard.Heard.{Heard}
-use Rattle.ftp_server_machine.specs.declared.reply.Text.TheVariants as Texts
-use Rattle.ftp_server_machine.specs.declared.session.DataConnection.{DataConnection}
-use Rattle.ftp_server_machine.specs.declared.session.DataConnection.TheVariants as Data
-use Rattle.ftp_server_machine.specs.declared.session.Pending.TheVariants as Pendings
-use Rattle.ftp_server_machine.specs.declared.session.Transfer.TheVariants as Transfers
+use Rattle.ftp_server_model.specs.Act.{decided}
+use Rattle.ftp_server_model.specs.Calls.{control_step, gives_control}
+use Rattle.ftp_server_model.specs.Machine.{completed, given_out, is_idle, later, obeyed, turned, waited}
+use Rattle.ftp_server_model.specs.Replies.{Turn, fixed_reply, octets_if_any, reply_said, said_octets}
+use Rattle.ftp_server_model.specs.View.{Transfer, View}
+use Rattle.ftp_server_model.specs.declared.heard.HeardLine.{HeardLine}
+use Rattle.ftp_server_model.specs.declared.reply.FixedReply.TheVariants as Texts
+use Rattle.ftp_server_model.specs.declared.session.ServerLink.{ServerLink}
+use Rattle.ftp_server_model.specs.declared.session.ServerLink.TheVariants as Data
+use Rattle.ftp_server_model.specs.declared.session.Pending.TheVariants as Pendings
+use Rattle.ftp_server_model.specs.declared.session.Transfer.TheVariants as Transfers
 use Rattle.ftp_pair_settling.specs.Steady.{AskNothing}
 use Rattle.ftp_pair_settling.proofs.Asking.{Calm, ask_more, calm_nil, calm_reply}
-use Rattle.ftp_nvt.specs.declared.telnet.Place.TheVariants as At
+use Rattle.ftp_nvt.specs.declared.telnet.TelnetState.TheVariants as At
 
 -- more is owed, behind what was
 pub record Grows (old new : View) : Type 0 where
@@ -51,7 +51,7 @@ pub said_grows : (reply : Reply) (old new : View) → new.owed ≡ old.owed ++ r
 said_grows reply old new is = record { more = reply_octets reply; calm = calm_reply reply; is = is }
 
 -- a download or a listing whose last octet was given
-given_out_grows : (connection : DataConnection Transfer) (v : View) → Grows v (given_out connection v)
+given_out_grows : (connection : ServerLink Transfer) (v : View) → Grows v (given_out connection v)
 given_out_grows (Data.Transferring (Transfers.Download [])) v = said_grows (fixed_reply Texts.Complete) v _ refl
 given_out_grows (Data.Transferring (Transfers.Listing [])) v = said_grows (fixed_reply Texts.Complete) v _ refl
 given_out_grows connection v = grows_none v v refl
@@ -61,14 +61,14 @@ pub completed_grows : (v : View) → Grows v (completed v)
 completed_grows v = given_out_grows v.session.connection v
 
 -- a line is acted on
-obeyed_grows : (heard : Heard (List ℕ)) (v : View) → Grows v (obeyed heard v)
+obeyed_grows : (heard : HeardLine (List ℕ)) (v : View) → Grows v (obeyed heard v)
 unfolding obeyed
 obeyed_grows heard v =
     let turn : Turn = decided v.footing heard v.session.pending (record v.session { pending = Pendings.Nothing }) in
     grows_then v (turned turn v) (completed (turned turn v)) (turned_grows turn v) (completed_grows (turned turn v))
 
 -- a line that waits
-waited_grows : (waiting : Option (Heard (List ℕ))) (v : View) → Grows v (waited waiting v)
+waited_grows : (waiting : Option (HeardLine (List ℕ))) (v : View) → Grows v (waited waiting v)
 waited_grows None v = grows_none v v refl
 waited_grows (Some heard) v =
     cond_both (is_idle v) _ _ (Grows v)
@@ -82,7 +82,7 @@ later_grows v = waited_grows v.waiting v
 -- ---- octets that go out
 
 -- what is on its way and what is owed ask nothing, also where octets of it go out
-pub out_asks : (at : Place) (queue : List ℕ) (count : ℕ) (v : View) → AskNothing at (queue ++ v.owed)
+pub out_asks : (at : TelnetState) (queue : List ℕ) (count : ℕ) (v : View) → AskNothing at (queue ++ v.owed)
     → AskNothing at ((queue ++ take count v.owed) ++ (gives_control count v).owed)
 unfolding gives_control
 out_asks at queue count v asks =

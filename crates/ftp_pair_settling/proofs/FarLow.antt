@@ -2,29 +2,29 @@
 use Rattle.std.proofs.Common.{◌≡◌, ℕ, ◌+◌, ◌<◌, ◌≤◌, ◌⊎◌, inl, inr, [], ◌++◌, length, Bool, true, false, refl, sym, ap, subst, append-nil, arith}
 use Rattle.std.specs.Prelude.{if◌then◌else◌}
 use Rattle.ftp_ends.proofs.Counts.{one_if, one_close}
-use Rattle.ftp_server_machine.specs.Bounds.{stages_left, to_begin, still_to_give}
-use Rattle.ftp_server_machine.specs.Calls.{close_step, control_end, data_closed, given_by, listening, listening_step, listening_turn, to_give}
-use Rattle.ftp_server_machine.specs.Endpoint.{is_standing}
-use Rattle.ftp_server_machine.specs.Machine.{later, turned}
-use Rattle.ftp_server_machine.specs.View.{Transfer, View}
-use Rattle.ftp_server_machine.specs.declared.session.Asked.TheVariants as Asking
-use Rattle.ftp_server_machine.specs.declared.session.DataConnection.{DataConnection}
-use Rattle.ftp_server_machine.specs.declared.session.DataConnection.TheVariants as Data
-use Rattle.ftp_server_machine.specs.declared.session.Transfer.TheVariants as Transfers
+use Rattle.ftp_server_model.specs.Bounds.{stages_left, to_begin, still_to_give}
+use Rattle.ftp_server_model.specs.Calls.{close_step, control_end, data_closed, given_by, listening, listening_step, listening_turn, to_give}
+use Rattle.ftp_server_model.specs.Endpoint.{is_standing}
+use Rattle.ftp_server_model.specs.Machine.{later, turned}
+use Rattle.ftp_server_model.specs.View.{Transfer, View}
+use Rattle.ftp_server_model.specs.declared.session.PassiveVerb.TheVariants as Asking
+use Rattle.ftp_server_model.specs.declared.session.ServerLink.{ServerLink}
+use Rattle.ftp_server_model.specs.declared.session.ServerLink.TheVariants as Data
+use Rattle.ftp_server_model.specs.declared.session.Transfer.TheVariants as Transfers
 use Rattle.ftp_pair_settling.specs.Steady.{FarIsApart}
 use Rattle.ftp_pair_settling.proofs.Order.{FarLow, far_unqueued}
-use Rattle.ftp_server_machine.proofs.ServerBounds.{Finds, nothing, that, finds, waited_cases}
+use Rattle.ftp_server_model.proofs.ServerBounds.{Finds, nothing, that, finds, waited_cases}
 
 -- ---- nothing is to be given where nothing stands
 
 -- what does not stand gives nothing
-given_none : (connection : DataConnection Transfer) → is_standing connection ≡ false → given_by connection ≡ []
+given_none : (connection : ServerLink Transfer) → is_standing connection ≡ false → given_by connection ≡ []
 given_none (Data.Transferring (Transfers.Download rest)) is = absurd (cc)
 given_none (Data.Transferring (Transfers.Listing rest)) is = absurd (cc)
 given_none connection is = refl
 
 -- nor while a close is wanted
-if_none : (closing : Bool) (connection : DataConnection Transfer) → is_standing connection ≡ false → given_by (if closing then Data.Free else connection) ≡ []
+if_none : (closing : Bool) (connection : ServerLink Transfer) → is_standing connection ≡ false → given_by (if closing then Data.Free else connection) ≡ []
 if_none true connection is = refl
 if_none false connection is = given_none connection is
 
@@ -56,7 +56,7 @@ unsaid : (v : View) → FarLow v (record v { owed = v.owed ++ [] })
 unsaid v = let none : length (v.owed ++ []) ≡ length v.owed = ap length (append-nil v.owed) in record { begins = omega arith; gives = inr (omega (arith, none), omega (arith, none)) }
 
 -- a port told to what awaits one
-told : (port : ℕ) (connection : DataConnection Transfer) (v : View) → v.session.connection ≡ connection → FarLow v (turned (listening_turn connection v.footing port v.session) v)
+told : (port : ℕ) (connection : ServerLink Transfer) (v : View) → v.session.connection ≡ connection → FarLow v (turned (listening_turn connection v.footing port v.session) v)
 told port (Data.Asked Asking.Pasv) v is = let here : stages_left v.session.connection ≡ 3 = ap stages_left is in falls v _ (omega (arith, here))
 told port (Data.Asked Asking.Epsv) v is = let here : stages_left v.session.connection ≡ 3 = ap stages_left is in falls v _ (omega (arith, here))
 told port connection v is = unsaid v
@@ -64,9 +64,9 @@ told port connection v is = unsaid v
 -- the same, of what a call finds
 by_found : (port : ℕ) (v : View) → Finds v → FarLow v (listening_step port v)
 by_found port v (nothing e) =
-    let P : DataConnection Transfer → Type 0 = λ connection. FarLow v (turned (listening_turn connection v.footing port v.session) v) in subst P (sym e) (unsaid v)
+    let P : ServerLink Transfer → Type 0 = λ connection. FarLow v (turned (listening_turn connection v.footing port v.session) v) in subst P (sym e) (unsaid v)
 by_found port v (that e) =
-    let P : DataConnection Transfer → Type 0 = λ connection. FarLow v (turned (listening_turn connection v.footing port v.session) v) in
+    let P : ServerLink Transfer → Type 0 = λ connection. FarLow v (turned (listening_turn connection v.footing port v.session) v) in
     subst P (sym e) (told port v.session.connection v refl)
 
 -- a port is told

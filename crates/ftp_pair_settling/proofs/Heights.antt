@@ -2,11 +2,11 @@
 use Rattle.std.proofs.Common.{◌≡◌, ◌⊎◌, inl, inr, ℕ, zero, suc, ◌+◌, ◌<◌, ◌≤◌, List, [], ◌∷◌, length, true, sym, ap, subst, ◌∙◌, arith}
 use Rattle.std.specs.Prelude.{max}
 use Rattle.std.proofs.lemmas.Bool.{cases_lt}
-use Rattle.ftp_server_machine.specs.Machine.{Reading}
-use Rattle.ftp_world.specs.Events.{Queue, ControlToServer, ControlToClient, DataToServer, DataToClient, Event, Happens}
-use Rattle.ftp_world.specs.Settling.{Falls, Left, left_in}
-use Rattle.ftp_world.specs.Still.{queue_room}
-use Rattle.ftp_world.specs.World.{World}
+use Rattle.ftp_server_model.specs.Machine.{Reading}
+use Rattle.ftp_pair_world.specs.Events.{Queue, ControlToServer, ControlToClient, DataToServer, DataToClient, Event, Happens}
+use Rattle.ftp_pair_world.specs.Settling.{Falls, Left, left_in}
+use Rattle.ftp_pair_world.specs.Still.{queue_room}
+use Rattle.ftp_pair_world.specs.World.{World}
 use Rattle.ftp_pair_settling.specs.Laws.{HasHeight, Then}
 use Rattle.ftp_pair_settling.specs.Steady.{IsSteady}
 use Rattle.ftp_pair_settling.specs.Turns.{IsTurn}

@@ -4,22 +4,22 @@ use Rattle.std.specs.Prelude.{if◌then◌else◌}
 use Rattle.ftp_ends.specs.declared.link.Wants.{Wants}
 use Rattle.ftp_ends.specs.declared.link.Wants.TheVariants as Want
 use Rattle.ftp_nvt.proofs.CutLemmas.{decided}
-use Rattle.ftp_client_machine.specs.Calls as near
-use Rattle.ftp_client_machine.specs.Calls.{is_sound, link_wants}
-use Rattle.ftp_client_machine.specs.View.{View as Near, fails_by}
-use Rattle.ftp_client_machine.specs.declared.client.Failure.TheVariants as Failures
-use Rattle.ftp_client_machine.specs.declared.client.Standing.{Standing}
-use Rattle.ftp_client_machine.specs.declared.client.Standing.TheVariants as Standings
-use Rattle.ftp_server_machine.specs.Calls as far
-use Rattle.ftp_server_machine.specs.Calls.{close_step, is_done, wants_of}
-use Rattle.ftp_server_machine.specs.Machine.{waited}
-use Rattle.ftp_server_machine.specs.View.{View as Far}
-use Rattle.ftp_server_machine.specs.declared.session.Life.{Life}
-use Rattle.ftp_server_machine.specs.declared.session.Life.TheVariants as Lives
-use Rattle.ftp_world.specs.Events.{ControlToServer, ControlToClient, told}
-use Rattle.ftp_world.specs.Serving.{after_event, far_closes, far_served, far_served_by, left_by_far, left_by_near, link_closed_by_far, link_closed_by_near, near_closes, near_served, near_served_by, served}
-use Rattle.ftp_world.specs.Settling.{control_ends, left_in}
-use Rattle.ftp_world.specs.World.{World, LeftByNear, LeftByFar, Link, Gone}
+use Rattle.ftp_client_model.specs.Calls as near
+use Rattle.ftp_client_model.specs.Calls.{is_sound, link_wants}
+use Rattle.ftp_client_model.specs.View.{View as Near, fails_by}
+use Rattle.ftp_client_model.specs.declared.client.Failure.TheVariants as Failures
+use Rattle.ftp_client_model.specs.declared.client.Standing.{Standing}
+use Rattle.ftp_client_model.specs.declared.client.Standing.TheVariants as Standings
+use Rattle.ftp_server_model.specs.Calls as far
+use Rattle.ftp_server_model.specs.Calls.{close_step, is_done, wants_of}
+use Rattle.ftp_server_model.specs.Machine.{waited}
+use Rattle.ftp_server_model.specs.View.{View as Far}
+use Rattle.ftp_server_model.specs.declared.session.Life.{Life}
+use Rattle.ftp_server_model.specs.declared.session.Life.TheVariants as Lives
+use Rattle.ftp_pair_world.specs.Events.{ControlToServer, ControlToClient, told}
+use Rattle.ftp_pair_world.specs.Serving.{after_event, far_closes, far_served, far_served_by, left_by_far, left_by_near, link_closed_by_far, link_closed_by_near, near_closes, near_served, near_served_by, served}
+use Rattle.ftp_pair_world.specs.Settling.{control_ends, left_in}
+use Rattle.ftp_pair_world.specs.World.{World, LeftByNear, LeftByFar, Link, Gone}
 use Rattle.ftp_pair_settling.specs.Steady.{AreApart}
 use Rattle.ftp_pair_settling.proofs.Moving.{Less}
 use Rattle.ftp_pair_settling.proofs.FarCallsApart.{control_end_apart}

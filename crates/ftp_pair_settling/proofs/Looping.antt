@@ -2,8 +2,8 @@
 use Rattle.std.proofs.Common.{ℕ, ◌<◌, true}
 use Rattle.std.proofs.Math.Logic.{∥∥₁_prop, ∥∥₁_elim}
 use Rattle.std.proofs.Props.{props}
-use Rattle.ftp_server_machine.proofs.LinesDecided.{reading_exists}
-use Rattle.ftp_world.specs.World.{World}
+use Rattle.ftp_server_model.proofs.LinesDecided.{reading_exists}
+use Rattle.ftp_pair_world.specs.World.{World}
 use Rattle.ftp_pair_settling.specs.Laws.{LoopsEnd}
 use Rattle.ftp_pair_settling.specs.Steady.{IsSteady}
 use Rattle.ftp_pair_settling.specs.Turns.{Turned}

@@ -3,34 +3,34 @@ use Rattle.std.proofs.Common.{◌≡◌, ℕ, zero, suc, ◌+◌, ◌-◌, ◌<�
 use Rattle.std.specs.Prelude.{if◌then◌else◌}
 use Rattle.std.proofs.lemmas.Bool.{cond_both}
 use Rattle.std.proofs.lemmas.List.{length-drop, length-take}
-use Rattle.ftp_client_machine.specs.Bounds.{AddsAtMost}
-use Rattle.ftp_client_machine.specs.Calls as near
-use Rattle.ftp_client_machine.specs.View.{View as Near}
-use Rattle.ftp_server_machine.specs.Bounds as far_left
-use Rattle.ftp_server_machine.specs.Calls as far
-use Rattle.ftp_server_machine.specs.Machine.{Reading, later}
-use Rattle.ftp_server_machine.specs.View.{View as Far}
-use Rattle.ftp_world.specs.Events.{Queue, ControlToServer, ControlToClient, DataToServer, DataToClient, due, filled, in_queue, pulled, pushed}
-use Rattle.ftp_world.specs.Serving.{after_event}
-use Rattle.ftp_world.specs.Settling.{Falls, left_in}
-use Rattle.ftp_world.specs.World.{World}
+use Rattle.ftp_client_model.specs.Bounds.{AddsAtMost}
+use Rattle.ftp_client_model.specs.Calls as near
+use Rattle.ftp_client_model.specs.View.{View as Near}
+use Rattle.ftp_server_model.specs.Bounds as far_left
+use Rattle.ftp_server_model.specs.Calls as far
+use Rattle.ftp_server_model.specs.Machine.{Reading, later}
+use Rattle.ftp_server_model.specs.View.{View as Far}
+use Rattle.ftp_pair_world.specs.Events.{Queue, ControlToServer, ControlToClient, DataToServer, DataToClient, due, filled, in_queue, pulled, pushed}
+use Rattle.ftp_pair_world.specs.Serving.{after_event}
+use Rattle.ftp_pair_world.specs.Settling.{Falls, left_in}
+use Rattle.ftp_pair_world.specs.World.{World}
 use Rattle.ftp_pair_settling.specs.Steady.{AreApart, AsksNothing}
 use Rattle.ftp_pair_settling.proofs.Asking.{asked_front, hears_low}
 use Rattle.ftp_pair_settling.proofs.FarLinesOwe.{out_asks}
 use Rattle.ftp_pair_settling.proofs.FarCallsApart.{gives_control_apart, gives_data_apart}
-use Rattle.ftp_server_machine.proofs.ServerBounds.{given_step_lowers}
+use Rattle.ftp_server_model.proofs.ServerBounds.{given_step_lowers}
 use Rattle.ftp_pair_settling.proofs.FarLow.{later_cases}
-use Rattle.ftp_client_machine.proofs.ClientBounds.{both, if_low, positive}
-use Rattle.ftp_client_machine.proofs.ClientBounds as bounds
-use Rattle.ftp_client_machine.proofs.ClientCalls.{receiving_lowers}
-use Rattle.ftp_client_machine.proofs.ClientGiving.{giving_pays}
-use Rattle.ftp_server_machine.specs.Calls.{connection_of, given_by, given_step, takes_given}
-use Rattle.ftp_server_machine.specs.Machine.{completed, given_out}
-use Rattle.ftp_server_machine.specs.View.{Transfer as FarTransfer}
-use Rattle.ftp_server_machine.specs.declared.session.DataConnection.{DataConnection}
-use Rattle.ftp_server_machine.specs.declared.session.DataConnection.TheVariants as Data
-use Rattle.ftp_server_machine.specs.declared.session.Transfer.TheVariants as Transfers
-use Rattle.ftp_world.specs.Events.{Fills, Gives, MayTakeFrom}
+use Rattle.ftp_client_model.proofs.ClientBounds.{both, if_low, positive}
+use Rattle.ftp_client_model.proofs.ClientBounds as bounds
+use Rattle.ftp_client_model.proofs.ClientCalls.{receiving_lowers}
+use Rattle.ftp_client_model.proofs.ClientGiving.{giving_pays}
+use Rattle.ftp_server_model.specs.Calls.{connection_of, given_by, given_step, takes_given}
+use Rattle.ftp_server_model.specs.Machine.{completed, given_out}
+use Rattle.ftp_server_model.specs.View.{Transfer as FarTransfer}
+use Rattle.ftp_server_model.specs.declared.session.ServerLink.{ServerLink}
+use Rattle.ftp_server_model.specs.declared.session.ServerLink.TheVariants as Data
+use Rattle.ftp_server_model.specs.declared.session.Transfer.TheVariants as Transfers
+use Rattle.ftp_pair_world.specs.Events.{Fills, Gives, MayTakeFrom}
 use Rattle.ftp_pair_settling.proofs.NearApart as keeps
 use Rattle.ftp_pair_settling.proofs.NearGives.{data_owes}
 use Rattle.ftp_pair_settling.proofs.Order.{falls_most, le_then, most_most, most_same, not_less}
@@ -95,7 +95,7 @@ data_out count w some few =
     ])
 
 -- a download or a listing whose last octet was given is over, or all is as it was
-given_out_cases : (connection : DataConnection FarTransfer) (v : Far) → v.session.connection ≡ connection
+given_out_cases : (connection : ServerLink FarTransfer) (v : Far) → v.session.connection ≡ connection
     → (far_left.to_begin (given_out connection v) < far_left.to_begin v) ⊎ (given_out connection v ≡ v)
 given_out_cases (Data.Transferring (Transfers.Download [])) v is = let one : far_left.stages_left v.session.connection ≡ 1 = ap far_left.stages_left is in inl (omega (arith, one))
 given_out_cases (Data.Transferring (Transfers.Listing [])) v is = let one : far_left.stages_left v.session.connection ≡ 1 = ap far_left.stages_left is in inl (omega (arith, one))
@@ -123,7 +123,7 @@ none_left : (count : ℕ) (v : Far) → count ≤ 0 → length (far.to_give v) +
 none_left count v none = omega (arith, none)
 
 -- what was given is less to be given, where no close is wanted
-drops : (count : ℕ) (rest : List ℕ) (v new : Far) (connection : DataConnection FarTransfer) → v.session.closing ≡ false → new.session.closing ≡ false
+drops : (count : ℕ) (rest : List ℕ) (v new : Far) (connection : ServerLink FarTransfer) → v.session.closing ≡ false → new.session.closing ≡ false
     → length (given_by v.session.connection) ≡ length rest → length (given_by new.session.connection) ≡ length (drop count rest) → count ≤ length rest
     → length (far.to_give new) + count ≤ length (far.to_give v)
 drops count rest v new connection is also old given few =
@@ -132,7 +132,7 @@ drops count rest v new connection is also old given few =
     omega (arith, a, b, old, given, length-drop count rest, few)
 
 -- what was given of what stands is less to give
-open_given : (count : ℕ) (connection : DataConnection FarTransfer) (v : Far) → v.session.closing ≡ false → v.session.connection ≡ connection → count ≤ length (given_by connection)
+open_given : (count : ℕ) (connection : ServerLink FarTransfer) (v : Far) → v.session.closing ≡ false → v.session.connection ≡ connection → count ≤ length (given_by connection)
     → length (far.to_give (takes_given connection count v)) + count ≤ length (far.to_give v)
 open_given count (Data.Transferring (Transfers.Download rest)) v open_is is few =
     drops count rest v (takes_given (Data.Transferring (Transfers.Download rest)) count v) v.session.connection open_is open_is (ap (λ c. length (given_by c)) is) refl few
@@ -143,11 +143,11 @@ open_given count connection v open_is is few = none_left count v few
 -- and of what a call finds
 all_given : (count : ℕ) (v : Far) → count ≤ length (far.to_give v) → length (far.to_give (takes_given (connection_of v.session) count v)) + count ≤ length (far.to_give v)
 all_given count v few =
-    let P : DataConnection FarTransfer → Type 0 = λ connection. count ≤ length (given_by connection) → length (far.to_give (takes_given connection count v)) + count ≤ length (far.to_give v) in
+    let P : ServerLink FarTransfer → Type 0 = λ connection. count ≤ length (given_by connection) → length (far.to_give (takes_given connection count v)) + count ≤ length (far.to_give v) in
     cond_both v.session.closing Data.Free v.session.connection P (λ is none. none_left count v none) (λ is fewer. open_given count v.session.connection v is refl fewer) few
 
 -- control octets are owed as before
-given_owed : (count : ℕ) (connection : DataConnection FarTransfer) (v : Far) → (takes_given connection count v).owed ≡ v.owed
+given_owed : (count : ℕ) (connection : ServerLink FarTransfer) (v : Far) → (takes_given connection count v).owed ≡ v.owed
 given_owed count (Data.Transferring (Transfers.Download rest)) v = refl
 given_owed count connection v = refl
 

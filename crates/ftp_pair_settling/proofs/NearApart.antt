@@ -13,32 +13,32 @@ use Rattle.ftp_reply.specs.Lines.{Text, joined}
 use Rattle.ftp_ends.specs.Ear.{ear}
 use Rattle.ftp_ends.specs.Link.{same_host}
 use Rattle.ftp_operation.specs.Operation.{can_be_sent}
-use Rattle.ftp_client_machine.specs.Tries.{OverBreaks, Run, first_try, run_of}
-use Rattle.ftp_client_machine.specs.Calls.{begun, reported_by, reports, started_by, starts, unsendable_by, uploads, hears_octet, is_sound, heard_flow, receives_octet, receives, reply_limit, line_taken, event_taken, events_taken, unless_closing, listening_by, listening, connected, accepted, opened_by, data_opened, unopened_by, data_refused, ending_of, over_by, data_end, data_fault, heard_by, went, goes_by, gives_data, control_end}
-use Rattle.ftp_client_machine.specs.Dialogue.{sends_if, last_job, placed, goes_on, next_job, finishes_by, finishes_read, is_to_abort, sends_abort, aborts_once_enough, abort_answered, begins, finishes, greeted, enters_with, login_ends, user_answered, pass_answered, set_accepted, dials, endpoint_named, port_named, passive_named, step_done, intermediate, awaits_reply, step_answered, answer_in, judged, answers_by, answers_job, closes_once_given_by, closes_once_given, carries_on, with_reply, awaited, transfer_opened, marked_flow, noted, unless_open, before_opening, behind_opening, transfer_answered, job_answered, stand_answered, judged_reply, answered, closes, has_begun, is_given}
-use Rattle.ftp_client_machine.specs.Octets.{flow_of}
-use Rattle.ftp_client_machine.specs.Plan.{asked_settings, command_of, first_step, next_step, settings_behind as set_by, is_extended}
-use Rattle.ftp_client_machine.specs.Replies.{Verdict, Preliminary, Completion, Intermediate, Negative, Closing, Displaced, verdict_of}
-use Rattle.ftp_client_machine.specs.Tries.{run_at}
+use Rattle.ftp_client_model.specs.Tries.{OverBreaks, Run, first_try, run_of}
+use Rattle.ftp_client_model.specs.Calls.{begun, reported_by, reports, started_by, starts, unsendable_by, uploads, hears_octet, is_sound, heard_flow, receives_octet, receives, reply_limit, line_taken, event_taken, events_taken, unless_closing, listening_by, listening, connected, accepted, opened_by, data_opened, unopened_by, data_refused, ending_of, over_by, data_end, data_fault, heard_by, went, goes_by, gives_data, control_end}
+use Rattle.ftp_client_model.specs.Dialogue.{sends_if, last_job, placed, goes_on, next_job, finishes_by, finishes_read, is_to_abort, sends_abort, aborts_once_enough, abort_answered, begins, finishes, greeted, enters_with, login_ends, user_answered, pass_answered, set_accepted, dials, endpoint_named, port_named, passive_named, step_done, intermediate, awaits_reply, step_answered, answer_in, judged, answers_by, answers_job, closes_once_given_by, closes_once_given, carries_on, with_reply, awaited, transfer_opened, marked_flow, noted, unless_open, before_opening, behind_opening, transfer_answered, job_answered, stand_answered, judged_reply, answered, closes, has_begun, is_given}
+use Rattle.ftp_client_model.specs.Octets.{flow_of}
+use Rattle.ftp_client_model.specs.Plan.{asked_settings, command_of, first_step, next_step, settings_behind as set_by, is_extended}
+use Rattle.ftp_client_model.specs.Replies.{Verdict, Preliminary, Completion, Intermediate, Negative, Closing, Displaced, verdict_of}
+use Rattle.ftp_client_model.specs.Tries.{run_at}
 use Rattle.ftp_reply.specs.Reader.{Heard, GoesOn, Says, Faulty, line_heard, Between}
 use Rattle.ftp_reply.specs.Values.{passive_value, extended_value, mark_value}
-use Rattle.ftp_client_machine.specs.View.{View, Job, Waiting, Doing, Transferring, Told, Transfer, Flow, strange, dropped, fails_by}
-use Rattle.ftp_client_machine.specs.declared.client.Abort.{Abort}
-use Rattle.ftp_client_machine.specs.declared.client.Abort.TheVariants as Aborts
-use Rattle.ftp_client_machine.specs.declared.client.Ending.{Ending}
-use Rattle.ftp_client_machine.specs.declared.client.Ending.TheVariants as Endings
-use Rattle.ftp_client_machine.specs.declared.client.Failure.{Failure}
-use Rattle.ftp_client_machine.specs.declared.client.Failure.TheVariants as Failures
-use Rattle.ftp_client_machine.specs.declared.client.DataConnection.{DataConnection}
-use Rattle.ftp_client_machine.specs.declared.client.DataConnection.TheVariants as Data
-use Rattle.ftp_client_machine.specs.declared.client.Replied.{Replied}
-use Rattle.ftp_client_machine.specs.declared.client.Replied.TheVariants as Replies
-use Rattle.ftp_client_machine.specs.declared.client.Standing.{Standing}
-use Rattle.ftp_client_machine.specs.declared.client.Standing.TheVariants as Stands
-use Rattle.ftp_client_machine.specs.declared.client.Step.{Step}
-use Rattle.ftp_client_machine.specs.declared.client.Step.TheVariants as Steps
+use Rattle.ftp_client_model.specs.View.{View, Job, Waiting, Doing, Transferring, Told, Transfer, Flow, strange, dropped, fails_by}
+use Rattle.ftp_client_model.specs.declared.client.Abort.{Abort}
+use Rattle.ftp_client_model.specs.declared.client.Abort.TheVariants as Aborts
+use Rattle.ftp_client_model.specs.declared.client.Ending.{Ending}
+use Rattle.ftp_client_model.specs.declared.client.Ending.TheVariants as Endings
+use Rattle.ftp_client_model.specs.declared.client.Failure.{Failure}
+use Rattle.ftp_client_model.specs.declared.client.Failure.TheVariants as Failures
+use Rattle.ftp_client_model.specs.declared.client.ClientLink.{ClientLink}
+use Rattle.ftp_client_model.specs.declared.client.ClientLink.TheVariants as Data
+use Rattle.ftp_client_model.specs.declared.client.Replied.{Replied}
+use Rattle.ftp_client_model.specs.declared.client.Replied.TheVariants as Replies
+use Rattle.ftp_client_model.specs.declared.client.Standing.{Standing}
+use Rattle.ftp_client_model.specs.declared.client.Standing.TheVariants as Stands
+use Rattle.ftp_client_model.specs.declared.client.Step.{Step}
+use Rattle.ftp_client_model.specs.declared.client.Step.TheVariants as Steps
 use Rattle.ftp_pair_settling.specs.Steady.{NearIsApart}
-use Rattle.ftp_client_machine.proofs.ClientCalls.{stands_awaited}
+use Rattle.ftp_client_model.proofs.ClientCalls.{stands_awaited}
 
 -- the client stays apart; and where it still hears, it did before, and its ear is where it was
 pub record Keeps (old new : View) : Type 0 where
@@ -192,7 +192,7 @@ step_answered_keep op step verdict code texts old v k = strange_keep old v k
 -- ---- a transfer
 
 -- the answer of a transfer, once its reply and its end have come
-answers_by_keep : (replied : Replied) (abort : Abort) (connection : DataConnection) (op : Op (List ℕ)) (flow : Flow) (old v : View) → Keeps old v → Keeps old (answers_by replied abort connection op flow v)
+answers_by_keep : (replied : Replied) (abort : Abort) (connection : ClientLink) (op : Op (List ℕ)) (flow : Flow) (old v : View) → Keeps old v → Keeps old (answers_by replied abort connection op flow v)
 answers_by_keep (Replies.Final code) Aborts.Unsent (Data.Over ending) op flow old v k = finishes_read_keep (judged ending Aborts.Unsent code op flow) old v k
 answers_by_keep (Replies.Final code) Aborts.Answered (Data.Over ending) op flow old v k = finishes_read_keep (judged ending Aborts.Answered code op flow) old v k
 answers_by_keep replied abort connection op flow old v k = k
@@ -207,7 +207,7 @@ closes_keep : (old v : View) → Keeps old v → Keeps old (closes v)
 closes_keep old v k = record { apart = λ a is. refl; sound = k.sound }
 
 -- a close, once all is given
-closes_by_keep : (given : Bool) (connection : DataConnection) (old v : View) → Keeps old v → Keeps old (closes_once_given_by given connection v)
+closes_by_keep : (given : Bool) (connection : ClientLink) (old v : View) → Keeps old v → Keeps old (closes_once_given_by given connection v)
 closes_by_keep true Data.Open old v k = closes_keep old v k
 closes_by_keep given connection old v k = k
 
@@ -249,7 +249,7 @@ noted_keep code text op transfer old v k =
     if_keeps (code == 110) old (record v { job = Transferring op (record transfer { flow = marked_flow (mark_value text) transfer.flow }) }) v (record { apart = k.apart; sound = k.sound }) k
 
 -- a close, unless the link was open
-unless_open_keep : (connection : DataConnection) (old v : View) → Keeps old v → Keeps old (unless_open connection v)
+unless_open_keep : (connection : ClientLink) (old v : View) → Keeps old v → Keeps old (unless_open connection v)
 unless_open_keep Data.Open old v k = k
 unless_open_keep (Data.Over ending) old v k = k
 unless_open_keep connection old v k = closes_keep old v k
@@ -340,7 +340,7 @@ unless_keep : (f : View → View) (v : View) → (v.closing ≡ false → Keeps 
 unless_keep f v k = cond_both v.closing v (f v) (Keeps v) (λ is. same v) k
 
 -- a link that stands, where no close is wanted
-open_keep : (connection : DataConnection) (v : View) → v.closing ≡ false → Keeps v (record v { connection = connection })
+open_keep : (connection : ClientLink) (v : View) → v.closing ≡ false → Keeps v (record v { connection = connection })
 open_keep connection v is = record { apart = λ a closing. absurd (cc); sound = λ s. (s, refl) }
 
 -- a port is told to a step
@@ -349,7 +349,7 @@ listens_step_keep Steps.Listen op port v is = goes_on_keep op Steps.Listen v (re
 listens_step_keep step op port v is = same v
 
 -- a port is told
-listens_keep : (connection : DataConnection) (job : Job) (port : ℕ) (v : View) → v.closing ≡ false → Keeps v (listening_by connection job port v)
+listens_keep : (connection : ClientLink) (job : Job) (port : ℕ) (v : View) → v.closing ≡ false → Keeps v (listening_by connection job port v)
 listens_keep Data.ListenWanted (Doing op step) port v is = listens_step_keep step op port v is
 listens_keep connection job port v is = same v
 
@@ -369,19 +369,19 @@ accepted_keep true v is = carries_on_keep v (record v { connection = Data.Open }
 accepted_keep false v is = carries_on_keep v (record v { connection = Data.Over Endings.Foreign; closing = true }) (record { apart = λ a closing. refl; sound = λ s. (s, refl) })
 
 -- a link opens
-opened_by_keep : (connection : DataConnection) (host : Host) (v : View) → v.closing ≡ false → Keeps v (opened_by connection host v)
+opened_by_keep : (connection : ClientLink) (host : Host) (v : View) → v.closing ≡ false → Keeps v (opened_by connection host v)
 opened_by_keep (Data.Connecting endpoint) host v is = connected_keep v.job v is
 opened_by_keep (Data.Accepting port) host v is = accepted_keep (same_host host v.peer) v is
 opened_by_keep connection host v is = same v
 
 -- a link is refused
-unopened_keep : (connection : DataConnection) (v : View) → Keeps v (unopened_by connection v)
+unopened_keep : (connection : ClientLink) (v : View) → Keeps v (unopened_by connection v)
 unopened_keep (Data.Connecting endpoint) v = finishes_keep Unopened v v (same v)
 unopened_keep (Data.Accepting port) v = carries_on_keep v (record v { connection = Data.Over Endings.Broken; closing = true }) (record { apart = λ a closing. refl; sound = λ s. (s, refl) })
 unopened_keep connection v = same v
 
 -- a link is over
-over_keep : (connection : DataConnection) (ending : Ending) (v : View) → Keeps v (over_by connection ending v)
+over_keep : (connection : ClientLink) (ending : Ending) (v : View) → Keeps v (over_by connection ending v)
 over_keep Data.Open ending v = carries_on_keep v (record v { connection = Data.Over ending }) (record { apart = λ a is. refl; sound = λ s. (s, refl) })
 over_keep connection ending v = same v
 

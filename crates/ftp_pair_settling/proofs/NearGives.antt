@@ -6,21 +6,21 @@ use Rattle.std.proofs.lemmas.Bool.{cond_both}
 use Rattle.std.proofs.lemmas.List.{length-drop}
 use Rattle.ftp_operation.specs.Answer.{Said}
 use Rattle.ftp_operation.specs.declared.op.Op.{Op}
-use Rattle.ftp_client_machine.specs.Bounds.{abort_left, job_left, run_left, to_begin, transfer_left}
-use Rattle.ftp_client_machine.specs.Calls.{gives_data, given_of, goes_by, left_of, to_give, transfer_over, went}
-use Rattle.ftp_client_machine.specs.Dialogue.{answers_by, answers_job, aborts_once_enough, begins, carries_on, closes, closes_once_given, closes_once_given_by, finishes, finishes_by, finishes_read, has_begun, is_given, is_to_abort, judged, next_job, sends_abort}
-use Rattle.ftp_client_machine.specs.Plan.{count_of, first_step}
-use Rattle.ftp_client_machine.specs.Tries.{run_at}
-use Rattle.ftp_client_machine.specs.View.{View, Job, Transferring, Transfer, Flow, Sending, done_with, dropped, stands, strange}
-use Rattle.ftp_client_machine.specs.declared.client.Abort.{Abort}
-use Rattle.ftp_client_machine.specs.declared.client.Abort.TheVariants as Aborts
-use Rattle.ftp_client_machine.specs.declared.client.DataConnection.{DataConnection}
-use Rattle.ftp_client_machine.specs.declared.client.DataConnection.TheVariants as Data
-use Rattle.ftp_client_machine.specs.declared.client.Failure.TheVariants as Failures
-use Rattle.ftp_client_machine.specs.declared.client.Replied.{Replied}
-use Rattle.ftp_client_machine.specs.declared.client.Replied.TheVariants as Replies
-use Rattle.ftp_client_machine.proofs.ClientBounds.{abort_le, first_le, next_nearer, placed_begins}
-use Rattle.ftp_client_machine.proofs.ClientCalls.{is_to_abort_left}
+use Rattle.ftp_client_model.specs.Bounds.{abort_left, job_left, run_left, to_begin, transfer_left}
+use Rattle.ftp_client_model.specs.Calls.{gives_data, given_of, goes_by, left_of, to_give, transfer_over, went}
+use Rattle.ftp_client_model.specs.Dialogue.{answers_by, answers_job, aborts_once_enough, begins, carries_on, closes, closes_once_given, closes_once_given_by, finishes, finishes_by, finishes_read, has_begun, is_given, is_to_abort, judged, next_job, sends_abort}
+use Rattle.ftp_client_model.specs.Plan.{count_of, first_step}
+use Rattle.ftp_client_model.specs.Tries.{run_at}
+use Rattle.ftp_client_model.specs.View.{View, Job, Transferring, Transfer, Flow, Sending, done_with, dropped, stands, strange}
+use Rattle.ftp_client_model.specs.declared.client.Abort.{Abort}
+use Rattle.ftp_client_model.specs.declared.client.Abort.TheVariants as Aborts
+use Rattle.ftp_client_model.specs.declared.client.ClientLink.{ClientLink}
+use Rattle.ftp_client_model.specs.declared.client.ClientLink.TheVariants as Data
+use Rattle.ftp_client_model.specs.declared.client.Failure.TheVariants as Failures
+use Rattle.ftp_client_model.specs.declared.client.Replied.{Replied}
+use Rattle.ftp_client_model.specs.declared.client.Replied.TheVariants as Replies
+use Rattle.ftp_client_model.proofs.ClientBounds.{abort_le, first_le, next_nearer, placed_begins}
+use Rattle.ftp_client_model.proofs.ClientCalls.{is_to_abort_left}
 use Rattle.ftp_pair_settling.proofs.NearLow.{is_transferring, near_fails, none_given, nothing_to_give, unless_transferring}
 use Rattle.ftp_pair_settling.proofs.Order.{near_unqueued}
 
@@ -74,7 +74,7 @@ read_owes None v = strange_owes v
 read_owes (Some answer) v = finishes_owes answer v
 
 -- the answer of a transfer
-answers_by_owes : (replied : Replied) (abort : Abort) (connection : DataConnection) (op : Op (List ℕ)) (flow : Flow) (v : View) → Owes v (answers_by replied abort connection op flow v)
+answers_by_owes : (replied : Replied) (abort : Abort) (connection : ClientLink) (op : Op (List ℕ)) (flow : Flow) (v : View) → Owes v (answers_by replied abort connection op flow v)
 answers_by_owes (Replies.Final code) Aborts.Unsent (Data.Over ending) op flow v = read_owes (judged ending Aborts.Unsent code op flow) v
 answers_by_owes (Replies.Final code) Aborts.Answered (Data.Over ending) op flow v = read_owes (judged ending Aborts.Answered code op flow) v
 answers_by_owes replied abort connection op flow v = owes_same v
@@ -85,7 +85,7 @@ answers_job_owes (Transferring op transfer) v = answers_by_owes transfer.replied
 answers_job_owes job v = owes_same v
 
 -- a close, once all is given
-closes_by_owes : (given : Bool) (connection : DataConnection) (v : View) → Owes v (closes_once_given_by given connection v)
+closes_by_owes : (given : Bool) (connection : ClientLink) (v : View) → Owes v (closes_once_given_by given connection v)
 closes_by_owes true Data.Open v = owes_control v (closes v) (omega arith) (omega arith) refl
 closes_by_owes given connection v = owes_same v
 
@@ -123,13 +123,13 @@ if_went true count (Sending left mark) few = omega (arith, length-drop count lef
 if_went begun count flow few = omega (arith, few)
 
 -- the same, by how the link stands
-over_went : (connection : DataConnection) (op : Op (List ℕ)) (transfer : Transfer) (count : ℕ) → count ≤ length (given_of (transfer_over connection (Transferring op transfer)))
+over_went : (connection : ClientLink) (op : Op (List ℕ)) (transfer : Transfer) (count : ℕ) → count ≤ length (given_of (transfer_over connection (Transferring op transfer)))
     → length (given_of (transfer_over connection (Transferring op (record transfer { flow = went count transfer.flow })))) + count ≤ length (given_of (transfer_over connection (Transferring op transfer)))
 over_went Data.Open op transfer count few = if_went (has_begun transfer.replied) count transfer.flow few
 over_went connection op transfer count few = omega (arith, few)
 
 -- the same, unless a close is wanted
-way_went : (closing : Bool) (connection : DataConnection) (op : Op (List ℕ)) (transfer : Transfer) (count : ℕ)
+way_went : (closing : Bool) (connection : ClientLink) (op : Op (List ℕ)) (transfer : Transfer) (count : ℕ)
     → count ≤ length (given_of (if closing then None else transfer_over connection (Transferring op transfer)))
     → length (given_of (if closing then None else transfer_over connection (Transferring op (record transfer { flow = went count transfer.flow })))) + count
     ≤ length (given_of (if closing then None else transfer_over connection (Transferring op transfer)))

@@ -4,28 +4,28 @@ use Rattle.std.specs.Prelude.{if◌then◌else◌}
 use Rattle.ftp_command.specs.declared.command.Command.{Command}
 use Rattle.ftp_operation.specs.Answer.{Said}
 use Rattle.ftp_operation.specs.declared.op.Op.{Op}
-use Rattle.ftp_client_machine.specs.Bounds.{abort_left, login_left, steps_left, job_left, run_left, to_begin, still_to_give}
-use Rattle.ftp_client_machine.specs.Calls.{control_end, given_of, listening, listening_by, reports, reported_by, to_give, transfer_over}
-use Rattle.ftp_client_machine.specs.Dialogue.{goes_on, last_job, placed, sends_if}
-use Rattle.ftp_client_machine.specs.Octets.{flow_of}
-use Rattle.ftp_client_machine.specs.Plan.{command_of, count_of, next_step}
-use Rattle.ftp_client_machine.specs.View.{View, Job, Idle, Doing, Transferring, Told, Transfer, stands, fails_by, failed_job}
-use Rattle.ftp_client_machine.specs.declared.client.Abort.TheVariants as Aborts
-use Rattle.ftp_client_machine.specs.declared.client.DataConnection.{DataConnection}
-use Rattle.ftp_client_machine.specs.declared.client.DataConnection.TheVariants as Data
-use Rattle.ftp_client_machine.specs.declared.client.Failure.{Failure}
-use Rattle.ftp_client_machine.specs.declared.client.Failure.TheVariants as Failures
-use Rattle.ftp_client_machine.specs.declared.client.Standing.{Standing}
-use Rattle.ftp_client_machine.specs.declared.client.Standing.TheVariants as Stands
-use Rattle.ftp_client_machine.specs.declared.client.Step.{Step}
-use Rattle.ftp_client_machine.specs.declared.client.Step.TheVariants as Steps
-use Rattle.ftp_client_machine.proofs.ClientBounds.{fails_low, goes_step, next_less, placed_begins}
+use Rattle.ftp_client_model.specs.Bounds.{abort_left, login_left, steps_left, job_left, run_left, to_begin, still_to_give}
+use Rattle.ftp_client_model.specs.Calls.{control_end, given_of, listening, listening_by, reports, reported_by, to_give, transfer_over}
+use Rattle.ftp_client_model.specs.Dialogue.{goes_on, last_job, placed, sends_if}
+use Rattle.ftp_client_model.specs.Octets.{flow_of}
+use Rattle.ftp_client_model.specs.Plan.{command_of, count_of, next_step}
+use Rattle.ftp_client_model.specs.View.{View, Job, Idle, Doing, Transferring, Told, Transfer, stands, fails_by, failed_job}
+use Rattle.ftp_client_model.specs.declared.client.Abort.TheVariants as Aborts
+use Rattle.ftp_client_model.specs.declared.client.ClientLink.{ClientLink}
+use Rattle.ftp_client_model.specs.declared.client.ClientLink.TheVariants as Data
+use Rattle.ftp_client_model.specs.declared.client.Failure.{Failure}
+use Rattle.ftp_client_model.specs.declared.client.Failure.TheVariants as Failures
+use Rattle.ftp_client_model.specs.declared.client.Standing.{Standing}
+use Rattle.ftp_client_model.specs.declared.client.Standing.TheVariants as Stands
+use Rattle.ftp_client_model.specs.declared.client.Step.{Step}
+use Rattle.ftp_client_model.specs.declared.client.Step.TheVariants as Steps
+use Rattle.ftp_client_model.proofs.ClientBounds.{fails_low, goes_step, next_less, placed_begins}
 use Rattle.ftp_pair_settling.proofs.Order.{NearLow, near_same, near_unqueued}
 
 -- ---- nothing is to be given where nothing stands
 
 -- where no link stands, nothing goes over one
-pub over_none : (connection : DataConnection) (job : Job) → stands connection ≡ false → transfer_over connection job ≡ None
+pub over_none : (connection : ClientLink) (job : Job) → stands connection ≡ false → transfer_over connection job ≡ None
 over_none Data.Open job is = absurd (cc)
 over_none connection job is = refl
 
@@ -35,7 +35,7 @@ is_transferring (Transferring op transfer) = true
 is_transferring job = false
 
 -- where none does, nothing goes over the link
-pub unless_transferring : (connection : DataConnection) (job : Job) → is_transferring job ≡ false → transfer_over connection job ≡ None
+pub unless_transferring : (connection : ClientLink) (job : Job) → is_transferring job ≡ false → transfer_over connection job ≡ None
 unless_transferring Data.Open (Transferring op transfer) is = absurd (cc)
 unless_transferring connection job is = refl
 
@@ -99,7 +99,7 @@ job_listens (Doing op step) port v is = step_listens op step port v is
 job_listens job port v is = inr refl
 
 -- the same, of whatever stands
-by_listens : (connection : DataConnection) (port : ℕ) (v : View) → FallsOpen v (listening_by connection v.job port v) ⊎ (listening_by connection v.job port v ≡ v)
+by_listens : (connection : ClientLink) (port : ℕ) (v : View) → FallsOpen v (listening_by connection v.job port v) ⊎ (listening_by connection v.job port v ≡ v)
 by_listens Data.ListenWanted port v = job_listens v.job port v refl
 by_listens connection port v = inr refl
 

@@ -1,14 +1,14 @@
 -- Five numbers of which the first that differs is less: how such steps follow one another, and what one end changes of them.
 use Rattle.std.proofs.Common.{◌≡◌, ℕ, ◌+◌, ◌<◌, ◌≤◌, ◌⊎◌, inl, inr, refl, arith, length}
 use Rattle.std.proofs.lemmas.Bool.{cases_lt}
-use Rattle.ftp_client_machine.specs.Bounds as near_left
-use Rattle.ftp_client_machine.specs.Calls as near
-use Rattle.ftp_client_machine.specs.View.{View as Near}
-use Rattle.ftp_server_machine.specs.Bounds as far_left
-use Rattle.ftp_server_machine.specs.Calls as far
-use Rattle.ftp_server_machine.specs.View.{View as Far}
-use Rattle.ftp_world.specs.Settling.{Left, Falls, left_in}
-use Rattle.ftp_world.specs.World.{World}
+use Rattle.ftp_client_model.specs.Bounds as near_left
+use Rattle.ftp_client_model.specs.Calls as near
+use Rattle.ftp_client_model.specs.View.{View as Near}
+use Rattle.ftp_server_model.specs.Bounds as far_left
+use Rattle.ftp_server_model.specs.Calls as far
+use Rattle.ftp_server_model.specs.View.{View as Far}
+use Rattle.ftp_pair_world.specs.Settling.{Left, Falls, left_in}
+use Rattle.ftp_pair_world.specs.World.{World}
 use Rattle.ftp_pair_settling.specs.Laws.{AtMost, InOrder, Then}
 
 -- two such steps, one behind the other, are one

@@ -3,8 +3,8 @@ use Rattle.std.proofs.Common.{◌≡◌, ℕ, ◌<◌, List, [], ◌∷◌, leng
 use Rattle.std.specs.Prelude.{not}
 use Rattle.std.proofs.lemmas.Bool.{and_parts}
 use Rattle.ftp_ends.specs.Octets.{has_octets}
-use Rattle.ftp_world.specs.Events.{Queue, ControlToServer, Event, Deliver, End, can_happen, due, in_queue, lends_none, may_take}
-use Rattle.ftp_world.specs.World.{World}
+use Rattle.ftp_pair_world.specs.Events.{Queue, ControlToServer, Event, Deliver, End, can_happen, due, in_queue, lends_none, may_take}
+use Rattle.ftp_pair_world.specs.World.{World}
 
 -- some octets are there
 pub some_octets : (octets : List ℕ) → has_octets octets ≡ true → 0 < length octets

@@ -5,23 +5,23 @@ use Rattle.std.proofs.lemmas.Bool.{cond_both}
 use Rattle.ftp_ends.proofs.Counts.{one_if}
 use Rattle.ftp_ends.specs.declared.link.Wants.TheVariants as Want
 use Rattle.ftp_operation.specs.Answer.{Said}
-use Rattle.ftp_client_machine.specs.Calls as near
-use Rattle.ftp_client_machine.specs.Calls.{data_wants, is_down, is_sound, link_wants, reported_by, transfer_under_way}
-use Rattle.ftp_client_machine.specs.Dialogue.{has_begun}
-use Rattle.ftp_client_machine.specs.View.{View as Near, Transfer, Told, stands, Job}
-use Rattle.ftp_client_machine.specs.declared.client.DataConnection.{DataConnection as NearData}
-use Rattle.ftp_client_machine.specs.declared.client.DataConnection.TheVariants as NearDatas
-use Rattle.ftp_server_machine.specs.Calls as far
-use Rattle.ftp_server_machine.specs.Calls.{connection_of, is_done, listening_step, listening_turn, wants_of}
-use Rattle.ftp_server_machine.specs.View.{Footing, Session, View as Far, Transfer as FarTransfer}
-use Rattle.ftp_server_machine.specs.declared.session.Asked.TheVariants as Asking
-use Rattle.ftp_server_machine.specs.declared.session.DataConnection.{DataConnection as FarData}
-use Rattle.ftp_server_machine.specs.declared.session.DataConnection.TheVariants as FarDatas
-use Rattle.ftp_server_machine.specs.declared.session.Transfer.TheVariants as Transfers
-use Rattle.ftp_server_machine.specs.declared.session.Way.TheVariants as Ways
-use Rattle.ftp_world.specs.Serving.{near_closes, far_closes, near_listens, far_listens, left_by_near, left_by_far, near_served, far_served, near_served_by, far_served_by, served, collected, collected_by, after_event, link_closed_by_near, link_closed_by_far}
-use Rattle.ftp_world.specs.Settling.{left_in, control_ends, ends_to_server, ends_to_client}
-use Rattle.ftp_world.specs.World.{World, Control, Stands, LeftByNear, LeftByFar, Link, Gone, Opened, ClosedByNear, ClosedByFar, port_at}
+use Rattle.ftp_client_model.specs.Calls as near
+use Rattle.ftp_client_model.specs.Calls.{data_wants, is_down, is_sound, link_wants, reported_by, transfer_under_way}
+use Rattle.ftp_client_model.specs.Dialogue.{has_begun}
+use Rattle.ftp_client_model.specs.View.{View as Near, Transfer, Told, stands, Job}
+use Rattle.ftp_client_model.specs.declared.client.ClientLink.{ClientLink as NearData}
+use Rattle.ftp_client_model.specs.declared.client.ClientLink.TheVariants as NearDatas
+use Rattle.ftp_server_model.specs.Calls as far
+use Rattle.ftp_server_model.specs.Calls.{connection_of, is_done, listening_step, listening_turn, wants_of}
+use Rattle.ftp_server_model.specs.View.{Footing, Session, View as Far, Transfer as FarTransfer}
+use Rattle.ftp_server_model.specs.declared.session.PassiveVerb.TheVariants as Asking
+use Rattle.ftp_server_model.specs.declared.session.ServerLink.{ServerLink as FarData}
+use Rattle.ftp_server_model.specs.declared.session.ServerLink.TheVariants as FarDatas
+use Rattle.ftp_server_model.specs.declared.session.Transfer.TheVariants as Transfers
+use Rattle.ftp_server_model.specs.declared.session.Way.TheVariants as Ways
+use Rattle.ftp_pair_world.specs.Serving.{near_closes, far_closes, near_listens, far_listens, left_by_near, left_by_far, near_served, far_served, near_served_by, far_served_by, served, collected, collected_by, after_event, link_closed_by_near, link_closed_by_far}
+use Rattle.ftp_pair_world.specs.Settling.{left_in, control_ends, ends_to_server, ends_to_client}
+use Rattle.ftp_pair_world.specs.World.{World, Control, Stands, LeftByNear, LeftByFar, Link, Gone, Opened, ClosedByNear, ClosedByFar, port_at}
 use Rattle.ftp_pair_settling.specs.Laws.{AtMost, ServingIsLow}
 use Rattle.ftp_pair_settling.specs.Steady.{AreApart, NearIsApart, FarIsApart}
 use Rattle.ftp_pair_settling.proofs.Order.{FarLow, NearLow, far_most, le_then, most_most, most_same, near_most, near_same}

@@ -2,13 +2,13 @@
 use Rattle.std.proofs.Common.{◌≡◌, ◌⊎◌, inl, inr, ℕ, zero, suc, ◌==◌, List, [], ◌∷◌, ◌++◌, length, Bool, true, false, ◌&&◌, refl, sym, ap, ◌∙◌, arith}
 use Rattle.std.specs.Prelude.{min, nat_lt}
 use Rattle.ftp_nvt.proofs.CutLemmas.{decided}
-use Rattle.ftp_server_machine.specs.Machine.{Reading}
-use Rattle.ftp_world.specs.Agreement.{begun_by}
-use Rattle.ftp_world.specs.Claims.{IsSettling, SettlesAlways, Settles, world_of}
+use Rattle.ftp_server_model.specs.Machine.{Reading}
+use Rattle.ftp_pair_world.specs.Agreement.{begun_by}
+use Rattle.ftp_pair_world.specs.Claims.{IsSettling, SettlesAlways, Settles, world_of}
 use Rattle.ftp_ends.specs.Octets.{has_octets}
-use Rattle.ftp_world.specs.Events.{Queue, ControlToServer, ControlToClient, DataToServer, DataToClient, Event, Deliver, Open, End, Gives, Happens, IsQuiet, MayTakeFrom, can_happen, due, in_queue, lends_none, link_opens, may_take, pulled, pushed, taking, told}
-use Rattle.ftp_world.specs.Serving.{after_event}
-use Rattle.ftp_world.specs.World.{World}
+use Rattle.ftp_pair_world.specs.Events.{Queue, ControlToServer, ControlToClient, DataToServer, DataToClient, Event, Deliver, Open, End, Gives, Happens, IsQuiet, MayTakeFrom, can_happen, due, in_queue, lends_none, link_opens, may_take, pulled, pushed, taking, told}
+use Rattle.ftp_pair_world.specs.Serving.{after_event}
+use Rattle.ftp_pair_world.specs.World.{World}
 use Rattle.ftp_pair_settling.specs.Turns.{Ends, ends}
 use Rattle.ftp_pair_settling.proofs.Ending.{steady_ends}
 use Rattle.ftp_pair_settling.proofs.Possible.{and_none, lent_due, lent_may, lent_queue, moves_can, some_octets, still, takes_can}

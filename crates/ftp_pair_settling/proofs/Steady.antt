@@ -3,19 +3,19 @@ use Rattle.std.proofs.Common.{◌≡◌, ℕ, zero, suc, List, [], ◌∷◌, �
 use Rattle.ftp_ends.specs.Ear.{Ear}
 use Rattle.ftp_ends.specs.Link.{is_connecting}
 use Rattle.ftp_operation.specs.Answer.{Said}
-use Rattle.ftp_client_machine.specs.Calls as near
-use Rattle.ftp_client_machine.specs.Calls.{is_sound}
-use Rattle.ftp_client_machine.specs.View.{View as Near}
-use Rattle.ftp_server_machine.specs.Calls as far
-use Rattle.ftp_server_machine.specs.Machine.{Reading}
-use Rattle.ftp_server_machine.specs.Replies.{fixed_reply}
-use Rattle.ftp_server_machine.specs.View.{View as Far}
-use Rattle.ftp_server_machine.specs.declared.reply.Text.TheVariants as Texts
-use Rattle.ftp_world.specs.Agreement.{Leads, Order}
-use Rattle.ftp_world.specs.Claims.{Beginning, SettlingFalls, world_of}
-use Rattle.ftp_world.specs.Events.{Queue, ControlToServer, ControlToClient, DataToServer, DataToClient, Event, Deliver, Open, Refuse, End, Break, EndControl, Next, Upload, DeliversBy, Does, begun_at, broken_by, can_happen, ends_control, filled, lends_none, link_breaks, link_opens, link_refused, operation_begins, pulled, pushed, refused_by, taking, told, upload_begins}
-use Rattle.ftp_world.specs.Serving.{after_event, collected_by, far_closes, far_listens, far_served, left_by_far, link_closed_by_far, link_closed_by_near, near_closes, near_listens, near_served, served}
-use Rattle.ftp_world.specs.World.{World, Control, Stands, LeftByNear, Link, Gone, Opened, ClosedByNear, ClosedByFar, port_at}
+use Rattle.ftp_client_model.specs.Calls as near
+use Rattle.ftp_client_model.specs.Calls.{is_sound}
+use Rattle.ftp_client_model.specs.View.{View as Near}
+use Rattle.ftp_server_model.specs.Calls as far
+use Rattle.ftp_server_model.specs.Machine.{Reading}
+use Rattle.ftp_server_model.specs.Replies.{fixed_reply}
+use Rattle.ftp_server_model.specs.View.{View as Far}
+use Rattle.ftp_server_model.specs.declared.reply.FixedReply.TheVariants as Texts
+use Rattle.ftp_pair_world.specs.Agreement.{Leads, Order}
+use Rattle.ftp_pair_world.specs.Claims.{Beginning, SettlingFalls, world_of}
+use Rattle.ftp_pair_world.specs.Events.{Queue, ControlToServer, ControlToClient, DataToServer, DataToClient, Event, Deliver, Open, Refuse, End, Break, EndControl, Next, Upload, DeliversBy, Does, begun_at, broken_by, can_happen, ends_control, filled, lends_none, link_breaks, link_opens, link_refused, operation_begins, pulled, pushed, refused_by, taking, told, upload_begins}
+use Rattle.ftp_pair_world.specs.Serving.{after_event, collected_by, far_closes, far_listens, far_served, left_by_far, link_closed_by_far, link_closed_by_near, near_closes, near_listens, near_served, served}
+use Rattle.ftp_pair_world.specs.World.{World, Control, Stands, LeftByNear, Link, Gone, Opened, ClosedByNear, ClosedByFar, port_at}
 use Rattle.ftp_pair_settling.specs.Laws.{EventsKeepSteady, StaysSteady}
 use Rattle.ftp_pair_settling.specs.Steady.{AreApart, AskNothing, AsksNothing, FarIsApart, IsSteady, NearIsApart, is_left}
 use Rattle.ftp_pair_settling.proofs.Asking.{ask_more, calm_reply, octet_place}

@@ -1,13 +1,13 @@
 -- Each turn as one of finitely many: a kind of turn, and how many octets it moves or takes.
 use Rattle.std.proofs.Common.{◌≡◌, ℕ, ◌+◌, ◌-◌, ◌≤◌, ◌==◌, List, [], ◌∷◌, length, Bool, true, false, refl, arith}
-use Rattle.ftp_client_machine.specs.Calls as near
-use Rattle.ftp_server_machine.specs.Calls as far
-use Rattle.ftp_server_machine.specs.Machine.{Reading}
-use Rattle.ftp_world.specs.Claims.{IsSettling}
-use Rattle.ftp_world.specs.Events.{Queue, ControlToServer, ControlToClient, DataToServer, DataToClient, Event, Deliver, Open, End, DeliversBy, Fills, Happens, due, filled, in_queue, lends_none, link_opens, pulled, pushed, taking, told}
-use Rattle.ftp_world.specs.Serving.{after_event}
-use Rattle.ftp_world.specs.Still.{queue_room}
-use Rattle.ftp_world.specs.World.{World}
+use Rattle.ftp_client_model.specs.Calls as near
+use Rattle.ftp_server_model.specs.Calls as far
+use Rattle.ftp_server_model.specs.Machine.{Reading}
+use Rattle.ftp_pair_world.specs.Claims.{IsSettling}
+use Rattle.ftp_pair_world.specs.Events.{Queue, ControlToServer, ControlToClient, DataToServer, DataToClient, Event, Deliver, Open, End, DeliversBy, Fills, Happens, due, filled, in_queue, lends_none, link_opens, pulled, pushed, taking, told}
+use Rattle.ftp_pair_world.specs.Serving.{after_event}
+use Rattle.ftp_pair_world.specs.Still.{queue_room}
+use Rattle.ftp_pair_world.specs.World.{World}
 use Rattle.ftp_pair_settling.specs.Turns.{IsTurn}
 use Rattle.ftp_pair_settling.proofs.Moving.{few_taken, gives_few}
 

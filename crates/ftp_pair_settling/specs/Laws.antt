@@ -1,11 +1,11 @@
 -- What is proved of settling, as laws.
 use Rattle.std.specs.Prelude.{◌≡◌, ◌⊎◌, ℕ, ◌<◌, ◌≤◌, Bool, true}
-use Rattle.ftp_server_machine.specs.Machine.{Reading}
-use Rattle.ftp_world.specs.Claims.{Always, IsSettling}
-use Rattle.ftp_world.specs.Events.{Event, Happens}
-use Rattle.ftp_world.specs.Serving.{after_event}
-use Rattle.ftp_world.specs.Settling.{Left, Falls, left_in}
-use Rattle.ftp_world.specs.World.{World}
+use Rattle.ftp_server_model.specs.Machine.{Reading}
+use Rattle.ftp_pair_world.specs.Claims.{Always, IsSettling}
+use Rattle.ftp_pair_world.specs.Events.{Event, Happens}
+use Rattle.ftp_pair_world.specs.Serving.{after_event}
+use Rattle.ftp_pair_world.specs.Settling.{Left, Falls, left_in}
+use Rattle.ftp_pair_world.specs.World.{World}
 use Rattle.ftp_pair_settling.specs.Steady.{AreApart, AsksNothing, IsSteady}
 use Rattle.ftp_pair_settling.specs.Turns.{Ends, IsTurn, Turned}
 

@@ -3,23 +3,23 @@
 use Rattle.std.specs.Prelude.{◌≡◌, ℕ, Bool, true, false, List, [], ◌∷◌, ◌++◌}
 use Rattle.std.specs.List.{flat_map}
 use Rattle.ftp_nvt.specs.Telnet.{owed_of, place_behind, place_from, unit_ended}
-use Rattle.ftp_nvt.specs.declared.telnet.Place.{Place}
-use Rattle.ftp_nvt.specs.declared.telnet.Place.TheVariants as At
-use Rattle.ftp_client_machine.specs.Calls.{is_sound}
-use Rattle.ftp_client_machine.specs.View.{View as Near, stands}
-use Rattle.ftp_server_machine.specs.Endpoint.{is_standing}
-use Rattle.ftp_server_machine.specs.View.{View as Far}
-use Rattle.ftp_world.specs.World.{World, Control, Stands, LeftByNear, LeftByFar, Parted}
+use Rattle.ftp_nvt.specs.declared.telnet.TelnetState.{TelnetState}
+use Rattle.ftp_nvt.specs.declared.telnet.TelnetState.TheVariants as At
+use Rattle.ftp_client_model.specs.Calls.{is_sound}
+use Rattle.ftp_client_model.specs.View.{View as Near, stands}
+use Rattle.ftp_server_model.specs.Endpoint.{is_standing}
+use Rattle.ftp_server_model.specs.View.{View as Far}
+use Rattle.ftp_pair_world.specs.World.{World, Control, Stands, LeftByNear, LeftByFar, Parted}
 
 -- ---- nothing that is on its way to the client asks for an answer
 
 -- no octet ends a Telnet unit that is owed an answer (RFC 854); `at` is where in a unit the first stands
-abbrev pub NoneAsked : Place → List ℕ → Type 0
+abbrev pub NoneAsked : TelnetState → List ℕ → Type 0
 NoneAsked at [] = Unit {0}
 NoneAsked at (octet ∷ octets) = (flat_map owed_of (unit_ended at octet) ≡ []) × NoneAsked (place_behind at octet) octets
 
 -- octets that ask nothing of who hears them from a place in a Telnet unit, and leave it between two units
-pub record AskNothing (at : Place) (octets : List ℕ) : Type 0 where
+pub record AskNothing (at : TelnetState) (octets : List ℕ) : Type 0 where
   pub none : NoneAsked at octets
   pub rest : place_from at octets ≡ At.Between
 

@@ -1,11 +1,11 @@
 -- What a world does by itself until nothing is in flight: turns. A loop of turns ends, since no run of deliveries, openings and ends goes
 -- on for ever.
 use Rattle.std.specs.Prelude.{◌+◌, ◌≤◌, true, length}
-use Rattle.ftp_server_machine.specs.Machine.{IsReading, Reading}
-use Rattle.ftp_world.specs.Claims.{IsSettling}
-use Rattle.ftp_world.specs.Events.{Event, Deliver, Open, End, Happens, in_queue}
-use Rattle.ftp_world.specs.Still.{queue_room}
-use Rattle.ftp_world.specs.World.{World}
+use Rattle.ftp_server_model.specs.Machine.{IsReading, Reading}
+use Rattle.ftp_pair_world.specs.Claims.{IsSettling}
+use Rattle.ftp_pair_world.specs.Events.{Event, Deliver, Open, End, Happens, in_queue}
+use Rattle.ftp_pair_world.specs.Still.{queue_room}
+use Rattle.ftp_pair_world.specs.World.{World}
 
 -- each run of deliveries, openings and ends from a world ends, whatever each of them moves or takes
 pub data Ends (read : Reading) : World → Type 0 where

@@ -1,6 +1,6 @@
 //! Laws of a session that comes to rest: functions that do nothing, whose contracts are laws.
 ghost use Rattle.ftp_pair_settling.specs.Laws.{EventsFall, EventsKeepSteady, HasHeight, LoopsEnd, ServingIsLow, StaysSteady, SteadyEnds};
-ghost use Rattle.ftp_world.specs.Claims.{SettlesAlways, SettlingFalls};
+ghost use Rattle.ftp_pair_world.specs.Claims.{SettlesAlways, SettlingFalls};
 
 /// What a world does for its ends after an event (closes, ports, leaving, the report) makes no more to do.
 pub fn serving_is_low()

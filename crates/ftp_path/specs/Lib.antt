@@ -1,3 +1,4 @@
+pub mod Login
 pub mod Kept
 pub mod Path
 pub mod Printable

@@ -2,7 +2,7 @@
 use Rattle.std.proofs.Common.{◌≡◌, ◌≢◌, ℕ, [], ◌∷◌, ◌++◌, true, All, IsTrue, codes, sym, ◌∙◌, arith}
 use Rattle.std.specs.List.{list_all}
 use Rattle.std.proofs.lemmas.List.Elements.{All-nil, All-cons}
-use Rattle.ftp_representation.specs.Marker.{is_marker_octet}
+use Rattle.ftp_settings.specs.Marker.{is_marker_octet}
 use Rattle.ftp_facts.proofs.NumberLemmas.{at_most, both}
 use Rattle.ftp_reply.specs.Lines.{Text}
 use Rattle.ftp_reply.specs.Values.{SaysMark, is_marker}

@@ -3,7 +3,7 @@ use Rattle.std.proofs.Common.{◌≡◌, ℕ, ◌⊎◌, inl, inr, List, [], ◌
 use Rattle.std.specs.Prelude.{IsTrue, codes}
 use Rattle.std.specs.Bool.{then_some}
 use Rattle.std.specs.List.{before_first, after_first, list_all}
-use Rattle.ftp_representation.specs.Marker.{is_marker_octet}
+use Rattle.ftp_settings.specs.Marker.{is_marker_octet}
 use Rattle.ftp_endpoint.specs.Number.{SaysNumber}
 use Rattle.ftp_facts.specs.Value.{and_then, is_space, number_value}
 use Rattle.ftp_facts.proofs.CutLemmas.{then_is, is_then, Fails, IsCut, cut_first, first_cut}

@@ -5,8 +5,8 @@ use Rattle.std.specs.Bool.{then_some}
 use Rattle.std.specs.Char.{is_ascii_digit}
 use Rattle.std.specs.List.{flat_map, list_all, list_any, before_first, after_first, starts_with}
 use Rattle.std.specs.Option.{option_or}
-use Rattle.ftp_representation.specs.Marker.{is_marker_octet}
-use Rattle.ftp_representation.specs.declared.marker.TheConstants.{MARKER_LIMIT}
+use Rattle.ftp_settings.specs.Marker.{is_marker_octet}
+use Rattle.ftp_settings.specs.declared.marker.TheConstants.{MARKER_LIMIT}
 use Rattle.ftp_endpoint.specs.declared.endpoint.Endpoint.{Endpoint}
 use Rattle.ftp_endpoint.specs.declared.host.Host.TheVariants.{V4}
 use Rattle.ftp_endpoint.specs.Endpoint.{BeginsWithSix, BeginsWithPort}

@@ -2,7 +2,7 @@
 ghost use Rattle.std.specs.Prelude.{◌≡◌, ◌++◌, ◌∷◌, List, ℕ, option_map, IfErr, IfSome, IfNone, ◌≢◌, codes};
 ghost use Rattle.std.specs.List.{list_all};
 ghost use Rattle.std.specs.Result.{result_ok};
-ghost use Rattle.ftp_representation.specs.Marker as marker;
+ghost use Rattle.ftp_settings.specs.Marker as marker;
 ghost use Rattle.ftp_facts.specs.Moment.{moment_value};
 ghost use Rattle.ftp_facts.specs.Value.{number_value};
 ghost use Rattle.ftp_reply.specs.Lines.{joined};
@@ -13,7 +13,7 @@ use crate::fault::ReplyFault;
 use crate::reply::Reply;
 use ftp_endpoint::number;
 use ftp_facts::{Moment, cut_at, moment_of_text};
-use ftp_representation::{MARKER_LIMIT, is_marker_octet};
+use ftp_settings::{MARKER_LIMIT, is_marker_octet};
 use std::alloc::Allocator;
 
 /// The number that the text of a 213 reply is, 1 to 18 digits: octets of the transfer (RFC 3659, section 4).

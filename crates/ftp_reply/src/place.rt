@@ -16,7 +16,7 @@ pub enum Stage {
 
 /// A line's part in a reply.
 #[derive(Clone, Copy)]
-pub struct Place<'a> {
+pub struct LinePlace<'a> {
     pub code: u16,
     /// What the reply keeps of the line.
     pub text: &'a [u8],
@@ -25,7 +25,7 @@ pub struct Place<'a> {
 }
 
 /// Where a line stands in the reply that a reader is at.
-pub fn place_of(stage: Stage, line: &[u8]) -> Result<Place<'_>, ReplyFault>
+pub fn place_of(stage: Stage, line: &[u8]) -> Result<LinePlace<'_>, ReplyFault>
     ensures ok { IfOk result (λ place. (lines : List (List ℕ)) → AreKept stage lines → IsCode place.code
         × (heard_at (standing_at stage lines) line.now ≡ placed place.ends place.code (lines ++ place.text.now ∷ []))) }
     ensures err { IfErr result (λ fault. (lines : List (List ℕ)) → heard_at (standing_at stage lines) line.now ≡ Faulty fault) }
@@ -41,14 +41,14 @@ pub fn place_of(stage: Stage, line: &[u8]) -> Result<Place<'_>, ReplyFault>
 }
 
 /// The place of a reply's first line. The code alone is a reply too.
-fn first_place(line: &[u8]) -> Option<Place<'_>>
+fn first_place(line: &[u8]) -> Option<LinePlace<'_>>
     ensures code { IfSome result (λ place. IsCode place.code) }
     ensures found { IfSome result (λ place. line_heard Between line.now ≡ placed place.ends place.code (place.text.now ∷ [])) }
     ensures none { IfNone result (line_heard Between line.now ≡ Faulty ReplyFault.BadCode) }
 {
     let (code, rest) = code_of(line)?;
     let (text, ends) = first_text(rest)?;
-    Some(Place { code, text, ends })
+    Some(LinePlace { code, text, ends })
 }
 
 /// What the reply keeps of its first line, of which this stands behind the code, and whether that is the only line.
@@ -65,18 +65,18 @@ fn first_text(rest: &[u8]) -> Option<(&[u8], bool)>
 }
 
 /// The place of a line in a reply that this code opened.
-fn later_place(code: u16, line: &[u8]) -> Place<'_>
+fn later_place(code: u16, line: &[u8]) -> LinePlace<'_>
     ensures code { result.code ≡ code }
     ensures heard { (lines : List (List ℕ)) → IsCode code → line_heard (Begun code lines) line.now
         ≡ placed result.ends code (lines ++ result.text.now ∷ []) }
 {
     match last_text(code, line) {
-        Some(text) => Place {
+        Some(text) => LinePlace {
             code,
             text,
             ends: true,
         },
-        None => Place {
+        None => LinePlace {
             code,
             text: line,
             ends: false,

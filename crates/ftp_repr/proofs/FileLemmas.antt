@@ -4,8 +4,8 @@ use Rattle.std.specs.List.{flat_map}
 use Rattle.std.proofs.lemmas.List.{map-append}
 use Rattle.ftp_repr.specs.Signs.{Sign, octet, end_record, end_file, wire_octets, wire_row, octet_signs, signs_of}
 use Rattle.ftp_repr.specs.Content.{read_record, read_cut, content_by, HasNoEnd, data_of}
-use Rattle.ftp_representation.specs.declared.representation.Kind.{Kind}
-use Rattle.ftp_representation.specs.declared.representation.Structure.TheVariants.{File}
+use Rattle.ftp_settings.specs.declared.representation.Kind.{Kind}
+use Rattle.ftp_settings.specs.declared.representation.Structure.TheVariants.{File}
 use Rattle.ftp_repr.proofs.ContentLemmas.{form}
 
 octets_signs : (k : Kind) (b : List ℕ) → flat_map (octet_signs k File) b ≡ map octet (wire_row k b)

@@ -4,9 +4,9 @@ use Rattle.std.specs.List.{AllByRecursion}
 use Rattle.std.proofs.lemmas.Bool.{eqb-true}
 use Rattle.std.proofs.lemmas.List.{map-append, length-map, length-take-le, take-append-drop, take-map, take-take, drop-map}
 use Rattle.std.proofs.Math.Seq.{take-length}
-use Rattle.ftp_machine.specs.Machine.{after, gives}
-use Rattle.ftp_machine.proofs.MachineLemmas.{after-append, gives-append}
-use Rattle.ftp_representation.specs.Representation.{Form}
+use Rattle.ftp_cutting.specs.Machine.{after, gives}
+use Rattle.ftp_cutting.proofs.MachineLemmas.{after-append, gives-append}
+use Rattle.ftp_settings.specs.Representation.{Form}
 use Rattle.ftp_repr.specs.Signs.{Sign, octet}
 use Rattle.ftp_repr.specs.Items.{signs}
 use Rattle.ftp_repr.specs.Runs.{IsRun}
@@ -15,7 +15,7 @@ use Rattle.ftp_repr.specs.Received.{Lends, HasNoRoom, settled_by, lent_octets, r
 use Rattle.ftp_repr.specs.declared.item.Lent.{Lent}
 use Rattle.ftp_repr.specs.declared.receiver.Receiver.{Receiver}
 use Rattle.ftp_repr.specs.declared.receiver.Stage.TheVariants.{Settled, Held, Over}
-use Rattle.ftp_representation.specs.declared.representation.Kind.TheVariants.{Ascii, Image}
+use Rattle.ftp_settings.specs.declared.representation.Kind.TheVariants.{Ascii, Image}
 use Rattle.ftp_repr.proofs.AsciiLemmas.{decided}
 use Rattle.ftp_repr.proofs.ReceivingLemmas.{held_at, ended_at, goes}
 use Rattle.ftp_repr.proofs.RunLemmas.{run_ascii, run_image, receiving_over}

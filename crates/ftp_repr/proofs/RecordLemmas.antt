@@ -6,8 +6,8 @@ use Rattle.std.proofs.lemmas.List.{map-append}
 use Rattle.ftp_repr.specs.Signs.{Sign, octet, end_record, end_file, wire_octets, wire_row, octet_signs, signs_of}
 use Rattle.ftp_repr.specs.Content.{read_record, read_cut, content_by}
 use Rattle.ftp_repr.specs.Records.{HasNoLine, record_line, IsRecords, ended_record, signs_of_records, read_records}
-use Rattle.ftp_representation.specs.declared.representation.Kind.{Kind}
-use Rattle.ftp_representation.specs.declared.representation.Structure.TheVariants.{Record}
+use Rattle.ftp_settings.specs.declared.representation.Kind.{Kind}
+use Rattle.ftp_settings.specs.declared.representation.Structure.TheVariants.{Record}
 use Rattle.ftp_repr.proofs.AsciiLemmas.{decided}
 use Rattle.ftp_repr.proofs.SignLemmas.{signs_of-append}
 use Rattle.ftp_repr.proofs.ContentLemmas.{form, content_octets}

@@ -4,12 +4,12 @@ use Rattle.std.specs.List.{flat_map, AllByRecursion}
 use Rattle.std.proofs.lemmas.List.{take-append-drop}
 use Rattle.std.proofs.lemmas.List.Concat.{flat_map-append}
 use Rattle.ftp_repr.specs.Signs.{Sign, octet, end_record, end_file, wire_octets, octet_signs, signs_of_octet, signs_of}
-use Rattle.ftp_representation.specs.Representation.{Form}
+use Rattle.ftp_settings.specs.Representation.{Form}
 use Rattle.ftp_repr.specs.Runs.{IsRun, is_changed}
-use Rattle.ftp_representation.specs.declared.representation.Kind.{Kind}
-use Rattle.ftp_representation.specs.declared.representation.Kind.TheVariants.{Ascii, Image}
-use Rattle.ftp_representation.specs.declared.representation.Structure.{Structure}
-use Rattle.ftp_representation.specs.declared.representation.Structure.TheVariants.{File, Record}
+use Rattle.ftp_settings.specs.declared.representation.Kind.{Kind}
+use Rattle.ftp_settings.specs.declared.representation.Kind.TheVariants.{Ascii, Image}
+use Rattle.ftp_settings.specs.declared.representation.Structure.{Structure}
+use Rattle.ftp_settings.specs.declared.representation.Structure.TheVariants.{File, Record}
 
 pub signs_of-append : (f : Form) (xs ys : List ℕ) → signs_of f (xs ++ ys) ≡ flat_map (signs_of_octet f) xs ++ signs_of f ys
 signs_of-append f xs ys =

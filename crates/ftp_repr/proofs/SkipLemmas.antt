@@ -7,9 +7,9 @@ use Rattle.ftp_repr.specs.Ascii.{ascii_octet}
 use Rattle.ftp_repr.specs.Signs.{wire_octets, wire_row}
 use Rattle.ftp_repr.specs.Runs.{IsRun, is_changed}
 use Rattle.ftp_repr.specs.Skipping.{IsPlace, Skips, further}
-use Rattle.ftp_representation.specs.declared.representation.Kind.{Kind}
-use Rattle.ftp_representation.specs.declared.representation.Kind.TheVariants.{Ascii, Image}
-use Rattle.ftp_representation.specs.declared.representation.Structure.TheVariants.{File}
+use Rattle.ftp_settings.specs.declared.representation.Kind.{Kind}
+use Rattle.ftp_settings.specs.declared.representation.Kind.TheVariants.{Ascii, Image}
+use Rattle.ftp_settings.specs.declared.representation.Structure.TheVariants.{File}
 use Rattle.ftp_repr.specs.declared.skipping.Skipped.{Skipped}
 use Rattle.ftp_repr.specs.declared.skipping.Skipped.TheVariants.{Within, Left, Inside}
 use Rattle.ftp_repr.proofs.AsciiLemmas.{decided}

@@ -2,11 +2,11 @@
 use Rattle.std.specs.Prelude.{ℕ, List, [], ◌∷◌, ◌++◌}
 use Rattle.ftp_repr.specs.Ascii.{plain, settled}
 use Rattle.ftp_repr.specs.Signs.{Sign, octet, end_record, end_file}
-use Rattle.ftp_representation.specs.Representation.{Form}
-use Rattle.ftp_representation.specs.declared.representation.Kind.{Kind}
-use Rattle.ftp_representation.specs.declared.representation.Kind.TheVariants.{Ascii, Image}
-use Rattle.ftp_representation.specs.declared.representation.Structure.{Structure}
-use Rattle.ftp_representation.specs.declared.representation.Structure.TheVariants.{File, Record}
+use Rattle.ftp_settings.specs.Representation.{Form}
+use Rattle.ftp_settings.specs.declared.representation.Kind.{Kind}
+use Rattle.ftp_settings.specs.declared.representation.Kind.TheVariants.{Ascii, Image}
+use Rattle.ftp_settings.specs.declared.representation.Structure.{Structure}
+use Rattle.ftp_settings.specs.declared.representation.Structure.TheVariants.{File, Record}
 
 -- octets of the wire up to an end that came, read
 abbrev pub read_record : Kind → List ℕ → List ℕ

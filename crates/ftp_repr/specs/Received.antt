@@ -1,9 +1,9 @@
 -- What a receiver made of items.
 use Rattle.std.specs.Prelude.{◌≡◌, ℕ, ◌+◌, ◌-◌, ◌<◌, ◌≤◌, List, ◌++◌, length, take, drop, true, false, if◌then◌else◌}
-use Rattle.ftp_machine.specs.Machine.{after, gives}
+use Rattle.ftp_cutting.specs.Machine.{after, gives}
 use Rattle.ftp_repr.specs.Signs.{Sign}
 use Rattle.ftp_repr.specs.Items.{signs}
-use Rattle.ftp_representation.specs.Representation.{Form}
+use Rattle.ftp_settings.specs.Representation.{Form}
 use Rattle.ftp_repr.specs.Receiving.{Taking, fresh, over, receiving, held_octets}
 use Rattle.ftp_repr.specs.declared.item.Lent.{Lent}
 use Rattle.ftp_repr.specs.declared.receiver.Receiver.{Receiver}

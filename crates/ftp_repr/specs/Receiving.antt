@@ -1,12 +1,12 @@
 -- The reader of signs.
 use Rattle.std.specs.Prelude.{ℕ, List, [], ◌∷◌, ◌++◌, Bool, true, false, if◌then◌else◌, ◌==◌}
-use Rattle.ftp_machine.specs.Machine.{Machine}
+use Rattle.ftp_cutting.specs.Machine.{Machine}
 use Rattle.ftp_repr.specs.Signs.{Sign, octet, end_record, end_file}
-use Rattle.ftp_representation.specs.Representation.{Form}
-use Rattle.ftp_representation.specs.declared.representation.Kind.{Kind}
-use Rattle.ftp_representation.specs.declared.representation.Kind.TheVariants.{Ascii, Image}
-use Rattle.ftp_representation.specs.declared.representation.Structure.{Structure}
-use Rattle.ftp_representation.specs.declared.representation.Structure.TheVariants.{File, Record}
+use Rattle.ftp_settings.specs.Representation.{Form}
+use Rattle.ftp_settings.specs.declared.representation.Kind.{Kind}
+use Rattle.ftp_settings.specs.declared.representation.Kind.TheVariants.{Ascii, Image}
+use Rattle.ftp_settings.specs.declared.representation.Structure.{Structure}
+use Rattle.ftp_settings.specs.declared.representation.Structure.TheVariants.{File, Record}
 
 -- `held` is a CR that the next sign settles
 pub record Taking : Type 0 where

@@ -3,7 +3,7 @@ use Rattle.std.specs.Prelude.{◌≡◌, ℕ, List, [], ◌∷◌, ◌++◌, map
 use Rattle.std.specs.List.{flat_map, AllByRecursion}
 use Rattle.ftp_repr.specs.Signs.{Sign, octet, end_record, end_file, wire_row}
 use Rattle.ftp_repr.specs.Content.{read_record}
-use Rattle.ftp_representation.specs.declared.representation.Kind.{Kind}
+use Rattle.ftp_settings.specs.declared.representation.Kind.{Kind}
 
 -- no octet is an LF
 abbrev pub HasNoLine : List ℕ → Type 0

@@ -4,7 +4,7 @@ use Rattle.ftp_repr.specs.Signs.{Sign, signs_of}
 use Rattle.ftp_repr.specs.Runs.{IsRun, is_changed}
 use Rattle.ftp_repr.specs.declared.item.Item.{Item}
 use Rattle.ftp_repr.specs.declared.item.Item.TheVariants.{Octets, EndRecord, EndFile}
-use Rattle.ftp_representation.specs.Representation.{Form}
+use Rattle.ftp_settings.specs.Representation.{Form}
 use Rattle.ftp_repr.specs.declared.sender.Sender.{Sender}
 
 -- its type and structure

@@ -2,11 +2,11 @@
 use Rattle.std.specs.Prelude.{ℕ, List, [], ◌∷◌, ◌++◌, map, if◌then◌else◌, ◌==◌}
 use Rattle.std.specs.List.{flat_map}
 use Rattle.ftp_repr.specs.Ascii.{ascii_octet}
-use Rattle.ftp_representation.specs.Representation.{Form}
-use Rattle.ftp_representation.specs.declared.representation.Kind.{Kind}
-use Rattle.ftp_representation.specs.declared.representation.Kind.TheVariants.{Ascii, Image}
-use Rattle.ftp_representation.specs.declared.representation.Structure.{Structure}
-use Rattle.ftp_representation.specs.declared.representation.Structure.TheVariants.{File, Record}
+use Rattle.ftp_settings.specs.Representation.{Form}
+use Rattle.ftp_settings.specs.declared.representation.Kind.{Kind}
+use Rattle.ftp_settings.specs.declared.representation.Kind.TheVariants.{Ascii, Image}
+use Rattle.ftp_settings.specs.declared.representation.Structure.{Structure}
+use Rattle.ftp_settings.specs.declared.representation.Structure.TheVariants.{File, Record}
 
 pub data Sign : Type 0 where
   octet : (c : ℕ) → Sign

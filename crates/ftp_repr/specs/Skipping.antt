@@ -2,7 +2,7 @@
 -- section 5). In type A it counts octets as they go over the wire.
 use Rattle.std.specs.Prelude.{◌≡◌, ℕ, ◌+◌, ◌<◌, ◌≤◌, List, length, take}
 use Rattle.ftp_repr.specs.Signs.{wire_row}
-use Rattle.ftp_representation.specs.declared.representation.Kind.{Kind}
+use Rattle.ftp_settings.specs.declared.representation.Kind.{Kind}
 use Rattle.ftp_repr.specs.declared.skipping.Skipped.{Skipped}
 use Rattle.ftp_repr.specs.declared.skipping.Skipped.TheVariants.{Within, Left, Inside}
 

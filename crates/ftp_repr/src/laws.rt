@@ -2,17 +2,17 @@
 
 ghost use Rattle.std.specs.Prelude.{◌≡◌, ◌≢◌, ◌↔◌, ◌++◌, ℕ, List, [], ◌∷◌, map, length, Bool};
 ghost use Rattle.std.specs.List.{flat_map};
-ghost use Rattle.ftp_machine.specs.Machine.{IsFront, gives};
+ghost use Rattle.ftp_cutting.specs.Machine.{IsFront, gives};
 ghost use Rattle.ftp_repr.specs.Ascii.{IsAscii, asc, plain, settled};
 ghost use Rattle.ftp_repr.specs.Signs.{Sign, octet, end_file, signs_of, wire_row};
-ghost use Rattle.ftp_representation.specs.Representation.{Form};
+ghost use Rattle.ftp_settings.specs.Representation.{Form};
 ghost use Rattle.ftp_repr.specs.Records.{IsRecords, ended_record, read_records, signs_of_records};
 ghost use Rattle.ftp_repr.specs.Receiving.{receiving, fresh};
 ghost use Rattle.ftp_repr.specs.Runs.{IsRun};
 ghost use Rattle.ftp_repr.specs.Skipping.{IsPlace, Skips, further};
 ghost use Rattle.ftp_repr.specs.Content.{HasNoEnd, content, data_of, read_record, read_cut};
-ghost use Rattle.ftp_representation.specs.declared.representation.Kind.{Kind};
-ghost use Rattle.ftp_representation.specs.declared.representation.Structure.TheVariants.{File, Record};
+ghost use Rattle.ftp_settings.specs.declared.representation.Kind.{Kind};
+ghost use Rattle.ftp_settings.specs.declared.representation.Structure.TheVariants.{File, Record};
 ghost use Rattle.ftp_repr.specs.declared.skipping.Skipped.{Skipped};
 ghost use Rattle.ftp_repr.specs.declared.skipping.Skipped.TheVariants.{Within, Left, Inside};
 

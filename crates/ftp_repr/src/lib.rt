@@ -12,7 +12,7 @@ mod size;
 mod skipping;
 
 pub use fault::ReprFault;
-pub use ftp_representation::{Kind, Structure};
+pub use ftp_settings::{Kind, Structure};
 pub use item::{Item, Lent};
 pub use receiver::Receiver;
 pub use run::{first_ff, plain_run};

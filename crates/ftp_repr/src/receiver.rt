@@ -3,12 +3,12 @@ ghost use Rattle.ftp_repr.specs.Signs.{Sign, octet as sign, end_record, end_file
 ghost use Rattle.ftp_repr.specs.Items.{signs};
 ghost use Rattle.ftp_repr.specs.Receiving.{fresh, over};
 ghost use Rattle.ftp_repr.specs.Received.{Receives, Lends, HasNoRoom, lent_octets, receiver_form, taking};
-ghost use Rattle.ftp_representation.specs.declared.representation.Kind.TheVariants.{Ascii};
+ghost use Rattle.ftp_settings.specs.declared.representation.Kind.TheVariants.{Ascii};
 
 use crate::fault::ReprFault;
 use crate::item::{Item, Lent};
 use crate::run::before_return;
-use ftp_representation::{Kind, Structure};
+use ftp_settings::{Kind, Structure};
 use std::alloc::{AllocError, Allocator};
 
 const FEED: [u8; 1] = [10];

@@ -1,7 +1,7 @@
 ghost use Rattle.std.specs.Prelude.{◌==◌, ◌≤◌, length, take};
 ghost use Rattle.ftp_repr.specs.Runs.{IsRun, is_changed};
 
-use ftp_representation::{Kind, Structure};
+use ftp_settings::{Kind, Structure};
 use memchr::{memchr, memchr2};
 use std::simd::prelude::*;
 

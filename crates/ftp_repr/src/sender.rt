@@ -5,7 +5,7 @@ ghost use Rattle.ftp_repr.specs.declared.item.Item.TheVariants.{EndFile};
 
 use crate::item::Item;
 use crate::run::plain_run;
-use ftp_representation::{Kind, Structure};
+use ftp_settings::{Kind, Structure};
 
 const LINE_END: [u8; 2] = [13, 10];
 

@@ -3,7 +3,7 @@ ghost use Rattle.ftp_repr.specs.Ascii.{asc, ascii_octet};
 ghost use Rattle.ftp_repr.specs.Signs.{wire_row};
 
 use crate::run::LANES;
-use ftp_representation::Kind;
+use ftp_settings::Kind;
 use std::simd::prelude::*;
 
 /// How many octets these octets of a file are on the wire, in file structure and stream mode (RFC 959, section

@@ -1,8 +1,8 @@
 ghost use Rattle.ftp_repr.specs.Skipping.{Skips};
-ghost use Rattle.ftp_representation.specs.declared.representation.Kind.TheVariants.{Ascii, Image};
+ghost use Rattle.ftp_settings.specs.declared.representation.Kind.TheVariants.{Ascii, Image};
 
 use crate::run::plain_run;
-use ftp_representation::{Kind, Structure};
+use ftp_settings::{Kind, Structure};
 
 /// Where a count of octets of the wire leads to in a piece of a file.
 #[derive(Clone, Copy, PartialEq, Eq)]

@@ -8,17 +8,17 @@ use Rattle.ftp_direct.specs.Direct.{done, is_directory, limited, named_or_here, 
 use Rattle.ftp_direct.specs.declared.refusal.Refusal.{Refusal}
 use Rattle.ftp_operation.specs.Account.{login_root}
 use Rattle.ftp_path.specs.Path.{Names}
-use Rattle.ftp_server_machine.specs.Act.{act, decided, is_allowed, forgets}
-use Rattle.ftp_server_machine.specs.Endpoint.{asks, epsv, forgotten, is_taken, pasv, takes}
-use Rattle.ftp_server_machine.specs.Login.{admits, checked, open_root, pass, user_named}
-use Rattle.ftp_server_machine.specs.Machine.{has_room, is_connection_busy, is_idle}
-use Rattle.ftp_server_machine.specs.declared.session.Facts.{Facts}
-use Rattle.ftp_server_machine.specs.declared.session.Asked.TheVariants as Asking
-use Rattle.ftp_server_machine.specs.declared.reply.Text.TheVariants as Texts
-use Rattle.ftp_server_machine.specs.declared.reply.ReplyKind.TheVariants as Replies
-use Rattle.ftp_server_machine.specs.Ask.{has_size, or_empty, size_of, stamp_of}
-use Rattle.ftp_server_machine.specs.Replies.{Turn, tells}
-use Rattle.ftp_session.specs.Session.{connection_of}
+use Rattle.ftp_server_model.specs.Act.{act, decided, is_allowed, forgets}
+use Rattle.ftp_server_model.specs.Endpoint.{asks, epsv, forgotten, is_taken, pasv, takes}
+use Rattle.ftp_server_model.specs.Login.{admits, checked, open_root, pass, user_named}
+use Rattle.ftp_server_model.specs.Machine.{has_room, is_connection_busy, is_idle}
+use Rattle.ftp_server_model.specs.declared.session.Facts.{Facts}
+use Rattle.ftp_server_model.specs.declared.session.PassiveVerb.TheVariants as Asking
+use Rattle.ftp_server_model.specs.declared.reply.FixedReply.TheVariants as Texts
+use Rattle.ftp_server_model.specs.declared.reply.ReplyKind.TheVariants as Replies
+use Rattle.ftp_server_model.specs.Ask.{has_size, or_empty, size_of, stamp_of}
+use Rattle.ftp_server_model.specs.Replies.{Turn, tells}
+use Rattle.ftp_server_session.specs.Session.{connection_of}
 use Rattle.ftp_endpoint.specs.declared.endpoint.Endpoint.{Endpoint}
 use Rattle.ftp_command.specs.declared.command.Passive.{Passive}
 use Rattle.ftp_ends.specs.Link.{is_v6}
@@ -26,20 +26,20 @@ use Rattle.ftp_facts.specs.Moment.{moment_digits}
 use Rattle.ftp_operation.specs.declared.op.Op.{Op}
 use Rattle.ftp_operation.specs.declared.op.Op.TheVariants as Ops
 use Rattle.ftp_tree.specs.Tree.{moved, node_at, rename_refusal}
-use Rattle.ftp_server_machine.specs.Entries.{option_facts}
-use Rattle.ftp_server_machine.specs.Setting.{choose, is_utf8_on}
-use Rattle.ftp_server_machine.specs.Transfer.{begin, rests, transfer_starts}
-use Rattle.ftp_server_machine.specs.View.{Accounts, Footing, Session, Transfer, as_direct, direct_of, how_in_force, seen, with_seen, View}
-use Rattle.ftp_server_machine.specs.Walk.{path_of, performs, refused_source, rnto, unless}
-use Rattle.ftp_server_machine.specs.declared.heard.Heard.{Heard}
-use Rattle.ftp_server_machine.specs.declared.heard.Heard.TheVariants.{TooLong, Bad, Asks}
-use Rattle.ftp_server_machine.specs.declared.reply.ReplyKind.{ReplyKind}
-use Rattle.ftp_server_machine.specs.declared.session.DataConnection.{DataConnection}
-use Rattle.ftp_server_machine.specs.declared.session.DataConnection.TheVariants as Data
-use Rattle.ftp_server_machine.specs.declared.session.Pending.{Pending}
-use Rattle.ftp_server_machine.specs.declared.session.Pending.TheVariants as Pendings
-use Rattle.ftp_server_machine.specs.declared.session.Access.{Access}
-use Rattle.ftp_server_machine.specs.declared.session.Access.TheVariants.{Nobody, AwaitsPass, Known}
+use Rattle.ftp_server_model.specs.Entries.{option_facts}
+use Rattle.ftp_server_model.specs.Setting.{choose, is_utf8_on}
+use Rattle.ftp_server_model.specs.Transfer.{begin, rests, transfer_starts}
+use Rattle.ftp_server_model.specs.View.{Accounts, Footing, Session, Transfer, as_direct, direct_of, how_in_force, seen, with_seen, View}
+use Rattle.ftp_server_model.specs.Walk.{path_of, performs, refused_source, rnto, unless}
+use Rattle.ftp_server_model.specs.declared.heard.HeardLine.{HeardLine}
+use Rattle.ftp_server_model.specs.declared.heard.HeardLine.TheVariants.{TooLong, Bad, Asks}
+use Rattle.ftp_server_model.specs.declared.reply.ReplyKind.{ReplyKind}
+use Rattle.ftp_server_model.specs.declared.session.ServerLink.{ServerLink}
+use Rattle.ftp_server_model.specs.declared.session.ServerLink.TheVariants as Data
+use Rattle.ftp_server_model.specs.declared.session.Pending.{Pending}
+use Rattle.ftp_server_model.specs.declared.session.Pending.TheVariants as Pendings
+use Rattle.ftp_server_model.specs.declared.session.Access.{Access}
+use Rattle.ftp_server_model.specs.declared.session.Access.TheVariants.{Nobody, AwaitsPass, Known}
 use Rattle.ftp_server.specs.Busy.{is_busy, is_short}
 
 -- where it leaves the data connection busy, its reply is short
@@ -61,7 +61,7 @@ Calm s = is_connection_busy s.connection ≡ false
 calm : (s : Session) (kind : ReplyKind Names) → Calm s → Short (s, kind)
 calm s kind is busy = absurd (let e : true ≡ false = sym busy ∙ is in cc)
 
-short_begin : (c : DataConnection Transfer) (transfer : Transfer) (s : Session) → Short (begin c transfer s)
+short_begin : (c : ServerLink Transfer) (transfer : Transfer) (s : Session) → Short (begin c transfer s)
 short_begin Data.Free transfer s busy = refl
 short_begin (Data.Active endpoint) transfer s busy = refl
 short_begin Data.Passive transfer s busy = refl
@@ -180,7 +180,7 @@ short_acted footing (command.Opts text) pending s is =
     short_if (is_utf8_on text) (tells Texts.Utf8Set s) (choose (option_facts text) s) (λ busy. refl) (short_choose (option_facts text) s is)
 
 -- so it is of whatever a line asks
-pub short_decided : (footing : Footing) (heard : Heard (List ℕ)) (pending : Pending Names) (s : Session) → Calm s → Short (decided footing heard pending s)
+pub short_decided : (footing : Footing) (heard : HeardLine (List ℕ)) (pending : Pending Names) (s : Session) → Calm s → Short (decided footing heard pending s)
 short_decided footing TooLong pending s is = λ busy. refl
 short_decided footing (Bad fault) pending s is = λ busy. refl
 short_decided footing (Asks command) pending s is =
@@ -188,7 +188,7 @@ short_decided footing (Asks command) pending s is =
     (short_acted footing command pending s is) (λ busy. refl)
 
 -- the data connection, however a transfer is seen
-pub busy_seen : {J : Type 0} (view : J → Transfer) (c : DataConnection J) → is_connection_busy (connection_of view c) ≡ is_busy c
+pub busy_seen : {J : Type 0} (view : J → Transfer) (c : ServerLink J) → is_connection_busy (connection_of view c) ≡ is_busy c
 busy_seen view Data.Free = refl
 busy_seen view (Data.Asked asked) = refl
 busy_seen view (Data.Active endpoint) = refl

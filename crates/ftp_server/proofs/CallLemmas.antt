@@ -1,10 +1,10 @@
 -- A step, and then the line that waits.
 use Rattle.std.proofs.Common.{◌≡◌, ◌≢◌, ◌⊎◌, inl, inr, ℕ, List, Result, Ok, Err, OnOk, OnErr, sym, ap, subst, ◌∙◌}
-use Rattle.ftp_server_machine.specs.Failing.{AreHeard, Counts, Late}
-use Rattle.ftp_server_machine.specs.Far.{Acts, Hears, Server}
+use Rattle.ftp_server_model.specs.Failing.{AreHeard, Counts, Late}
+use Rattle.ftp_server_model.specs.Far.{Acts, Hears, Server}
 use Rattle.ftp_server.specs.HearsTo.{AreHeardTo, HearsTo}
-use Rattle.ftp_server_machine.specs.Machine.{later}
-use Rattle.ftp_server_machine.specs.View.{View}
+use Rattle.ftp_server_model.specs.Machine.{later}
+use Rattle.ftp_server_model.specs.View.{View}
 
 pub acts : (step : View → View) (old mid new : Server) → mid.view ≡ step old.view → mid.counts ≡ old.counts → Acts (λ v. v) mid new → Acts step old new
 acts step old mid new view counts a = record {

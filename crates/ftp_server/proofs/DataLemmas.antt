@@ -2,19 +2,19 @@
 use Rattle.std.proofs.Common.{◌≡◌, ◌≢◌, ◌⊎◌, inl, inr, ℕ, List, true, false, Result, Ok, Err, OnOk, OnErr, refl, sym, ap, subst, ◌∙◌}
 use Rattle.std.specs.Result.{is_err}
 use Rattle.ftp_ends.specs.declared.link.Wants.TheVariants as Want
-use Rattle.ftp_moves.specs.Moves.{takes_octets}
-use Rattle.ftp_server_machine.specs.Calls.{wants_of}
-use Rattle.ftp_server_machine.specs.Endpoint.{disconnected}
-use Rattle.ftp_server_machine.specs.Failing.{AreReceived, InstallFails, Late, WaitingFails}
-use Rattle.ftp_server_machine.specs.Far.{Receives, Server, Steps}
-use Rattle.ftp_server_machine.specs.Machine.{later, with_session}
-use Rattle.ftp_server_machine.specs.View.{Session, Transfer, View}
-use Rattle.ftp_server_machine.specs.declared.session.DataConnection.{DataConnection}
-use Rattle.ftp_server_machine.specs.declared.session.DataConnection.TheVariants as Data
-use Rattle.ftp_server_machine.specs.declared.session.Transfer.TheVariants as Transfers
-use Rattle.ftp_session.specs.Receiving.{ComesIn}
-use Rattle.ftp_moves.specs.declared.moves.Told.{Told}
-use Rattle.ftp_moves.specs.declared.moves.Told.TheVariants.{Nothing, Mark, Faulty, NoMemory}
+use Rattle.ftp_server_parts.specs.ServerTransfer.{takes_octets}
+use Rattle.ftp_server_model.specs.Calls.{wants_of}
+use Rattle.ftp_server_model.specs.Endpoint.{disconnected}
+use Rattle.ftp_server_model.specs.Failing.{AreReceived, InstallFails, Late, WaitingFails}
+use Rattle.ftp_server_model.specs.Far.{Receives, Server, Steps}
+use Rattle.ftp_server_model.specs.Machine.{later, with_session}
+use Rattle.ftp_server_model.specs.View.{Session, Transfer, View}
+use Rattle.ftp_server_model.specs.declared.session.ServerLink.{ServerLink}
+use Rattle.ftp_server_model.specs.declared.session.ServerLink.TheVariants as Data
+use Rattle.ftp_server_model.specs.declared.session.Transfer.TheVariants as Transfers
+use Rattle.ftp_server_session.specs.Receiving.{ComesIn}
+use Rattle.ftp_server_parts.specs.declared.transfer.Told.{Told}
+use Rattle.ftp_server_parts.specs.declared.transfer.Told.TheVariants.{Nothing, Mark, Faulty, NoMemory}
 use Rattle.ftp_server.specs.Breaking.{InstallIsLost}
 use Rattle.ftp_server.specs.Data.{IsSaid, ReceivesTo, SayingFails}
 use Rattle.ftp_server.specs.Settled.{IsSettled}
@@ -109,7 +109,7 @@ steps Fails step old mid new failures (Err x) stood refusals view counts lost se
 }
 
 -- an upload that could not be installed, and then the line that waits
-pub install_fails : (c : DataConnection Transfer) (v w x : View) → InstallIsLost c (disconnected v.session) v w → Late w x → InstallFails c v x
+pub install_fails : (c : ServerLink Transfer) (v w x : View) → InstallIsLost c (disconnected v.session) v w → Late w x → InstallFails c v x
 install_fails (Data.Transferring (Transfers.Upload path keep d)) v w x is after = subst (λ y. Late y x) is after
 install_fails (Data.Transferring Transfers.OverLimit) v w x is after = absurd is
 install_fails (Data.Transferring (Transfers.Download rest)) v w x is after = absurd is

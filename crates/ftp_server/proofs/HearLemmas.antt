@@ -6,11 +6,11 @@ use Rattle.ftp_command.specs.declared.fault.CommandFault.{CommandFault}
 use Rattle.ftp_command.specs.declared.fault.CommandFault.TheVariants.{Memory}
 use Rattle.ftp_nvt.specs.Lines.{NvtEvent, line, too_long, owed}
 use Rattle.ftp_ends.specs.Ear.{ear_out, ear_step}
-use Rattle.ftp_server_machine.specs.Failing.{AbortFails, ActingFails, AreHeard, EventIsHeard, EventsAreHeard, Late, LineIsHeard, as_ever, not_read, not_done, OctetIsHeard}
-use Rattle.ftp_server_machine.specs.Machine.{IsReading, MayHear, Reading, aborted, heard_event, heard_events, heard_line, hears, hears_octet, is_abort, later, may_hear}
-use Rattle.ftp_server_machine.specs.View.{View, line_limit}
-use Rattle.ftp_server_machine.specs.declared.heard.Heard.{Heard}
-use Rattle.ftp_server_machine.specs.declared.heard.Heard.TheVariants.{TooLong, Bad, Asks}
+use Rattle.ftp_server_model.specs.Failing.{AbortFails, ActingFails, AreHeard, EventIsHeard, EventsAreHeard, Late, LineIsHeard, as_ever, not_read, not_done, OctetIsHeard}
+use Rattle.ftp_server_model.specs.Machine.{IsReading, MayHear, Reading, aborted, heard_event, heard_events, heard_line, hears, hears_octet, is_abort, later, may_hear}
+use Rattle.ftp_server_model.specs.View.{View, line_limit}
+use Rattle.ftp_server_model.specs.declared.heard.HeardLine.{HeardLine}
+use Rattle.ftp_server_model.specs.declared.heard.HeardLine.TheVariants.{TooLong, Bad, Asks}
 use Rattle.ftp_server.specs.HearsTo.{AreHeardTo, HearsTo}
 use Rattle.ftp_server.specs.Reading.{HoldsText}
 
@@ -30,16 +30,16 @@ on_err (Err e) f p = f p
 
 -- ---- a line
 
-pub line_aborts : (heard : Heard (List ℕ)) (v : View) → is_abort heard v ≡ true → aborted v ≡ heard_line heard v
+pub line_aborts : (heard : HeardLine (List ℕ)) (v : View) → is_abort heard v ≡ true → aborted v ≡ heard_line heard v
 line_aborts heard v e = rw e refl
 
-pub line_waits : (heard : Heard (List ℕ)) (v : View) → is_abort heard v ≡ false → later (record v { waiting = Some heard }) ≡ heard_line heard v
+pub line_waits : (heard : HeardLine (List ℕ)) (v : View) → is_abort heard v ≡ false → later (record v { waiting = Some heard }) ≡ heard_line heard v
 line_waits heard v e = rw e refl
 
-pub abort_fails : (heard : Heard (List ℕ)) (v w : View) → is_abort heard v ≡ true → AbortFails v.session.connection v w → ActingFails (is_abort heard v) heard v w
+pub abort_fails : (heard : HeardLine (List ℕ)) (v w : View) → is_abort heard v ≡ true → AbortFails v.session.connection v w → ActingFails (is_abort heard v) heard v w
 abort_fails heard v w e h = subst (λ b. ActingFails b heard v w) (sym e) h
 
-pub line_fails : (heard : Heard (List ℕ)) (v w : View) → is_abort heard v ≡ false → Late (record v { waiting = Some heard }) w → ActingFails (is_abort heard v) heard v w
+pub line_fails : (heard : HeardLine (List ℕ)) (v w : View) → is_abort heard v ≡ false → Late (record v { waiting = Some heard }) w → ActingFails (is_abort heard v) heard v w
 line_fails heard v w e h = subst (λ b. ActingFails b heard v w) (sym e) h
 
 -- a line that says no command is answered whatever memory there is
@@ -49,12 +49,12 @@ bad_is_heard (Ok x) fault v w done lost = done
 bad_is_heard (Err e) fault v w done (inl is) = is
 bad_is_heard (Err e) fault v w done (inr h) = absurd h.1
 
-pub line_not_read : (heard : Heard (List ℕ)) (v w : View) → HoldsText heard → w ≡ heard_line (Bad Memory) v → LineIsHeard heard v w
+pub line_not_read : (heard : HeardLine (List ℕ)) (v w : View) → HoldsText heard → w ≡ heard_line (Bad Memory) v → LineIsHeard heard v w
 line_not_read (Asks command) v w holds is = not_read (holds, is)
 line_not_read (Bad fault) v w holds is = absurd holds
 line_not_read TooLong v w holds is = absurd holds
 
-pub line_not_done : (heard other : Heard (List ℕ)) (v w : View) → heard ≡ other → ActingFails (is_abort heard v) heard v w → LineIsHeard other v w
+pub line_not_done : (heard other : HeardLine (List ℕ)) (v w : View) → heard ≡ other → ActingFails (is_abort heard v) heard v w → LineIsHeard other v w
 line_not_done heard other v w e h = subst (λ x. LineIsHeard x v w) e (not_done h)
 
 -- ---- an octet

@@ -18,31 +18,31 @@ use Rattle.ftp_operation.specs.Account.{login_root}
 use Rattle.ftp_operation.specs.declared.op.Op.{Op}
 use Rattle.ftp_operation.specs.declared.op.Op.TheVariants as Ops
 use Rattle.ftp_path.specs.Path.{Names}
-use Rattle.ftp_server_machine.specs.Act.{act, decided, forgets, is_allowed, is_transfer}
-use Rattle.ftp_server_machine.specs.Ask.{has_size, or_empty, size_of, stamp_of}
-use Rattle.ftp_server_machine.specs.Endpoint.{asks, epsv, forgotten, is_taken, pasv, takes}
-use Rattle.ftp_server_machine.specs.Entries.{option_facts}
-use Rattle.ftp_server_machine.specs.Held.{access_len, waiting_len}
-use Rattle.ftp_server_machine.specs.Login.{admits, checked, open_root, pass, user_named}
-use Rattle.ftp_server_machine.specs.Replies.{Turn, tells}
-use Rattle.ftp_server_machine.specs.Setting.{choose, is_utf8_on}
-use Rattle.ftp_server_machine.specs.Transfer.{begin, rests, transfer_starts}
-use Rattle.ftp_server_machine.specs.View.{Accounts, Footing, Session, Transfer, as_direct, direct_of, how_in_force, seen, with_seen}
+use Rattle.ftp_server_model.specs.Act.{act, decided, forgets, is_allowed, is_transfer}
+use Rattle.ftp_server_model.specs.Ask.{has_size, or_empty, size_of, stamp_of}
+use Rattle.ftp_server_model.specs.Endpoint.{asks, epsv, forgotten, is_taken, pasv, takes}
+use Rattle.ftp_server_model.specs.Entries.{option_facts}
+use Rattle.ftp_server_model.specs.Held.{access_len, waiting_len}
+use Rattle.ftp_server_model.specs.Login.{admits, checked, open_root, pass, user_named}
+use Rattle.ftp_server_model.specs.Replies.{Turn, tells}
+use Rattle.ftp_server_model.specs.Setting.{choose, is_utf8_on}
+use Rattle.ftp_server_model.specs.Transfer.{begin, rests, transfer_starts}
+use Rattle.ftp_server_model.specs.View.{Accounts, Footing, Session, Transfer, as_direct, direct_of, how_in_force, seen, with_seen}
 use Rattle.ftp_tree.specs.Tree.{moved, node_at, rename_refusal}
-use Rattle.ftp_server_machine.specs.Walk.{path_of, refused_source, rnto, unless}
-use Rattle.ftp_server_machine.specs.declared.heard.Heard.{Heard}
-use Rattle.ftp_server_machine.specs.declared.heard.Heard.TheVariants.{TooLong, Bad, Asks}
-use Rattle.ftp_server_machine.specs.declared.reply.ReplyKind.{ReplyKind}
-use Rattle.ftp_server_machine.specs.declared.reply.ReplyKind.TheVariants as Replies
-use Rattle.ftp_server_machine.specs.declared.reply.Text.TheVariants as Texts
-use Rattle.ftp_server_machine.specs.declared.session.Access.{Access}
-use Rattle.ftp_server_machine.specs.declared.session.Access.TheVariants.{Nobody, AwaitsPass, Known}
-use Rattle.ftp_server_machine.specs.declared.session.Asked.TheVariants as Asking
-use Rattle.ftp_server_machine.specs.declared.session.DataConnection.{DataConnection}
-use Rattle.ftp_server_machine.specs.declared.session.DataConnection.TheVariants as Data
-use Rattle.ftp_server_machine.specs.declared.session.Facts.{Facts}
-use Rattle.ftp_server_machine.specs.declared.session.Pending.{Pending}
-use Rattle.ftp_server_machine.specs.declared.session.Pending.TheVariants as Pendings
+use Rattle.ftp_server_model.specs.Walk.{path_of, refused_source, rnto, unless}
+use Rattle.ftp_server_model.specs.declared.heard.HeardLine.{HeardLine}
+use Rattle.ftp_server_model.specs.declared.heard.HeardLine.TheVariants.{TooLong, Bad, Asks}
+use Rattle.ftp_server_model.specs.declared.reply.ReplyKind.{ReplyKind}
+use Rattle.ftp_server_model.specs.declared.reply.ReplyKind.TheVariants as Replies
+use Rattle.ftp_server_model.specs.declared.reply.FixedReply.TheVariants as Texts
+use Rattle.ftp_server_model.specs.declared.session.Access.{Access}
+use Rattle.ftp_server_model.specs.declared.session.Access.TheVariants.{Nobody, AwaitsPass, Known}
+use Rattle.ftp_server_model.specs.declared.session.PassiveVerb.TheVariants as Asking
+use Rattle.ftp_server_model.specs.declared.session.ServerLink.{ServerLink}
+use Rattle.ftp_server_model.specs.declared.session.ServerLink.TheVariants as Data
+use Rattle.ftp_server_model.specs.declared.session.Facts.{Facts}
+use Rattle.ftp_server_model.specs.declared.session.Pending.{Pending}
+use Rattle.ftp_server_model.specs.declared.session.Pending.TheVariants as Pendings
 use Rattle.ftp_server.specs.Busy.{HasRoom, MayWait, is_busy, waiting_limit}
 
 -- ---- a turn leaves a name of at most so many octets
@@ -62,7 +62,7 @@ within_unless : (most : ℕ) (why : Option Refusal) (s : Session) (turn : Turn) 
 within_unless most None s turn k is = is
 within_unless most (Some why) s turn k is = k
 
-within_begin : (most : ℕ) (c : DataConnection Transfer) (transfer : Transfer) (s : Session) → Named most s → Within most (begin c transfer s)
+within_begin : (most : ℕ) (c : ServerLink Transfer) (transfer : Transfer) (s : Session) → Named most s → Within most (begin c transfer s)
 within_begin most Data.Free transfer s k = k
 within_begin most (Data.Active endpoint) transfer s k = k
 within_begin most Data.Passive transfer s k = k
@@ -188,7 +188,7 @@ forgets_named : (most : ℕ) (b : Bool) (s : Session) → Named most s → Named
 forgets_named most true s k = k
 forgets_named most false s k = k
 
-within_decided : (most : ℕ) (footing : Footing) (heard : Heard (List ℕ)) (pending : Pending Names) (s : Session) → Named most s → waiting_len (Some heard) ≤ most
+within_decided : (most : ℕ) (footing : Footing) (heard : HeardLine (List ℕ)) (pending : Pending Names) (s : Session) → Named most s → waiting_len (Some heard) ≤ most
     → Within most (decided footing heard pending s)
 within_decided most footing TooLong pending s k short = k
 within_decided most footing (Bad fault) pending s k short = k
@@ -197,7 +197,7 @@ within_decided most footing (Asks command) pending s k short =
     (within_acted most footing command pending s k short) (forgets_named most (is_transfer command) s k)
 
 -- so a server keeps the limit behind each line
-pub decided_named : (turn : Turn) (footing : Footing) (heard : Heard (List ℕ)) (pending : Pending Names) (s : Session) → turn ≡ decided footing heard pending s
+pub decided_named : (turn : Turn) (footing : Footing) (heard : HeardLine (List ℕ)) (pending : Pending Names) (s : Session) → turn ≡ decided footing heard pending s
     → access_len s.access ≤ waiting_limit → waiting_len (Some heard) ≤ waiting_limit → access_len turn.0.access ≤ waiting_limit
 decided_named turn footing heard pending s is named short =
     subst (Within waiting_limit) (sym is) (within_decided waiting_limit footing heard pending s named short)
@@ -207,15 +207,15 @@ decided_named turn footing heard pending s is named short =
 within_once : (n m : ℕ) → IsProp (n ≤ m)
 within_once n m = hlevel props
 
-short_if_waits : (waiting : Option (Heard (List ℕ))) → MayWait waiting → waiting_len waiting ≤ waiting_limit
+short_if_waits : (waiting : Option (HeardLine (List ℕ))) → MayWait waiting → waiting_len waiting ≤ waiting_limit
 short_if_waits None waits = omega arith
 short_if_waits (Some heard) waits = waits.1
 
-pub waiting_short : (waiting : Option (Heard (List ℕ))) → ∥ MayWait waiting ∥₁ → waiting_len waiting ≤ waiting_limit
+pub waiting_short : (waiting : Option (HeardLine (List ℕ))) → ∥ MayWait waiting ∥₁ → waiting_len waiting ≤ waiting_limit
 waiting_short waiting was = ∥∥₁_elim was (within_once _ _) (short_if_waits waiting)
 
 -- while a transfer stands less is owed, and without one the session holds less
-pub holds_little : {J : Type 0} (c : DataConnection J) (owed : List ℕ) (count unfinished waits rest : ℕ) → count ≡ length owed → count ≤ 8192 → HasRoom c owed → unfinished ≤ 1024
+pub holds_little : {J : Type 0} (c : ServerLink J) (owed : List ℕ) (count unfinished waits rest : ℕ) → count ≡ length owed → count ≤ 8192 → HasRoom c owed → unfinished ≤ 1024
     → waits ≤ waiting_limit → rest ≤ 14867 → (is_busy c ≡ false → rest ≤ 4748) → count + (unfinished + (waits + rest)) ≤ held_limit
 holds_little c owed count unfinished waits rest same within room read short all free = by_case (is_busy c) room free
   where

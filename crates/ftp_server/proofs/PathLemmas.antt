@@ -3,11 +3,11 @@ use Rattle.std.proofs.Common.{ℕ, List, Option, Some, None}
 use Rattle.std.proofs.Props.{props}
 use Rattle.ftp_command.specs.declared.command.Command.{Command}
 use Rattle.ftp_command.specs.declared.command.Command.TheVariants as command
-use Rattle.ftp_server_machine.specs.declared.heard.Heard.{Heard}
-use Rattle.ftp_server_machine.specs.declared.heard.Heard.TheVariants.{TooLong, Bad, Asks}
+use Rattle.ftp_server_model.specs.declared.heard.HeardLine.{HeardLine}
+use Rattle.ftp_server_model.specs.declared.heard.HeardLine.TheVariants.{TooLong, Bad, Asks}
 use Rattle.ftp_command.specs.Line.{IfGiven}
 use Rattle.ftp_path.specs.Path.{IsPathText}
-use Rattle.ftp_session.specs.Line.{HasPathTexts, HeardPaths}
+use Rattle.ftp_server_session.specs.Line.{HasPathTexts, HeardPaths}
 
 given_once : (text : Option (List ℕ)) → IsProp (IfGiven IsPathText text)
 given_once None = hlevel props
@@ -53,7 +53,7 @@ texts_once command.Noop = hlevel props
 texts_once command.Feat = hlevel props
 texts_once (command.Opts text) = hlevel props
 
-pub paths_once : (heard : Heard (List ℕ)) → IsProp (HeardPaths heard)
+pub paths_once : (heard : HeardLine (List ℕ)) → IsProp (HeardPaths heard)
 paths_once TooLong = hlevel props
 paths_once (Bad fault) = hlevel props
 paths_once (Asks command) = texts_once command

@@ -7,13 +7,13 @@ use Rattle.ftp_command.specs.declared.fault.CommandFault.{CommandFault}
 use Rattle.ftp_command.specs.declared.fault.CommandFault.TheVariants.{Unknown, BadArgument, NotDone, BadParameter, Protocol, Memory}
 use Rattle.ftp_command.specs.Argument.{SaysPathOrNone}
 use Rattle.ftp_command.proofs.LawLemmas.{not_refused, one_command, one_fault}
-use Rattle.ftp_server_machine.specs.Failing.{holds_text}
-use Rattle.ftp_server_machine.specs.Machine.{IsRead}
-use Rattle.ftp_server_machine.specs.declared.heard.Heard.{Heard}
-use Rattle.ftp_server_machine.specs.declared.heard.Heard.TheVariants.{TooLong, Bad, Asks}
+use Rattle.ftp_server_model.specs.Failing.{holds_text}
+use Rattle.ftp_server_model.specs.Machine.{IsRead}
+use Rattle.ftp_server_model.specs.declared.heard.HeardLine.{HeardLine}
+use Rattle.ftp_server_model.specs.declared.heard.HeardLine.TheVariants.{TooLong, Bad, Asks}
 use Rattle.ftp_command.specs.Line.{IfGiven}
 use Rattle.ftp_path.specs.Path.{IsPathText}
-use Rattle.ftp_session.specs.Line.{HasPathTexts}
+use Rattle.ftp_server_session.specs.Line.{HasPathTexts}
 use Rattle.ftp_server.specs.Reading.{IsReadAs}
 
 -- a command that holds a text
@@ -103,13 +103,13 @@ paths_said a command.Feat h = tt
 paths_said a (command.Opts text) h = tt
 
 -- a line that is read as a command
-pub read_command : (text : List ℕ) (command : Command (List ℕ)) (heard : Heard (List ℕ)) → Says text command → IsRead text heard → IsReadAs heard (Some (Asks command))
+pub read_command : (text : List ℕ) (command : Command (List ℕ)) (heard : HeardLine (List ℕ)) → Says text command → IsRead text heard → IsReadAs heard (Some (Asks command))
 read_command text command (Asks other) says is = ap Asks (one_command text command other says is)
 read_command text command (Bad fault) says is = absurd (not_refused text command fault says is)
 read_command text command TooLong says is = absurd is
 
 -- a line that is refused
-pub read_fault : (text : List ℕ) (fault : CommandFault) (heard : Heard (List ℕ)) → Refuses text fault → IsRead text heard → IsReadAs heard (Some (Bad fault))
+pub read_fault : (text : List ℕ) (fault : CommandFault) (heard : HeardLine (List ℕ)) → Refuses text fault → IsRead text heard → IsReadAs heard (Some (Bad fault))
 read_fault text fault (Asks command) refuses is = absurd (not_refused text command fault is refuses)
 read_fault text fault (Bad other) refuses is = ap Bad (one_fault text fault other refuses is)
 read_fault text fault TooLong refuses is = absurd is
@@ -119,7 +119,7 @@ pub never_memory : (text : List ℕ) → Refuses text Memory → ⊥
 never_memory text (verb, names, is) = is
 
 -- a line that could not be read
-pub read_nothing : (text : List ℕ) (result : Result (Command (List ℕ)) CommandFault) (heard : Heard (List ℕ))
+pub read_nothing : (text : List ℕ) (result : Result (Command (List ℕ)) CommandFault) (heard : HeardLine (List ℕ))
     → ((fault : CommandFault) → Refuses text fault → result ≡ Err fault)
     → ((command : Command (List ℕ)) → Says text command → (result ≡ Ok command) ⊎ (Holds command × (result ≡ Err Memory)))
     → result ≡ Err Memory → IsRead text heard → IsReadAs heard None

@@ -5,18 +5,18 @@ use Rattle.std.proofs.Props.{props}
 use Rattle.ftp_command.specs.Command.{Says}
 use Rattle.ftp_command.specs.declared.command.Command.{Command}
 use Rattle.ftp_command.specs.declared.fault.CommandFault.{CommandFault}
-use Rattle.ftp_machine.specs.Machine.{after}
+use Rattle.ftp_cutting.specs.Machine.{after}
 use Rattle.ftp_nvt.specs.Ear.{event_list, limit_of}
 use Rattle.ftp_nvt.specs.Fold.{Ear, quiet, ear, ear_of, ear_step, ear_out}
 use Rattle.ftp_nvt.specs.declared.ear.Ear.{Ear as Reader}
 use Rattle.ftp_nvt.specs.declared.event.Event.{Event}
 use Rattle.ftp_nvt.specs.declared.event.Event.TheVariants.{Line}
 use Rattle.ftp_nvt.proofs.ReaderLemmas.{reader_is_ear}
-use Rattle.ftp_server_machine.specs.View.{line_limit}
-use Rattle.ftp_server_machine.specs.declared.heard.Heard.TheVariants.{Bad, Asks}
+use Rattle.ftp_server_model.specs.View.{line_limit}
+use Rattle.ftp_server_model.specs.declared.heard.HeardLine.TheVariants.{Bad, Asks}
 use Rattle.ftp_ends.specs.Limits.{IsShortLine}
 use Rattle.ftp_ends.proofs.ReadLemmas.{AreShortEvents, ear_says, ear_short, none_short}
-use Rattle.ftp_server_bounds.proofs.SaidLemmas.{heard_short}
+use Rattle.ftp_server_laws.proofs.SaidLemmas.{heard_short}
 use Rattle.ftp_server.specs.Busy.{MayWait}
 use Rattle.ftp_server.specs.Hearing.{HasHeardSome}
 use Rattle.ftp_server.proofs.ReadingLemmas.{paths_said}

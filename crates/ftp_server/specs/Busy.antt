@@ -2,16 +2,16 @@
 use Rattle.std.specs.Prelude.{◌≡◌, ℕ, ◌+◌, ◌≤◌, Bool, true, false, List, length, Option, Some, None}
 use Rattle.ftp_path.specs.Path.{Names}
 use Rattle.ftp_command.specs.Line.{line_limit}
-use Rattle.ftp_session.specs.Line.{HeardPaths}
-use Rattle.ftp_server_machine.specs.Held.{waiting_len}
-use Rattle.ftp_server_machine.specs.declared.heard.Heard.{Heard}
-use Rattle.ftp_server_machine.specs.declared.reply.ReplyKind.{ReplyKind}
-use Rattle.ftp_server_machine.specs.declared.reply.ReplyKind.TheVariants as Replies
-use Rattle.ftp_server_machine.specs.declared.session.DataConnection.{DataConnection}
-use Rattle.ftp_server_machine.specs.declared.session.DataConnection.TheVariants as Data
+use Rattle.ftp_server_session.specs.Line.{HeardPaths}
+use Rattle.ftp_server_model.specs.Held.{waiting_len}
+use Rattle.ftp_server_model.specs.declared.heard.HeardLine.{HeardLine}
+use Rattle.ftp_server_model.specs.declared.reply.ReplyKind.{ReplyKind}
+use Rattle.ftp_server_model.specs.declared.reply.ReplyKind.TheVariants as Replies
+use Rattle.ftp_server_model.specs.declared.session.ServerLink.{ServerLink}
+use Rattle.ftp_server_model.specs.declared.session.ServerLink.TheVariants as Data
 
 -- a transfer is under way, or a port was asked for, however a transfer is held
-abbrev pub is_busy : {J : Type 0} → DataConnection J → Bool
+abbrev pub is_busy : {J : Type 0} → ServerLink J → Bool
 is_busy Data.Free = false
 is_busy (Data.Asked asked) = true
 is_busy (Data.Active endpoint) = false
@@ -21,7 +21,7 @@ is_busy (Data.Opening transfer way) = true
 is_busy (Data.Transferring transfer) = true
 
 -- a transfer was begun, and its data connection is not open yet
-abbrev pub is_opening : {J : Type 0} → DataConnection J → Bool
+abbrev pub is_opening : {J : Type 0} → ServerLink J → Bool
 is_opening Data.Free = false
 is_opening (Data.Asked asked) = false
 is_opening (Data.Active endpoint) = false
@@ -35,7 +35,7 @@ abbrev pub busy_room : ℕ
 busy_room = 5120
 
 -- so 3,072 are free for the reply by which it ends
-abbrev pub HasRoom : {J : Type 0} → DataConnection J → List ℕ → Type 0
+abbrev pub HasRoom : {J : Type 0} → ServerLink J → List ℕ → Type 0
 HasRoom connection owed = is_busy connection ≡ true → length owed ≤ busy_room
 
 -- a reply without a computed part, or none: all that is said by a command that leaves the data connection busy
@@ -50,6 +50,6 @@ abbrev pub waiting_limit : ℕ
 waiting_limit = line_limit + line_limit
 
 -- the texts of paths in the line that waits are path texts, and it keeps the limit
-abbrev pub MayWait : Option (Heard (List ℕ)) → Type 0
+abbrev pub MayWait : Option (HeardLine (List ℕ)) → Type 0
 MayWait None = Unit {0}
 MayWait (Some heard) = HeardPaths heard × (waiting_len (Some heard) ≤ waiting_limit)

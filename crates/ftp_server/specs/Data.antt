@@ -1,13 +1,13 @@
 -- Octets of the data connection as one call takes them, and what is said of them.
 use Rattle.std.specs.Prelude.{◌≡◌, ℕ, List}
-use Rattle.ftp_server_machine.specs.Calls.{MayReceive, receives}
-use Rattle.ftp_server_machine.specs.Failing.{Late}
-use Rattle.ftp_server_machine.specs.Machine.{later, owes, replied}
-use Rattle.ftp_server_machine.specs.Replies.{mark_reply, reply_octets}
-use Rattle.ftp_server_machine.specs.View.{View}
-use Rattle.ftp_server_machine.specs.declared.reply.Text.TheVariants as Texts
-use Rattle.ftp_moves.specs.declared.moves.Told.{Told}
-use Rattle.ftp_moves.specs.declared.moves.Told.TheVariants.{Nothing, Mark, Faulty, NoMemory}
+use Rattle.ftp_server_model.specs.Calls.{MayReceive, receives}
+use Rattle.ftp_server_model.specs.Failing.{Late}
+use Rattle.ftp_server_model.specs.Machine.{later, owes, replied}
+use Rattle.ftp_server_model.specs.Replies.{mark_reply, reply_octets}
+use Rattle.ftp_server_model.specs.View.{View}
+use Rattle.ftp_server_model.specs.declared.reply.FixedReply.TheVariants as Texts
+use Rattle.ftp_server_parts.specs.declared.transfer.Told.{Told}
+use Rattle.ftp_server_parts.specs.declared.transfer.Told.TheVariants.{Nothing, Mark, Faulty, NoMemory}
 
 -- they are taken as ever, each when it may be
 abbrev pub ReceivesTo : List ℕ → View → View → Type 0

@@ -1,8 +1,8 @@
 -- Control octets, however lines are read: there is one reading of them.
 use Rattle.std.specs.Prelude.{◌≡◌, ◌⊎◌, ℕ, false, List, length}
-use Rattle.ftp_server_machine.specs.Failing.{AreHeard}
-use Rattle.ftp_server_machine.specs.Machine.{IsReading, MayHear, Reading, hears, may_hear}
-use Rattle.ftp_server_machine.specs.View.{View}
+use Rattle.ftp_server_model.specs.Failing.{AreHeard}
+use Rattle.ftp_server_model.specs.Machine.{IsReading, MayHear, Reading, hears, may_hear}
+use Rattle.ftp_server_model.specs.View.{View}
 
 -- they are heard as ever, each when it may be
 abbrev pub HearsTo : List ℕ → View → View → Type 0

@@ -1,15 +1,15 @@
 -- A line as a server reads it, where the memory for its text may be refused.
 use Rattle.std.specs.Prelude.{◌≡◌, ℕ, true, List, Option, Some, None}
-use Rattle.ftp_server_machine.specs.Failing.{holds_text}
-use Rattle.ftp_server_machine.specs.declared.heard.Heard.{Heard}
-use Rattle.ftp_server_machine.specs.declared.heard.Heard.TheVariants.{Asks}
+use Rattle.ftp_server_model.specs.Failing.{holds_text}
+use Rattle.ftp_server_model.specs.declared.heard.HeardLine.{HeardLine}
+use Rattle.ftp_server_model.specs.declared.heard.HeardLine.TheVariants.{Asks}
 
 -- a line that says a command which holds a text
-abbrev pub HoldsText : Heard (List ℕ) → Type 0
+abbrev pub HoldsText : HeardLine (List ℕ) → Type 0
 HoldsText (Asks command) = holds_text command ≡ true
 HoldsText heard = ⊥
 
 -- it is read as this; or not at all, and it holds a text
-abbrev pub IsReadAs : Heard (List ℕ) → Option (Heard (List ℕ)) → Type 0
+abbrev pub IsReadAs : HeardLine (List ℕ) → Option (HeardLine (List ℕ)) → Type 0
 IsReadAs heard (Some read) = read ≡ heard
 IsReadAs heard None = HoldsText heard

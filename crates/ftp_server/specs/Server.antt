@@ -2,10 +2,10 @@
 use Rattle.std.specs.Prelude.{ℕ}
 use Rattle.ftp_nvt.specs.Fold.{ear_of}
 use Rattle.ftp_tree.specs.Tree.{Table}
-use Rattle.ftp_session.specs.Session.{footing_of, session_of}
-use Rattle.ftp_server_machine.specs.Failing.{Counts}
-use Rattle.ftp_server_machine.specs.Far.{Server}
-use Rattle.ftp_server_machine.specs.View.{Transfer, View}
+use Rattle.ftp_server_session.specs.Session.{footing_of, session_of}
+use Rattle.ftp_server_model.specs.Failing.{Counts}
+use Rattle.ftp_server_model.specs.Far.{Server}
+use Rattle.ftp_server_model.specs.View.{Transfer, View}
 use Rattle.ftp_server.specs.declared.server.Server.{Server as Held}
 
 -- what it holds, by how its tree and its transfer are seen

@@ -1,7 +1,7 @@
 -- The end of a call whose step may have failed.
 use Rattle.std.specs.Prelude.{◌≢◌, ◌≡◌, ℕ, Result, Ok, Err}
-use Rattle.ftp_server_machine.specs.Failing.{Late}
-use Rattle.ftp_server_machine.specs.Far.{Acts, Server}
+use Rattle.ftp_server_model.specs.Failing.{Late}
+use Rattle.ftp_server_model.specs.Far.{Acts, Server}
 
 -- behind a step that was done comes the line that waits; behind one that failed too, and a growth counts as refused unless the
 -- device's count has moved on since it stood at `failures`

@@ -1,22 +1,22 @@
 // ABOR during a transfer (RFC 959, section 4.1.3).
 ghost use Rattle.std.specs.Prelude.{◌≡◌, ◌≤◌, ◌+◌, None, OnErr, OnOk, length, true};
-ghost use Rattle.ftp_server_machine.specs.Endpoint.{forgotten};
-ghost use Rattle.ftp_server_machine.specs.Failing.{AbortFails};
-ghost use Rattle.ftp_server_machine.specs.Machine.{aborted, aborts, is_transferring, with_session};
-ghost use Rattle.ftp_server_machine.specs.View.{seen};
+ghost use Rattle.ftp_server_model.specs.Endpoint.{forgotten};
+ghost use Rattle.ftp_server_model.specs.Failing.{AbortFails};
+ghost use Rattle.ftp_server_model.specs.Machine.{aborted, aborts, is_transferring, with_session};
+ghost use Rattle.ftp_server_model.specs.View.{seen};
 ghost use Rattle.ftp_server.specs.Breaking.{InstallIsLost};
-ghost use Rattle.ftp_session.specs.Session.{connection_of};
+ghost use Rattle.ftp_server_session.specs.Session.{connection_of};
 
 use crate::hear::is_transferring;
 use crate::line::Failed;
 use crate::server::Server;
-use ftp_server_machine::{DataConnection, Text};
-use ftp_session::Moves;
+use ftp_server_model::{FixedReply, ServerLink};
+use ftp_server_session::ServerTransfer;
 use ftp_tree::Tree;
 use std::alloc::Allocator;
 use std::mem;
 
-impl<A: Allocator + Copy, T: Tree<A>, J: Moves<A, T>> Server<A, T, J> {
+impl<A: Allocator + Copy, T: Tree<A>, J: ServerTransfer<A, T>> Server<A, T, J> {
     ghost use Rattle.ftp_server.specs.Server.{counts_of, view_of};
 
     /// The transfer ends, and ABOR is answered; no line waits.
@@ -30,7 +30,7 @@ impl<A: Allocator + Copy, T: Tree<A>, J: Moves<A, T>> Server<A, T, J> {
         ensures refusals { self.new.refusals ≡ self.old.refusals }
     {
         let broken = self.break_off();
-        self.output.put_fixed(Text::AbortDone);
+        self.output.put_fixed(FixedReply::AbortDone);
         broken
     }
 
@@ -48,33 +48,33 @@ impl<A: Allocator + Copy, T: Tree<A>, J: Moves<A, T>> Server<A, T, J> {
             return Ok(());
         }
         match self.take_connection() {
-            DataConnection::Transferring(transfer) => {
+            ServerLink::Transferring(transfer) => {
                 match self.session.at_break(self.footing.moment, transfer) {
                     Ok(text) => {
                         self.output.put_fixed(text);
                         Ok(())
                     }
                     Err(_) => {
-                        self.output.put_fixed(Text::LocalFault);
+                        self.output.put_fixed(FixedReply::LocalFault);
                         Err(Failed)
                     }
                 }
             }
             _ => {
-                self.output.put_fixed(Text::NoConnection);
+                self.output.put_fixed(FixedReply::NoConnection);
                 Ok(())
             }
         }
     }
 
     /// Takes the data connection out, with which the endpoint is forgotten.
-    fn take_connection(&mut self) -> DataConnection<J>
+    fn take_connection(&mut self) -> ServerLink<J>
         ensures view { view_of T.table J.view self.new ≡ with_session (forgotten (view_of T.table J.view self.old).session) (view_of T.table J.view self.old) }
         ensures connection { connection_of (J.view (seen (view_of T.table J.view self.old).session)) result ≡ (view_of T.table J.view self.old).session.connection }
         ensures steady { counts_of T.failures self.new ≡ counts_of T.failures self.old }
         ensures waiting { self.new.waiting ≡ self.old.waiting }
     {
         self.session.closing = self.session.closing || self.session.is_standing();
-        mem::replace(&mut self.session.connection, DataConnection::Free)
+        mem::replace(&mut self.session.connection, ServerLink::Free)
     }
 }

@@ -1,15 +1,15 @@
 // A server begins, and gives its tree back.
 ghost use Rattle.std.specs.Prelude.{◌≡◌, IfErr, IfOk};
-ghost use Rattle.ftp_server_machine.specs.Calls.{start};
+ghost use Rattle.ftp_server_model.specs.Calls.{start};
 
 use crate::reader::Reader;
 use crate::server::Server;
 use ftp_endpoint::Host;
 use ftp_facts::Moment;
 use ftp_operation::Accounts;
-use ftp_output::Output;
-use ftp_server_machine::Text;
-use ftp_session::{Footing, Moves, Session};
+use ftp_server_model::FixedReply;
+use ftp_server_replies::Output;
+use ftp_server_session::{Footing, ServerTransfer, Session};
 use ftp_tree::Tree;
 use std::alloc::Allocator;
 
@@ -20,7 +20,7 @@ pub struct NotBegun<A: Allocator, T: Drop> {
     pub accounts: Accounts<A>,
 }
 
-impl<A: Allocator + Copy, T: Tree<A>, J: Moves<A, T>> Server<A, T, J> {
+impl<A: Allocator + Copy, T: Tree<A>, J: ServerTransfer<A, T>> Server<A, T, J> {
     ghost use Rattle.ftp_server.specs.Server.{view_of};
 
     /// A server of these hosts: its own, and that of the client. The greeting is owed, and it is the first second of 1970 until `clock` is
@@ -42,7 +42,7 @@ impl<A: Allocator + Copy, T: Tree<A>, J: Moves<A, T>> Server<A, T, J> {
         let Ok(mut output) = Output::new(alloc) else {
             return Err(NotBegun { tree, accounts });
         };
-        output.put_fixed(Text::Ready);
+        output.put_fixed(FixedReply::Ready);
         Ok(Server {
             footing: Footing {
                 accounts,

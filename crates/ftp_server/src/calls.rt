@@ -1,19 +1,19 @@
 // The calls of a server: a step, and then the line that waits (RFC 959, sections 3.2 and 4.1).
 ghost use Rattle.std.specs.Prelude.{◌≡◌, ◌≢◌, ◌<◌, ◌≤◌, length, min, take, OnErr, OnOk};
-ghost use Rattle.ftp_server_machine.specs.Calls.{clock_step, close_step, control_end, control_step, listening_step, no_port_step, opened_step, refused_step};
-ghost use Rattle.ftp_server_machine.specs.Far.{Acts, counts_told};
+ghost use Rattle.ftp_server_model.specs.Calls.{clock_step, close_step, control_end, control_step, listening_step, no_port_step, opened_step, refused_step};
+ghost use Rattle.ftp_server_model.specs.Far.{Acts, counts_told};
 ghost use Rattle.ftp_server.specs.Settled.{IsSettled};
 
 use crate::line::Failed;
 use crate::server::Server;
 use ftp_endpoint::Host;
 use ftp_facts::Moment;
-use ftp_server_machine::Counts;
-use ftp_session::Moves;
+use ftp_server_model::Counts;
+use ftp_server_session::ServerTransfer;
 use ftp_tree::Tree;
 use std::alloc::Allocator;
 
-impl<A: Allocator + Copy, T: Tree<A>, J: Moves<A, T>> Server<A, T, J> {
+impl<A: Allocator + Copy, T: Tree<A>, J: ServerTransfer<A, T>> Server<A, T, J> {
     ghost use Rattle.ftp_server.specs.Server.{counts_of, server_of, view_of};
 
     /// What has failed so far.

@@ -1,15 +1,15 @@
 // The calls of the data connection (RFC 959, section 3).
 ghost use Rattle.std.specs.Prelude.{◌≡◌, ◌≤◌, ◌<◌, IsTrue, length, take};
-ghost use Rattle.ftp_server_machine.specs.Calls.{break_step, end_step, given_step, may_receive, to_give};
-ghost use Rattle.ftp_server_machine.specs.Failing.{EndFails, GiveFails};
-ghost use Rattle.ftp_server_machine.specs.Far.{Receives, Steps};
+ghost use Rattle.ftp_server_model.specs.Calls.{break_step, end_step, given_step, may_receive, to_give};
+ghost use Rattle.ftp_server_model.specs.Failing.{EndFails, GiveFails};
+ghost use Rattle.ftp_server_model.specs.Far.{Receives, Steps};
 
 use crate::server::Server;
-use ftp_session::Moves;
+use ftp_server_session::ServerTransfer;
 use ftp_tree::Tree;
 use std::alloc::Allocator;
 
-impl<A: Allocator + Copy, T: Tree<A>, J: Moves<A, T>> Server<A, T, J> {
+impl<A: Allocator + Copy, T: Tree<A>, J: ServerTransfer<A, T>> Server<A, T, J> {
     ghost use Rattle.ftp_server.specs.Server.{server_of, view_of};
 
     /// Takes octets of the data connection, and says how many: none behind those of which something is to be said.

@@ -1,15 +1,15 @@
 // The data connection opens (RFC 959, section 3.2).
 ghost use Rattle.std.specs.Prelude.{◌≡◌, true};
-ghost use Rattle.ftp_server_machine.specs.Calls.{opens};
+ghost use Rattle.ftp_server_model.specs.Calls.{opens};
 
 use crate::server::Server;
-use ftp_server_machine::{DataConnection, Text, Way};
-use ftp_session::Moves;
+use ftp_server_model::{FixedReply, ServerLink, Way};
+use ftp_server_session::ServerTransfer;
 use ftp_tree::Tree;
 use std::alloc::Allocator;
 use std::mem;
 
-impl<A: Allocator + Copy, T: Tree<A>, J: Moves<A, T>> Server<A, T, J> {
+impl<A: Allocator + Copy, T: Tree<A>, J: ServerTransfer<A, T>> Server<A, T, J> {
     ghost use Rattle.ftp_server.specs.Server.{counts_of, view_of};
 
     /// It is open to the peer of the control connection, or to another host.
@@ -21,12 +21,12 @@ impl<A: Allocator + Copy, T: Tree<A>, J: Moves<A, T>> Server<A, T, J> {
             return self.link();
         }
         match &self.session.connection {
-            DataConnection::Opening(_, Way::Connect(_)) => self.link(),
-            DataConnection::Opening(_, Way::Accept) => {
+            ServerLink::Opening(_, Way::Connect(_)) => self.link(),
+            ServerLink::Opening(_, Way::Accept) => {
                 self.session.forget();
-                self.output.put_fixed(Text::NoConnection);
+                self.output.put_fixed(FixedReply::NoConnection);
             }
-            DataConnection::Passive => self.session.forget(),
+            ServerLink::Passive => self.session.forget(),
             _ => {}
         }
     }
@@ -36,10 +36,10 @@ impl<A: Allocator + Copy, T: Tree<A>, J: Moves<A, T>> Server<A, T, J> {
         ensures step { view_of T.table J.view self.new ≡ opens (view_of T.table J.view self.old).session.connection true (view_of T.table J.view self.old) }
         ensures steady { counts_of T.failures self.new ≡ counts_of T.failures self.old }
     {
-        let connection = mem::replace(&mut self.session.connection, DataConnection::Free);
+        let connection = mem::replace(&mut self.session.connection, ServerLink::Free);
         self.session.connection = match connection {
-            DataConnection::Passive => DataConnection::Ready,
-            DataConnection::Opening(transfer, _) => DataConnection::Transferring(transfer),
+            ServerLink::Passive => ServerLink::Ready,
+            ServerLink::Opening(transfer, _) => ServerLink::Transferring(transfer),
             other => other,
         };
     }

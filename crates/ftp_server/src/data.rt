@@ -1,18 +1,18 @@
 // The octets of the data connection (RFC 959, section 3).
 ghost use Rattle.std.specs.Prelude.{◌≡◌, ◌≤◌, ◌<◌, OnErr, OnOk, length, take, true};
-ghost use Rattle.ftp_server_machine.specs.Calls.{given_step, may_receive, to_give};
-ghost use Rattle.ftp_server_machine.specs.Failing.{AreReceived, GiveFails, Late};
-ghost use Rattle.ftp_server_machine.specs.View.{View};
+ghost use Rattle.ftp_server_model.specs.Calls.{given_step, may_receive, to_give};
+ghost use Rattle.ftp_server_model.specs.Failing.{AreReceived, GiveFails, Late};
+ghost use Rattle.ftp_server_model.specs.View.{View};
 ghost use Rattle.ftp_server.specs.Data.{IsSaid, ReceivesTo, SayingFails};
 
 use crate::line::{Failed, Moved};
 use crate::server::Server;
-use ftp_server_machine::{DataConnection, Text};
-use ftp_session::{Moves, Told};
+use ftp_server_model::{FixedReply, ServerLink};
+use ftp_server_session::{ServerTransfer, Told};
 use ftp_tree::Tree;
 use std::alloc::Allocator;
 
-impl<A: Allocator + Copy, T: Tree<A>, J: Moves<A, T>> Server<A, T, J> {
+impl<A: Allocator + Copy, T: Tree<A>, J: ServerTransfer<A, T>> Server<A, T, J> {
     ghost use Rattle.ftp_server.specs.Server.{counts_of, view_of};
 
     /// Takes octets where there is room for what is to be said of them, and says it.
@@ -53,11 +53,11 @@ impl<A: Allocator + Copy, T: Tree<A>, J: Moves<A, T>> Server<A, T, J> {
                 Ok(())
             }
             Told::Faulty => {
-                self.output.put_fixed(Text::LocalFault);
+                self.output.put_fixed(FixedReply::LocalFault);
                 self.later()
             }
             Told::NoMemory => {
-                self.output.put_fixed(Text::LocalFault);
+                self.output.put_fixed(FixedReply::LocalFault);
                 let _settled = self.later();
                 Err(Failed)
             }
@@ -73,7 +73,7 @@ impl<A: Allocator + Copy, T: Tree<A>, J: Moves<A, T>> Server<A, T, J> {
         ensures some { OnOk result.outcome (0 < length room.old → 0 < length (to_give (view_of T.table J.view self.old)) → 0 < result.count) }
         ensures steady { counts_of T.failures self.new ≡ counts_of T.failures self.old }
     {
-        let DataConnection::Transferring(_) = &self.session.connection else {
+        let ServerLink::Transferring(_) = &self.session.connection else {
             return Moved {
                 count: 0,
                 outcome: Ok(()),
@@ -81,7 +81,7 @@ impl<A: Allocator + Copy, T: Tree<A>, J: Moves<A, T>> Server<A, T, J> {
         };
         let given = self.session.give(room);
         if given.lost {
-            self.output.put_fixed(Text::LocalFault);
+            self.output.put_fixed(FixedReply::LocalFault);
             return Moved {
                 count: given.count,
                 outcome: Err(Failed),

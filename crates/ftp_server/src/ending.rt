@@ -1,22 +1,22 @@
 // The data connection ends or breaks (RFC 959, section 3.4).
 ghost use Rattle.std.specs.Prelude.{◌≡◌, OnErr, OnOk};
-ghost use Rattle.ftp_server_machine.specs.Calls.{break_step, connection_of as connection_in, end_step};
-ghost use Rattle.ftp_server_machine.specs.Endpoint.{disconnected};
-ghost use Rattle.ftp_server_machine.specs.Machine.{with_session};
-ghost use Rattle.ftp_server_machine.specs.View.{seen};
+ghost use Rattle.ftp_server_model.specs.Calls.{break_step, connection_of as connection_in, end_step};
+ghost use Rattle.ftp_server_model.specs.Endpoint.{disconnected};
+ghost use Rattle.ftp_server_model.specs.Machine.{with_session};
+ghost use Rattle.ftp_server_model.specs.View.{seen};
 ghost use Rattle.ftp_server.specs.Breaking.{InstallIsLost};
 ghost use Rattle.ftp_server.specs.Busy.{HasRoom};
-ghost use Rattle.ftp_session.specs.Session.{connection_of};
+ghost use Rattle.ftp_server_session.specs.Session.{connection_of};
 
 use crate::line::Failed;
 use crate::server::Server;
-use ftp_server_machine::{DataConnection, Text};
-use ftp_session::Moves;
+use ftp_server_model::{FixedReply, ServerLink};
+use ftp_server_session::ServerTransfer;
 use ftp_tree::Tree;
 use std::alloc::Allocator;
 use std::mem;
 
-impl<A: Allocator + Copy, T: Tree<A>, J: Moves<A, T>> Server<A, T, J> {
+impl<A: Allocator + Copy, T: Tree<A>, J: ServerTransfer<A, T>> Server<A, T, J> {
     ghost use Rattle.ftp_server.specs.Server.{counts_of, view_of};
 
     /// The client closed it: what came of an upload is installed.
@@ -30,15 +30,15 @@ impl<A: Allocator + Copy, T: Tree<A>, J: Moves<A, T>> Server<A, T, J> {
             return Ok(());
         }
         match self.leave() {
-            DataConnection::Ready => Ok(()),
-            DataConnection::Transferring(transfer) => {
+            ServerLink::Ready => Ok(()),
+            ServerLink::Transferring(transfer) => {
                 match self.session.at_end(self.footing.moment, transfer) {
                     Ok(text) => {
                         self.output.put_fixed(text);
                         Ok(())
                     }
                     Err(_) => {
-                        self.output.put_fixed(Text::LocalFault);
+                        self.output.put_fixed(FixedReply::LocalFault);
                         Err(Failed)
                     }
                 }
@@ -61,15 +61,15 @@ impl<A: Allocator + Copy, T: Tree<A>, J: Moves<A, T>> Server<A, T, J> {
             return Ok(());
         }
         match self.leave() {
-            DataConnection::Ready => Ok(()),
-            DataConnection::Transferring(transfer) => {
+            ServerLink::Ready => Ok(()),
+            ServerLink::Transferring(transfer) => {
                 match self.session.at_break(self.footing.moment, transfer) {
                     Ok(text) => {
                         self.output.put_fixed(text);
                         Ok(())
                     }
                     Err(_) => {
-                        self.output.put_fixed(Text::LocalFault);
+                        self.output.put_fixed(FixedReply::LocalFault);
                         Err(Failed)
                     }
                 }
@@ -82,12 +82,12 @@ impl<A: Allocator + Copy, T: Tree<A>, J: Moves<A, T>> Server<A, T, J> {
     }
 
     /// Takes the data connection out, with nothing left to close.
-    fn leave(&mut self) -> DataConnection<J>
+    fn leave(&mut self) -> ServerLink<J>
         ensures view { view_of T.table J.view self.new ≡ with_session (disconnected (view_of T.table J.view self.old).session) (view_of T.table J.view self.old) }
         ensures connection { connection_of (J.view (seen (view_of T.table J.view self.old).session)) result ≡ (view_of T.table J.view self.old).session.connection }
         ensures steady { counts_of T.failures self.new ≡ counts_of T.failures self.old }
         ensures room { HasRoom result self.new.output }
     {
-        mem::replace(&mut self.session.connection, DataConnection::Free)
+        mem::replace(&mut self.session.connection, ServerLink::Free)
     }
 }

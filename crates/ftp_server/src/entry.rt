@@ -2,20 +2,20 @@
 ghost use Rattle.std.specs.Prelude.{◌≡◌, ◌≤◌, ◌++◌, length, option_and_then};
 ghost use Rattle.ftp_direct.specs.Direct.{perm_of, size_fact};
 ghost use Rattle.ftp_ends.specs.Reply.{reply_octets};
-ghost use Rattle.ftp_server_machine.specs.Replies.{entry_reply};
-ghost use Rattle.ftp_session.specs.Session.{session_of};
+ghost use Rattle.ftp_server_model.specs.Replies.{entry_reply};
+ghost use Rattle.ftp_server_session.specs.Session.{session_of};
 ghost use Rattle.ftp_tree.specs.Tree.{Dir, size_at, under};
 
 use ftp_direct::is_file;
 use ftp_operation::is_number;
-use ftp_output::Output;
 use ftp_path::Path;
-use ftp_session::{Moves, Session};
+use ftp_server_replies::Output;
+use ftp_server_session::{ServerTransfer, Session};
 use ftp_tree::Tree;
 use std::alloc::Allocator;
 
 /// Owes the reply to MLST of what stands at a path. Takes no memory.
-pub(crate) fn say_entry<A: Allocator + Copy, T: Tree<A>, J: Moves<A, T>>(
+pub(crate) fn say_entry<A: Allocator + Copy, T: Tree<A>, J: ServerTransfer<A, T>>(
     output: &mut Output<A>,
     path: &Path<A>,
     session: &Session<A, T, J>,

@@ -1,15 +1,15 @@
 // What the events of a server do before the line that waits is acted on: its steps (RFC 959, sections 3.2 and 4.1).
 ghost use Rattle.std.specs.Prelude.{◌≡◌};
-ghost use Rattle.ftp_server_machine.specs.Calls.{close_step, control_end, listening_step, no_port_step, opened_step, refused_step};
+ghost use Rattle.ftp_server_model.specs.Calls.{close_step, control_end, listening_step, no_port_step, opened_step, refused_step};
 
 use crate::server::Server;
 use ftp_endpoint::{Endpoint, Host};
-use ftp_server_machine::{Asked, DataConnection, Life, Pending, Text};
-use ftp_session::{Moves, is_same_host};
+use ftp_server_model::{FixedReply, Life, PassiveVerb, Pending, ServerLink};
+use ftp_server_session::{ServerTransfer, is_same_host};
 use ftp_tree::Tree;
 use std::alloc::Allocator;
 
-impl<A: Allocator + Copy, T: Tree<A>, J: Moves<A, T>> Server<A, T, J> {
+impl<A: Allocator + Copy, T: Tree<A>, J: ServerTransfer<A, T>> Server<A, T, J> {
     ghost use Rattle.ftp_server.specs.Server.{counts_of, view_of};
 
     /// This port is listened at.
@@ -20,17 +20,17 @@ impl<A: Allocator + Copy, T: Tree<A>, J: Moves<A, T>> Server<A, T, J> {
         if self.session.closing {
             return;
         }
-        let DataConnection::Asked(asked) = &self.session.connection else {
+        let ServerLink::Asked(asked) = &self.session.connection else {
             return;
         };
         let asked = *asked;
-        self.session.connection = DataConnection::Passive;
+        self.session.connection = ServerLink::Passive;
         match asked {
-            Asked::Pasv => {
+            PassiveVerb::Pasv => {
                 let host = self.footing.here;
                 self.output.put_passive(Endpoint { host, port });
             }
-            Asked::Epsv => self.output.put_extended(port),
+            PassiveVerb::Epsv => self.output.put_extended(port),
         }
     }
 
@@ -42,9 +42,9 @@ impl<A: Allocator + Copy, T: Tree<A>, J: Moves<A, T>> Server<A, T, J> {
         if self.session.closing {
             return;
         }
-        if let DataConnection::Asked(_) = &self.session.connection {
-            self.session.connection = DataConnection::Free;
-            self.output.put_fixed(Text::NoConnection);
+        if let ServerLink::Asked(_) = &self.session.connection {
+            self.session.connection = ServerLink::Free;
+            self.output.put_fixed(FixedReply::NoConnection);
         }
     }
 
@@ -69,10 +69,10 @@ impl<A: Allocator + Copy, T: Tree<A>, J: Moves<A, T>> Server<A, T, J> {
             return;
         }
         match &self.session.connection {
-            DataConnection::Passive => self.session.forget(),
-            DataConnection::Opening(_, _) => {
+            ServerLink::Passive => self.session.forget(),
+            ServerLink::Opening(_, _) => {
                 self.session.forget();
-                self.output.put_fixed(Text::NoConnection);
+                self.output.put_fixed(FixedReply::NoConnection);
             }
             _ => {}
         }
@@ -87,7 +87,7 @@ impl<A: Allocator + Copy, T: Tree<A>, J: Moves<A, T>> Server<A, T, J> {
     }
 
     /// The control connection ended.
-    #[tactic(auto, unfolding(ftp_server_machine::specs::Calls::control_end))]
+    #[tactic(auto, unfolding(ftp_server_model::specs::Calls::control_end))]
     pub(crate) fn cut(&mut self)
         ensures step { view_of T.table J.view self.new ≡ control_end (view_of T.table J.view self.old) }
         ensures steady { counts_of T.failures self.new ≡ counts_of T.failures self.old }

@@ -3,12 +3,12 @@ use crate::server::Server;
 use ftp_endpoint::Host;
 use ftp_ends::Wants;
 use ftp_facts::Moment;
-use ftp_server_machine::{Counts, Far};
-use ftp_session::Moves;
+use ftp_server_model::{Counts, Far};
+use ftp_server_session::ServerTransfer;
 use ftp_tree::Tree;
 use std::alloc::Allocator;
 
-impl<A: Allocator + Copy, T: Tree<A>, J: Moves<A, T>> Far<A, T> for Server<A, T, J> {
+impl<A: Allocator + Copy, T: Tree<A>, J: ServerTransfer<A, T>> Far<A, T> for Server<A, T, J> {
     ghost use Rattle.ftp_server.specs.Server.{server_of};
 
     ghost server = { server_of T.table T.failures J.view };

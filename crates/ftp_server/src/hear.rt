@@ -2,24 +2,24 @@
 ghost use Rattle.std.specs.Prelude.{◌≡◌, ◌≤◌, ◌<◌, IsTrue, None, OnErr, OnOk, Some, length, take, true};
 ghost use Rattle.ftp_command.specs.Line.{line_limit};
 ghost use Rattle.ftp_nvt.specs.Ear.{line_of};
-ghost use Rattle.ftp_server_machine.specs.Far.{Hears};
-ghost use Rattle.ftp_server_machine.specs.Failing.{ActingFails, AreHeard, LineIsHeard, OctetIsHeard};
-ghost use Rattle.ftp_server_machine.specs.Machine.{IsReading, MayHear, Reading, hears, hears_octet, heard_line, is_abor, is_abort, is_transferring, may_hear};
+ghost use Rattle.ftp_server_model.specs.Far.{Hears};
+ghost use Rattle.ftp_server_model.specs.Failing.{ActingFails, AreHeard, LineIsHeard, OctetIsHeard};
+ghost use Rattle.ftp_server_model.specs.Machine.{IsReading, MayHear, Reading, hears, hears_octet, heard_line, is_abor, is_abort, is_transferring, may_hear};
 ghost use Rattle.ftp_server.specs.Busy.{MayWait};
 ghost use Rattle.ftp_server.specs.HearsTo.{AreHeardTo, HearsTo, IsMost};
-ghost use Rattle.ftp_session.specs.Session.{has_transfer};
+ghost use Rattle.ftp_server_session.specs.Session.{has_transfer};
 
 use crate::line::{Failed, Moved};
 use crate::reading::read_line;
 use crate::server::Server;
-use ftp_command::{Command, CommandFault, Text};
+use ftp_command::{Argument, Command, CommandFault};
 use ftp_nvt::Event;
-use ftp_server_machine::{DataConnection, Heard, Life};
-use ftp_session::Moves;
+use ftp_server_model::{HeardLine, Life, ServerLink};
+use ftp_server_session::ServerTransfer;
 use ftp_tree::Tree;
 use std::alloc::Allocator;
 
-impl<A: Allocator + Copy, T: Tree<A>, J: Moves<A, T>> Server<A, T, J> {
+impl<A: Allocator + Copy, T: Tree<A>, J: ServerTransfer<A, T>> Server<A, T, J> {
     ghost use Rattle.ftp_server.specs.Server.{counts_of, server_of, view_of};
 
     /// Takes octets of the control connection, and says how many.
@@ -47,7 +47,7 @@ impl<A: Allocator + Copy, T: Tree<A>, J: Moves<A, T>> Server<A, T, J> {
     }
 
     /// Whether a line is an ABOR that comes during a transfer.
-    fn is_abort(&self, heard: &Heard<Text<A>>) -> bool
+    fn is_abort(&self, heard: &HeardLine<Argument<A>>) -> bool
         ensures is { result ≡ is_abort heard.now (view_of T.table J.view self.now) }
         ensures busy { result ≡ true → is_transferring (view_of T.table J.view self.now).session.connection ≡ true }
     {
@@ -55,7 +55,7 @@ impl<A: Allocator + Copy, T: Tree<A>, J: Moves<A, T>> Server<A, T, J> {
     }
 
     /// A whole line: ABOR is taken at once during a transfer, any other line waits until it may be acted on.
-    fn hear_line(&mut self, heard: Heard<Text<A>>) -> Result<(), Failed>
+    fn hear_line(&mut self, heard: HeardLine<Argument<A>>) -> Result<(), Failed>
         requires room { length self.old.output ≤ 4096 }
         requires none { self.old.waiting ≡ None }
         requires waits { MayWait (Some heard) }
@@ -84,7 +84,7 @@ impl<A: Allocator + Copy, T: Tree<A>, J: Moves<A, T>> Server<A, T, J> {
         match read_line(self.session.alloc, self.reader.line()) {
             Some(heard) => self.hear_line(heard),
             None => {
-                let _heard = self.hear_line(Heard::Bad(CommandFault::Memory));
+                let _heard = self.hear_line(HeardLine::Bad(CommandFault::Memory));
                 Err(Failed)
             }
         }
@@ -118,7 +118,7 @@ impl<A: Allocator + Copy, T: Tree<A>, J: Moves<A, T>> Server<A, T, J> {
     }
 
     /// Takes one octet.
-    #[tactic(auto, unfolding(ftp_server_machine::specs::Machine::hears_octet))]
+    #[tactic(auto, unfolding(ftp_server_model::specs::Machine::hears_octet))]
     fn hear_octet(&mut self, octet: u8) -> Result<(), Failed>
         requires room { length self.old.output ≤ 4096 }
         requires none { self.old.waiting ≡ None }
@@ -130,7 +130,7 @@ impl<A: Allocator + Copy, T: Tree<A>, J: Moves<A, T>> Server<A, T, J> {
         match self.reader.hear(octet) {
             Event::More => Ok(()),
             Event::Line => self.hear_text(),
-            Event::TooLong => self.hear_line(Heard::TooLong),
+            Event::TooLong => self.hear_line(HeardLine::TooLong),
             Event::Owed(answer) => {
                 self.output.put(&answer);
                 Ok(())
@@ -140,18 +140,18 @@ impl<A: Allocator + Copy, T: Tree<A>, J: Moves<A, T>> Server<A, T, J> {
 }
 
 /// Whether a line is an ABOR.
-fn is_abor<A: Allocator>(heard: &Heard<Text<A>>) -> bool
+fn is_abor<A: Allocator>(heard: &HeardLine<Argument<A>>) -> bool
     ensures { result ≡ is_abor heard.now }
 {
-    matches!(heard, Heard::Asks(Command::Abor))
+    matches!(heard, HeardLine::Asks(Command::Abor))
 }
 
 /// Whether a transfer is under way, its data connection open or still to come.
-pub(crate) fn is_transferring<J>(connection: &DataConnection<J>) -> bool
+pub(crate) fn is_transferring<J>(connection: &ServerLink<J>) -> bool
     ensures { result ≡ has_transfer connection.now }
 {
     matches!(
         connection,
-        DataConnection::Opening(_, _) | DataConnection::Transferring(_)
+        ServerLink::Opening(_, _) | ServerLink::Transferring(_)
     )
 }

@@ -2,11 +2,11 @@
 ghost use Rattle.std.specs.Prelude.{◌≡◌, ◌≤◌, false};
 ghost use Rattle.ftp_ends.specs.Limits.{held_limit};
 ghost use Rattle.ftp_server.specs.Busy.{is_busy};
-ghost use Rattle.ftp_server_machine.specs.Held.{connection_len, held, sending_limit, session_len};
+ghost use Rattle.ftp_server_model.specs.Held.{connection_len, held, sending_limit, session_len};
 
 use crate::server::Server;
-use ftp_lengths::{Counted, access_len, path_len, pending_len, waiting_len};
-use ftp_server_machine::DataConnection;
+use ftp_server_model::ServerLink;
+use ftp_server_parts::{Counted, access_len, path_len, pending_len, waiting_len};
 use ftp_tree::Tree;
 use std::alloc::Allocator;
 
@@ -42,8 +42,8 @@ impl<A: Allocator + Copy, T: Tree<A>, J: Counted<A, T>> Server<A, T, J> {
         ensures free { is_busy self.now.session.connection ≡ false → result ≡ 0 }
     {
         match &self.session.connection {
-            DataConnection::Opening(transfer, _) => transfer.held(),
-            DataConnection::Transferring(transfer) => transfer.held(),
+            ServerLink::Opening(transfer, _) => transfer.held(),
+            ServerLink::Transferring(transfer) => transfer.held(),
             _ => 0,
         }
     }

@@ -1,16 +1,16 @@
 // A line is acted on, or waits (RFC 959, sections 4.1.3 and 5.4).
 ghost use Rattle.std.specs.Prelude.{◌≡◌, ◌≤◌, OnErr, OnOk, Some, true, false};
-ghost use Rattle.ftp_server_machine.specs.Machine.{completed, is_idle, later, obeyed};
-ghost use Rattle.ftp_server_machine.specs.Failing.{LineFails, WaitingFails};
-ghost use Rattle.ftp_server_machine.specs.Held.{waiting_len};
+ghost use Rattle.ftp_server_model.specs.Machine.{completed, is_idle, later, obeyed};
+ghost use Rattle.ftp_server_model.specs.Failing.{LineFails, WaitingFails};
+ghost use Rattle.ftp_server_model.specs.Held.{waiting_len};
 ghost use Rattle.ftp_server.specs.Busy.{waiting_limit};
-ghost use Rattle.ftp_session.specs.Line.{HeardPaths};
+ghost use Rattle.ftp_server_session.specs.Line.{HeardPaths};
 
 use crate::say::say;
 use crate::server::Server;
-use ftp_command::Text;
-use ftp_server_machine::{DataConnection, Heard, Text as Fixed};
-use ftp_session::Moves;
+use ftp_command::Argument;
+use ftp_server_model::{FixedReply, HeardLine, ServerLink};
+use ftp_server_session::ServerTransfer;
 use ftp_tree::Tree;
 use std::alloc::Allocator;
 use std::mem;
@@ -26,7 +26,7 @@ pub(crate) struct Moved {
     pub(crate) outcome: Result<(), Failed>,
 }
 
-impl<A: Allocator + Copy, T: Tree<A>, J: Moves<A, T>> Server<A, T, J> {
+impl<A: Allocator + Copy, T: Tree<A>, J: ServerTransfer<A, T>> Server<A, T, J> {
     ghost use Rattle.ftp_server.specs.Server.{counts_of, view_of};
 
     /// A download or a listing whose last octet was given is over.
@@ -34,17 +34,17 @@ impl<A: Allocator + Copy, T: Tree<A>, J: Moves<A, T>> Server<A, T, J> {
         ensures done { view_of T.table J.view self.new ≡ completed (view_of T.table J.view self.old) }
         ensures steady { counts_of T.failures self.new ≡ counts_of T.failures self.old }
     {
-        let DataConnection::Transferring(_) = &self.session.connection else {
+        let ServerLink::Transferring(_) = &self.session.connection else {
             return;
         };
         if self.session.give_out() {
-            self.output.put_fixed(Fixed::Complete);
+            self.output.put_fixed(FixedReply::Complete);
         }
     }
 
     /// Acts on a line.
-    #[tactic(auto, unfolding(ftp_server_machine::specs::Machine::obeyed))]
-    fn obey(&mut self, heard: Heard<Text<A>>) -> Result<(), Failed>
+    #[tactic(auto, unfolding(ftp_server_model::specs::Machine::obeyed))]
+    fn obey(&mut self, heard: HeardLine<Argument<A>>) -> Result<(), Failed>
         requires idle { is_idle (view_of T.table J.view self.old) ≡ true }
         requires paths { HeardPaths heard }
         requires short { waiting_len (Some heard) ≤ waiting_limit }
@@ -60,7 +60,7 @@ impl<A: Allocator + Copy, T: Tree<A>, J: Moves<A, T>> Server<A, T, J> {
                 Ok(())
             }
             Err(_) => {
-                self.output.put_fixed(Fixed::LocalFault);
+                self.output.put_fixed(FixedReply::LocalFault);
                 Err(Failed)
             }
         }

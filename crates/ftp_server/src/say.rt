@@ -1,19 +1,19 @@
 // What is said to a command (RFC 959, section 4.2).
 ghost use Rattle.std.specs.Prelude.{◌≡◌, ◌≤◌, ◌+◌, ◌++◌, true, length};
 ghost use Rattle.ftp_server.specs.Busy.{is_short};
-ghost use Rattle.ftp_server_machine.specs.Replies.{said_octets};
-ghost use Rattle.ftp_session.specs.Session.{session_of};
+ghost use Rattle.ftp_server_model.specs.Replies.{said_octets};
+ghost use Rattle.ftp_server_session.specs.Session.{session_of};
 
 use crate::entry::say_entry;
-use ftp_output::Output;
 use ftp_path::Path;
-use ftp_server_machine::ReplyKind;
-use ftp_session::{Moves, Session};
+use ftp_server_model::ReplyKind;
+use ftp_server_replies::Output;
+use ftp_server_session::{ServerTransfer, Session};
 use ftp_tree::Tree;
 use std::alloc::Allocator;
 
 /// Owes the reply of this kind to a command that left the session so.
-pub(crate) fn say<A: Allocator + Copy, T: Tree<A>, J: Moves<A, T>>(
+pub(crate) fn say<A: Allocator + Copy, T: Tree<A>, J: ServerTransfer<A, T>>(
     output: &mut Output<A>,
     kind: &ReplyKind<Path<A>>,
     session: &Session<A, T, J>,

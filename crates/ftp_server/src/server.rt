@@ -1,13 +1,13 @@
 // What a server holds (RFC 959, sections 3.2 and 4.1).
 ghost use Rattle.std.specs.Prelude.{◌≡◌, ◌≤◌};
-ghost use Rattle.ftp_server_machine.specs.Held.{access_len};
+ghost use Rattle.ftp_server_model.specs.Held.{access_len};
 ghost use Rattle.ftp_server.specs.Busy.{HasRoom, MayWait, waiting_limit};
 
 use crate::reader::Reader;
-use ftp_command::Text;
-use ftp_output::Output;
-use ftp_server_machine::Heard;
-use ftp_session::{Footing, Session};
+use ftp_command::Argument;
+use ftp_server_model::HeardLine;
+use ftp_server_replies::Output;
+use ftp_server_session::{Footing, Session};
 use std::alloc::Allocator;
 
 /// A server's end of a session: who may log in, the session, the line that is read and the one that waits, and the octets
@@ -16,7 +16,7 @@ pub struct Server<A: Allocator, T: Drop, J: Drop> {
     pub(crate) footing: Footing<A>,
     pub(crate) session: Session<A, T, J>,
     pub(crate) reader: Reader<A>,
-    pub(crate) waiting: Option<Heard<Text<A>>>,
+    pub(crate) waiting: Option<HeardLine<Argument<A>>>,
     pub(crate) output: Output<A>,
     /// In how many calls a growth was refused; it wraps.
     pub(crate) refusals: u64,

@@ -1,19 +1,19 @@
 // What a server wants of the connections (RFC 959, section 3.2).
 ghost use Rattle.std.specs.Prelude.{◌≡◌, length};
 ghost use Rattle.ftp_ends.specs.Octets.{has_octets};
-ghost use Rattle.ftp_server_machine.specs.Calls.{is_done, may_receive, to_give, wants, wants_of};
-ghost use Rattle.ftp_server_machine.specs.Machine.{is_running};
+ghost use Rattle.ftp_server_model.specs.Calls.{is_done, may_receive, to_give, wants, wants_of};
+ghost use Rattle.ftp_server_model.specs.Machine.{is_running};
 ghost use Rattle.ftp_server.specs.Busy.{is_opening};
 
 use crate::server::Server;
 use ftp_endpoint::Host;
 use ftp_ends::Wants;
-use ftp_server_machine::{DataConnection, Life, Way};
-use ftp_session::Moves;
+use ftp_server_model::{Life, ServerLink, Way};
+use ftp_server_session::ServerTransfer;
 use ftp_tree::Tree;
 use std::alloc::Allocator;
 
-impl<A: Allocator + Copy, T: Tree<A>, J: Moves<A, T>> Server<A, T, J> {
+impl<A: Allocator + Copy, T: Tree<A>, J: ServerTransfer<A, T>> Server<A, T, J> {
     ghost use Rattle.ftp_server.specs.Server.{view_of};
 
     /// What it wants of the connections. Takes no memory.
@@ -33,7 +33,7 @@ impl<A: Allocator + Copy, T: Tree<A>, J: Moves<A, T>> Server<A, T, J> {
     pub fn is_opening(&self) -> bool
         ensures { result ≡ is_opening (view_of T.table J.view self.now).session.connection }
     {
-        matches!(self.session.connection, DataConnection::Opening(_, _))
+        matches!(self.session.connection, ServerLink::Opening(_, _))
     }
 
     /// How many control octets are owed, at most 8,192.
@@ -94,13 +94,12 @@ impl<A: Allocator + Copy, T: Tree<A>, J: Moves<A, T>> Server<A, T, J> {
         ensures { result ≡ wants_of (view_of T.table J.view self.now).session.connection }
     {
         match &self.session.connection {
-            DataConnection::Free | DataConnection::Active(_) | DataConnection::Ready =>
-                Wants::Nothing,
-            DataConnection::Asked(_) => Wants::Listen,
-            DataConnection::Passive => Wants::Accept,
-            DataConnection::Opening(_, Way::Connect(endpoint)) => Wants::Connect(*endpoint),
-            DataConnection::Opening(_, Way::Accept) => Wants::Accept,
-            DataConnection::Transferring(transfer) => {
+            ServerLink::Free | ServerLink::Active(_) | ServerLink::Ready => Wants::Nothing,
+            ServerLink::Asked(_) => Wants::Listen,
+            ServerLink::Passive => Wants::Accept,
+            ServerLink::Opening(_, Way::Connect(endpoint)) => Wants::Connect(*endpoint),
+            ServerLink::Opening(_, Way::Accept) => Wants::Accept,
+            ServerLink::Transferring(transfer) => {
                 if transfer.takes_octets() {
                     Wants::Receive
                 } else {

@@ -1,12 +1,12 @@
 -- A server and its copy at a root, after the same call of `Far`.
 use Rattle.std.proofs.Common.{◌≡◌, ℕ, List, [], ◌∷◌, refl, sym, ap, subst, ◌∙◌, true≢false}
 use Rattle.ftp_path.specs.Path.{Names}
-use Rattle.ftp_server_machine.specs.Calls.{MayReceive, break_step, clock_step, close_step, control_end, control_step, end_step, given_step, listening_step, may_receive, no_port_step, opened_step, receives, receives_octet, refused_step, to_give, wants}
-use Rattle.ftp_server_machine.specs.Failing.{EndFails, GiveFails}
-use Rattle.ftp_server_machine.specs.Far.{Hears, Receives, Server, Steps}
-use Rattle.ftp_server_machine.specs.Machine.{IsReading, Reading, hears, hears_octet, later, may_hear}
-use Rattle.ftp_server_machine.specs.Play.{HearsAt, IsAt, at_root}
-use Rattle.ftp_server_machine.specs.View.{View}
+use Rattle.ftp_server_model.specs.Calls.{MayReceive, break_step, clock_step, close_step, control_end, control_step, end_step, given_step, listening_step, may_receive, no_port_step, opened_step, receives, receives_octet, refused_step, to_give, wants}
+use Rattle.ftp_server_model.specs.Failing.{EndFails, GiveFails}
+use Rattle.ftp_server_model.specs.Far.{Hears, Receives, Server, Steps}
+use Rattle.ftp_server_model.specs.Machine.{IsReading, Reading, hears, hears_octet, later, may_hear}
+use Rattle.ftp_server_model.specs.Play.{HearsAt, IsAt, at_root}
+use Rattle.ftp_server_model.specs.View.{View}
 use Rattle.ftp_server_roots.specs.Apart.{CallsStayApart, CopiesLookAlike, IsCopy, LeavesCopy, StartsAreCopies}
 use Rattle.ftp_server_roots.proofs.HeardLemmas.{hears_at, known_between, octet_taken_at}
 use Rattle.ftp_server_roots.proofs.TurnLemmas.{IsHeld}

@@ -6,22 +6,22 @@ use Rattle.ftp_ends.specs.Ear.{ear_out, ear_step}
 use Rattle.ftp_ends.proofs.EventLemmas.{out_one}
 use Rattle.ftp_nvt.specs.Lines.{NvtEvent, line, too_long, owed}
 use Rattle.ftp_path.specs.Path.{Names}
-use Rattle.ftp_server_machine.specs.Act.{decided}
-use Rattle.ftp_server_machine.specs.Calls.{connection_of, is_upload, may_receive, receives, receives_octet, takes_data}
-use Rattle.ftp_server_machine.specs.Machine.{Reading, abort_said, aborted, aborts, given_out, has_room, heard_event, heard_events, heard_line, hears, hears_octet, is_abort, is_connection_busy, is_idle, is_transferring, later, may_hear, obeyed, turned, waited}
-use Rattle.ftp_server_machine.specs.Play.{HearsAt, IsAt, at_root, most_heard, most_received}
-use Rattle.ftp_server_machine.specs.View.{Session, Transfer, View, line_limit}
-use Rattle.ftp_server_machine.specs.declared.heard.Heard.{Heard}
-use Rattle.ftp_server_machine.specs.declared.heard.Heard.TheVariants.{TooLong}
-use Rattle.ftp_server_machine.specs.declared.session.Pending.TheVariants as Pendings
-use Rattle.ftp_server_machine.specs.declared.session.DataConnection.{DataConnection}
-use Rattle.ftp_server_machine.specs.declared.session.DataConnection.TheVariants as Data
+use Rattle.ftp_server_model.specs.Act.{decided}
+use Rattle.ftp_server_model.specs.Calls.{connection_of, is_upload, may_receive, receives, receives_octet, takes_data}
+use Rattle.ftp_server_model.specs.Machine.{Reading, abort_said, aborted, aborts, given_out, has_room, heard_event, heard_events, heard_line, hears, hears_octet, is_abort, is_connection_busy, is_idle, is_transferring, later, may_hear, obeyed, turned, waited}
+use Rattle.ftp_server_model.specs.Play.{HearsAt, IsAt, at_root, most_heard, most_received}
+use Rattle.ftp_server_model.specs.View.{Session, Transfer, View, line_limit}
+use Rattle.ftp_server_model.specs.declared.heard.HeardLine.{HeardLine}
+use Rattle.ftp_server_model.specs.declared.heard.HeardLine.TheVariants.{TooLong}
+use Rattle.ftp_server_model.specs.declared.session.Pending.TheVariants as Pendings
+use Rattle.ftp_server_model.specs.declared.session.ServerLink.{ServerLink}
+use Rattle.ftp_server_model.specs.declared.session.ServerLink.TheVariants as Data
 use Rattle.ftp_server_roots.proofs.TurnLemmas.{Begins, IsHeld, decided_begins}
 use Rattle.ftp_server_roots.proofs.ViewLemmas.{ViewAt, abort_at, acts_at, calm_of, given_out_in, known_by, receives_at, stays, waits_at}
 
 -- ---- control octets
 
-heard_line_at : (heard : Heard (List ℕ)) (root : Names) (v : View) → IsAt root v → IsHeld root v.session → IsAt root (heard_line heard v) → ViewAt root v (heard_line heard v) (heard_line heard (at_root root v))
+heard_line_at : (heard : HeardLine (List ℕ)) (root : Names) (v : View) → IsAt root v → IsHeld root v.session → IsAt root (heard_line heard v) → ViewAt root v (heard_line heard v) (heard_line heard (at_root root v))
 heard_line_at heard root v before held known = by (is_abort heard v) known
   where
     by : (b : Bool) → IsAt root (if b then aborted v else later (record v { waiting = Some heard }))
@@ -87,7 +87,7 @@ heard_at read (octet ∷ octets) root v before held known =
 -- ---- data octets
 
 -- a line that is acted on leaves who is logged in, or no transfer stands
-given_out_calm : (connection : DataConnection Transfer) (v : View) → is_transferring connection ≡ false → is_transferring v.session.connection ≡ false → is_transferring (given_out connection v).session.connection ≡ false
+given_out_calm : (connection : ServerLink Transfer) (v : View) → is_transferring connection ≡ false → is_transferring v.session.connection ≡ false → is_transferring (given_out connection v).session.connection ≡ false
 given_out_calm (Data.Transferring transfer) v is calm = absurd (true≢false is)
 given_out_calm (Data.Opening transfer way) v is calm = calm
 given_out_calm (Data.Asked asked) v is calm = calm
@@ -96,7 +96,7 @@ given_out_calm (Data.Active endpoint) v is calm = calm
 given_out_calm Data.Passive v is calm = calm
 given_out_calm Data.Ready v is calm = calm
 
-obeyed_begins : (heard : Heard (List ℕ)) (v : View) → is_transferring v.session.connection ≡ false → Begins v.session (obeyed heard v).session
+obeyed_begins : (heard : HeardLine (List ℕ)) (v : View) → is_transferring v.session.connection ≡ false → Begins v.session (obeyed heard v).session
 unfolding obeyed
 obeyed_begins heard v calm =
     let s : Session = record v.session { pending = Pendings.Nothing } in
@@ -107,7 +107,7 @@ obeyed_begins heard v calm =
       | inr none ↦ inr (given_out_calm w.session.connection w none none)
     ]
 
-waited_begins : (waiting : Option (Heard (List ℕ))) (v : View) → Begins v.session (waited waiting v).session
+waited_begins : (waiting : Option (HeardLine (List ℕ))) (v : View) → Begins v.session (waited waiting v).session
 waited_begins None v = inl (refl, refl)
 waited_begins (Some heard) v = by (is_idle v) refl
   where
@@ -118,7 +118,7 @@ waited_begins (Some heard) v = by (is_idle v) refl
     by false idle = inl (refl, refl)
 
 -- a data octet may be taken in a transfer alone
-takes_in : (connection : DataConnection Transfer) → is_upload connection ≡ true → is_transferring connection ≡ true
+takes_in : (connection : ServerLink Transfer) → is_upload connection ≡ true → is_transferring connection ≡ true
 takes_in (Data.Transferring transfer) is = refl
 takes_in (Data.Opening transfer way) is = refl
 takes_in (Data.Asked asked) is = absurd (true≢false (sym is))
@@ -127,7 +127,7 @@ takes_in (Data.Active endpoint) is = absurd (true≢false (sym is))
 takes_in Data.Passive is = absurd (true≢false (sym is))
 takes_in Data.Ready is = absurd (true≢false (sym is))
 
-upload_in : (closing : Bool) (connection : DataConnection Transfer) → is_upload (if closing then Data.Free else connection) ≡ true → is_transferring connection ≡ true
+upload_in : (closing : Bool) (connection : ServerLink Transfer) → is_upload (if closing then Data.Free else connection) ≡ true → is_transferring connection ≡ true
 upload_in true connection is = absurd (true≢false (sym is))
 upload_in false connection is = takes_in connection is
 

@@ -10,8 +10,8 @@ use Rattle.ftp_tree.specs.Tree.{Table, node_at, under, with_part}
 use Rattle.ftp_direct.specs.Direct.{refusal}
 use Rattle.ftp_operation.specs.declared.op.Op.{Op}
 use Rattle.ftp_operation.specs.declared.op.Op.TheVariants as Ops
-use Rattle.ftp_server_machine.specs.Play.{only_at}
-use Rattle.ftp_server_machine.specs.View.{Session, direct_of, seen}
+use Rattle.ftp_server_model.specs.Play.{only_at}
+use Rattle.ftp_server_model.specs.View.{Session, direct_of, seen}
 
 -- a session whose map is only what stands at and below a root
 abbrev pub at : Names → Session → Session

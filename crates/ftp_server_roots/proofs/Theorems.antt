@@ -1,10 +1,10 @@
 -- Calls of a server and of the same at a root, one after another: they give the same, and leave what is outside of it.
 use Rattle.std.proofs.Common.{◌≡◌, ℕ, List, [], ◌∷◌, refl, sym, ap, ◌∙◌, take, true≢false}
 use Rattle.ftp_path.specs.Path.{Names}
-use Rattle.ftp_server_machine.specs.Calls.{clocked, gives_control, listening, listen_refused, data_opened, data_refused, gives_data, data_end, data_fault, data_closed, receives, start, to_give, clock_step, control_step, listening_step, no_port_step, opened_step, refused_step, end_step, break_step, close_step, given_step}
-use Rattle.ftp_server_machine.specs.Machine.{Reading, hears, later}
-use Rattle.ftp_server_machine.specs.Play.{Cue, Clock, Hear, ControlOut, ControlEnd, Listening, DataOpened, DataHear, DataOut, ListenRefused, DataRefused, DataEnd, DataFault, DataClosed, AsksWants, Gift, Nothing, Took, Octets, CallIsAt, IsApart, IsAt, LogsInAt, RootsAreApart, at_root, call, left_by, most_given, played}
-use Rattle.ftp_server_machine.specs.View.{View}
+use Rattle.ftp_server_model.specs.Calls.{clocked, gives_control, listening, listen_refused, data_opened, data_refused, gives_data, data_end, data_fault, data_closed, receives, start, to_give, clock_step, control_step, listening_step, no_port_step, opened_step, refused_step, end_step, break_step, close_step, given_step}
+use Rattle.ftp_server_model.specs.Machine.{Reading, hears, later}
+use Rattle.ftp_server_model.specs.Play.{Cue, Clock, Hear, ControlOut, ControlEnd, Listening, DataOpened, DataHear, DataOut, ListenRefused, DataRefused, DataEnd, DataFault, DataClosed, AsksWants, Gift, Nothing, Took, Octets, CallIsAt, IsApart, IsAt, LogsInAt, RootsAreApart, at_root, call, left_by, most_given, played}
+use Rattle.ftp_server_model.specs.View.{View}
 use Rattle.ftp_server_roots.proofs.HeardLemmas.{heard_at, received_at}
 use Rattle.ftp_server_roots.proofs.TurnLemmas.{IsHeld}
 use Rattle.ftp_server_roots.proofs.ViewLemmas.{StepAt, ViewAt, acts_at, break_at, clock_at, close_at, control_at, control_end_at, end_at, given_at, listening_at, no_port_at, opened_at, refused_step_at, stays}

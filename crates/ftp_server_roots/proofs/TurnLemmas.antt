@@ -16,33 +16,33 @@ use Rattle.ftp_direct.specs.Direct.{refusal, done, limited, refused_name, is_dir
 use Rattle.ftp_direct.specs.declared.refusal.Refusal.{Refusal}
 use Rattle.ftp_tree.proofs.PartLemmas.{part-stays, part-taken}
 use Rattle.ftp_tree.specs.Tree.{Table, made, removed, moved, node_at, rename_refusal, under}
-use Rattle.ftp_server_machine.specs.Act.{act, decided, forgets, is_allowed, is_in, is_transfer}
-use Rattle.ftp_server_machine.specs.Ask.{size, mdtm, mlst, has_size, or_empty, size_of}
-use Rattle.ftp_server_machine.specs.Endpoint.{forgotten, is_taken, takes, port, asks, pasv, epsv}
-use Rattle.ftp_server_machine.specs.Entries.{option_facts}
-use Rattle.ftp_server_machine.specs.Login.{logged_out, logs_in, admits, open_root, user_named, checked, pass}
-use Rattle.ftp_server_machine.specs.Machine.{is_transferring}
-use Rattle.ftp_server_machine.specs.Play.{only_at}
-use Rattle.ftp_server_machine.specs.Replies.{Turn, said_octets, tells}
-use Rattle.ftp_server_machine.specs.Setting.{choose, is_utf8_on, opts}
-use Rattle.ftp_server_machine.specs.Transfer.{rests, begin, transfer_starts, place_of, retr, retr_at, stor, stor_at, appe, appe_at, list, nlst, mlsd}
-use Rattle.ftp_server_machine.specs.View.{Accounts, Footing, Session, Transfer, direct_of, as_direct, how_in_force, seen, with_seen}
-use Rattle.ftp_server_machine.specs.Walk.{unless, path_of, performs, refused_source, rnfr, renames, rnto}
-use Rattle.ftp_server_machine.specs.declared.heard.Heard.{Heard}
-use Rattle.ftp_server_machine.specs.declared.heard.Heard.TheVariants.{TooLong, Bad, Asks}
-use Rattle.ftp_server_machine.specs.declared.reply.Text.{Text}
-use Rattle.ftp_server_machine.specs.declared.reply.Text.TheVariants as Texts
-use Rattle.ftp_server_machine.specs.declared.reply.ReplyKind.{ReplyKind}
-use Rattle.ftp_server_machine.specs.declared.reply.ReplyKind.TheVariants as Replies
-use Rattle.ftp_server_machine.specs.declared.session.Access.{Access}
-use Rattle.ftp_server_machine.specs.declared.session.Access.TheVariants.{Nobody, AwaitsPass, Known}
-use Rattle.ftp_server_machine.specs.declared.session.Asked.{Asked}
-use Rattle.ftp_server_machine.specs.declared.session.Asked.TheVariants as Asking
-use Rattle.ftp_server_machine.specs.declared.session.Facts.{Facts}
-use Rattle.ftp_server_machine.specs.declared.session.Pending.{Pending}
-use Rattle.ftp_server_machine.specs.declared.session.Pending.TheVariants as Pendings
-use Rattle.ftp_server_machine.specs.declared.session.DataConnection.{DataConnection}
-use Rattle.ftp_server_machine.specs.declared.session.DataConnection.TheVariants as Data
+use Rattle.ftp_server_model.specs.Act.{act, decided, forgets, is_allowed, is_in, is_transfer}
+use Rattle.ftp_server_model.specs.Ask.{size, mdtm, mlst, has_size, or_empty, size_of}
+use Rattle.ftp_server_model.specs.Endpoint.{forgotten, is_taken, takes, port, asks, pasv, epsv}
+use Rattle.ftp_server_model.specs.Entries.{option_facts}
+use Rattle.ftp_server_model.specs.Login.{logged_out, logs_in, admits, open_root, user_named, checked, pass}
+use Rattle.ftp_server_model.specs.Machine.{is_transferring}
+use Rattle.ftp_server_model.specs.Play.{only_at}
+use Rattle.ftp_server_model.specs.Replies.{Turn, said_octets, tells}
+use Rattle.ftp_server_model.specs.Setting.{choose, is_utf8_on, opts}
+use Rattle.ftp_server_model.specs.Transfer.{rests, begin, transfer_starts, place_of, retr, retr_at, stor, stor_at, appe, appe_at, list, nlst, mlsd}
+use Rattle.ftp_server_model.specs.View.{Accounts, Footing, Session, Transfer, direct_of, as_direct, how_in_force, seen, with_seen}
+use Rattle.ftp_server_model.specs.Walk.{unless, path_of, performs, refused_source, rnfr, renames, rnto}
+use Rattle.ftp_server_model.specs.declared.heard.HeardLine.{HeardLine}
+use Rattle.ftp_server_model.specs.declared.heard.HeardLine.TheVariants.{TooLong, Bad, Asks}
+use Rattle.ftp_server_model.specs.declared.reply.FixedReply.{FixedReply}
+use Rattle.ftp_server_model.specs.declared.reply.FixedReply.TheVariants as Texts
+use Rattle.ftp_server_model.specs.declared.reply.ReplyKind.{ReplyKind}
+use Rattle.ftp_server_model.specs.declared.reply.ReplyKind.TheVariants as Replies
+use Rattle.ftp_server_model.specs.declared.session.Access.{Access}
+use Rattle.ftp_server_model.specs.declared.session.Access.TheVariants.{Nobody, AwaitsPass, Known}
+use Rattle.ftp_server_model.specs.declared.session.PassiveVerb.{PassiveVerb}
+use Rattle.ftp_server_model.specs.declared.session.PassiveVerb.TheVariants as Asking
+use Rattle.ftp_server_model.specs.declared.session.Facts.{Facts}
+use Rattle.ftp_server_model.specs.declared.session.Pending.{Pending}
+use Rattle.ftp_server_model.specs.declared.session.Pending.TheVariants as Pendings
+use Rattle.ftp_server_model.specs.declared.session.ServerLink.{ServerLink}
+use Rattle.ftp_server_model.specs.declared.session.ServerLink.TheVariants as Data
 use Rattle.ftp_server_roots.proofs.SeenLemmas.{at, changed_at, inside_at, outside_at, refused_at, seen_at, within_itself}
 
 -- whoever is logged in has this root
@@ -97,7 +97,7 @@ told root s new kind same other held =
 own : (s new : Session) (kind : ReplyKind Names) → new.table ≡ s.table → new.root ≡ s.root → IsNoEntry kind → OwnTurn s (new, kind) (at s.root new, kind)
 own s new kind same root other = told s.root s new kind same other (λ is. root)
 
-tells_own : (text : Text) (s : Session) → OwnTurn s (tells text s) (tells text (at s.root s))
+tells_own : (text : FixedReply) (s : Session) → OwnTurn s (tells text s) (tells text (at s.root s))
 tells_own text s = own s s (Replies.Fixed text) refl refl tt
 
 if_at : (b : Bool) (root : Names) (s : Session) (one its other others : Turn) → TurnAt root s one its → TurnAt root s other others
@@ -130,7 +130,7 @@ takes_own : (is : Bool) (endpoint : Endpoint) (s new : Session) → new.table �
 takes_own true endpoint s new same root = own s (record new { connection = Data.Active endpoint }) _ same root tt
 takes_own false endpoint s new same root = own s new _ same root tt
 
-asks_own : (asked : Asked) (s : Session) → OwnTurn s (asks asked s) (asks asked (at s.root s))
+asks_own : (asked : PassiveVerb) (s : Session) → OwnTurn s (asks asked s) (asks asked (at s.root s))
 asks_own asked s = own s (record (forgotten s) { connection = Data.Asked asked }) Replies.Nothing refl refl tt
 
 port_own : (footing : Footing) (endpoint : Endpoint) (s : Session) → OwnTurn s (port footing endpoint s) (port footing endpoint (at s.root s))
@@ -146,7 +146,7 @@ epsv_own footing Ipv4 s = if_at (is_v6 footing.here) s.root s _ _ _ _ (tells_own
 epsv_own footing Ipv6 s = if_at (is_v6 footing.here) s.root s _ _ _ _ (asks_own Asking.Epsv s) (tells_own Texts.OnlyIpv4 s)
 epsv_own footing Only s = own s (record s { only_extended = true }) _ refl refl tt
 
-begin_own : (connection : DataConnection Transfer) (transfer : Transfer) (s : Session) → OwnTurn s (begin connection transfer s) (begin connection transfer (at s.root s))
+begin_own : (connection : ServerLink Transfer) (transfer : Transfer) (s : Session) → OwnTurn s (begin connection transfer s) (begin connection transfer (at s.root s))
 begin_own Data.Free transfer s = tells_own Texts.NoConnection s
 begin_own (Data.Active endpoint) transfer s = own s (record s { connection = Data.Opening transfer _ }) _ refl refl tt
 begin_own Data.Passive transfer s = own s (record s { connection = Data.Opening transfer _ }) _ refl refl tt
@@ -363,7 +363,7 @@ or_false : (b : Bool) → (b || false) ≡ true → b ≡ true
 or_false true is = refl
 or_false false is = is
 
-pub decided_at : (footing : Footing) (heard : Heard (List ℕ)) (pending : Pending Names) (root : Names) (s : Session) → IsIn root s → is_transferring s.connection ≡ false
+pub decided_at : (footing : Footing) (heard : HeardLine (List ℕ)) (pending : Pending Names) (root : Names) (s : Session) → IsIn root s → is_transferring s.connection ≡ false
     → IsIn root (decided footing heard pending s).0 → TurnAt root s (decided footing heard pending s) (decided footing heard pending (at root s))
 decided_at footing TooLong pending root s here calm known = free root s s _ refl tt calm
 decided_at footing (Bad fault) pending root s here calm known = free root s s _ refl tt calm
@@ -409,7 +409,7 @@ epsv_begins footing Ipv4 s = if_begins (is_v6 footing.here) s (tells Texts.OnlyI
 epsv_begins footing Ipv6 s = if_begins (is_v6 footing.here) s (asks Asking.Epsv s) (tells Texts.OnlyIpv4 s) (inl (refl, refl)) (inl (refl, refl))
 epsv_begins footing Only s = inl (refl, refl)
 
-begin_begins : (connection : DataConnection Transfer) (transfer : Transfer) (s : Session) → Begins s (begin connection transfer s).0
+begin_begins : (connection : ServerLink Transfer) (transfer : Transfer) (s : Session) → Begins s (begin connection transfer s).0
 begin_begins Data.Free transfer s = inl (refl, refl)
 begin_begins (Data.Active endpoint) transfer s = inl (refl, refl)
 begin_begins Data.Passive transfer s = inl (refl, refl)
@@ -495,7 +495,7 @@ act_begins footing command.Noop pending s calm = inl (refl, refl)
 act_begins footing command.Feat pending s calm = inl (refl, refl)
 act_begins footing (command.Opts text) pending s calm = if_begins (is_utf8_on text) s (tells Texts.Utf8Set s) (choose (option_facts text) s) (inl (refl, refl)) (choose_begins (option_facts text) s)
 
-pub decided_begins : (footing : Footing) (heard : Heard (List ℕ)) (pending : Pending Names) (s : Session) → is_transferring s.connection ≡ false → Begins s (decided footing heard pending s).0
+pub decided_begins : (footing : Footing) (heard : HeardLine (List ℕ)) (pending : Pending Names) (s : Session) → is_transferring s.connection ≡ false → Begins s (decided footing heard pending s).0
 decided_begins footing TooLong pending s calm = inl (refl, refl)
 decided_begins footing (Bad fault) pending s calm = inl (refl, refl)
 decided_begins footing (Asks c) pending s calm =

@@ -4,29 +4,29 @@ use Rattle.std.specs.Prelude.{if◌then◌else◌}
 use Rattle.std.specs.Option.{is_some}
 use Rattle.std.proofs.lemmas.Bool.{and_parts, cond_both, not-true}
 use Rattle.ftp_endpoint.specs.declared.host.Host.{Host}
-use Rattle.ftp_decoder.specs.Decoder.{Decoder, broken, ended, is_whole, with_sign, read_on, octet_says, fault_of}
+use Rattle.ftp_wire.specs.Decoder.{Decoder, broken, ended, is_whole, with_sign, read_on, octet_says, fault_of}
 use Rattle.ftp_ends.specs.Link.{same_host}
-use Rattle.ftp_framer.specs.Said.{Said, says, marker}
+use Rattle.ftp_mode.specs.Said.{Said, says, marker}
 use Rattle.ftp_mode.specs.declared.fault.FrameFault.{FrameFault}
 use Rattle.ftp_path.specs.Path.{Names}
 use Rattle.ftp_tree.proofs.PartLemmas.{part-stays}
 use Rattle.ftp_tree.specs.Tree.{Table, installed, node_at, octets_or_none, octets_refusal}
-use Rattle.ftp_server_machine.specs.Act.{decided, is_in}
-use Rattle.ftp_server_machine.specs.Calls.{connection_of, listening_turn, unheard, port_opens_for, opens, refuses, takes_given, ends, breaks, control_end, clock_step, control_step, listening_step, no_port_step, opened_step, refused_step, end_step, break_step, close_step, given_step, grown, with_connection, takes_said, takes_all, takes_octet, takes_data}
-use Rattle.ftp_server_machine.specs.Endpoint.{forgotten, disconnected}
-use Rattle.ftp_server_machine.specs.Machine.{Ending, given_out, completed, obeyed, waited, later, is_idle, has_room, is_connection_busy, is_transferring, turned, replied, concluded, at_break, at_end, installs, put_in, is_over, aborts, abort_said, with_session, owes}
-use Rattle.ftp_server_machine.specs.Play.{at_root, IsAt}
-use Rattle.ftp_server_machine.specs.Replies.{Turn}
-use Rattle.ftp_server_machine.specs.View.{Session, Transfer, View, seen}
-use Rattle.ftp_server_machine.specs.declared.heard.Heard.{Heard}
-use Rattle.ftp_server_machine.specs.declared.reply.Text.{Text}
-use Rattle.ftp_server_machine.specs.declared.reply.Text.TheVariants as Texts
-use Rattle.ftp_server_machine.specs.declared.session.Asked.TheVariants as Asking
-use Rattle.ftp_server_machine.specs.declared.session.Pending.TheVariants as Pendings
-use Rattle.ftp_server_machine.specs.declared.session.Way.TheVariants as Ways
-use Rattle.ftp_server_machine.specs.declared.session.DataConnection.{DataConnection}
-use Rattle.ftp_server_machine.specs.declared.session.DataConnection.TheVariants as Data
-use Rattle.ftp_server_machine.specs.declared.session.Transfer.TheVariants as Transfers
+use Rattle.ftp_server_model.specs.Act.{decided, is_in}
+use Rattle.ftp_server_model.specs.Calls.{connection_of, listening_turn, unheard, port_opens_for, opens, refuses, takes_given, ends, breaks, control_end, clock_step, control_step, listening_step, no_port_step, opened_step, refused_step, end_step, break_step, close_step, given_step, grown, with_connection, takes_said, takes_all, takes_octet, takes_data}
+use Rattle.ftp_server_model.specs.Endpoint.{forgotten, disconnected}
+use Rattle.ftp_server_model.specs.Machine.{Ending, given_out, completed, obeyed, waited, later, is_idle, has_room, is_connection_busy, is_transferring, turned, replied, concluded, at_break, at_end, installs, put_in, is_over, aborts, abort_said, with_session, owes}
+use Rattle.ftp_server_model.specs.Play.{at_root, IsAt}
+use Rattle.ftp_server_model.specs.Replies.{Turn}
+use Rattle.ftp_server_model.specs.View.{Session, Transfer, View, seen}
+use Rattle.ftp_server_model.specs.declared.heard.HeardLine.{HeardLine}
+use Rattle.ftp_server_model.specs.declared.reply.FixedReply.{FixedReply}
+use Rattle.ftp_server_model.specs.declared.reply.FixedReply.TheVariants as Texts
+use Rattle.ftp_server_model.specs.declared.session.PassiveVerb.TheVariants as Asking
+use Rattle.ftp_server_model.specs.declared.session.Pending.TheVariants as Pendings
+use Rattle.ftp_server_model.specs.declared.session.Way.TheVariants as Ways
+use Rattle.ftp_server_model.specs.declared.session.ServerLink.{ServerLink}
+use Rattle.ftp_server_model.specs.declared.session.ServerLink.TheVariants as Data
+use Rattle.ftp_server_model.specs.declared.session.Transfer.TheVariants as Transfers
 use Rattle.ftp_server_roots.proofs.SeenLemmas.{at, changed_at, seen_at}
 use Rattle.ftp_server_roots.proofs.TurnLemmas.{IsApartFrom, IsHeld, decided_at}
 
@@ -79,11 +79,11 @@ calm root v new octets same access top none = record {
   top = top;
 }
 
-forgets_at : (text : Text) (root : Names) (v : View) → StepAt root v (replied text (forgotten v.session) v) (replied text (forgotten (at root v.session)) (at_root root v))
+forgets_at : (text : FixedReply) (root : Names) (v : View) → StepAt root v (replied text (forgotten v.session) v) (replied text (forgotten (at root v.session)) (at_root root v))
 forgets_at text root v = calm root v (forgotten v.session) _ refl refl refl refl
 
 -- another state of the data connection
-moves_at : (root : Names) (v : View) (connection : DataConnection Transfer) → (is_transferring connection ≡ true → v.session.root ≡ root)
+moves_at : (root : Names) (v : View) (connection : ServerLink Transfer) → (is_transferring connection ≡ true → v.session.root ≡ root)
     → StepAt root v (with_connection connection v) (with_connection connection (at_root root v))
 moves_at root v connection held = record { is = record { same = refl; apart = λ path out. refl; held = held }; access = refl; top = refl }
 
@@ -100,7 +100,7 @@ leaves_at root v new same access top none = record {
 
 -- ---- a line is acted on
 
-given_out_at : (connection : DataConnection Transfer) (root : Names) (v : View) → IsHeld root v.session → StepAt root v (given_out connection v) (given_out connection (at_root root v))
+given_out_at : (connection : ServerLink Transfer) (root : Names) (v : View) → IsHeld root v.session → StepAt root v (given_out connection v) (given_out connection (at_root root v))
 given_out_at (Data.Transferring (Transfers.Download [])) root v held = forgets_at Texts.Complete root v
 given_out_at (Data.Transferring (Transfers.Listing [])) root v held = forgets_at Texts.Complete root v
 given_out_at (Data.Transferring (Transfers.Download (octet ∷ rest))) root v held = still root v held
@@ -118,7 +118,7 @@ given_out_at Data.Ready root v held = still root v held
 abbrev pub StaysIn : View → View → Type 0
 StaysIn v one = (one.session.access ≡ v.session.access) × (one.session.root ≡ v.session.root)
 
-pub given_out_in : (connection : DataConnection Transfer) (v : View) → StaysIn v (given_out connection v)
+pub given_out_in : (connection : ServerLink Transfer) (v : View) → StaysIn v (given_out connection v)
 given_out_in (Data.Transferring (Transfers.Download [])) v = (refl, refl)
 given_out_in (Data.Transferring (Transfers.Listing [])) v = (refl, refl)
 given_out_in (Data.Transferring (Transfers.Download (octet ∷ rest))) v = (refl, refl)
@@ -132,7 +132,7 @@ given_out_in (Data.Active endpoint) v = (refl, refl)
 given_out_in Data.Passive v = (refl, refl)
 given_out_in Data.Ready v = (refl, refl)
 
-obeyed_at : (heard : Heard (List ℕ)) (root : Names) (v : View) → IsAt root v → is_transferring v.session.connection ≡ false → IsAt root (obeyed heard v)
+obeyed_at : (heard : HeardLine (List ℕ)) (root : Names) (v : View) → IsAt root v → is_transferring v.session.connection ≡ false → IsAt root (obeyed heard v)
     → ViewAt root v (obeyed heard v) (obeyed heard (at_root root v))
 unfolding obeyed
 obeyed_at heard root v before none known =
@@ -146,7 +146,7 @@ obeyed_at heard root v before none known =
     ap (λ (t : Turn). turned t (at_root root v)) turn.same ∙ ap (λ (octets : List ℕ). record (at_root root w) { owed = v.owed ++ octets }) turn.said in
     after_line root v w (turned its (at_root root v)) completed (record { same = same; apart = turn.apart; held = turn.held }) (given_out_at w.session.connection root w)
 
-pub calm_of : (connection : DataConnection Transfer) → is_connection_busy connection ≡ false → is_transferring connection ≡ false
+pub calm_of : (connection : ServerLink Transfer) → is_connection_busy connection ≡ false → is_transferring connection ≡ false
 calm_of Data.Free is = refl
 calm_of (Data.Active endpoint) is = refl
 calm_of (Data.Asked asked) is = refl
@@ -155,7 +155,7 @@ calm_of Data.Ready is = refl
 calm_of (Data.Opening transfer way) is = absurd (true≢false is)
 calm_of (Data.Transferring transfer) is = absurd (true≢false is)
 
-waited_at : (waiting : Option (Heard (List ℕ))) (root : Names) (v : View) → IsAt root v → IsHeld root v.session → IsAt root (waited waiting v)
+waited_at : (waiting : Option (HeardLine (List ℕ))) (root : Names) (v : View) → IsAt root v → IsHeld root v.session → IsAt root (waited waiting v)
     → ViewAt root v (waited waiting v) (waited waiting (at_root root v))
 waited_at None root v before held known = stays root v held
 waited_at (Some heard) root v before held known = by (is_idle v) refl known
@@ -184,13 +184,13 @@ record EndAt (root : Names) (s : Session) (one its : Ending) : Type 0 where
   pub top : one.0.root ≡ s.root
   pub connection : one.0.connection ≡ s.connection
 
-unchanged : (root : Names) (s : Session) (text : Text) → EndAt root s (s, text) (at root s, text)
+unchanged : (root : Names) (s : Session) (text : FixedReply) → EndAt root s (s, text) (at root s, text)
 unchanged root s text = record { same = refl; apart = λ path out. refl; access = refl; top = refl; connection = refl }
 
 over_own : (path : Names) (keep : ℕ) (d : Decoder) (s : Session) → is_over path keep d (at s.root s) ≡ is_over path keep d s
 over_own path keep d s = ap (λ part. is_some (octets_refusal part path (keep + length d.content))) (seen_at s)
 
-put_own : (moment : ℕ) (path : Names) (keep : ℕ) (octets : List ℕ) (text : Text) (s : Session) → EndAt s.root s (put_in moment path keep octets s, text) (put_in moment path keep octets (at s.root s), text)
+put_own : (moment : ℕ) (path : Names) (keep : ℕ) (octets : List ℕ) (text : FixedReply) (s : Session) → EndAt s.root s (put_in moment path keep octets s, text) (put_in moment path keep octets (at s.root s), text)
 put_own moment path keep octets text s =
     let new : Table → Table = λ part. installed part path (take keep (octets_or_none part path) ++ octets) moment in
     record {
@@ -201,7 +201,7 @@ put_own moment path keep octets text s =
       connection = refl;
     }
 
-installs_own : (moment : ℕ) (path : Names) (keep : ℕ) (d : Decoder) (text : Text) (s : Session) → EndAt s.root s (installs moment path keep d text s) (installs moment path keep d text (at s.root s))
+installs_own : (moment : ℕ) (path : Names) (keep : ℕ) (d : Decoder) (text : FixedReply) (s : Session) → EndAt s.root s (installs moment path keep d text s) (installs moment path keep d text (at s.root s))
 installs_own moment path keep d text s =
     subst (λ b. EndAt s.root s (installs moment path keep d text s) (if b then (at s.root s, Texts.TooMuch) else (put_in moment path keep d.content (at s.root s), text)))
     (sym (over_own path keep d s)) (by (is_over path keep d s))
@@ -244,7 +244,7 @@ concluded_at root v s one its same own table access top none =
 
 -- ---- the steps of the calls
 
-by_connection : (root : Names) (v : View) (f : DataConnection Transfer → View → View) → StepAt root v (f Data.Free v) (f Data.Free (at_root root v))
+by_connection : (root : Names) (v : View) (f : ServerLink Transfer → View → View) → StepAt root v (f Data.Free v) (f Data.Free (at_root root v))
     → StepAt root v (f v.session.connection v) (f v.session.connection (at_root root v)) → StepAt root v (f (connection_of v.session) v) (f (connection_of v.session) (at_root root v))
 by_connection root v f none one = cond_both v.session.closing Data.Free v.session.connection (λ connection. StepAt root v (f connection v) (f connection (at_root root v))) (λ is. none) (λ is. one)
 
@@ -261,7 +261,7 @@ pub control_end_at : (root : Names) (v : View) → ViewAt root v (control_end v)
 unfolding control_end
 control_end_at root v = record { same = refl; apart = λ path out. refl; held = λ is. absurd (true≢false (sym is)) }
 
-listens_at : (port : ℕ) (connection : DataConnection Transfer) (root : Names) (v : View) → IsHeld root v.session
+listens_at : (port : ℕ) (connection : ServerLink Transfer) (root : Names) (v : View) → IsHeld root v.session
     → StepAt root v (turned (listening_turn connection v.footing port v.session) v) (turned (listening_turn connection v.footing port (at root v.session)) (at_root root v))
 listens_at port (Data.Asked Asking.Pasv) root v held = calm root v (record v.session { connection = Data.Passive }) _ refl refl refl refl
 listens_at port (Data.Asked Asking.Epsv) root v held = calm root v (record v.session { connection = Data.Passive }) _ refl refl refl refl
@@ -276,7 +276,7 @@ pub listening_at : (port : ℕ) (root : Names) (v : View) → IsHeld root v.sess
 listening_at port root v held =
     by_connection root v (λ connection u. turned (listening_turn connection u.footing port u.session) u) (says_at root v [] held) (listens_at port v.session.connection root v held)
 
-unheard_at : (connection : DataConnection Transfer) (root : Names) (v : View) → IsHeld root v.session → StepAt root v (unheard connection v) (unheard connection (at_root root v))
+unheard_at : (connection : ServerLink Transfer) (root : Names) (v : View) → IsHeld root v.session → StepAt root v (unheard connection v) (unheard connection (at_root root v))
 unheard_at (Data.Asked asked) root v held = calm root v (disconnected v.session) _ refl refl refl refl
 unheard_at Data.Free root v held = still root v held
 unheard_at (Data.Active endpoint) root v held = still root v held
@@ -292,7 +292,7 @@ opens_for : (is_peer : Bool) (transfer : Transfer) (root : Names) (v : View) →
 opens_for true transfer root v same = moves_at root v (Data.Transferring transfer) (λ is. same)
 opens_for false transfer root v same = forgets_at Texts.NoConnection root v
 
-opens_at : (connection : DataConnection Transfer) (is_peer : Bool) (root : Names) (v : View) → v.session.connection ≡ connection → IsHeld root v.session
+opens_at : (connection : ServerLink Transfer) (is_peer : Bool) (root : Names) (v : View) → v.session.connection ≡ connection → IsHeld root v.session
     → StepAt root v (opens connection is_peer v) (opens connection is_peer (at_root root v))
 opens_at Data.Passive true root v is held = moves_at root v Data.Ready (λ is. absurd (true≢false (sym is)))
 opens_at Data.Passive false root v is held = leaves_at root v (forgotten v.session) refl refl refl refl
@@ -312,7 +312,7 @@ opened_at host root v held =
     (by_connection root v (λ connection u. opens connection is_peer u) (still root v held) (opens_at v.session.connection is_peer root v refl held))
     (given_out_at w.session.connection root w)
 
-refuses_at : (connection : DataConnection Transfer) (root : Names) (v : View) → IsHeld root v.session → StepAt root v (refuses connection v) (refuses connection (at_root root v))
+refuses_at : (connection : ServerLink Transfer) (root : Names) (v : View) → IsHeld root v.session → StepAt root v (refuses connection v) (refuses connection (at_root root v))
 refuses_at Data.Passive root v held = leaves_at root v (forgotten v.session) refl refl refl refl
 refuses_at (Data.Opening transfer way) root v held = forgets_at Texts.NoConnection root v
 refuses_at Data.Free root v held = still root v held
@@ -324,7 +324,7 @@ refuses_at (Data.Transferring transfer) root v held = still root v held
 pub refused_step_at : (root : Names) (v : View) → IsHeld root v.session → StepAt root v (refused_step v) (refused_step (at_root root v))
 refused_step_at root v held = by_connection root v refuses (still root v held) (refuses_at v.session.connection root v held)
 
-ends_at : (connection : DataConnection Transfer) (root : Names) (v : View) → v.session.connection ≡ connection → IsHeld root v.session → StepAt root v (ends connection v) (ends connection (at_root root v))
+ends_at : (connection : ServerLink Transfer) (root : Names) (v : View) → v.session.connection ≡ connection → IsHeld root v.session → StepAt root v (ends connection v) (ends connection (at_root root v))
 ends_at Data.Ready root v is held = leaves_at root v (disconnected v.session) refl refl refl refl
 ends_at (Data.Transferring transfer) root v is held =
     let s : Session = disconnected v.session in
@@ -338,7 +338,7 @@ ends_at (Data.Opening transfer way) root v is held = still root v held
 pub end_at : (root : Names) (v : View) → IsHeld root v.session → StepAt root v (end_step v) (end_step (at_root root v))
 end_at root v held = by_connection root v ends (still root v held) (ends_at v.session.connection root v refl held)
 
-breaks_at : (connection : DataConnection Transfer) (root : Names) (v : View) → v.session.connection ≡ connection → IsHeld root v.session → StepAt root v (breaks connection v) (breaks connection (at_root root v))
+breaks_at : (connection : ServerLink Transfer) (root : Names) (v : View) → v.session.connection ≡ connection → IsHeld root v.session → StepAt root v (breaks connection v) (breaks connection (at_root root v))
 breaks_at Data.Ready root v is held = leaves_at root v (disconnected v.session) refl refl refl refl
 breaks_at (Data.Transferring transfer) root v is held =
     let s : Session = disconnected v.session in
@@ -352,7 +352,7 @@ breaks_at (Data.Opening transfer way) root v is held = still root v held
 pub break_at : (root : Names) (v : View) → IsHeld root v.session → StepAt root v (break_step v) (break_step (at_root root v))
 break_at root v held = by_connection root v breaks (still root v held) (breaks_at v.session.connection root v refl held)
 
-takes_given_at : (count : ℕ) (connection : DataConnection Transfer) (root : Names) (v : View) → v.session.connection ≡ connection → IsHeld root v.session
+takes_given_at : (count : ℕ) (connection : ServerLink Transfer) (root : Names) (v : View) → v.session.connection ≡ connection → IsHeld root v.session
     → StepAt root v (takes_given connection count v) (takes_given connection count (at_root root v))
 takes_given_at count (Data.Transferring (Transfers.Download rest)) root v is held = moves_at root v (Data.Transferring (Transfers.Download _)) (λ _. held (ap is_transferring is))
 takes_given_at count (Data.Transferring (Transfers.Listing rest)) root v is held = moves_at root v (Data.Transferring (Transfers.Listing _)) (λ _. held (ap is_transferring is))
@@ -379,19 +379,19 @@ grown_at path keep d root s same =
     subst (λ r. grown path keep d (at r s) ≡ grown path keep d s) same
     (ap (λ b. if b then Data.Transferring Transfers.OverLimit else Data.Transferring (Transfers.Upload path keep d)) (over_own path keep d s))
 
-said_at : (connection : DataConnection Transfer) (said : Said) (root : Names) (v : View) → v.session.connection ≡ connection → IsHeld root v.session
+said_at : (connection : ServerLink Transfer) (said : Said) (root : Names) (v : View) → v.session.connection ≡ connection → IsHeld root v.session
     → StepAt root v (takes_said connection said v) (takes_said connection said (at_root root v))
 said_at (Data.Transferring (Transfers.Upload path keep d)) (says sign) root v is held =
     let same : v.session.root ≡ root = held (ap is_transferring is) in
-    let c : DataConnection Transfer = grown path keep (with_sign d sign) v.session in
+    let c : ServerLink Transfer = grown path keep (with_sign d sign) v.session in
     let step = moves_at root v c (λ _. same) in
     record {
-      is = record { same = ap (λ (g : DataConnection Transfer). with_connection g (at_root root v)) (grown_at path keep (with_sign d sign) root v.session same); apart = step.is.apart; held = step.is.held };
+      is = record { same = ap (λ (g : ServerLink Transfer). with_connection g (at_root root v)) (grown_at path keep (with_sign d sign) root v.session same); apart = step.is.apart; held = step.is.held };
       access = refl;
       top = refl;
     }
 said_at (Data.Transferring (Transfers.Upload path keep d)) (marker text) root v is held =
-    let c : DataConnection Transfer = Data.Transferring (Transfers.Upload path keep d) in
+    let c : ServerLink Transfer = Data.Transferring (Transfers.Upload path keep d) in
     record { is = record { same = refl; apart = λ path out. refl; held = λ _. held (ap is_transferring is) }; access = refl; top = refl }
 said_at (Data.Transferring Transfers.OverLimit) said root v is held = still root v held
 said_at (Data.Transferring (Transfers.Download rest)) said root v is held = still root v held
@@ -412,11 +412,11 @@ all_at (said ∷ rest) root v held =
 octet_at : (fault : Option FrameFault) (path : Names) (keep : ℕ) (d : Decoder) (said : List Said) (root : Names) (v : View) → v.session.root ≡ root
     → StepAt root v (takes_octet fault path keep d said v) (takes_octet fault path keep d said (at_root root v))
 octet_at None path keep d said root v same =
-    let c : DataConnection Transfer = Data.Transferring (Transfers.Upload path keep d) in
+    let c : ServerLink Transfer = Data.Transferring (Transfers.Upload path keep d) in
     more root v (with_connection c v) (with_connection c (at_root root v)) (takes_all said) (moves_at root v c (λ _. same)) (all_at said root (with_connection c v))
 octet_at (Some fault) path keep d said root v same = forgets_at Texts.LocalFault root v
 
-data_at : (connection : DataConnection Transfer) (octet : ℕ) (root : Names) (v : View) → v.session.connection ≡ connection → IsHeld root v.session
+data_at : (connection : ServerLink Transfer) (octet : ℕ) (root : Names) (v : View) → v.session.connection ≡ connection → IsHeld root v.session
     → StepAt root v (takes_data connection octet v) (takes_data connection octet (at_root root v))
 data_at (Data.Transferring (Transfers.Upload path keep d)) octet root v is held =
     octet_at (fault_of (read_on d octet)) path keep (read_on d octet) (octet_says d octet) root v (held (ap is_transferring is))
@@ -437,7 +437,7 @@ receives_at octet root v held =
 
 -- ---- ABOR during a transfer
 
-aborts_at : (connection : DataConnection Transfer) (root : Names) (v : View) → v.session.connection ≡ connection → IsHeld root v.session → StepAt root v (aborts connection v) (aborts connection (at_root root v))
+aborts_at : (connection : ServerLink Transfer) (root : Names) (v : View) → v.session.connection ≡ connection → IsHeld root v.session → StepAt root v (aborts connection v) (aborts connection (at_root root v))
 aborts_at (Data.Transferring transfer) root v is held =
     let s : Session = forgotten v.session in
     concluded_at root v s (at_break v.footing.moment transfer s) (λ r. at_break v.footing.moment transfer (at r s)) (held (ap is_transferring is)) (break_own v.footing.moment transfer s) refl refl refl refl
@@ -455,5 +455,5 @@ abort_at root v held =
     more root v w (aborts v.session.connection (at_root root v)) abort_said (aborts_at v.session.connection root v refl held) (says_at root w _)
 
 -- a line waits
-pub waits_at : (heard : Heard (List ℕ)) (root : Names) (v : View) → IsHeld root v.session → StepAt root v (record v { waiting = Some heard }) (record (at_root root v) { waiting = Some heard })
+pub waits_at : (heard : HeardLine (List ℕ)) (root : Names) (v : View) → IsHeld root v.session → StepAt root v (record v { waiting = Some heard }) (record (at_root root v) { waiting = Some heard })
 waits_at heard root v held = record { is = record { same = refl; apart = λ path out. refl; held = held }; access = refl; top = refl }

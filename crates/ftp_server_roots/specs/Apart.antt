@@ -4,12 +4,12 @@ use Rattle.std.specs.Prelude.{◌≡◌, ℕ, false, true, List}
 use Rattle.ftp_endpoint.specs.declared.host.Host.{Host}
 use Rattle.ftp_path.specs.Path.{Names, is_within}
 use Rattle.ftp_tree.specs.Tree.{Table, node_at}
-use Rattle.ftp_server_machine.specs.Calls.{break_step, clock_step, close_step, control_end, control_step, end_step, given_step, listening_step, may_receive, no_port_step, opened_step, refused_step, start, to_give, wants}
-use Rattle.ftp_server_machine.specs.Failing.{EndFails, GiveFails}
-use Rattle.ftp_server_machine.specs.Far.{Acts, Hears, Receives, Server, Steps}
-use Rattle.ftp_server_machine.specs.Machine.{IsReading, Reading, is_transferring, may_hear}
-use Rattle.ftp_server_machine.specs.Play.{HearsAt, IsAt, at_root, only_at}
-use Rattle.ftp_server_machine.specs.View.{Accounts, View}
+use Rattle.ftp_server_model.specs.Calls.{break_step, clock_step, close_step, control_end, control_step, end_step, given_step, listening_step, may_receive, no_port_step, opened_step, refused_step, start, to_give, wants}
+use Rattle.ftp_server_model.specs.Failing.{EndFails, GiveFails}
+use Rattle.ftp_server_model.specs.Far.{Acts, Hears, Receives, Server, Steps}
+use Rattle.ftp_server_model.specs.Machine.{IsReading, Reading, is_transferring, may_hear}
+use Rattle.ftp_server_model.specs.Play.{HearsAt, IsAt, at_root, only_at}
+use Rattle.ftp_server_model.specs.View.{Accounts, View}
 
 -- a view, and the same at the root: whoever is logged in has that root, and so has whose transfer stands
 pub record IsCopy (root : Names) (v its : View) : Type 0 where

@@ -1,5 +1,5 @@
 //! What an account's root keeps apart: functions that do nothing, whose contracts are laws.
-ghost use Rattle.ftp_server_machine.specs.Play.{RootsAreApart};
+ghost use Rattle.ftp_server_model.specs.Play.{RootsAreApart};
 ghost use Rattle.ftp_server_roots.specs.Apart.{CallsStayApart, CopiesLookAlike, StartsAreCopies};
 
 /// Whatever is called, hostile octets too: where each login that succeeds is to one root, nothing outside of it changes, and what the calls

@@ -1,9 +1,9 @@
 -- What the program has done for a command line, between a reader and two writers, of which the second is told the fault of a wire.
 use Rattle.std.specs.Prelude.{ℕ, List, [], Option}
 use Rattle.std.specs.Io.KnownBytes.{Appends}
-use Rattle.ftp_dialogue.specs.Converses.{Converses, BreaksOff as DialogueBreaksOff, most_of}
-use Rattle.ftp_programs.specs.Direction.{Goes, GoesFront}
-use Rattle.ftp_programs.specs.FactLines.{TellsAll, TellsFront}
+use Rattle.ftp_tool_dialogue.specs.Converses.{Converses, BreaksOff as DialogueBreaksOff, most_of}
+use Rattle.ftp_tool_files.specs.Direction.{Goes, GoesFront}
+use Rattle.ftp_tool_files.specs.FactLines.{TellsAll, TellsFront}
 use Rattle.ftp_tool.specs.declared.task.Task.{Task}
 use Rattle.ftp_tool.specs.declared.task.Task.TheVariants.{Dialogue, Facts, Frame}
 

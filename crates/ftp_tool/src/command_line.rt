@@ -7,7 +7,7 @@ use crate::serving::SERVE;
 use crate::task::Task;
 use crate::words::{Form, Subcommand, Word, subcommand_of};
 use clap::{ArgMatches, Command};
-use ftp_programs::{Direction, Representation, number_of, representation_of};
+use ftp_tool_files::{Direction, Representation, number_of, representation_of};
 use std::alloc::{AllocError, Global};
 
 /// The subcommands between the standard streams, and the one that has both ends.

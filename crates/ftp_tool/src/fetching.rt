@@ -2,9 +2,9 @@
 use crate::help;
 use crate::words::{Form, Subcommand, Word};
 use clap::ArgMatches;
-use ftp_fetch::{Asked, Download, Task, place_of};
 use ftp_operation::How;
-use ftp_programs::representation_of;
+use ftp_tool_fetch::{Download, Target, Task, place_of};
+use ftp_tool_files::representation_of;
 
 /// The words of `get`.
 pub const GET: Subcommand<'static> = Subcommand {
@@ -113,8 +113,8 @@ pub fn is_one(name: &str) -> bool {
 }
 
 /// What is asked of which server; none where a value is none of its option. At a terminal progress is told.
-pub fn asked_of<'a>(words: &'a ArgMatches<'_>, is_terminal: bool) -> Option<Asked<'a>> {
-    Some(Asked {
+pub fn asked_of<'a>(words: &'a ArgMatches<'_>, is_terminal: bool) -> Option<Target<'a>> {
+    Some(Target {
         place: place_of(words.get_str("place")?)?,
         user: words.get_str("user")?,
         password_file: words.get_str("password-file"),
@@ -140,7 +140,7 @@ fn how_of(words: &ArgMatches<'_>) -> Option<How> {
 pub fn fetch_task_of<'a>(
     name: &str,
     words: &'a ArgMatches<'_>,
-    asked: &Asked<'a>,
+    asked: &Target<'a>,
 ) -> Option<Task<'a>> {
     if name == "ls" {
         return Some(Task::List);

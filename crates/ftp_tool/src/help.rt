@@ -51,7 +51,7 @@ pub const RUN: &str = "\
 Input: a script, lines with LF at their ends. The first is login USER PASS; each other says an operation, as where, cd P, put H P T,
 upload H P T or get H P. P and T are fields: octets 33 to 126, with \\s for SP, \\n for LF, \\r for CR, \\\\ for a backslash, \\xHH for any
 octet, and \\e alone for none. H is type, structure, mode, p passive or a active, n plain or e extended, as IFSpn. The README of
-ftp_script has each form. Everything goes in cleartext, passwords too.
+ftp_tool_script has each form. Everything goes in cleartext, passwords too.
 Output: the report of each operation, once it is done, as done, octets T or refused 550; all go over one control connection.
 Status: 0 done; 1 an operation was refused, could not be sent or broke; 2 bad command line, or a line of the script fits no form, and then
 nothing is sent; 3 the control connection or a device failed, or memory was refused.

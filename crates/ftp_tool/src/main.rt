@@ -77,7 +77,7 @@ where
 {
     match words.subcommand() {
         Some(("serve", words)) => serve(rt, words),
-        Some(("loop", _)) => Ok(ftp_loop::play(rt)?.number()),
+        Some(("loop", _)) => Ok(ftp_tool_loop::play(rt)?.number()),
         Some(("run", words)) => run_script(rt, words),
         Some((name, words)) if fetching::is_one(name) => {
             fetch(rt, name, words, faults.is_terminal())
@@ -115,7 +115,7 @@ where
         + Net<Listener = TcpListener, Stream = TcpStream>,
 {
     match serving::serving_of(words) {
-        Some(job) => Ok(ftp_serve::serve(rt, job)?.number()),
+        Some(job) => Ok(ftp_tool_serve::serve(rt, job)?.number()),
         None => bad_words(rt),
     }
 }
@@ -131,7 +131,7 @@ where
         + Net<Listener = TcpListener, Stream = TcpStream>,
 {
     match running::server_of(words) {
-        Some((host, port)) => Ok(ftp_fetch::run(rt, host, port)?.number()),
+        Some((host, port)) => Ok(ftp_tool_fetch::run(rt, host, port)?.number()),
         None => bad_words(rt),
     }
 }
@@ -151,7 +151,7 @@ where
         return bad_words(rt);
     };
     match fetching::fetch_task_of(name, words, &asked) {
-        Some(task) => Ok(ftp_fetch::fetch(rt, &asked, task)?.number()),
+        Some(task) => Ok(ftp_tool_fetch::fetch(rt, &asked, task)?.number()),
         None => bad_words(rt),
     }
 }

@@ -2,7 +2,7 @@
 use crate::help;
 use crate::words::{Form, Subcommand, Word};
 use clap::ArgMatches;
-use ftp_programs::number_of;
+use ftp_tool_files::number_of;
 
 /// The words of `run`.
 pub const RUN: Subcommand<'static> = Subcommand {

@@ -2,8 +2,8 @@
 use crate::help;
 use crate::words::{Form, Subcommand, Word};
 use clap::ArgMatches;
-use ftp_programs::number_of;
-use ftp_serve::{Log, Serving, Sessions};
+use ftp_tool_files::number_of;
+use ftp_tool_serve::{Log, Serving, Sessions};
 
 /// The words of `serve`.
 pub const SERVE: Subcommand<'static> = Subcommand {

@@ -2,8 +2,8 @@
 ghost use Rattle.std.specs.Prelude.{◌≡◌, ◌≢◌};
 ghost use Rattle.ftp_tool.specs.Task.{Does, BreaksOff};
 
-use ftp_dialogue::dialogue;
-use ftp_programs::{Direction, Representation, facts, frame};
+use ftp_tool_dialogue::dialogue;
+use ftp_tool_files::{Direction, Representation, facts, frame};
 use std::alloc::Allocator;
 use std::io::{Read, Write};
 

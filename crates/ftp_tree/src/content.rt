@@ -4,8 +4,8 @@ ghost use Rattle.ftp_tree.specs.Tree.{front_refusal, octets_or_none, under};
 
 use crate::fault::TreeFault;
 use crate::tree::Tree;
-use ftp_pages::Pages;
 use ftp_path::Path;
+use ftp_tree_pages::Pages;
 use std::alloc::{AllocError, Allocator};
 use std::marker::Model;
 

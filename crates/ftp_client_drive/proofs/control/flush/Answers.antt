@@ -1,6 +1,6 @@
 use Rattle.std.proofs.Common.{◌≡◌, ◌∙◌, subst, length, rules}
-use Rattle.ftp_client_machine.specs.Calls.{gives_control}
-use Rattle.ftp_client_machine.specs.Failing.{Holds}
+use Rattle.ftp_client_model.specs.Calls.{gives_control}
+use Rattle.ftp_client_model.specs.Failing.{Holds}
 use Rattle.ftp_client_drive.specs.Beside.{beside}
 use Rattle.ftp_client_drive.specs.Deeds.{Said}
 use Rattle.ftp_client_drive.proofs.Leading.{leads_nowhere, leads_on, fails_here}

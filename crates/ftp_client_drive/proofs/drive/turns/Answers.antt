@@ -1,7 +1,7 @@
 use Rattle.std.proofs.Common.{◌≡◌, subst}
 use Rattle.std.specs.Option.{option_map}
 use Rattle.ftp_operation.specs.Answer.{said_of}
-use Rattle.ftp_client_machine.specs.Calls.{report_of}
+use Rattle.ftp_client_model.specs.Calls.{report_of}
 use Rattle.ftp_client_drive.specs.Beside.{beside}
 use Rattle.ftp_client_drive.proofs.Leading.{fails_here, fails_then, leads_nowhere, leads_then}
 use Rattle.ftp_client_drive.proofs.Going.{answers_err}

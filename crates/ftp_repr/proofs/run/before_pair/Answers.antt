@@ -1,7 +1,7 @@
 use Rattle.std.proofs.Common.{◌+◌, ◌≤◌, ℕ, List, length, take, drop, ap, subst, arith}
 use Rattle.ftp_repr.specs.Runs.{IsRun, is_changed}
-use Rattle.ftp_representation.specs.declared.representation.Kind.TheVariants.{Ascii}
-use Rattle.ftp_representation.specs.declared.representation.Structure.TheVariants.{File}
+use Rattle.ftp_settings.specs.declared.representation.Kind.TheVariants.{Ascii}
+use Rattle.ftp_settings.specs.declared.representation.Structure.TheVariants.{File}
 use Rattle.ftp_repr.proofs.LineEndLemmas.{run_behind, run_in_front, passed_more}
 use Rattle.ftp_repr.proofs.run.before_pair.Goals as goal
 

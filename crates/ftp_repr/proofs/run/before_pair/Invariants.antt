@@ -1,8 +1,8 @@
 use Rattle.std.proofs.Common.{◌≡◌, ◌-◌, ◌≤◌, false, length, take}
 use Rattle.std.specs.List.{AllByRecursion}
 use Rattle.ftp_repr.specs.Runs.{is_changed}
-use Rattle.ftp_representation.specs.declared.representation.Kind.TheVariants.{Ascii}
-use Rattle.ftp_representation.specs.declared.representation.Structure.TheVariants.{File}
+use Rattle.ftp_settings.specs.declared.representation.Kind.TheVariants.{Ascii}
+use Rattle.ftp_settings.specs.declared.representation.Structure.TheVariants.{File}
 use Rattle.ftp_repr.proofs.run.before_pair.Given as goal
 
 abbrev pub invariant-loop-at : goal.invariant-loop-at

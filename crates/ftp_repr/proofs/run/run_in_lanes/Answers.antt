@@ -3,8 +3,8 @@ use Rattle.std.specs.List.{prefix_len}
 use Rattle.std.proofs.Math.Bool.{not}
 use Rattle.std.proofs.lemmas.List.{length-take-le}
 use Rattle.ftp_repr.specs.Runs.{IsRun, is_changed}
-use Rattle.ftp_representation.specs.declared.representation.Kind.TheVariants.{Ascii}
-use Rattle.ftp_representation.specs.declared.representation.Structure.TheVariants.{File}
+use Rattle.ftp_settings.specs.declared.representation.Kind.TheVariants.{Ascii}
+use Rattle.ftp_settings.specs.declared.representation.Structure.TheVariants.{File}
 use Rattle.ftp_repr.proofs.LineEndLemmas.{run_is, either_len, first_lane}
 use Rattle.ftp_repr.proofs.run.run_in_lanes.Goals as goal
 

@@ -1,6 +1,6 @@
 use Rattle.std.proofs.Common.{◌≡◌, length, ap, subst, sym}
 use Rattle.ftp_repr.specs.Signs.{wire_row}
-use Rattle.ftp_representation.specs.declared.representation.Kind.{Kind}
+use Rattle.ftp_settings.specs.declared.representation.Kind.{Kind}
 use Rattle.ftp_repr.proofs.ContentLemmas.{image_row}
 use Rattle.ftp_repr.proofs.size.wire_size.Goals as goal
 

@@ -1,7 +1,7 @@
 use Rattle.std.proofs.Common.{◌≡◌, ℕ, List, suc, ◌+◌, ◌<◌, length, drop, ap, subst, ◌∙◌, arith}
 use Rattle.std.proofs.lemmas.List.{length-drop}
 use Rattle.ftp_repr.proofs.SkipLemmas.{goes, IsPlain, run_place, run_goes, pair_goes, pair_inside, goes_cut, place_cut, inside_cut}
-use Rattle.ftp_representation.specs.declared.representation.Kind.TheVariants.{Ascii}
+use Rattle.ftp_settings.specs.declared.representation.Kind.TheVariants.{Ascii}
 use Rattle.ftp_repr.proofs.skipping.skip_lines.Goals as goal
 
 pub returns-then-more-run : goal.returns-then-more-run

@@ -1,6 +1,6 @@
 use Rattle.std.proofs.Common.{length, ◌-◌, ◌≡◌, ◌+◌, ◌≤◌, take}
 use Rattle.ftp_repr.specs.Signs.{wire_row}
-use Rattle.ftp_representation.specs.declared.representation.Kind.TheVariants.{Ascii}
+use Rattle.ftp_settings.specs.declared.representation.Kind.TheVariants.{Ascii}
 use Rattle.ftp_repr.proofs.skipping.skip_lines.Given as goal
 
 abbrev pub invariant-loop-at : goal.invariant-loop-at

@@ -4,8 +4,8 @@ use Rattle.ftp_direct.specs.Direct.{entry_at}
 use Rattle.ftp_direct.proofs.ListingLemmas.{entry_dir, entry_file}
 use Rattle.ftp_ends.specs.Reply.{reply_octets}
 use Rattle.ftp_operation.specs.Answer.{Listed}
-use Rattle.ftp_server_machine.specs.Entries.{listed_line}
-use Rattle.ftp_server_machine.specs.declared.session.Facts.{Facts}
+use Rattle.ftp_server_model.specs.Entries.{listed_line}
+use Rattle.ftp_server_model.specs.declared.session.Facts.{Facts}
 use Rattle.ftp_tree.specs.Tree.{under}
 use Rattle.ftp_server.proofs.entry.say_entry.Goals as goal
 

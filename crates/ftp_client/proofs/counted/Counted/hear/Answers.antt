@@ -1,14 +1,14 @@
 use Rattle.std.proofs.Common.{◌∙◌, ◌<◌, length, slice_index, sym, ap, subst, arith}
 use Rattle.std.specs.Prelude.{IsTrue}
-use Rattle.ftp_client_machine.specs.Calls.{hears_octet, may_hear}
-use Rattle.ftp_client_machine.specs.View.{View}
+use Rattle.ftp_client_model.specs.Calls.{hears_octet, may_hear}
+use Rattle.ftp_client_model.specs.View.{View}
 use Rattle.ftp_client.specs.Counted.{counted_of}
 use Rattle.ftp_client.proofs.HeardLemmas.{hears_next, may_more, ok_at}
 use Rattle.ftp_client.proofs.counted.Counted.hear.Goals as goal
 
 pub loop-taken-preserved : goal.loop-taken-preserved
 loop-taken-preserved g c =
-    let v : View = (counted_of g.F.Carries.flow c.args.self.now).view in
+    let v : View = (counted_of g.F.ClientTransfer.flow c.args.self.now).view in
     let n = c.loop-taken.taken in
     let piece = c.args.piece.now in
     let less : n < length piece = omega (arith, c.loop-taken-test.true) in

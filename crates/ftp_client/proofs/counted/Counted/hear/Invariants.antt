@@ -1,5 +1,5 @@
 use Rattle.std.proofs.Common.{◌≡◌, ◌-◌, ◌≤◌, length, take}
-use Rattle.ftp_client_machine.specs.Calls.{hears, MayHear}
+use Rattle.ftp_client_model.specs.Calls.{hears, MayHear}
 use Rattle.ftp_client.specs.Counted.{counted_of}
 use Rattle.ftp_client.proofs.counted.Counted.hear.Given as goal
 
@@ -7,8 +7,8 @@ abbrev pub invariant-loop-taken : goal.invariant-loop-taken
 invariant-loop-taken g l = record {
   within : l.taken ≤ length l.piece;
   count : l.self.refusals ≡ l.fn.self.refusals;
-  view : (counted_of g.F.Carries.flow l.self).view ≡ hears (counted_of g.F.Carries.flow l.fn.self).view (take l.taken l.piece);
-  may : MayHear (counted_of g.F.Carries.flow l.fn.self).view l.piece l.taken;
+  view : (counted_of g.F.ClientTransfer.flow l.self).view ≡ hears (counted_of g.F.ClientTransfer.flow l.fn.self).view (take l.taken l.piece);
+  may : MayHear (counted_of g.F.ClientTransfer.flow l.fn.self).view l.piece l.taken;
 }
 
 abbrev pub decreases-loop-taken : goal.decreases-loop-taken

@@ -1,6 +1,6 @@
 use Rattle.std.proofs.Common.{◌≡◌, ◌++◌, ◌+◌, ◌<◌, List, ℕ, [], length, take, drop, get_or, refl, sym, ap, subst, ◌∙◌, arith, inl, inr, append-nil}
 use Rattle.std.proofs.lemmas.List.{length-take-le}
-use Rattle.ftp_framer.specs.Said.{Said}
+use Rattle.ftp_mode.specs.Said.{Said}
 use Rattle.ftp_mode.specs.Deframing.{reading, owed, last_marker, part_said, gave_said, Moves, Refuses, SaysLast}
 use Rattle.ftp_mode.proofs.BiteLemmas.{next_bite, next_within, next_last, last_more, one_last, heard, same_going, owes_some, refused_at}
 use Rattle.ftp_mode.proofs.deframer.Deframer.feed.Goals as goal

@@ -1,8 +1,8 @@
 use Rattle.std.proofs.Common.{◌≡◌, ◌++◌, ◌+◌, ◌-◌, ◌<◌, List, [], length, take, sym, ap, subst, ◌∙◌, append-nil, arith}
 use Rattle.std.proofs.lemmas.List.{length-take-le}
-use Rattle.ftp_framer.specs.Said.{Said, octets_said}
-use Rattle.ftp_framer.specs.Block.{ends_of}
-use Rattle.ftp_framer.specs.Count.{count_on}
+use Rattle.ftp_mode.specs.Said.{Said, octets_said}
+use Rattle.ftp_mode.specs.Block.{ends_of}
+use Rattle.ftp_mode.specs.Count.{count_on}
 use Rattle.ftp_mode.specs.Deframing.{reading, reading_of, owed, owed_said, last_marker, Moves}
 use Rattle.ftp_mode.specs.declared.deframer.State.TheVariants.{Inside}
 use Rattle.ftp_mode.proofs.BiteLemmas.{short_moves, full_moves, closed_going, run_last, inside_gives}

@@ -1,7 +1,7 @@
 use Rattle.std.proofs.Common.{◌≡◌, ◌++◌, ◌<◌, List, [], length, take, sym, ap, subst, ◌∙◌, append-nil, arith, inl}
 use Rattle.std.proofs.lemmas.List.{length-take-le}
-use Rattle.ftp_framer.specs.Said.{Said, octets_said}
-use Rattle.ftp_framer.specs.Count.{count_on}
+use Rattle.ftp_mode.specs.Said.{Said, octets_said}
+use Rattle.ftp_mode.specs.Count.{count_on}
 use Rattle.ftp_mode.specs.Deframing.{reading, owed, owed_said, last_marker, Moves}
 use Rattle.ftp_mode.proofs.BiteLemmas.{outside_moves, going_by, run_last, outside_gives}
 use Rattle.ftp_mode.proofs.deframer.Deframer.outside.Goals as goal

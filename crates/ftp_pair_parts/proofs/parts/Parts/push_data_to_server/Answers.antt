@@ -1,6 +1,6 @@
 use Rattle.std.proofs.Common.{sym, ◌∙◌, ap, arith}
 use Rattle.std.specs.Prelude.{min}
-use Rattle.ftp_server_machine.specs.Far.{counts_told}
+use Rattle.ftp_server_model.specs.Far.{counts_told}
 use Rattle.ftp_pair_parts.specs.Shown.{shown}
 use Rattle.ftp_pair_parts.proofs.Taking.{far_data_takes}
 use Rattle.ftp_pair_parts.proofs.parts.Parts.push_data_to_server.Goals as goal

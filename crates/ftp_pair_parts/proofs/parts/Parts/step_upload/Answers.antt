@@ -1,5 +1,5 @@
 use Rattle.std.proofs.Common.{sym, ◌∙◌}
-use Rattle.ftp_client_machine.specs.Tries.{over_breaks}
+use Rattle.ftp_client_model.specs.Tries.{over_breaks}
 use Rattle.ftp_pair_parts.specs.Shown.{shown}
 use Rattle.ftp_pair_parts.proofs.Beginning.{uploaded}
 use Rattle.ftp_pair_parts.proofs.parts.Parts.step_upload.Goals as goal

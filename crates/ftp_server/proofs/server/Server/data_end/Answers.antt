@@ -1,5 +1,5 @@
-use Rattle.ftp_server_machine.specs.Calls.{connection_of, end_step}
-use Rattle.ftp_server_machine.specs.Failing.{EndFails}
+use Rattle.ftp_server_model.specs.Calls.{connection_of, end_step}
+use Rattle.ftp_server_model.specs.Failing.{EndFails}
 use Rattle.ftp_server.proofs.DataLemmas.{install_fails, steps}
 use Rattle.ftp_server.proofs.HearLemmas.{on_err}
 use Rattle.ftp_server.specs.Server.{server_of, view_of}
@@ -7,7 +7,7 @@ use Rattle.ftp_server.proofs.server.Server.data_end.Goals as goal
 
 pub returns : goal.returns
 returns g c =
-    let table = g.T.Tree.table in let failures = g.T.Tree.failures in let view = g.J.Moves.view in
+    let table = g.T.Tree.table in let failures = g.T.Tree.failures in let view = g.J.ServerTransfer.view in
     let r = c.end_transfer-ended in let v = view_of table view c.args.self.now in let w = view_of table view r.new.self in
     steps EndFails end_step (server_of table failures view c.args.self.now) (server_of table failures view r.new.self) (server_of table failures view c.settle_behind.new.self)
     c.device_failures-failures.result r.result c.device_failures-failures.ensures r.ensures.refusals r.ensures.done r.ensures.steady

@@ -1,5 +1,5 @@
 use Rattle.std.proofs.Common.{◌≡◌, ◌∙◌, sym, take}
-use Rattle.ftp_server_machine.specs.Failing.{Counts}
+use Rattle.ftp_server_model.specs.Failing.{Counts}
 use Rattle.ftp_server.proofs.DataLemmas.{received}
 use Rattle.ftp_server.proofs.HearLemmas.{on_both, on_err}
 use Rattle.ftp_server.specs.Server.{counts_of, server_of, view_of}
@@ -7,7 +7,7 @@ use Rattle.ftp_server.proofs.server.Server.data_hear.Goals as goal
 
 pub returns-clause-took : goal.returns-clause-took
 returns-clause-took g c =
-    let table = g.T.Tree.table in let failures = g.T.Tree.failures in let view = g.J.Moves.view in
+    let table = g.T.Tree.table in let failures = g.T.Tree.failures in let view = g.J.ServerTransfer.view in
     let r = c.receive-taken.result.outcome in let mid = c.receive-taken.new.self in
     let before : Counts = record { refusals = mid.refusals; failures = c.device_failures-failures.result } in
     let same : before ≡ counts_of failures c.args.self.now = λ i. record { refusals = c.receive-taken.ensures.refusals i; failures = c.device_failures-failures.ensures i } in

@@ -1,13 +1,13 @@
 use Rattle.std.proofs.Common.{ap}
-use Rattle.ftp_server_machine.specs.Calls.{given_step}
-use Rattle.ftp_server_machine.specs.Failing.{GiveFails}
+use Rattle.ftp_server_model.specs.Calls.{given_step}
+use Rattle.ftp_server_model.specs.Failing.{GiveFails}
 use Rattle.ftp_server.proofs.DataLemmas.{not_failed, on_any, steps}
 use Rattle.ftp_server.specs.Server.{server_of}
 use Rattle.ftp_server.proofs.server.Server.data_out.Goals as goal
 
 pub returns-clause-now : goal.returns-clause-now
 returns-clause-now g c =
-    let table = g.T.Tree.table in let failures = g.T.Tree.failures in let view = g.J.Moves.view in
+    let table = g.T.Tree.table in let failures = g.T.Tree.failures in let view = g.J.ServerTransfer.view in
     let r = c.give-given in
     steps (GiveFails r.result.count) (given_step r.result.count) (server_of table failures view c.args.self.now) (server_of table failures view r.new.self) (server_of table failures view c.settle_behind.new.self)
     c.device_failures-failures.result r.result.outcome c.device_failures-failures.ensures (ap (λ n. n.refusals) r.ensures.steady) r.ensures.done (on_any r.result.outcome r.ensures.steady)
@@ -15,7 +15,7 @@ returns-clause-now g c =
 
 pub returns-clause-some : goal.returns-clause-some
 returns-clause-some g c = λ same.
-    let table = g.T.Tree.table in let failures = g.T.Tree.failures in let view = g.J.Moves.view in
+    let table = g.T.Tree.table in let failures = g.T.Tree.failures in let view = g.J.ServerTransfer.view in
     let r = c.give-given in
     not_failed r.result.outcome c.device_failures-failures.result (server_of table failures view c.args.self.now) (server_of table failures view r.new.self)
     (server_of table failures view c.settle_behind.new.self) c.device_failures-failures.ensures (ap (λ n. n.refusals) r.ensures.steady) c.settle_behind.ensures same r.ensures.some

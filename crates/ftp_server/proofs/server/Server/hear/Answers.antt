@@ -1,5 +1,5 @@
 use Rattle.std.proofs.Common.{◌≡◌, ◌∙◌, subst, sym, take}
-use Rattle.ftp_server_machine.specs.Failing.{Counts}
+use Rattle.ftp_server_model.specs.Failing.{Counts}
 use Rattle.ftp_server.proofs.CallLemmas.{took, unfailed}
 use Rattle.ftp_server.proofs.HearLemmas.{on_both, on_err}
 use Rattle.ftp_server.specs.HearsTo.{IsMost}
@@ -8,7 +8,7 @@ use Rattle.ftp_server.proofs.server.Server.hear.Goals as goal
 
 pub returns-clause-took : goal.returns-clause-took
 returns-clause-took g c =
-    let table = g.T.Tree.table in let failures = g.T.Tree.failures in let view = g.J.Moves.view in
+    let table = g.T.Tree.table in let failures = g.T.Tree.failures in let view = g.J.ServerTransfer.view in
     let r = c.hear_octets-taken.result.outcome in let mid = c.hear_octets-taken.new.self in
     let before : Counts = record { refusals = mid.refusals; failures = c.device_failures-failures.result } in
     let same : before ≡ counts_of failures c.args.self.now = λ i. record { refusals = c.hear_octets-taken.ensures.refusals i; failures = c.device_failures-failures.ensures i } in

@@ -5,15 +5,15 @@ use Rattle.ftp_server.proofs.server.Server.hear_line.Goals as goal
 
 pub returns-then-is_abort-clause-done : goal.returns-then-is_abort-clause-done
 returns-then-is_abort-clause-done g c =
-    let v = view_of g.T.Tree.table g.J.Moves.view c.args.self.now in
+    let v = view_of g.T.Tree.table g.J.ServerTransfer.view c.args.self.now in
     on_ok c.abort.result (λ e. e ∙ line_aborts c.args.heard v (sym c.is_abort.ensures.is ∙ c.if-is_abort.true)) c.abort.ensures.done
 
 pub returns-then-is_abort-clause-lost : goal.returns-then-is_abort-clause-lost
 returns-then-is_abort-clause-lost g c =
-    let v = view_of g.T.Tree.table g.J.Moves.view c.args.self.now in let w = view_of g.T.Tree.table g.J.Moves.view c.abort.new.self in
+    let v = view_of g.T.Tree.table g.J.ServerTransfer.view c.args.self.now in let w = view_of g.T.Tree.table g.J.ServerTransfer.view c.abort.new.self in
     on_err c.abort.result (λ h. abort_fails c.args.heard v w (sym c.is_abort.ensures.is ∙ c.if-is_abort.true) h) c.abort.ensures.lost
 
 pub returns-clause-done : goal.returns-clause-done
 returns-clause-done g c =
-    let v = view_of g.T.Tree.table g.J.Moves.view c.args.self.now in
+    let v = view_of g.T.Tree.table g.J.ServerTransfer.view c.args.self.now in
     on_ok c.later.result (λ e. e ∙ line_waits c.args.heard v (sym c.is_abort.ensures.is ∙ c.if-is_abort.false)) c.later.ensures.done

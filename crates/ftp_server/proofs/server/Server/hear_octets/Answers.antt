@@ -5,8 +5,8 @@ use Rattle.ftp_server.proofs.server.Server.hear_octets.Goals as goal
 
 pub returns-then-is_err-clause-lost : goal.returns-then-is_err-clause-lost
 returns-then-is_err-clause-lost g c =
-    let v = view_of g.T.Tree.table g.J.Moves.view c.args.self.now in let x = view_of g.T.Tree.table g.J.Moves.view c.loop-octet.self in
-    let w = view_of g.T.Tree.table g.J.Moves.view c.hear_octet-outcome.new.self in
+    let v = view_of g.T.Tree.table g.J.ServerTransfer.view c.args.self.now in let x = view_of g.T.Tree.table g.J.ServerTransfer.view c.loop-octet.self in
+    let w = view_of g.T.Tree.table g.J.ServerTransfer.view c.hear_octet-outcome.new.self in
     on_err c.hear_octet-outcome.result
     (λ h. piece_lost c.args.piece.now c.loop-octet.octet-index c.loop-octet.count v x w c.loop-octet.invariant.count c.loop-octet-test.true c.loop-octet.invariant.heard
     (sym c.may_hear.ensures ∙ c.if-not-may_hear.false) h)
@@ -14,8 +14,8 @@ returns-then-is_err-clause-lost g c =
 
 pub loop-octet-preserved : goal.loop-octet-preserved
 loop-octet-preserved g c =
-    let v = view_of g.T.Tree.table g.J.Moves.view c.args.self.now in let x = view_of g.T.Tree.table g.J.Moves.view c.loop-octet.self in
-    let w = view_of g.T.Tree.table g.J.Moves.view c.hear_octet-outcome.new.self in
+    let v = view_of g.T.Tree.table g.J.ServerTransfer.view c.args.self.now in let x = view_of g.T.Tree.table g.J.ServerTransfer.view c.loop-octet.self in
+    let w = view_of g.T.Tree.table g.J.ServerTransfer.view c.hear_octet-outcome.new.self in
     let fine = sym c.is_err.ensures.value ∙ c.if-is_err.false in
     record {
       count = ap (λ n. n + 1) c.loop-octet.invariant.count;
@@ -27,7 +27,7 @@ loop-octet-preserved g c =
 
 pub returns-then-not-may_hear-clause-some : goal.returns-then-not-may_hear-clause-some
 returns-then-not-may_hear-clause-some g c = λ may some.
-    let v = view_of g.T.Tree.table g.J.Moves.view c.args.self.now in let x = view_of g.T.Tree.table g.J.Moves.view c.loop-octet.self in
+    let v = view_of g.T.Tree.table g.J.ServerTransfer.view c.args.self.now in let x = view_of g.T.Tree.table g.J.ServerTransfer.view c.loop-octet.self in
     some_taken c.loop-octet.octet-index c.loop-octet.count v x c.loop-octet.invariant.count c.loop-octet.invariant.first
     (sym c.may_hear.ensures ∙ c.if-not-may_hear.true) may
 

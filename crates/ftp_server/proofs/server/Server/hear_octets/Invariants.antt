@@ -5,7 +5,7 @@ use Rattle.ftp_server.proofs.server.Server.hear_octets.Given as goal
 
 abbrev pub invariant-loop-octet : goal.invariant-loop-octet
 invariant-loop-octet g l =
-    let view = view_of g.T.Tree.table g.J.Moves.view in
+    let view = view_of g.T.Tree.table g.J.ServerTransfer.view in
     record {
       count : l.count ≡ l.octet-index;
       heard : HearsTo (take l.octet-index l.piece) (view l.fn.self) (view l.self);

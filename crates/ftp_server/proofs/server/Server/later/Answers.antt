@@ -1,6 +1,6 @@
 use Rattle.std.proofs.Common.{Some, sym, subst, ◌≤◌, ◌∙◌}
 use Rattle.std.proofs.Math.Logic.{∥∥₁_elim}
-use Rattle.ftp_server_machine.specs.Held.{waiting_len}
+use Rattle.ftp_server_model.specs.Held.{waiting_len}
 use Rattle.ftp_server.specs.Busy.{MayWait, waiting_limit}
 use Rattle.ftp_server.proofs.NameLemmas.{waiting_short}
 use Rattle.ftp_server.proofs.PathLemmas.{paths_once}

@@ -1,8 +1,8 @@
 use Rattle.std.proofs.Common.{length, ◌∙◌}
-use Rattle.ftp_server_machine.specs.Act.{decided}
-use Rattle.ftp_server_machine.specs.View.{Session, View}
-use Rattle.ftp_server_machine.specs.declared.session.Pending.TheVariants as Pendings
-use Rattle.ftp_session.specs.Session.{session_of}
+use Rattle.ftp_server_model.specs.Act.{decided}
+use Rattle.ftp_server_model.specs.View.{Session, View}
+use Rattle.ftp_server_model.specs.declared.session.Pending.TheVariants as Pendings
+use Rattle.ftp_server_session.specs.Session.{session_of}
 use Rattle.ftp_tree.specs.Tree.{under}
 use Rattle.ftp_server.proofs.BusyLemmas.{busy_seen, idle_calm, idle_room, said_room, short_decided}
 use Rattle.ftp_server.proofs.NameLemmas.{decided_named}
@@ -11,7 +11,7 @@ use Rattle.ftp_server.proofs.server.Server.obey.Goals as goal
 
 pub invariant_of-self : goal.invariant_of-self
 invariant_of-self g c =
-    let table = g.T.Tree.table in let view = g.J.Moves.view in
+    let table = g.T.Tree.table in let view = g.J.ServerTransfer.view in
     let v : View = view_of table view c.args.self.now in
     let s : Session = record v.session { pending = Pendings.Nothing } in
     let new = c.decide.new.self in

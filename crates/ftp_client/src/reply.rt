@@ -1,0 +1,102 @@
+// Replies as they come, and who is answered by each (RFC 959, sections 4.2 and 5.4).
+ghost use Rattle.std.specs.Prelude.{◌≡◌, IsTrue, OnErr, OnOk};
+ghost use Rattle.ftp_client_model.specs.Calls.{hears_octet, is_sound};
+ghost use Rattle.ftp_client_model.specs.Dialogue.{answered, job_answered, stand_answered};
+ghost use Rattle.ftp_client_session.specs.Client.{shorted, view_of};
+ghost use Rattle.ftp_client_steps.specs.Verdict.{verdict_in};
+
+use crate::login::{greeted, pass_answered, user_answered};
+use crate::steps::step_answered;
+use crate::transfer::transfer_answered;
+use ftp_client_model::client::{Failure, Standing};
+use ftp_client_session::{Dialogue, Task};
+use ftp_client_steps::{ClientTransfer, Verdict, verdict_of};
+use ftp_reply::Reply;
+use std::alloc::{AllocError, Allocator};
+
+/// Takes an octet of the control connection. Refused memory, the client is short of it, as it was before the octet.
+pub fn hear_octet<A: Allocator + Clone, F: ClientTransfer<A>>(
+    dialogue: &mut Dialogue<A, F>,
+    octet: u8,
+) -> Result<(), AllocError>
+    requires { IsTrue (is_sound (view_of F.flow dialogue.old).standing) }
+    ensures ok { OnOk result (view_of F.flow dialogue.new ≡ hears_octet (view_of F.flow dialogue.old) octet) }
+    ensures err { OnErr result (shorted (view_of F.flow dialogue.new) ≡ shorted (view_of F.flow dialogue.old)) }
+    ensures sound { OnErr result (IsTrue (is_sound (view_of F.flow dialogue.new).standing)) }
+{
+    match dialogue.hear(octet) {
+        Ok(None) => Ok(()),
+        Ok(Some(reply)) => answered(dialogue, &reply),
+        Err(error) => Err(error),
+    }
+}
+
+/// A reply came.
+#[tactic(auto, unfolding(ftp_client_model::specs::Dialogue::answered))]
+fn answered<A: Allocator + Clone, F: ClientTransfer<A>>(
+    dialogue: &mut Dialogue<A, F>,
+    reply: &Reply<A>,
+) -> Result<(), AllocError>
+    requires { IsTrue (is_sound (view_of F.flow dialogue.old).standing) }
+    ensures ok { OnOk result (view_of F.flow dialogue.new ≡ answered reply.now.code reply.now.lines (view_of F.flow dialogue.old)) }
+    ensures err { OnErr result (shorted (view_of F.flow dialogue.new) ≡ shorted (view_of F.flow dialogue.old)) }
+    ensures sound { OnErr result (IsTrue (is_sound (view_of F.flow dialogue.new).standing)) }
+{
+    let verdict = verdict_of(reply.code);
+    match verdict {
+        Verdict::Closing => {
+            dialogue.fail(Failure::Lost);
+            Ok(())
+        }
+        Verdict::Displaced => {
+            dialogue.strange();
+            Ok(())
+        }
+        _ => stand_answered(dialogue, verdict, reply),
+    }
+}
+
+/// Who is answered: the greeting, USER, PASS, or the operation under way.
+fn stand_answered<A: Allocator + Clone, F: ClientTransfer<A>>(
+    dialogue: &mut Dialogue<A, F>,
+    verdict: Verdict,
+    reply: &Reply<A>,
+) -> Result<(), AllocError>
+    requires { IsTrue (is_sound (view_of F.flow dialogue.old).standing) }
+    ensures ok { OnOk result (view_of F.flow dialogue.new
+        ≡ stand_answered (view_of F.flow dialogue.old).standing (verdict_in verdict) reply.now.code reply.now.lines (view_of F.flow dialogue.old)) }
+    ensures err { OnErr result (shorted (view_of F.flow dialogue.new) ≡ shorted (view_of F.flow dialogue.old)) }
+    ensures sound { OnErr result (IsTrue (is_sound (view_of F.flow dialogue.new).standing)) }
+{
+    match dialogue.standing() {
+        Standing::Greeting => greeted(dialogue, verdict, reply.code),
+        Standing::User => user_answered(dialogue, verdict),
+        Standing::Pass => pass_answered(dialogue, verdict),
+        Standing::Entered => job_answered(dialogue, verdict, reply),
+        Standing::Failed(_) => Ok(()),
+    }
+}
+
+/// A reply that comes while an operation is under way, or that nobody waits for.
+fn job_answered<A: Allocator + Clone, F: ClientTransfer<A>>(
+    dialogue: &mut Dialogue<A, F>,
+    verdict: Verdict,
+    reply: &Reply<A>,
+) -> Result<(), AllocError>
+    ensures ok { OnOk result (view_of F.flow dialogue.new
+        ≡ job_answered (view_of F.flow dialogue.old).job (verdict_in verdict) reply.now.code reply.now.lines (view_of F.flow dialogue.old)) }
+    ensures err { OnErr result (shorted (view_of F.flow dialogue.new) ≡ shorted (view_of F.flow dialogue.old)) }
+    ensures sound { OnErr result (IsTrue (is_sound (view_of F.flow dialogue.new).standing)) }
+{
+    match dialogue.place() {
+        Task::Doing(step) => {
+            let step = *step;
+            step_answered(dialogue, step, verdict, reply)
+        }
+        Task::Transferring(_) => transfer_answered(dialogue, verdict, reply),
+        Task::Idle | Task::Waiting | Task::Told(_) => {
+            dialogue.strange();
+            Ok(())
+        }
+    }
+}

@@ -1,5 +1,0 @@
-use Rattle.ftp_client_machine.proofs.LeavesCalls.{begins_so, each_stays_left}
-use Rattle.ftp_client_machine.proofs.laws.nothing_is_left.Goals as goal
-
-pub returns : goal.returns
-returns c = record { begins = begins_so; stays = each_stays_left }

@@ -1,5 +1,0 @@
-use Rattle.ftp_client_machine.proofs.BusyLemmas.{only_begins_busy}
-use Rattle.ftp_client_machine.proofs.laws.only_begins_busy.Goals as goal
-
-pub returns : goal.returns
-returns c = only_begins_busy

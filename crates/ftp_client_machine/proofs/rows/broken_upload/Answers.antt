@@ -1,5 +1,0 @@
-use Rattle.ftp_client_machine.proofs.ClientRows.{broken_upload}
-use Rattle.ftp_client_machine.proofs.rows.broken_upload.Goals as goal
-
-pub returns : goal.returns
-returns c = broken_upload

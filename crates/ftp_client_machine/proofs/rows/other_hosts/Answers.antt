@@ -1,5 +1,0 @@
-use Rattle.ftp_client_machine.proofs.ClientRows.{other_hosts}
-use Rattle.ftp_client_machine.proofs.rows.other_hosts.Goals as goal
-
-pub returns : goal.returns
-returns c = other_hosts

@@ -1,5 +1,0 @@
-use Rattle.ftp_client_machine.proofs.ClientRows.{passive_download}
-use Rattle.ftp_client_machine.proofs.rows.passive_download.Goals as goal
-
-pub returns : goal.returns
-returns c = passive_download

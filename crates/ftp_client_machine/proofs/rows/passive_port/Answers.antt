@@ -1,5 +1,0 @@
-use Rattle.ftp_client_machine.proofs.ClientRows.{passive_port}
-use Rattle.ftp_client_machine.proofs.rows.passive_port.Goals as goal
-
-pub returns : goal.returns
-returns c = passive_port

@@ -1,5 +1,0 @@
-use Rattle.ftp_client_machine.proofs.ClientRows.{peek_aborts}
-use Rattle.ftp_client_machine.proofs.rows.peek_aborts.Goals as goal
-
-pub returns : goal.returns
-returns c = peek_aborts

@@ -1,5 +1,0 @@
-use Rattle.ftp_client_machine.proofs.ClientRows.{upload_gives_up}
-use Rattle.ftp_client_machine.proofs.rows.upload_gives_up.Goals as goal
-
-pub returns : goal.returns
-returns c = upload_gives_up

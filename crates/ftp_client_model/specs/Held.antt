@@ -1,0 +1,95 @@
+-- How many octets a client holds, beside the texts of an operation and what its report brings (own choice of the limits). Of an upload
+-- the view has all that is still to be given, which is the operation's; a block of it, as it is sent, is held at once.
+use Rattle.std.specs.Prelude.{ℕ, ◌+◌, ◌<◌, ◌≤◌, List, [], ◌∷◌, length, IsTrue, if◌then◌else◌}
+use Rattle.ftp_endpoint.specs.declared.host.Host.{Host}
+use Rattle.ftp_endpoint.specs.Written.{IsTypedHost}
+use Rattle.ftp_operation.specs.Account.{is_user, is_password}
+use Rattle.ftp_operation.specs.declared.op.Op.{Op}
+use Rattle.ftp_ends.specs.Limits.{block_limit, held_limit}
+use Rattle.ftp_reply.specs.Lines.{Text}
+use Rattle.ftp_reply.specs.Reader.{Gathered, Between, Begun}
+use Rattle.ftp_client_model.specs.Calls.{starts, uploads, is_busy, reports, hears_octet, may_hear, gives_control, control_end, listening}
+use Rattle.ftp_client_model.specs.Calls.{listen_refused, data_opened, data_refused, data_end, data_fault, data_closed, receives_octet, may_receive, gives_data}
+use Rattle.ftp_client_model.specs.Failing.{short, starts_short, uploads_short, listening_short, data_opened_short, data_end_short}
+use Rattle.ftp_client_model.specs.Tries.{OverBreaks}
+use Rattle.ftp_client_model.specs.View.{View, client}
+
+-- the octets of texts
+abbrev pub texts_len : List Text → ℕ
+texts_len [] = 0
+texts_len (text ∷ texts) = length text + texts_len texts
+
+-- the lines of a reply that came
+abbrev pub gathered_len : Gathered → ℕ
+gathered_len Between = 0
+gathered_len (Begun code texts) = texts_len texts
+
+-- the login, the line that is being read, the reply that it is of, and what is owed
+abbrev pub held : View → ℕ
+held v = length v.user + length v.pass + (length v.ear.line.text + (gathered_len v.gathered + length v.owed))
+
+-- ---- after every list of calls
+
+-- a call of a client, octet by octet; `Failing`: the same with a growth refused
+pub data Call : Type 0 where
+  Start : (op : Op (List ℕ)) → Call
+  BeginUpload : (upload : OverBreaks) → Call
+  Hear DataHear : (octet : ℕ) → Call
+  ControlOut DataOut : (count : ℕ) → Call
+  Listening : (port : ℕ) → Call
+  DataOpened : (host : Host) → Call
+  Report ControlEnd ListenRefused DataRefused DataEnd DataFault DataClosed : Call
+  Failing : (call : Call) → Call
+
+-- a growth was refused in it
+abbrev pub failed_call : Call → View → View
+failed_call (Start op) v = if is_busy v then v else starts_short op v
+failed_call (BeginUpload upload) v = if is_busy v then v else uploads_short upload v
+failed_call (Listening port) v = listening_short port v
+failed_call (DataOpened host) v = data_opened_short v
+failed_call DataEnd v = data_end_short v
+failed_call (Hear octet) v = short v
+failed_call (DataHear octet) v = short v
+failed_call other v = v
+
+-- the view behind a call; what is refused, and an octet that may not be taken, changes nothing
+abbrev pub called : Call → View → View
+called (Start op) v = if is_busy v then v else starts op v
+called (BeginUpload upload) v = if is_busy v then v else uploads upload v
+called (Hear octet) v = if may_hear v then hears_octet v octet else v
+called (DataHear octet) v = if may_receive v then receives_octet v octet else v
+called (ControlOut count) v = gives_control count v
+called (DataOut count) v = gives_data count v
+called (Listening port) v = listening port v
+called (DataOpened host) v = data_opened host v
+called Report v = reports v
+called ControlEnd v = control_end v
+called ListenRefused v = listen_refused v
+called DataRefused v = data_refused v
+called DataEnd v = data_end v
+called DataFault v = data_fault v
+called DataClosed v = data_closed v
+called (Failing call) v = failed_call call v
+
+-- calls in order
+abbrev pub called_all : List Call → View → View
+called_all [] v = v
+called_all (call ∷ calls) v = called_all calls (called call v)
+
+-- a port has 16 bits
+abbrev pub IsTypedCall : Call → Type 0
+IsTypedCall (Listening port) = port < 65536
+IsTypedCall (Failing call) = IsTypedCall call
+IsTypedCall call = Unit {0}
+
+-- so has that of each of these calls
+abbrev pub AreTypedCalls : List Call → Type 0
+AreTypedCalls [] = Unit {0}
+AreTypedCalls (call ∷ calls) = IsTypedCall call × AreTypedCalls calls
+
+-- whatever is called, a client never holds more, with the block that it sends
+abbrev pub ClientHoldsLittle : Type 0
+ClientHoldsLittle =
+    (user pass : List ℕ) (here peer : Host) (calls : List Call)
+    → IsTrue (is_user user) → IsTrue (is_password pass) → IsTypedHost here → AreTypedCalls calls
+    → held (called_all calls (client user pass here peer)) + block_limit ≤ held_limit

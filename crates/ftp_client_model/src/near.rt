@@ -1,0 +1,132 @@
+// The client's end of a session, as a world of both sees it: each call is the function of the view that `specs` has for it.
+ghost use Rattle.std.specs.Prelude.{◌≡◌, ◌<◌, ◌≤◌, ℕ, List, Some, None, IsTrue, false, length, take};
+ghost use Rattle.ftp_operation.specs.declared.op.Op.{Op};
+ghost use Rattle.ftp_operation.specs.Answer.{said_of};
+ghost use Rattle.ftp_client_model.specs.Calls.{starts, uploads, is_busy, handed_back, report_of, reports, gives_control, may_hear, control_end, listening, listen_refused, data_opened, data_refused, data_end, data_fault, data_closed, gives_data, to_give, may_receive, wants};
+ghost use Rattle.ftp_client_model.specs.Failing.{Client, Holds, HoldsIfRoom, HearsIfRoom, ReceivesIfRoom, starts_short, uploads_short, short, listening_short, listen_refused_short, data_opened_short, data_refused_short, data_end_short, data_fault_short};
+ghost use Rattle.ftp_client_model.specs.Tries.{over_breaks};
+ghost use Rattle.ftp_ends.specs.Octets.{has_octets};
+ghost use Rattle.std.specs.Option.{option_map};
+
+use ftp_endpoint::Host;
+use ftp_ends::Wants;
+use ftp_facts::Text;
+use ftp_operation::{Answer, How, Op};
+use std::alloc::Allocator;
+
+/// The client's end. Where the count of refused growths changed in a call (it moves on by wrapping), the client is short of
+/// memory, and every operation answers so.
+pub trait Near<A: Allocator>: Drop {
+    /// What it holds, and how many growths were refused to it.
+    ghost client: { Self → Client };
+
+    /// Begins the operation that `op` has, and takes it out of there. Where one is begun whose report was not taken, and where `op` has
+    /// none, nothing changes.
+    fn start(&mut self, op: &mut Option<Op<Text<A>>>)
+        ensures begun { (given : Op (List ℕ)) → op.old ≡ Some given → is_busy (client self.old).view ≡ false
+            → HoldsIfRoom (client self.old) (client self.new) (starts given (client self.old).view) (starts_short given (client self.old).view) }
+        ensures left { op.new ≡ handed_back (is_busy (client self.old).view) op.old }
+        ensures busy { IsTrue (is_busy (client self.old).view) → Holds (client self.old) (client self.new) (client self.old).view }
+        ensures none { op.old ≡ None → Holds (client self.old) (client self.new) (client self.old).view };
+
+    /// Begins an upload that goes on after breaks, and has one report (own choice: at most 16 tries). `texts` has the path and the octets; they are
+    /// taken as `start` takes an operation.
+    fn upload(&mut self, texts: &mut Option<(Text<A>, Text<A>)>, how: How)
+        ensures begun { (path octets : List ℕ) → texts.old ≡ Some (path, octets) → is_busy (client self.old).view ≡ false
+            → HoldsIfRoom (client self.old) (client self.new)
+            (uploads (over_breaks path octets how) (client self.old).view) (uploads_short (over_breaks path octets how) (client self.old).view) }
+        ensures left { texts.new ≡ handed_back (is_busy (client self.old).view) texts.old }
+        ensures busy { IsTrue (is_busy (client self.old).view) → Holds (client self.old) (client self.new) (client self.old).view }
+        ensures none { texts.old ≡ None → Holds (client self.old) (client self.new) (client self.old).view };
+
+    /// The report of the operation, if it is done; it is given once.
+    fn report(&mut self) -> Option<Answer<A>>
+        ensures answer { option_map said_of result ≡ report_of (client self.old).view }
+        ensures taken { Holds (client self.old) (client self.new) (reports (client self.old).view) };
+
+    /// Takes octets of the control connection, and says how many.
+    fn hear(&mut self, piece: &[u8]) -> usize
+        ensures within { result ≤ length piece.now }
+        ensures took { HearsIfRoom (client self.old) (client self.new) piece.now result }
+        ensures some { IsTrue (may_hear (client self.old).view) → 0 < length piece.now → 0 < result };
+
+    /// Gives octets of the control connection, and says how many. Takes no memory.
+    fn control_out(&mut self, room: &mut [u8]) -> usize
+        ensures within { (result ≤ length room.old) × (result ≤ length (client self.old).view.owed) }
+        ensures gave { take result room.new ≡ take result (client self.old).view.owed }
+        ensures now { Holds (client self.old) (client self.new) (gives_control result (client self.old).view) }
+        ensures some { 0 < length room.old → 0 < length (client self.old).view.owed → 0 < result };
+
+    /// The control connection ended.
+    fn control_end(&mut self)
+        ensures { Holds (client self.old) (client self.new) (control_end (client self.old).view) };
+
+    /// A port is listened at.
+    fn listening(&mut self, port: u16)
+        ensures { HoldsIfRoom (client self.old) (client self.new) (listening port (client self.old).view) (listening_short port (client self.old).view) };
+
+    /// No port was had.
+    fn listen_refused(&mut self)
+        ensures { HoldsIfRoom (client self.old) (client self.new) (listen_refused (client self.old).view) (listen_refused_short (client self.old).view) };
+
+    /// The link is open; this host is at its other end.
+    fn data_opened(&mut self, host: Host)
+        ensures { HoldsIfRoom (client self.old) (client self.new) (data_opened host (client self.old).view) (data_opened_short (client self.old).view) };
+
+    /// The link was not had.
+    fn data_refused(&mut self)
+        ensures { HoldsIfRoom (client self.old) (client self.new) (data_refused (client self.old).view) (data_refused_short (client self.old).view) };
+
+    /// Takes octets of the link, and says how many.
+    fn data_hear(&mut self, piece: &[u8]) -> usize
+        ensures within { result ≤ length piece.now }
+        ensures took { ReceivesIfRoom (client self.old) (client self.new) piece.now result }
+        ensures some { IsTrue (may_receive (client self.old).view) → 0 < length piece.now → 0 < result };
+
+    /// The other end closed the link.
+    fn data_end(&mut self)
+        ensures { HoldsIfRoom (client self.old) (client self.new) (data_end (client self.old).view) (data_end_short (client self.old).view) };
+
+    /// The link broke.
+    fn data_fault(&mut self)
+        ensures { HoldsIfRoom (client self.old) (client self.new) (data_fault (client self.old).view) (data_fault_short (client self.old).view) };
+
+    /// Gives octets of the link, and says how many.
+    fn data_out(&mut self, room: &mut [u8]) -> usize
+        ensures within { (result ≤ length room.old) × (result ≤ length (to_give (client self.old).view)) }
+        ensures gave { take result room.new ≡ take result (to_give (client self.old).view) }
+        ensures now { HoldsIfRoom (client self.old) (client self.new) (gives_data result (client self.old).view) (short (client self.old).view) }
+        ensures some { 0 < length room.old → 0 < length (to_give (client self.old).view) → 0 < result };
+
+    /// A close that it wanted is done.
+    fn data_closed(&mut self)
+        ensures { Holds (client self.old) (client self.new) (data_closed (client self.old).view) };
+
+    /// What it wants of the connections. Takes no memory.
+    fn wants(&self) -> Wants
+        ensures { result ≡ wants (client self.now).view };
+
+    /// The host that it stands on.
+    fn here(&self) -> Host
+        ensures { result ≡ (client self.now).view.here };
+
+    /// How many growths were refused to it; the count moves on by wrapping.
+    fn refusals(&self) -> u64
+        ensures { result ≡ (client self.now).refusals };
+
+    /// Whether it owes octets of the control connection.
+    fn owes(&self) -> bool
+        ensures { result ≡ has_octets (client self.now).view.owed };
+
+    /// Whether it has octets of the link to give.
+    fn has_data(&self) -> bool
+        ensures { result ≡ has_octets (to_give (client self.now).view) };
+
+    /// Whether it may take an octet of the control connection.
+    fn may_hear(&self) -> bool
+        ensures { result ≡ may_hear (client self.now).view };
+
+    /// Whether it may take an octet of the link.
+    fn may_receive(&self) -> bool
+        ensures { result ≡ may_receive (client self.now).view };
+}

@@ -1,0 +1,35 @@
+// How many octets a client holds, beside the texts of an operation and what its report brings (own choice of the limits).
+ghost use Rattle.std.specs.Prelude.{◌≡◌, ◌+◌, ◌≤◌, length};
+ghost use Rattle.ftp_ends.specs.Limits.{held_limit};
+ghost use Rattle.ftp_client_model.specs.Held.{gathered_len, held};
+
+use crate::dialogue::Dialogue;
+use ftp_client_model::client::Standing;
+use ftp_client_steps::ClientTransfer;
+use std::alloc::Allocator;
+
+impl<A: Allocator + Clone, F: ClientTransfer<A>> Dialogue<A, F> {
+    ghost use Rattle.ftp_client_session.specs.Client.{view_of};
+
+    /// The login, the line that is being read, the reply that it is of, and what is owed; after a failure nothing is read any more.
+    pub fn held(&self) -> usize
+        requires { held (view_of F.flow self.now) ≤ held_limit }
+        ensures { result ≡ held (view_of F.flow self.now) }
+    {
+        let login = self.login.user().len() + self.login.pass().len();
+        login + (self.read() + self.output.len())
+    }
+
+    /// What was read of a reply that has not ended.
+    fn read(&self) -> usize
+        requires { held (view_of F.flow self.now) ≤ held_limit }
+        ensures { result ≡ length (view_of F.flow self.now).ear.line.text + gathered_len (view_of F.flow self.now).gathered }
+    {
+        match self.standing {
+            Standing::Failed(_) => 0,
+            Standing::Greeting | Standing::User | Standing::Pass | Standing::Entered => {
+                self.hearing.unfinished() + self.hearing.gathered()
+            }
+        }
+    }
+}

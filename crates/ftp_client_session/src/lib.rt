@@ -1,0 +1,20 @@
+//! What a client does in its dialogue with a server, operation after operation, without input or output (RFC 959, sections 2.3 and 5.4).
+#![tactic(auto)]
+
+mod carrying;
+mod control;
+mod dialogue;
+mod finishing;
+mod holding;
+mod letting_go;
+mod link;
+mod login;
+mod octets;
+mod sending;
+mod starting;
+mod steps;
+mod task;
+mod transfer;
+
+pub use dialogue::Dialogue;
+pub use task::{Task, Transfer};

@@ -1,0 +1,2 @@
+pub mod TriesLemmas
+pub mod EntryLemmas

@@ -1,0 +1,24 @@
+//! What an operation sends, step by step, and what each reply to it means to a client (RFC 959, section 5.4).
+#![tactic(auto)]
+
+mod command;
+mod judgement;
+mod output;
+mod request;
+mod step;
+mod transfer;
+mod tries;
+mod value;
+mod verdict;
+
+pub use command::{
+    own_command, passive_command, port_command, restart_command, set_command, source_command,
+};
+pub use judgement::judged;
+pub use output::{OUTPUT_ROOM, Output};
+pub use request::{asked_settings, count_of, how_of, listing_settings, offset_of};
+pub use step::{first_step, next_step, settings_behind};
+pub use transfer::ClientTransfer;
+pub use tries::{MOST_TRIES, Run, can_be_tried, first_try, is_size, next_in};
+pub use value::{answer_in, entry_in};
+pub use verdict::{Verdict, is_refusal, verdict_of};

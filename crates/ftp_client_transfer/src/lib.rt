@@ -1,0 +1,11 @@
+//! What goes over the data connection of a client's transfer: the octets of an upload, or the file of a download; no IO (RFC 959,
+//! sections 3.1 to 3.5).
+#![tactic(auto)]
+
+mod content;
+mod download;
+mod listing;
+mod transfer;
+mod upload;
+
+pub use transfer::OperationTransfer;

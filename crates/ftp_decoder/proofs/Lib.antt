@@ -1,5 +1,0 @@
-pub mod DecoderLemmas
-pub mod HearLemmas
-pub mod SettleLemmas
-pub mod StepLemmas
-pub mod WireLemmas

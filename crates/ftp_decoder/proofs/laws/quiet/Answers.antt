@@ -1,8 +1,0 @@
-use Rattle.ftp_decoder.proofs.HearLemmas.{hears_quiet, quiet-append}
-use Rattle.ftp_decoder.proofs.laws.quiet.Goals as goal
-
-pub returns-clause-all : goal.returns-clause-all
-returns-clause-all c = hears_quiet
-
-pub returns-clause-joined : goal.returns-clause-joined
-returns-clause-joined c = quiet-append

@@ -1,3 +1,0 @@
-pub mod Decoder
-pub mod Hearing
-pub mod Taking

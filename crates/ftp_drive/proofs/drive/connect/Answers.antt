@@ -1,9 +1,0 @@
-use Rattle.ftp_drive.specs.Deeds.{Opened, Refused}
-use Rattle.ftp_drive.proofs.Leading.{quiet_call}
-use Rattle.ftp_drive.proofs.drive.connect.Goals as goal
-
-pub returns-in-Some : goal.returns-in-Some
-returns-in-Some g c = quiet_call (Opened c.args.endpoint.host) _ _ c.data_opened.ensures
-
-pub returns-in-None : goal.returns-in-None
-returns-in-None g c = quiet_call Refused _ _ c.data_refused.ensures

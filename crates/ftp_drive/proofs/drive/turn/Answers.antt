@@ -1,6 +1,0 @@
-use Rattle.std.proofs.Common.{◌∙◌, sym}
-use Rattle.ftp_drive.proofs.Leading.{settled_leads}
-use Rattle.ftp_drive.proofs.drive.turn.Goals as goal
-
-pub returns-in-CloseAll : goal.returns-in-CloseAll
-returns-in-CloseAll g c = (settled_leads _ _ c.in_ok-flush.ensures, sym c.wants.ensures ∙ c.in-CloseAll.is)

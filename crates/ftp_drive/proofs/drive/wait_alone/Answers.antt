@@ -1,9 +1,0 @@
-use Rattle.ftp_drive.specs.Deeds.{Opened, Refused}
-use Rattle.ftp_drive.proofs.Leading.{quiet_call}
-use Rattle.ftp_drive.proofs.drive.wait_alone.Goals as goal
-
-pub returns-in-Came : goal.returns-in-Came
-returns-in-Came g c = quiet_call (Opened c.in-Came.host) _ _ c.data_opened.ensures
-
-pub returns-in-Spoken : goal.returns-in-Spoken
-returns-in-Spoken g c = quiet_call Refused _ _ c.data_refused.ensures

@@ -1,9 +1,0 @@
-//! The octets of LIST, NLST and MLSD on a data connection, made line by line from a tree, without IO (RFC 959, section 4.1.3;
-//! RFC 1123, section 4.1.2.7; RFC 3659, section 7).
-#![tactic(auto)]
-
-mod line;
-mod listing;
-
-pub use line::{What, put_chosen};
-pub use listing::{Given, Listing};

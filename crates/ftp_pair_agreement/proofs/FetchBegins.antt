@@ -1,0 +1,56 @@
+-- A download or a listing begins.
+use Rattle.std.proofs.Common.{◌≡◌, ℕ, List, [], ◌∷◌, ◌++◌, refl, sym, ap, ◌∙◌}
+use Rattle.ftp_operation.specs.declared.op.Op.{Op}
+use Rattle.ftp_direct.specs.Direct.{State}
+use Rattle.ftp_server_model.specs.Machine.{Reading, IsReading}
+use Rattle.ftp_pair_world.specs.Agreement.{Order, Single}
+use Rattle.ftp_pair_world.specs.Events.{operation_begins}
+use Rattle.ftp_pair_world.specs.Serving.{after_event}
+use Rattle.ftp_pair_world.specs.World.{World}
+use Rattle.ftp_pair_dialogues.specs.Dialogue.{Passes}
+use Rattle.ftp_pair_dialogues.specs.Fetches.{Ask, IsAsk, Opens}
+use Rattle.ftp_pair_dialogues.specs.Stage.{Way, Asking, Answering}
+use Rattle.ftp_pair_dialogues.proofs.Refusing.{ask_leads}
+use Rattle.ftp_pair_agreement.specs.Cut.{Cut, world_at}
+use Rattle.ftp_pair_agreement.specs.Follows.{IsFree, IsLinked, IsUnlinked}
+use Rattle.ftp_pair_agreement.specs.Runs.{Runs}
+use Rattle.ftp_pair_agreement.proofs.Begins.{begins_stands}
+use Rattle.ftp_pair_agreement.proofs.FetchRuns.{fetch_after}
+use Rattle.ftp_pair_agreement.proofs.FetchTurns.{arrives}
+
+pub begins_fetch : (read : Reading) (reads : IsReading read) (from : State) (begun : List Order) (ask : Ask) (moment : ℕ) → IsAsk ask
+    → (w : World) → IsUnlinked w → IsLinked w → IsFree from begun w → Runs read from (begun ++ Single ask.op moment ∷ []) (after_event (operation_begins ask.op moment w))
+begins_fetch read reads from begun ask moment good w unlinked linked f =
+    let op : Op (List ℕ) = ask.op in
+    let new : World = operation_begins op moment w in
+    let s = begins_stands read reads from begun op moment f.now (Passes f.now.table f.now.table) (Opens f.now ask) w
+    (λ n g stands. ask_leads read f.now ask reads good.plan n g stands) good.answer.can f.stands f.stands.here in
+    let same = fields s.base s.way s.cut in
+    fetch_after read reads from (begun ++ Single op moment ∷ []) new (record {
+      done = begun;
+      marks = w.marks;
+      own = [];
+      ask = ask;
+      moment = moment;
+      begun_is = refl;
+      marks_are = refl;
+      now = f.now;
+      sound = f.sound;
+      is_ask = good;
+      told = f.told;
+      linked = record { control = linked.control; cutoff = linked.cutoff };
+      stands = record {
+        base = s.base;
+        way = s.way;
+        cut = s.cut;
+        is = s.is;
+        fits = s.fits;
+        here = (arrives read reads f.now ask good f.sound [] s.way s.base (sym same.0 ∙ sym (ap (λ u. u.link) s.is) ∙ unlinked.link)
+            (sym same.1 ∙ sym (ap (λ u. u.data_to_server) s.is) ∙ unlinked.to_server) (sym same.2 ∙ sym (ap (λ u. u.data_to_client) s.is) ∙ unlinked.to_client) refl s.here).0;
+      };
+    })
+  where
+    fields : (b : World) (way : Way) (c : Cut)
+        → ((world_at b way c).link ≡ b.link) × ((world_at b way c).data_to_server ≡ b.data_to_server) × ((world_at b way c).data_to_client ≡ b.data_to_client)
+    fields b (Asking line) c = (refl, refl, refl)
+    fields b (Answering rows) c = (refl, refl, refl)

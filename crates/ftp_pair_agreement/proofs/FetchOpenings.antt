@@ -1,0 +1,294 @@
+-- Openings and refusals of the link lead what was asked for from a stage to a stage.
+use Rattle.std.proofs.Common.{◌≡◌, inr, ℕ, ◌≤◌, Bool, true, false, List, [], ◌∷◌, ◌++◌, length, Option, Some, None, refl, sym, ap, subst, ◌∙◌, append-nil, arith}
+use Rattle.std.specs.Prelude.{if◌then◌else◌}
+use Rattle.ftp_nvt.specs.Lines.{written_line}
+use Rattle.ftp_command.specs.Line.{IsLine, line_of}
+use Rattle.ftp_command.specs.declared.command.Command.TheVariants as Commands
+use Rattle.ftp_command.proofs.CarriedLemmas.{carried}
+use Rattle.ftp_wire.specs.Decoder.{no_octets}
+use Rattle.ftp_ends.specs.Link.{same_host, is_connecting}
+use Rattle.ftp_ends.specs.Reply.{reply_octets}
+use Rattle.ftp_operation.specs.Answer.{Unopened as NotOpened}
+use Rattle.ftp_operation.specs.declared.op.Op.{Op}
+use Rattle.ftp_direct.specs.Direct.{State}
+use Rattle.ftp_client_model.specs.Calls as near
+use Rattle.ftp_client_model.specs.Dialogue.{answers_once_over, sends_abort}
+use Rattle.ftp_client_model.specs.Octets.{has_settled}
+use Rattle.ftp_client_model.specs.View.{View as Near, Flow, Transfer, Receiving}
+use Rattle.ftp_client_model.specs.declared.client.Abort.TheVariants as Aborts
+use Rattle.ftp_client_model.specs.declared.client.Replied.TheVariants as Replies
+use Rattle.ftp_client_model.specs.declared.client.ClientLink.TheVariants as NearData
+use Rattle.ftp_client_model.specs.declared.client.Step.TheVariants as Steps
+use Rattle.ftp_server_model.specs.Calls as far
+use Rattle.ftp_server_model.specs.Machine.{Reading, completed, given_out, later}
+use Rattle.ftp_server_model.specs.Replies.{fixed_reply}
+use Rattle.ftp_server_model.specs.View.{View as Far}
+use Rattle.ftp_server_model.specs.declared.reply.ReplyKind.TheVariants as Kinds
+use Rattle.ftp_server_model.specs.declared.reply.FixedReply.TheVariants as Texts
+use Rattle.ftp_server_model.specs.declared.session.ServerLink.TheVariants as FarData
+use Rattle.ftp_server_model.specs.declared.session.Pending.TheVariants as Pendings
+use Rattle.ftp_server_model.proofs.RepliesWritten.{replies_are_written}
+use Rattle.ftp_pair_world.specs.Events.{link_opens, link_refused, refused_by}
+use Rattle.ftp_pair_world.specs.World.{World, Opened, Mark, Refused, marked_last, with_mark}
+use Rattle.ftp_pair_dialogues.specs.Dialogue.{IsSound}
+use Rattle.ftp_pair_dialogues.specs.Fetches.{Ask, IsAsk, IsPlacedAt, fetching, giving_of, leaving, linked, opened_job, opened_command, offset_pending, busy}
+use Rattle.ftp_pair_dialogues.specs.Stage.{calm, still, Way, Asking, Answering, rest}
+use Rattle.ftp_pair_dialogues.proofs.Fetching.{given_all, giving_on, opening_sent, own_host}
+use Rattle.ftp_pair_agreement.specs.Cut.{Cut, Flows as FlowsOf, Fits, world_at, PlacedAt}
+use Rattle.ftp_pair_agreement.specs.Stages.{Sent, OneReply, Course, Giving, Given, port_aside, Stage, Dials, Restarts, Retrieves, Carries, Answers, Holds, AtFetch, Dialled, Awaits, Unaccepted}
+use Rattle.ftp_pair_agreement.proofs.Fates.{refused_link_fares}
+use Rattle.ftp_pair_agreement.proofs.FetchLink.{fits_more, far_linked}
+use Rattle.ftp_pair_agreement.proofs.Keeps.{line_is_some, anew}
+use Rattle.ftp_pair_agreement.proofs.Still.{no_octets as no_cut}
+
+module _ (read : Reading) (state : State) (ask : Ask) (good : IsAsk ask) (sound : IsSound state) (own : List Mark) where
+  abbrev At : List Mark → Way → World → Type 0
+  At own way b = AtFetch state ask read own way b
+
+  abbrev Stands : List Mark → Stage → Way → World → Type 0
+  Stands own stage way b = Holds state ask own stage way b
+
+  abbrev op : Op (List ℕ)
+  op = ask.op
+
+  -- a world placed at a stage
+  placed : (own : List Mark) (w b : World) (way : Way) (c : Cut) (stage : Stage) → w ≡ world_at b way c → Fits way c → Stands own stage way b → PlacedAt (At own) w
+  placed own w b way c stage is fits h = record { base = b; way = way; cut = c; is = is; fits = fits; here = inr (stage, h) }
+
+  marked_so : (mark : Mark) → own ≡ [] → own ++ mark ∷ [] ≡ mark ∷ []
+  marked_so mark is = ap (λ l. l ++ mark ∷ []) is
+
+  abbrev carry : Course → (came queue : List ℕ) → Stage
+  carry course came queue = Carries (record { course = course; came = came; queue = queue })
+
+  -- ---- the link opens, or is refused
+
+  module _ (port : ℕ) (w b : World) (way : Way) (c : Cut) (is : w ≡ world_at b rest no_cut) (h : Stands own (Dials port) way b) where
+    -- the client behind the opening, and the line that it sends
+    opened_near : Near
+    opened_near = busy (opened_job ask.offset ask) NearData.Open b.near
+
+    opens_near : near.data_opened b.far.footing.here (calm b.near) ≡ record (calm opened_near) { owed = written_line (line_of (opened_command ask.offset ask)) }
+    unfolding near.data_opened opened_near
+    opens_near = ap (λ v. near.data_opened b.far.footing.here (calm v)) h.near ∙ opening_sent ask good.plan Steps.Connect NearData.Open b.near
+
+    opened_far : Far
+    opened_far = far_linked (linked FarData.Ready false Pendings.Nothing b.far.session) b.far
+
+    peer_is : same_host b.near.here b.far.footing.peer ≡ true
+    peer_is = ap (λ host. same_host host b.far.footing.peer) h.steady.here ∙ own_host b.far.footing.peer
+
+    opens_far : far.data_opened b.near.here (still b.far) ≡ still opened_far
+    unfolding far.data_opened opened_far
+    opens_far =
+        ap (λ s. far.data_opened b.near.here (still (far_linked s b.far))) h.session
+        ∙ ap (λ mine. later (completed (far.opens FarData.Passive mine (still (far_linked (linked FarData.Passive false Pendings.Nothing b.far.session) b.far))))) peer_is
+
+    opened_base : World
+    opened_base = record b { near = opened_near; far = opened_far; link = Opened; came = 0 }
+
+    opened_is : link_opens w ≡ world_at opened_base (Asking (line_of (opened_command ask.offset ask))) (record { held = []; moving = []; owed = written_line (line_of (opened_command ask.offset ask)) })
+    unfolding opened_base
+    opened_is =
+        ap link_opens is
+        ∙ (λ i. record opened_base { near = opens_near i; far = opens_far i; control_to_server = []; control_to_client = [] })
+
+    refused_near : near.data_refused (calm b.near) ≡ calm (leaving NotOpened false b.near)
+    unfolding near.data_refused
+    refused_near = ap (λ v. near.data_refused (calm v)) h.near
+
+    connects : is_connecting (near.wants (calm b.near)) ≡ true
+    unfolding near.wants
+    connects = ap (λ v. is_connecting (near.wants (calm v))) h.near
+
+    refused_base : World
+    refused_base = record b { near = leaving NotOpened false b.near; marks = marked_last Refused b.marks }
+
+    refused_is : link_refused w ≡ world_at refused_base rest no_cut
+    unfolding refused_base
+    refused_is =
+        ap link_refused is
+        ∙ ap (λ (q : Bool). with_mark Refused (refused_by q (world_at b rest no_cut))) connects
+        ∙ ap (λ v. record (world_at b rest no_cut) { near = v; marks = marked_last Refused b.marks }) refused_near
+
+    pub refused_placed : PlacedAt (At (own ++ Refused ∷ [])) (link_refused w)
+    unfolding refused_base
+    refused_placed = placed (own ++ Refused ∷ []) (link_refused w) refused_base rest no_cut (Answers NotOpened port_aside) refused_is (tt, (refl, refl)) (record {
+      near = refl;
+      session = h.session;
+      steady = h.steady;
+      ready = tt;
+      link = h.link;
+      to_server = h.to_server;
+      to_client = h.to_client;
+      came = tt;
+      marked = subst (λ l. length l ≤ 1) (sym (marked_so Refused h.marked)) (omega arith);
+      way_is = refl;
+      fine = (refused_link_fares state ask good (own ++ Refused ∷ []) (marked_so Refused h.marked), refl);
+    })
+
+    opened_line : IsLine (line_of (opened_command ask.offset ask))
+    opened_line = by_offset ask.offset refl
+      where
+        by_offset : (o : Option ℕ) → ask.offset ≡ o → IsLine (line_of (opened_command o ask))
+        by_offset None e = carried ask.command good.row.typed good.row.stated
+        by_offset (Some at) e = carried (Commands.Rest at) tt (good.row.few at e)
+
+    opened_at : (stage : Stage) → Stands own stage (Asking (line_of (opened_command ask.offset ask))) opened_base → PlacedAt (At own) (link_opens w)
+    opened_at stage holds =
+        let line : List ℕ = written_line (line_of (opened_command ask.offset ask)) in
+        placed own (link_opens w) opened_base (Asking (line_of (opened_command ask.offset ask))) (record { held = []; moving = []; owed = line }) stage opened_is
+        (opened_line, subst (λ l. FlowsOf line [] l []) (append-nil line) (anew line [] (line_is_some (line_of (opened_command ask.offset ask))))) holds
+
+    pub opened_placed : PlacedAt (At own) (link_opens w)
+    unfolding opened_base opened_near opened_far
+    opened_placed = by_offset ask.offset refl
+      where
+        by_offset : (o : Option ℕ) → ask.offset ≡ o → PlacedAt (At own) (link_opens w)
+        by_offset None e = opened_at (Retrieves (Dialled true)) (record {
+          near = ap (λ o. busy (opened_job o ask) NearData.Open b.near) e;
+          session = ap (λ o. linked FarData.Ready false o b.far.session) (sym (ap offset_pending e));
+          steady = h.steady;
+          ready = h.ready;
+          link = refl;
+          to_server = h.to_server;
+          to_client = h.to_client;
+          came = refl;
+          marked = h.marked;
+          way_is = ap (λ o. Asking (line_of (opened_command o ask))) e;
+          fine = subst (IsPlacedAt ask.settings) (sym e) tt;
+        })
+        by_offset (Some at) e = opened_at (Restarts at Sent (Dialled true)) (record {
+          near = ap (λ o. busy (opened_job o ask) NearData.Open b.near) e;
+          session = refl;
+          steady = h.steady;
+          ready = h.ready;
+          link = refl;
+          to_server = h.to_server;
+          to_client = h.to_client;
+          came = refl;
+          marked = h.marked;
+          way_is = ap (λ o. Asking (line_of (opened_command o ask))) e;
+          fine = (e, tt);
+        })
+
+  -- ---- the server has connected to the client's port, or could not
+
+  module _ (port : ℕ) (w b : World) (way : Way) (c : Cut) (is : w ≡ world_at b rest no_cut) (h : Stands own (Awaits port true) way b) where
+    -- the client behind it
+    accepts_near : near.data_opened b.far.footing.here (calm b.near) ≡ calm (busy (fetching op Replies.Begun ask.settings []) NearData.Open b.near)
+    unfolding near.data_opened
+    accepts_near =
+        let v : Near = calm (busy (fetching op Replies.Begun ask.settings []) NearData.Open b.near) in
+        let flow : Flow = Receiving (no_octets ask.settings) None in
+        let transfer : Transfer = record { replied = Replies.Begun; abort = Aborts.Unsent; flow = flow } in
+        let peer : same_host b.far.footing.here b.near.peer ≡ true = ap (same_host b.far.footing.here) h.steady.peer ∙ own_host b.far.footing.here in
+        ap (λ n. near.data_opened b.far.footing.here (calm n)) h.near
+        ∙ ap (λ same. near.accepted same (calm (busy (fetching op Replies.Begun ask.settings []) (NearData.Accepting port) b.near))) peer
+        ∙ ap (λ count. answers_once_over (if has_settled count flow then sends_abort op transfer v else v)) good.plan.all
+
+    -- the server behind it, whatever it has to give
+    giving_so : List ℕ → Far
+    giving_so octets = far_linked (linked (FarData.Transferring (giving_of ask.listed octets)) false Pendings.Nothing b.far.session) b.far
+
+    accepts_far : (octets : List ℕ) → ask.wire state ≡ octets
+        → far.data_opened b.near.here (still b.far) ≡ later (given_out (FarData.Transferring (giving_of ask.listed octets)) (still (giving_so octets)))
+    unfolding far.data_opened giving_so
+    accepts_far octets wire =
+        ap (λ s. far.data_opened b.near.here (still (far_linked s b.far))) h.session
+        ∙ ap (λ l. later (given_out (FarData.Transferring (giving_of ask.listed l)) (still (giving_so l)))) wire
+
+    accepted_base : Far → World
+    accepted_base f = record b { near = busy (fetching op Replies.Begun ask.settings []) NearData.Open b.near; far = f; link = Opened; came = 0 }
+
+    accepts_some : (octet : ℕ) (more : List ℕ) → ask.wire state ≡ octet ∷ more → PlacedAt (At own) (link_opens w)
+    unfolding accepted_base giving_so
+    accepts_some octet more wire =
+        let f : Far = giving_so (octet ∷ more) in
+        let far : far.data_opened b.near.here (still b.far) ≡ still f = accepts_far (octet ∷ more) wire ∙ ap later (giving_on ask.listed octet more (still f)) in
+        let opened : link_opens w ≡ world_at (accepted_base f) rest no_cut =
+        ap link_opens is ∙ (λ i. record (accepted_base f) { near = accepts_near i; far = far i; control_to_server = []; control_to_client = [] }) in
+        placed own (link_opens w) (accepted_base f) rest no_cut (carry (Giving true octet more) [] []) opened (tt, (refl, refl)) (record {
+          near = refl;
+          session = refl;
+          steady = h.steady;
+          ready = h.ready;
+          link = refl;
+          to_server = h.to_server;
+          to_client = h.to_client;
+          came = refl;
+          marked = h.marked;
+          way_is = refl;
+          fine = (h.fine, sym wire);
+        })
+
+    accepts_none : ask.wire state ≡ [] → PlacedAt (At own) (link_opens w)
+    unfolding accepted_base giving_so
+    accepts_none wire =
+        let f : Far = far_linked (linked FarData.Free true Pendings.Nothing b.far.session) b.far in
+        let owed : List ℕ = reply_octets (fixed_reply Texts.Complete) in
+        let far : far.data_opened b.near.here (still b.far) ≡ record (still f) { owed = owed } = accepts_far [] wire ∙ ap later (given_all ask.listed (still (giving_so []))) in
+        let opened : link_opens w ≡ world_at (accepted_base f) (Answering (fixed_reply Texts.Complete ∷ [])) (record { held = []; moving = []; owed = owed }) =
+        ap link_opens is ∙ (λ i. record (accepted_base f) { near = accepts_near i; far = far i; control_to_server = []; control_to_client = [] }) in
+        placed own (link_opens w) (accepted_base f) (Answering (fixed_reply Texts.Complete ∷ [])) (record { held = []; moving = []; owed = owed })
+        (carry (Given OneReply false) [] []) opened
+        (fits_more [] (fixed_reply Texts.Complete) no_cut (replies_are_written b.far.session (Kinds.Fixed Texts.Complete) (fixed_reply Texts.Complete) tt refl) (tt, (refl, refl)))
+        (record {
+          near = refl;
+          session = refl;
+          steady = h.steady;
+          ready = h.ready;
+          link = refl;
+          to_server = h.to_server;
+          to_client = h.to_client;
+          came = refl;
+          marked = h.marked;
+          way_is = refl;
+          fine = (h.fine, sym wire);
+        })
+
+    pub accepted_placed : PlacedAt (At own) (link_opens w)
+    accepted_placed = by_wire (ask.wire state) refl
+      where
+        by_wire : (octets : List ℕ) → ask.wire state ≡ octets → PlacedAt (At own) (link_opens w)
+        by_wire [] wire = accepts_none wire
+        by_wire (octet ∷ more) wire = accepts_some octet more wire
+
+    accepting : is_connecting (near.wants (calm b.near)) ≡ false
+    unfolding near.wants
+    accepting = ap (λ v. is_connecting (near.wants (calm v))) h.near
+
+    unaccepted_far : Far
+    unaccepted_far = far_linked (linked FarData.Free false Pendings.Nothing b.far.session) b.far
+
+    refused_far : far.data_refused (still b.far) ≡ record (still unaccepted_far) { owed = reply_octets (fixed_reply Texts.NoConnection) }
+    unfolding far.data_refused unaccepted_far
+    refused_far = ap (λ s. far.data_refused (still (far_linked s b.far))) h.session
+
+    unaccepted_base : World
+    unaccepted_base = record b { far = unaccepted_far; marks = marked_last Refused b.marks }
+
+    pub unaccepted_placed : PlacedAt (At (own ++ Refused ∷ [])) (link_refused w)
+    unfolding unaccepted_base unaccepted_far
+    unaccepted_placed =
+        let owed : List ℕ = reply_octets (fixed_reply Texts.NoConnection) in
+        let refused : link_refused w ≡ world_at unaccepted_base (Answering (fixed_reply Texts.NoConnection ∷ [])) (record { held = []; moving = []; owed = owed }) =
+        ap link_refused is
+        ∙ ap (λ (q : Bool). with_mark Refused (refused_by q (world_at b rest no_cut))) accepting
+        ∙ ap (λ f. record (world_at b rest no_cut) { far = f; marks = marked_last Refused b.marks }) refused_far in
+        placed (own ++ Refused ∷ []) (link_refused w) unaccepted_base (Answering (fixed_reply Texts.NoConnection ∷ [])) (record { held = []; moving = []; owed = owed })
+        (Unaccepted port) refused
+        (fits_more [] (fixed_reply Texts.NoConnection) no_cut (replies_are_written b.far.session (Kinds.Fixed Texts.NoConnection) (fixed_reply Texts.NoConnection) tt refl) (tt, (refl, refl)))
+        (record {
+          near = h.near;
+          session = refl;
+          steady = h.steady;
+          ready = h.ready;
+          link = h.link;
+          to_server = h.to_server;
+          to_client = h.to_client;
+          came = tt;
+          marked = marked_so Refused h.marked;
+          way_is = refl;
+          fine = tt;
+        })

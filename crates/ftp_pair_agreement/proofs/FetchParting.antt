@@ -1,0 +1,302 @@
+-- The control connection ends while a download is under way, or before its link is closed: the operation is lost, and its link is closed.
+use Rattle.std.proofs.Common.{◌≡◌, ◌⊎◌, inl, inr, ℕ, suc, ◌+◌, ◌≤◌, Bool, true, false, ◌||◌, List, [], ◌∷◌, ◌++◌, length, Some, None, refl, sym, ap, subst, ◌∙◌, append-nil, arith}
+use Rattle.ftp_operation.specs.Answer.{Said, Lost as LostSaid}
+use Rattle.ftp_operation.specs.declared.op.Op.{Op}
+use Rattle.ftp_path.specs.Path.{Names}
+use Rattle.ftp_direct.specs.Direct.{State}
+use Rattle.ftp_client_model.specs.Calls as near
+use Rattle.ftp_client_model.specs.Calls.{is_sound}
+use Rattle.ftp_client_model.specs.View.{Job, Idle, Told as Answered, stands, failed_job}
+use Rattle.ftp_client_model.specs.declared.client.ClientLink.{ClientLink as NearConnection}
+use Rattle.ftp_server_model.specs.Calls as far
+use Rattle.ftp_server_model.specs.Calls.{session_cut}
+use Rattle.ftp_server_model.specs.Endpoint.{is_standing}
+use Rattle.ftp_server_model.specs.Machine.{Reading, IsReading}
+use Rattle.ftp_server_model.specs.View.{Transfer}
+use Rattle.ftp_server_model.specs.declared.session.ServerLink.{ServerLink as FarConnection}
+use Rattle.ftp_server_model.specs.declared.session.Pending.{Pending}
+use Rattle.ftp_pair_world.specs.Agreement.{Order, Single, Item, state_after, ItemHolds}
+use Rattle.ftp_pair_world.specs.Events.{ends_control}
+use Rattle.ftp_pair_world.specs.Outcome.{Nothing, Lost as LostOff}
+use Rattle.ftp_pair_world.specs.Serving.{after_event}
+use Rattle.ftp_pair_world.specs.World.{World, Link, Gone, Opened, ClosedByNear, ClosedByFar, Mark}
+use Rattle.ftp_pair_dialogues.specs.Fetches.{Ask, HasPlan, busy, linked}
+use Rattle.ftp_pair_dialogues.specs.Stage.{Way, Asking, Answering}
+use Rattle.ftp_pair_agreement.specs.Cut.{Cut, world_at, PlacedAt}
+use Rattle.ftp_pair_agreement.specs.Follows.{Told, Follows}
+use Rattle.ftp_pair_agreement.specs.Runs.{IsFetching, IsFetchingOn, IsTrailing}
+use Rattle.ftp_pair_agreement.specs.Stages as Stages
+use Rattle.ftp_pair_agreement.specs.Stages.{Course, Giving, Given, Ended, Severed, Refusing, Unopened, Unclosed, Closed, Lost, Stage, PortAsked, PortTold, Dials, Restarts, Retrieves, Carries, Answers, Holds, AtFetch, IsLasting, Dialled, Ported, PortWanted, PortSaid, PortTaken, PortDenied, Awaits, Unaccepted, Dismissed}
+use Rattle.ftp_pair_agreement.proofs.FetchServed.{near_form, far_form, leads_still, moves_on, lasting_untold}
+use Rattle.ftp_pair_agreement.proofs.FetchWants.{lasting_busy}
+use Rattle.ftp_pair_agreement.proofs.FetchTold.{few_links, closed_is, closed_at, marks_at, reported}
+use Rattle.ftp_pair_agreement.proofs.Items.{state_more, one_told}
+use Rattle.ftp_pair_agreement.proofs.Parting.{lost_near, lost_world, near_fails, busy_lost, told_cut, marks_are_all, near_lost, far_lost, after_busy}
+use Rattle.ftp_pair_agreement.proofs.Phases.{both_longer, length-more}
+use Rattle.ftp_pair_agreement.proofs.Still.{IsSeen, seen_placed}
+
+-- ---- both ends part, whatever stands of the link
+
+-- the world where both have failed, and each is to close its side of the link or not
+abbrev parting : Job → (near_closes far_closes : Bool) → World → World
+parting job near_closes far_closes w = record (lost_world job far_closes w) { near = record (lost_near job w.near) { closing = near_closes } }
+
+-- with this link
+abbrev with_link : Link → List ℕ → World → World
+with_link link queue w = record w { link = link; data_to_server = []; data_to_client = queue }
+
+parts_is : (w : World) → is_sound w.near.standing ≡ true
+    → ends_control w ≡ parting (failed_job LostSaid w.near.job) (w.near.closing || stands w.near.connection) (session_cut w.far.session).closing w
+unfolding near.control_end far.control_end
+parts_is w sound = ap (λ v. record (parting (failed_job LostSaid w.near.job) (w.near.closing || stands w.near.connection) (session_cut w.far.session).closing w) { near = v }) (near_fails w.near.standing w.near sound)
+
+-- what is served leaves no link
+abbrev Clears : Link → List ℕ → (near_closes far_closes : Bool) → Type 0
+Clears Gone queue near_closes far_closes = queue ≡ []
+Clears Opened queue true true = Unit {0}
+Clears ClosedByFar queue true far_closes = Unit {0}
+Clears link queue near_closes far_closes = ⊥
+
+-- the world behind it
+abbrev pub lost_link : World → World
+lost_link w = record (with_link Gone [] (lost_world Idle false w)) { reports = w.reports ++ LostSaid ∷ [] }
+
+clears : (link : Link) (queue : List ℕ) (near_closes far_closes : Bool) (w : World) → Clears link queue near_closes far_closes
+    → after_event (parting (Answered LostSaid) near_closes far_closes (with_link link queue w)) ≡ lost_link w
+unfolding near.wants far.data_closed
+clears Gone queue true true w is = ap (λ q. record (lost_link w) { data_to_client = q }) is
+clears Gone queue true false w is = ap (λ q. record (lost_link w) { data_to_client = q }) is
+clears Gone queue false true w is = ap (λ q. record (lost_link w) { data_to_client = q }) is
+clears Gone queue false false w is = ap (λ q. record (lost_link w) { data_to_client = q }) is
+clears Opened queue true true w is = refl
+clears Opened queue true false w is = absurd is
+clears Opened queue false far_closes w is = absurd is
+clears ClosedByFar queue true true w is = refl
+clears ClosedByFar queue true false w is = refl
+clears ClosedByFar queue false far_closes w is = absurd is
+clears ClosedByNear queue near_closes far_closes w is = absurd is
+
+parts_with : (w : World) (job : Job) (connection : NearConnection) → w.near ≡ busy job connection w.near → failed_job LostSaid job ≡ Answered LostSaid
+    → (far : FarConnection Transfer) (pending : Pending Names) → w.far.session ≡ linked far false pending w.far.session → (link : Link) (queue : List ℕ) → w.link ≡ link → w.data_to_server ≡ []
+    → w.data_to_client ≡ queue → Clears link queue (stands connection) (is_standing far) → after_event (ends_control w) ≡ lost_link w
+parts_with w job connection near_is fails far pending far_is link queue link_is to_server to_client clear =
+    let sound : is_sound w.near.standing ≡ true = ap (λ v. is_sound v.standing) near_is in
+    let lost : failed_job LostSaid w.near.job ≡ Answered LostSaid = ap (λ v. failed_job LostSaid v.job) near_is ∙ fails in
+    let near_closes : (w.near.closing || stands w.near.connection) ≡ stands connection = ap (λ v. v.closing || stands v.connection) near_is in
+    let far_closes : (session_cut w.far.session).closing ≡ is_standing far = ap (λ s. s.closing || is_standing s.connection) far_is in
+    ap after_event (parts_is w sound ∙ (λ i. parting (lost i) (near_closes i) (far_closes i) (record w { link = link_is i; data_to_server = to_server i; data_to_client = to_client i })))
+    ∙ clears link queue (stands connection) (is_standing far) w clear
+
+-- ---- at each stage of a download
+
+-- an item that is lost, whatever its marks
+lost_item : Op (List ℕ) → ℕ → List Mark → Item
+lost_item op moment own = record { moment = moment; first = record { op = op; outcome = LostOff Nothing; marks = own }; more = [] }
+
+told_lost : (from : State) (done : List Order) (marks : List (List Mark)) (cutoff : ℕ) (reports : List Said) (now : State) (ask : Ask) (plan : HasPlan ask) (moment : ℕ) (own : List Mark)
+    → Told from done marks (Some cutoff) reports now → suc (length done) ≡ cutoff → length own ≤ 1
+    → Told from (done ++ Single ask.op moment ∷ []) (marks ++ own ∷ []) (Some cutoff) (reports ++ LostSaid ∷ []) now
+unfolding lost_item
+told_lost from done marks cutoff reports now ask plan moment own t last few =
+    let op : Op (List ℕ) = ask.op in
+    let holds : ItemHolds (state_after from t.items) (Single op moment) own (Some cutoff) (length done) (lost_item op moment own) = record {
+      is_of = (refl, refl, refl);
+      holds = (record { can_be = tt; allowed = inl last; few = few_links ask plan own few }, tt);
+      marked = append-nil own;
+    } in
+    record {
+      items = t.items ++ lost_item op moment own ∷ [];
+      all = both_longer reports done LostSaid (Single op moment) t.all;
+      hold = one_told reports from 0 (length done) done marks (Some cutoff) t.items (Single op moment) own (lost_item op moment own) LostSaid t.all t.hold
+          (let e : length done ≡ 0 + length done = omega arith in e) holds (tt, refl);
+      now_is = t.now_is ∙ sym (state_more from t.items (lost_item op moment own));
+    }
+
+module _ (read : Reading) (from : State) (begun : List Order) (w : World) (on : IsFetchingOn read from begun w) where
+  f : IsFetching read from begun w
+  f = on.fetching
+
+  abbrev At : Way → World → Type 0
+  At way b = AtFetch on.fetching.now on.fetching.ask read on.fetching.own way b
+
+  abbrev s : PlacedAt At w
+  s = on.fetching.stands
+
+  seen : IsSeen s.base w
+  seen = seen_placed At w s
+
+  fails : failed_job LostSaid w.near.job ≡ Answered LostSaid
+  fails =
+      busy_lost w.near.job (lasting_busy read on.fetching.now on.fetching.ask on.fetching.is_ask.plan on.fetching.own w s on.lasts)
+      (lasting_untold read on.fetching.now on.fetching.ask on.fetching.is_ask.plan on.fetching.own w s on.lasts)
+
+  abbrev Stood : Stage → Type 0
+  Stood stage = Holds on.fetching.now on.fetching.ask on.fetching.own stage s.way s.base
+
+  -- the fields of the link are those of the base
+  record Same : Type 0 where
+    link : w.link ≡ s.base.link
+    to_server : w.data_to_server ≡ s.base.data_to_server
+    to_client : w.data_to_client ≡ s.base.data_to_client
+
+  same : Same
+  same =
+      let way = by_way s.way s.cut in
+      record { link = ap (λ u. u.link) s.is ∙ way.0; to_server = ap (λ u. u.data_to_server) s.is ∙ way.1; to_client = ap (λ u. u.data_to_client) s.is ∙ way.2 }
+    where
+      by_way : (way : Way) (c : Cut)
+          → ((world_at s.base way c).link ≡ s.base.link) × ((world_at s.base way c).data_to_server ≡ s.base.data_to_server) × ((world_at s.base way c).data_to_client ≡ s.base.data_to_client)
+      by_way (Asking line) c = (refl, refl, refl)
+      by_way (Answering rows) c = (refl, refl, refl)
+
+  parts_as : (stage : Stage) → Stood stage → (job : Job) (connection : NearConnection) → s.base.near ≡ busy job connection s.base.near → failed_job LostSaid job ≡ Answered LostSaid
+      → (far : FarConnection Transfer) (pending : Pending Names) → s.base.far.session ≡ linked far false pending s.base.far.session → (link : Link) (queue : List ℕ) → s.base.link ≡ link
+      → s.base.data_to_client ≡ queue → Clears link queue (stands connection) (is_standing far) → after_event (ends_control w) ≡ lost_link w
+  parts_as stage h job connection near_is fails far pending far_is link queue link_is queue_is clear =
+      parts_with w job connection (near_form s.base w seen job connection near_is) fails far pending (far_form s.base w seen far false pending far_is) link queue
+      (same.link ∙ link_is) (same.to_server ∙ h.to_server) (same.to_client ∙ queue_is) clear
+
+  -- what is so of a stage that parts
+  pub record Parts : Type 0 where
+    pub after : after_event (ends_control w) ≡ lost_link w
+    pub table : w.far.session.table ≡ on.fetching.now.table
+    pub few : length on.fetching.own ≤ 1
+
+  table_of : (stage : Stage) → Stood stage → w.far.session.table ≡ on.fetching.now.table
+  table_of stage h = ap (λ s. s.table) seen.session ∙ h.steady.table
+
+  none_few : on.fetching.own ≡ [] → length on.fetching.own ≤ 1
+  none_few is = subst (λ l. length l ≤ 1) (sym is) (omega arith)
+
+  one_few : (mark : Mark) → on.fetching.own ≡ mark ∷ [] → length on.fetching.own ≤ 1
+  one_few mark is = subst (λ l. length l ≤ 1) (sym is) (omega arith)
+
+  abbrev carry : Course → (came queue : List ℕ) → Stage
+  carry course came queue = Carries (record { course = course; came = came; queue = queue })
+
+  carry_parts : (course : Course) (came queue : List ℕ) → Stood (carry course came queue) → Stages.is_passing (carry course came queue) ≡ false → Parts
+  carry_parts (Giving started octet more) came queue h lasts =
+      record { after = parts_as _ h _ _ h.near refl _ _ h.session _ _ h.link h.to_client tt; table = table_of _ h; few = none_few h.marked }
+  carry_parts (Given heard false) came queue h lasts = absurd (cc)
+  carry_parts (Given heard true) came queue h lasts =
+      record { after = parts_as _ h _ _ h.near refl _ _ h.session _ _ h.link h.to_client tt; table = table_of _ h; few = none_few h.marked }
+  carry_parts (Ended started true) came queue h lasts =
+      record { after = parts_as _ h _ _ h.near refl _ _ h.session _ _ h.link h.to_client h.fine.2; table = table_of _ h; few = none_few h.marked }
+  carry_parts (Ended started false) came queue h lasts =
+      record { after = parts_as _ h _ _ h.near refl _ _ h.session _ _ h.link h.to_client h.fine.1.1; table = table_of _ h; few = one_few _ h.marked }
+  carry_parts (Severed started) came queue h lasts =
+      record { after = parts_as _ h _ _ h.near refl _ _ h.session _ _ h.link h.to_client h.fine.1.1; table = table_of _ h; few = one_few _ h.marked }
+  carry_parts (Refusing why Unclosed) came queue h lasts = absurd (cc)
+  carry_parts (Refusing why Closed) came queue h lasts =
+      record { after = parts_as _ h _ _ h.near refl _ _ h.session _ _ h.link h.to_client tt; table = table_of _ h; few = none_few h.marked }
+  carry_parts (Refusing why (Lost true)) came queue h lasts =
+      record { after = parts_as _ h _ _ h.near refl _ _ h.session _ _ h.link h.to_client h.fine.1.1; table = table_of _ h; few = none_few h.marked }
+  carry_parts (Refusing why (Lost false)) came queue h lasts =
+      record { after = parts_as _ h _ _ h.near refl _ _ h.session _ _ h.link h.to_client h.fine.1.1; table = table_of _ h; few = one_few _ h.marked }
+  carry_parts Unopened came queue h lasts =
+      record { after = parts_as _ h _ _ h.near refl _ _ h.session _ _ h.link h.to_client h.fine.1; table = table_of _ h; few = one_few _ h.marked }
+
+  leads_parts : Stages.Leads on.fetching.now on.fetching.ask read on.fetching.own s.way s.base → Parts
+  leads_parts l =
+      let still = leads_still read on.fetching.now on.fetching.ask on.fetching.is_ask.plan on.fetching.own s.base w s.way seen l in
+      let moves = moves_on read on.fetching.now on.fetching.ask on.fetching.is_ask.plan on.fetching.own s.way s.base.near s.base.far l.on l.some in
+      record {
+        after = after_busy w still.0 (same.link ∙ l.link) fails
+            ∙ (λ i. record (lost_link w) { link = (same.link ∙ l.link) i; data_to_server = (same.to_server ∙ l.to_server) i; data_to_client = (same.to_client ∙ l.to_client) i });
+        table = ap (λ s. s.table) seen.session ∙ either moves.0.table;
+        few = none_few l.marked;
+      }
+    where
+      either : {X : Type 0} {one other : X} → (one ≡ other) ⊎ (one ≡ other) → one ≡ other
+      either (inl is) = is
+      either (inr is) = is
+
+  pub parts : Parts
+  parts = by_here s.here on.lasts
+    where
+      by_here : (here : At s.way s.base) → IsLasting on.fetching.now on.fetching.ask read on.fetching.own s.way s.base here → Parts
+      by_here (inl l) lasts = leads_parts l
+      by_here (inr (PortAsked closing, h)) lasts = absurd (cc)
+      by_here (inr (PortTold port, h)) lasts = record { after = parts_as _ h _ _ h.near refl _ _ h.session _ _ h.link h.to_client refl; table = table_of _ h; few = none_few h.marked }
+      by_here (inr (Dials port, h)) lasts = record { after = parts_as _ h _ _ h.near refl _ _ h.session _ _ h.link h.to_client refl; table = table_of _ h; few = none_few h.marked }
+      by_here (inr (PortWanted connection pending, h)) lasts = absurd (cc)
+      by_here (inr (PortSaid port connection pending, h)) lasts = record { after = parts_as _ h _ _ h.near refl _ _ h.session _ _ h.link h.to_client refl; table = table_of _ h; few = none_few h.marked }
+      by_here (inr (PortTaken port true, h)) lasts = absurd (cc)
+      by_here (inr (PortTaken port false, h)) lasts = record { after = parts_as _ h _ _ h.near refl _ _ h.session _ _ h.link h.to_client refl; table = table_of _ h; few = none_few h.marked }
+      by_here (inr (PortDenied port connection, h)) lasts = record { after = parts_as _ h _ _ h.near refl _ _ h.session _ _ h.link h.to_client refl; table = table_of _ h; few = none_few h.marked }
+      by_here (inr (Restarts at restart (Dialled true), h)) lasts = record { after = parts_as _ h _ _ h.near refl _ _ h.session _ _ h.link h.to_client tt; table = table_of _ h; few = none_few h.marked }
+      by_here (inr (Restarts at restart (Dialled false), h)) lasts = record { after = parts_as _ h _ _ h.near refl _ _ h.session _ _ h.link h.to_client refl; table = table_of _ h; few = one_few _ h.marked }
+      by_here (inr (Restarts at restart (Ported port), h)) lasts = record { after = parts_as _ h _ _ h.near refl _ _ h.session _ _ h.link h.to_client refl; table = table_of _ h; few = none_few h.marked }
+      by_here (inr (Retrieves (Dialled true), h)) lasts = record { after = parts_as _ h _ _ h.near refl _ _ h.session _ _ h.link h.to_client tt; table = table_of _ h; few = none_few h.marked }
+      by_here (inr (Retrieves (Dialled false), h)) lasts = record { after = parts_as _ h _ _ h.near refl _ _ h.session _ _ h.link h.to_client refl; table = table_of _ h; few = one_few _ h.marked }
+      by_here (inr (Retrieves (Ported port), h)) lasts = record { after = parts_as _ h _ _ h.near refl _ _ h.session _ _ h.link h.to_client refl; table = table_of _ h; few = none_few h.marked }
+      by_here (inr (Awaits port false, h)) lasts = record { after = parts_as _ h _ _ h.near refl _ _ h.session _ _ h.link h.to_client refl; table = table_of _ h; few = none_few h.marked }
+      by_here (inr (Awaits port true, h)) lasts = record { after = parts_as _ h _ _ h.near refl _ _ h.session _ _ h.link h.to_client refl; table = table_of _ h; few = none_few h.marked }
+      by_here (inr (Unaccepted port, h)) lasts = record { after = parts_as _ h _ _ h.near refl _ _ h.session _ _ h.link h.to_client refl; table = table_of _ h; few = one_few _ h.marked }
+      by_here (inr (Dismissed port why, h)) lasts = record { after = parts_as _ h _ _ h.near refl _ _ h.session _ _ h.link h.to_client refl; table = table_of _ h; few = none_few h.marked }
+      by_here (inr (Carries c, h)) lasts = carry_parts c.course c.came c.queue h lasts
+      by_here (inr (Answers said leaves, h)) lasts = absurd (cc)
+
+  pub fetch_parts : Follows read from begun (after_event (ends_control w))
+  fetch_parts =
+      let g : IsFetching read from begun w = on.fetching in
+      let many : length g.marks ≡ length g.done = marks_are_all from g.done g.marks None w.reports g.now g.told in
+      let one : length w.marks ≡ suc (length g.done) = ap length g.marks_are ∙ length-more g.marks g.own ∙ ap suc many in
+      let cut = told_cut from g.done g.marks (length w.marks) w.reports g.now (omega (arith, one)) g.told in
+      let lost = told_lost from g.done g.marks (length w.marks) w.reports g.now g.ask g.is_ask.plan g.moment g.own cut (sym one) parts.few in
+      let all : length begun ≡ suc (length g.done) = ap length g.begun_is ∙ length-more g.done (Single g.ask.op g.moment) in
+      subst (Follows read from begun) (sym parts.after) (record {
+        unlinked = record { link = refl; to_server = refl; to_client = refl };
+        untold = refl;
+        phase = inr (record {
+          now = g.now;
+          cutoff = length w.marks;
+          cut_is = refl;
+          early = omega (arith, one, all);
+          told = subst (λ done. Told from done w.marks (Some (length w.marks)) (w.reports ++ LostSaid ∷ []) g.now) (sym g.begun_is)
+              (subst (λ marks. Told from (g.done ++ Single g.ask.op g.moment ∷ []) marks (Some (length w.marks)) (w.reports ++ LostSaid ∷ []) g.now) (sym g.marks_are) lost);
+          near = near_lost w.near;
+          far = far_lost w.far;
+          table = parts.table;
+          control = refl;
+          to_server = refl;
+          to_client = refl;
+        });
+      })
+
+-- ---- behind a refused REST
+
+module _ (read : Reading) (reads : IsReading read) (from : State) (begun : List Order) (w : World) (t : IsTrailing from begun w) where
+  abbrev there : World
+  there = closed_at read reads from begun w t
+
+  abbrev lost_there : World
+  lost_there = record (with_link Gone [] (lost_world Idle false there)) { reports = there.reports }
+
+  parts_there : after_event (ends_control there) ≡ lost_there
+  unfolding near.control_end far.control_end near.wants far.data_closed
+  parts_there = refl
+
+  pub trailing_parts : Follows read from begun (after_event (ends_control w))
+  trailing_parts =
+      let told : Told from begun there.marks None there.reports t.now =
+      subst (λ marks. Told from begun marks None there.reports t.now) (sym (marks_at read reads from begun w t)) (reported read reads from begun w t [] (omega arith)) in
+      let many : length there.marks ≡ length begun = marks_are_all from begun there.marks None there.reports t.now told in
+      subst (λ u. Follows read from begun (after_event (ends_control u))) (sym (closed_is read reads from begun w t))
+      (subst (Follows read from begun) (sym parts_there) (record {
+        unlinked = record { link = refl; to_server = refl; to_client = refl };
+        untold = refl;
+        phase = inr (record {
+          now = t.now;
+          cutoff = length there.marks;
+          cut_is = refl;
+          early = omega (arith, many);
+          told = told_cut from begun there.marks (length there.marks) there.reports t.now (omega (arith, many)) told;
+          near = near_lost there.near;
+          far = far_lost there.far;
+          table = t.stands.here.steady.table;
+          control = refl;
+          to_server = refl;
+          to_client = refl;
+        });
+      }))

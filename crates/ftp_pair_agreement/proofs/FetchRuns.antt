@@ -1,0 +1,466 @@
+-- Every event of the link and every delivery keeps what follows of a download.
+use Rattle.std.proofs.Common.{◌≡◌, ◌⊎◌, inl, inr, ℕ, ◌≤◌, Bool, true, false, List, [], ◌∷◌, ◌++◌, length, take, None, refl, sym, ap, subst, ◌∙◌, arith}
+use Rattle.ftp_direct.specs.Direct.{State}
+use Rattle.ftp_client_model.specs.Calls as near
+use Rattle.ftp_ends.specs.Link.{is_connecting}
+use Rattle.ftp_server_model.specs.Machine.{Reading, IsReading}
+use Rattle.ftp_pair_world.specs.Agreement.{Order}
+use Rattle.ftp_pair_world.specs.Events.{ControlToServer, ControlToClient, DataToClient, pulled, pushed, filled, DeliversBy, link_breaks, link_opens, link_refused, told, broken_by, refused_by, is_asked_for, is_gone, is_closed_by_far}
+use Rattle.ftp_pair_world.specs.Serving.{after_event}
+use Rattle.ftp_pair_world.specs.World.{World, Link, Gone, Opened, ClosedByNear, ClosedByFar, Mark, Broken, Refused, marked_last, with_mark, gone}
+use Rattle.ftp_pair_dialogues.specs.Stage.{Way, Asking, Answering}
+use Rattle.ftp_pair_agreement.specs.Cut.{Cut, Goes, world_at, PlacedAt}
+use Rattle.ftp_pair_agreement.specs.Follows.{Told}
+use Rattle.ftp_pair_agreement.specs.Runs.{IsFetching, IsFetchingOn, Runs}
+use Rattle.ftp_pair_agreement.specs.Stages.{Course, Giving, Given, Ended, Severed, Refusing, Unopened, Unclosed, Closed, Lost, Stage, PortAsked, PortTold, Dials, Restarts, Retrieves, Carries, Answers, Holds, AtFetch, IsLasting, PortWanted, PortSaid, PortTaken, PortDenied, Awaits, Unaccepted, Dismissed, is_passing, is_served, AtServed, IsServed}
+use Rattle.ftp_pair_agreement.proofs.Deliveries.{taken_at}
+use Rattle.ftp_pair_agreement.proofs.FetchData.{AtFlow, flow_pulls, flow_pushes, flow_is}
+use Rattle.ftp_pair_agreement.proofs.FetchEvents.{stage_breaks, stage_ends}
+use Rattle.ftp_pair_agreement.proofs.FetchOpenings.{accepted_placed, unaccepted_placed, opened_placed, refused_placed}
+use Rattle.ftp_pair_agreement.proofs.FetchServed.{Served, lasting_stays, port_asked_serves, port_taken_closes, port_wanted_serves, given_closes, refusing_closes}
+use Rattle.ftp_pair_agreement.proofs.FetchWants.{dials_or_none}
+use Rattle.ftp_pair_agreement.proofs.FetchTold.{answers_served, marks_last}
+use Rattle.ftp_pair_agreement.proofs.FetchTurns.{fetch_goes}
+use Rattle.ftp_pair_agreement.proofs.Keeps.{pulls_to_server, pulls_to_client, pushes_to_server, pushes_to_client}
+use Rattle.ftp_pair_agreement.proofs.Still.{rest_placed}
+
+-- nothing was begun, marked, reported or left
+pub record IsKept (w new : World) : Type 0 where
+  pub marks : new.marks ≡ w.marks
+  pub reports : new.reports ≡ w.reports
+  pub control : new.control ≡ w.control
+  pub cutoff : new.cutoff ≡ w.cutoff
+
+module _ (read : Reading) (reads : IsReading read) (from : State) (begun : List Order) where
+  abbrev Fetching : World → Type 0
+  Fetching w = IsFetching read from begun w
+
+  abbrev At : (w : World) → Fetching w → Way → World → Type 0
+  At w f way b = AtFetch f.now f.ask read f.own way b
+
+  -- with other marks of its link
+  pub fetching_marked : (w new : World) (f : Fetching w) (own : List Mark) → new.marks ≡ f.marks ++ own ∷ [] → new.reports ≡ w.reports → new.control ≡ w.control → new.cutoff ≡ w.cutoff
+      → PlacedAt (λ way b. AtFetch f.now f.ask read own way b) new → Fetching new
+  fetching_marked w new f own marks reports control cutoff stands = record {
+    done = f.done;
+    marks = f.marks;
+    own = own;
+    ask = f.ask;
+    moment = f.moment;
+    begun_is = f.begun_is;
+    marks_are = marks;
+    now = f.now;
+    sound = f.sound;
+    is_ask = f.is_ask;
+    told = subst (λ reports. Told from f.done f.marks None reports f.now) (sym reports) f.told;
+    linked = record { control = control ∙ f.linked.control; cutoff = cutoff ∙ f.linked.cutoff };
+    stands = stands;
+  }
+
+  fetching_moved : (w new : World) (f : Fetching w) → IsKept w new → PlacedAt (At w f) new → Fetching new
+  fetching_moved w new f kept stands = fetching_marked w new f f.own (kept.marks ∙ f.marks_are) kept.reports kept.control kept.cutoff stands
+
+  -- ---- what is served behind an event
+
+  served_on : (w : World) (f : Fetching w) → Served read f.now f.ask f.is_ask.plan f.own w (after_event w) → Runs read from begun (after_event w)
+  unfolding fetching_moved fetching_marked
+  served_on w f s = inr (inl (record {
+    fetching = fetching_moved w (after_event w) f (record { marks = s.marks; reports = s.reports; control = s.control; cutoff = s.cutoff }) s.placed;
+    lasts = s.lasts;
+  }))
+
+  lasts_on : (w : World) (f : Fetching w) → IsLasting f.now f.ask read f.own f.stands.way f.stands.base f.stands.here → Runs read from begun (after_event w)
+  lasts_on w f lasts =
+      subst (Runs read from begun) (sym (lasting_stays read f.now f.ask f.is_ask.plan f.own w f.stands lasts)) (inr (inl (record { fetching = f; lasts = lasts })))
+
+  pub fetch_after : (w : World) → Fetching w → Runs read from begun (after_event w)
+  fetch_after w f = by_here f.stands.here refl
+    where
+      lasting : (here : At w f f.stands.way f.stands.base) → f.stands.here ≡ here → IsLasting f.now f.ask read f.own f.stands.way f.stands.base here → Runs read from begun (after_event w)
+      lasting here e lasts = lasts_on w f (subst (IsLasting f.now f.ask read f.own f.stands.way f.stands.base) (sym e) lasts)
+
+      by_course : (course : Course) (came queue : List ℕ)
+          → (h : Holds f.now f.ask f.own (Carries (record { course = course; came = came; queue = queue })) f.stands.way f.stands.base)
+          → f.stands.here ≡ inr (Carries (record { course = course; came = came; queue = queue }), h) → Runs read from begun (after_event w)
+      by_course (Giving started octet more) came queue h e = lasting _ e refl
+      by_course (Given heard false) came queue h e = served_on w f (given_closes read f.now f.ask f.is_ask.plan f.own heard came queue w f.stands h)
+      by_course (Given heard true) came queue h e = lasting _ e refl
+      by_course (Ended started clean) came queue h e = lasting _ e refl
+      by_course (Severed started) came queue h e = lasting _ e refl
+      by_course (Refusing why Unclosed) came queue h e = served_on w f (refusing_closes read f.now f.ask f.is_ask.plan f.own why came queue w f.stands h)
+      by_course (Refusing why Closed) came queue h e = lasting _ e refl
+      by_course (Refusing why (Lost clean)) came queue h e = lasting _ e refl
+      by_course Unopened came queue h e = lasting _ e refl
+
+      by_here : (here : At w f f.stands.way f.stands.base) → f.stands.here ≡ here → Runs read from begun (after_event w)
+      by_here (inl l) e = lasting (inl l) e tt
+      by_here (inr (PortAsked closing, h)) e =
+          served_on w f (port_asked_serves read f.now f.ask f.is_ask.plan f.own closing w f.stands.base f.stands.way (rest_placed _ w f.stands h.way_is) h)
+      by_here (inr (PortTold port, h)) e = lasting _ e refl
+      by_here (inr (Dials port, h)) e = lasting _ e refl
+      by_here (inr (PortWanted connection pending, h)) e =
+          served_on w f (port_wanted_serves read f.now f.ask f.is_ask.plan f.own connection pending w f.stands.base f.stands.way (rest_placed _ w f.stands h.way_is) h)
+      by_here (inr (PortSaid port connection pending, h)) e = lasting _ e refl
+      by_here (inr (PortTaken port true, h)) e = served_on w f (port_taken_closes read f.now f.ask f.is_ask.plan f.own port w f.stands h)
+      by_here (inr (PortTaken port false, h)) e = lasting _ e refl
+      by_here (inr (PortDenied port connection, h)) e = lasting _ e refl
+      by_here (inr (Restarts at restart early, h)) e = lasting _ e refl
+      by_here (inr (Retrieves early, h)) e = lasting _ e refl
+      by_here (inr (Awaits port begun, h)) e = lasting _ e refl
+      by_here (inr (Unaccepted port, h)) e = lasting _ e refl
+      by_here (inr (Dismissed port why, h)) e = lasting _ e refl
+      by_here (inr (Carries c, h)) e = by_course c.course c.came c.queue h e
+      by_here (inr (Answers said leaves, h)) e = answers_served read from begun w f said leaves h
+
+  -- ---- octets of the control connection
+
+  abbrev Serves : (w : World) → Fetching w → Way → World → Type 0
+  Serves w f way b = AtServed f.now f.ask read f.own way b
+
+  goes_of : (w : World) (f : Fetching w) → Goes read (Serves w f) (At w f)
+  goes_of w f = fetch_goes read reads f.now f.ask f.is_ask f.sound f.own
+
+  no_change : (w : World) → IsKept w w
+  no_change w = record { marks = refl; reports = refl; control = refl; cutoff = refl }
+
+  -- a world whose octets of the control connection have moved
+  record Serving (w : World) (f : Fetching w) (new : World) : Type 0 where
+    placed : PlacedAt (Serves w f) new
+    kept : IsKept w new
+
+  serving_is : (w : World) (f : Fetching w) (u : World) → Serving w f u → Fetching u
+  serving_is w f u m =
+      let s = m.placed in
+      fetching_moved w u f m.kept (record { base = s.base; way = s.way; cut = s.cut; is = s.is; fits = s.fits; here = s.here.0 })
+
+  -- what outlasts an event is served
+  served_of : (stage : Stage) → is_passing stage ≡ false → is_served stage ≡ true
+  served_of (PortAsked closing) lasts = refl
+  served_of (PortTold port) lasts = refl
+  served_of (Dials port) lasts = refl
+  served_of (PortWanted connection pending) lasts = refl
+  served_of (PortSaid port connection pending) lasts = refl
+  served_of (PortTaken port true) lasts = absurd (cc)
+  served_of (PortTaken port false) lasts = refl
+  served_of (PortDenied port connection) lasts = refl
+  served_of (Restarts at restart early) lasts = refl
+  served_of (Retrieves early) lasts = refl
+  served_of (Awaits port begun) lasts = refl
+  served_of (Unaccepted port) lasts = refl
+  served_of (Dismissed port why) lasts = refl
+  served_of (Carries carry) lasts = refl
+  served_of (Answers said leaves) lasts = refl
+
+  served_here : (w : World) (f : Fetching w) (way : Way) (b : World) (here : At w f way b) → IsLasting f.now f.ask read f.own way b here → IsServed f.now f.ask read f.own way b here
+  served_here w f way b (inl l) lasts = tt
+  served_here w f way b (inr (stage, h)) lasts = served_of stage lasts
+
+  serving_first : (w : World) (on : IsFetchingOn read from begun w) → Serving w on.fetching w
+  serving_first w on =
+      let s = on.fetching.stands in
+      record {
+        placed = record { base = s.base; way = s.way; cut = s.cut; is = s.is; fits = s.fits; here = (s.here, served_here w on.fetching s.way s.base s.here on.lasts) };
+        kept = no_change w;
+      }
+
+  pulled_server : (n : ℕ) (w : World) (f : Fetching w) (u : World) → Serving w f u → Serving w f (pulled ControlToServer u n)
+  pulled_server n w f u m = record {
+    placed = pulls_to_server read (Serves w f) (At w f) (goes_of w f) n u m.placed;
+    kept = record { marks = m.kept.marks; reports = m.kept.reports; control = m.kept.control; cutoff = m.kept.cutoff };
+  }
+
+  pulled_client : (n : ℕ) (w : World) (f : Fetching w) (u : World) → Serving w f u → Serving w f (pulled ControlToClient u n)
+  pulled_client n w f u m = record {
+    placed = pulls_to_client read (Serves w f) (At w f) (goes_of w f) n u m.placed;
+    kept = record { marks = m.kept.marks; reports = m.kept.reports; control = m.kept.control; cutoff = m.kept.cutoff };
+  }
+
+  pushed_server : (n : ℕ) (w : World) (f : Fetching w) (u : World) → Serving w f u → Fetching (pushed read ControlToServer n u)
+  pushed_server n w f u m =
+      fetching_moved w (pushed read ControlToServer n u) f (record { marks = m.kept.marks; reports = m.kept.reports; control = m.kept.control; cutoff = m.kept.cutoff })
+      (pushes_to_server read (Serves w f) (At w f) (goes_of w f) n u m.placed)
+
+  pushed_client : (n : ℕ) (w : World) (f : Fetching w) (u : World) → Serving w f u → Fetching (pushed read ControlToClient n u)
+  pushed_client n w f u m = serving_is w f (pushed read ControlToClient n u) (record {
+    placed = pushes_to_client read (Serves w f) (At w f) (goes_of w f) n u m.placed;
+    kept = record { marks = m.kept.marks; reports = m.kept.reports; control = m.kept.control; cutoff = m.kept.cutoff };
+  })
+
+  filled_server : (counts : List ℕ) (w : World) (f : Fetching w) (u : World) → Serving w f u → Serving w f (filled ControlToServer u counts)
+  filled_server [] w f u m = m
+  filled_server (count ∷ counts) w f u m = filled_server counts w f (pulled ControlToServer u count) (pulled_server count w f u m)
+
+  filled_client : (counts : List ℕ) (w : World) (f : Fetching w) (u : World) → Serving w f u → Serving w f (filled ControlToClient u counts)
+  filled_client [] w f u m = m
+  filled_client (count ∷ counts) w f u m = filled_client counts w f (pulled ControlToClient u count) (pulled_client count w f u m)
+
+  -- what is lent is of no matter
+  holds_taken : (w : World) (f : Fetching w) (octets : List ℕ) (stage : Stage) (way : Way) (b : World) → Holds f.now f.ask f.own stage way b
+      → Holds f.now f.ask f.own stage way (record b { taken = octets })
+  holds_taken w f octets stage way b h = record {
+    near = h.near;
+    session = h.session;
+    steady = h.steady;
+    ready = h.ready;
+    link = h.link;
+    to_server = h.to_server;
+    to_client = h.to_client;
+    came = h.came;
+    marked = h.marked;
+    way_is = h.way_is;
+    fine = h.fine;
+  }
+
+  here_taken : (w : World) (f : Fetching w) (octets : List ℕ) (way : Way) (b : World) → At w f way b → At w f way (record b { taken = octets })
+  here_taken w f octets way b (inl l) = inl (record { on = l.on; some = l.some; link = l.link; to_server = l.to_server; to_client = l.to_client; marked = l.marked })
+  here_taken w f octets way b (inr (stage, h)) = inr (stage, holds_taken w f octets stage way b h)
+
+  pub fetching_taken : (octets : List ℕ) (w : World) → Fetching w → Fetching (record w { taken = octets })
+  fetching_taken octets w f =
+      let lends : World → World = λ u. record u { taken = octets } in
+      fetching_moved w (record w { taken = octets }) f (record { marks = refl; reports = refl; control = refl; cutoff = refl })
+      (record {
+        base = record f.stands.base { taken = octets };
+        way = f.stands.way;
+        cut = f.stands.cut;
+        is = ap lends f.stands.is ∙ taken_at f.stands.base f.stands.way f.stands.cut octets;
+        fits = f.stands.fits;
+        here = here_taken w f octets f.stands.way f.stands.base f.stands.here;
+      })
+
+  lasts_taken : (octets : List ℕ) (w : World) (f : Fetching w) (here : At w f f.stands.way f.stands.base) → IsLasting f.now f.ask read f.own f.stands.way f.stands.base here
+      → IsLasting f.now f.ask read f.own f.stands.way (record f.stands.base { taken = octets }) (here_taken w f octets f.stands.way f.stands.base here)
+  unfolding here_taken
+  lasts_taken octets w f (inl l) lasts = lasts
+  lasts_taken octets w f (inr (stage, h)) lasts = lasts
+
+  pub fetching_on_taken : (octets : List ℕ) (w : World) → IsFetchingOn read from begun w → IsFetchingOn read from begun (record w { taken = octets })
+  unfolding fetching_taken fetching_moved fetching_marked
+  fetching_on_taken octets w f = record { fetching = fetching_taken octets w f.fetching; lasts = lasts_taken octets w f.fetching f.fetching.stands.here f.lasts }
+
+  served_taken : (octets : List ℕ) (w : World) (f : Fetching w) (way : Way) (b : World) (here : At w f way b) → IsServed f.now f.ask read f.own way b here
+      → IsServed f.now f.ask read f.own way (record b { taken = octets }) (here_taken w f octets way b here)
+  unfolding here_taken
+  served_taken octets w f way b (inl l) served = served
+  served_taken octets w f way b (inr (stage, h)) served = served
+
+  serving_taken : (octets : List ℕ) (w : World) (f : Fetching w) (u : World) → Serving w f u → Serving w f (record u { taken = octets })
+  serving_taken octets w f u m =
+      let lends : World → World = λ v. record v { taken = octets } in
+      let s = m.placed in
+      record {
+        placed = record {
+          base = record s.base { taken = octets };
+          way = s.way;
+          cut = s.cut;
+          is = ap lends s.is ∙ taken_at s.base s.way s.cut octets;
+          fits = s.fits;
+          here = (here_taken w f octets s.way s.base s.here.0, served_taken octets w f s.way s.base s.here.0 s.here.1);
+        };
+        kept = record { marks = m.kept.marks; reports = m.kept.reports; control = m.kept.control; cutoff = m.kept.cutoff };
+      }
+
+  pub fetch_delivers_server : (none : Bool) (count : ℕ) (w new : World) → IsFetchingOn read from begun w → DeliversBy none read ControlToServer count w new → Runs read from begun new
+  fetch_delivers_server true count w new on m =
+      let f = on.fetching in
+      subst (Runs read from begun) (sym m.is) (fetch_after _ (serving_is w f _ (pulled_server m.gave w f w (serving_first w on))))
+  fetch_delivers_server false count w new on d =
+      let f = on.fetching in
+      let full = filled_server d.counts w f w (serving_first w on) in
+      let lent = serving_taken (take d.taken (filled ControlToServer w d.counts).control_to_server) w f (filled ControlToServer w d.counts) full in
+      subst (Runs read from begun) (sym d.is) (fetch_after _ (pushed_server d.taken w f _ lent))
+
+  pub fetch_delivers_client : (none : Bool) (count : ℕ) (w new : World) → IsFetchingOn read from begun w → DeliversBy none read ControlToClient count w new → Runs read from begun new
+  fetch_delivers_client true count w new on m =
+      let f = on.fetching in
+      subst (Runs read from begun) (sym m.is) (fetch_after _ (serving_is w f _ (pulled_client m.gave w f w (serving_first w on))))
+  fetch_delivers_client false count w new on d =
+      let f = on.fetching in
+      let full = filled_client d.counts w f w (serving_first w on) in
+      let lent = serving_taken (take d.taken (filled ControlToClient w d.counts).control_to_client) w f (filled ControlToClient w d.counts) full in
+      subst (Runs read from begun) (sym d.is) (fetch_after _ (pushed_client d.taken w f _ lent))
+
+  -- ---- octets of the link
+
+  abbrev Flowing : (w : World) → Fetching w → World → Type 0
+  Flowing w f new = PlacedAt (AtFlow read f.now f.ask f.is_ask.plan f.own) new
+
+  -- a world whose octets have moved
+  record Moved (w : World) (f : Fetching w) (new : World) : Type 0 where
+    flowing : Flowing w f new
+    kept : IsKept w new
+
+  moved_pulls : (n : ℕ) (w : World) (f : Fetching w) (u : World) → Moved w f u → Moved w f (pulled DataToClient u n)
+  moved_pulls n w f u m = record {
+    flowing = flow_pulls read f.now f.ask f.is_ask.plan f.own n u m.flowing;
+    kept = record { marks = m.kept.marks; reports = m.kept.reports; control = m.kept.control; cutoff = m.kept.cutoff };
+  }
+
+  moved_filled : (counts : List ℕ) (w : World) (f : Fetching w) (u : World) → Moved w f u → Moved w f (filled DataToClient u counts)
+  moved_filled [] w f u m = m
+  moved_filled (count ∷ counts) w f u m = moved_filled counts w f (pulled DataToClient u count) (moved_pulls count w f u m)
+
+  moved_taken : (octets : List ℕ) (w : World) (f : Fetching w) (u : World) → Moved w f u → Moved w f (record u { taken = octets })
+  moved_taken octets w f u m =
+      let lends : World → World = λ v. record v { taken = octets } in
+      let s = m.flowing in
+      record {
+        flowing = record {
+          base = record s.base { taken = octets };
+          way = s.way;
+          cut = s.cut;
+          is = ap lends s.is ∙ taken_at s.base s.way s.cut octets;
+          fits = s.fits;
+          here = record {
+            course = s.here.course;
+            came = s.here.came;
+            queue = s.here.queue;
+            flows = s.here.flows;
+            holds = holds_taken w f octets (Carries (record { course = s.here.course; came = s.here.came; queue = s.here.queue })) s.way s.base s.here.holds;
+          };
+        };
+        kept = record { marks = m.kept.marks; reports = m.kept.reports; control = m.kept.control; cutoff = m.kept.cutoff };
+      }
+
+  moved_pushes : (n : ℕ) (w : World) (f : Fetching w) (u : World) → n ≤ length u.data_to_client → Moved w f u → Moved w f (pushed read DataToClient n u)
+  moved_pushes n w f u few m = record {
+    flowing = flow_pushes read f.now f.ask f.is_ask.plan f.own n u few m.flowing;
+    kept = record { marks = m.kept.marks; reports = m.kept.reports; control = m.kept.control; cutoff = m.kept.cutoff };
+  }
+
+  moved_is : (w : World) (f : Fetching w) (u : World) → Moved w f u → Fetching u
+  moved_is w f u m = fetching_moved w u f m.kept (flow_is read f.now f.ask f.is_ask.plan f.own u m.flowing)
+
+  pub fetch_delivers_data : (none : Bool) (count : ℕ) (w new : World) (f : Fetching w) → Flowing w f w → DeliversBy none read DataToClient count w new → Runs read from begun new
+  fetch_delivers_data true count w new f flowing m =
+      subst (Runs read from begun) (sym m.is) (fetch_after _ (moved_is w f _ (moved_pulls m.gave w f w (record { flowing = flowing; kept = no_change w }))))
+  fetch_delivers_data false count w new f flowing d =
+      let full = moved_filled d.counts w f w (record { flowing = flowing; kept = no_change w }) in
+      let lent = moved_taken (take d.taken (filled DataToClient w d.counts).data_to_client) w f (filled DataToClient w d.counts) full in
+      let few : d.taken ≤ length (filled DataToClient w d.counts).data_to_client = omega (arith, d.takes.within) in
+      subst (Runs read from begun) (sym d.is) (fetch_after _ (moved_is w f _ (moved_pushes d.taken w f _ few lent)))
+
+  -- ---- the link
+
+  base_link : (w : World) (f : Fetching w) → f.stands.base.link ≡ w.link
+  base_link w f = sym (ap (λ u. u.link) f.stands.is ∙ by_way f.stands.way f.stands.cut)
+    where
+      by_way : (way : Way) (c : Cut) → (world_at f.stands.base way c).link ≡ f.stands.base.link
+      by_way (Asking line) c = refl
+      by_way (Answering rows) c = refl
+
+  base_came : (w : World) (f : Fetching w) → f.stands.base.came ≡ w.came
+  base_came w f = sym (ap (λ u. u.came) f.stands.is ∙ by_way f.stands.way f.stands.cut)
+    where
+      by_way : (way : Way) (c : Cut) → (world_at f.stands.base way c).came ≡ f.stands.base.came
+      by_way (Asking line) c = refl
+      by_way (Answering rows) c = refl
+
+  base_queue : (w : World) (f : Fetching w) → f.stands.base.data_to_client ≡ w.data_to_client
+  base_queue w f = sym (ap (λ u. u.data_to_client) f.stands.is ∙ by_way f.stands.way f.stands.cut)
+    where
+      by_way : (way : Way) (c : Cut) → (world_at f.stands.base way c).data_to_client ≡ f.stands.base.data_to_client
+      by_way (Asking line) c = refl
+      by_way (Answering rows) c = refl
+
+  -- what a break leaves as it is
+  record IsBreak (w new : World) : Type 0 where
+    marks : new.marks ≡ marked_last (Broken w.came) w.marks
+    reports : new.reports ≡ w.reports
+    control : new.control ≡ w.control
+    cutoff : new.cutoff ≡ w.cutoff
+
+  breaks_by : (w : World) (link : Link) → IsBreak w (with_mark (Broken w.came) (gone (broken_by link w)))
+  breaks_by w Gone = record { marks = refl; reports = refl; control = refl; cutoff = refl }
+  breaks_by w Opened = record { marks = refl; reports = refl; control = refl; cutoff = refl }
+  breaks_by w ClosedByNear = record { marks = refl; reports = refl; control = refl; cutoff = refl }
+  breaks_by w ClosedByFar = record { marks = refl; reports = refl; control = refl; cutoff = refl }
+
+  pub fetch_breaks : (w : World) → IsFetchingOn read from begun w → is_gone w.link ≡ false → Runs read from begun (after_event (link_breaks w))
+  fetch_breaks w on some = by_here f.stands.here on.lasts
+    where
+      f : Fetching w
+      f = on.fetching
+
+      left : IsBreak w (link_breaks w)
+      left = breaks_by w w.link
+
+      marked : (link_breaks w).marks ≡ f.marks ++ (f.own ++ Broken f.stands.base.came ∷ []) ∷ []
+      marked =
+          left.marks ∙ ap (marked_last (Broken w.came)) f.marks_are ∙ marks_last (Broken w.came) f.marks f.own
+          ∙ ap (λ came. f.marks ++ (f.own ++ Broken came ∷ []) ∷ []) (sym (base_came w f))
+
+      by_here : (here : At w f f.stands.way f.stands.base) → IsLasting f.now f.ask read f.own f.stands.way f.stands.base here → Runs read from begun (after_event (link_breaks w))
+      by_here (inl l) lasts = absurd (let e : true ≡ false = sym (ap is_gone (sym (base_link w f) ∙ l.link)) ∙ some in cc)
+      by_here (inr (stage, h)) lasts =
+          let breaks = stage_breaks read f.now f.ask f.is_ask f.sound f.own stage f.stands.way f.stands.base f.stands.cut f.stands.fits h lasts
+          (ap is_gone (base_link w f) ∙ some) in
+          let own : List Mark = f.own ++ Broken f.stands.base.came ∷ [] in
+          fetch_after (link_breaks w) (fetching_marked w (link_breaks w) f own marked left.reports left.control left.cutoff
+          (subst (λ u. PlacedAt (λ way b. AtFetch f.now f.ask read own way b) (link_breaks u)) (sym f.stands.is) breaks))
+
+  pub fetch_ends : (w : World) → IsFetchingOn read from begun w → is_closed_by_far w.link ≡ true → w.data_to_client ≡ [] → Runs read from begun (after_event (told DataToClient w))
+  fetch_ends w on left empty = by_here f.stands.here on.lasts
+    where
+      f : Fetching w
+      f = on.fetching
+
+      by_here : (here : At w f f.stands.way f.stands.base) → IsLasting f.now f.ask read f.own f.stands.way f.stands.base here → Runs read from begun (after_event (told DataToClient w))
+      by_here (inl l) lasts = absurd (let e : false ≡ true = sym (ap is_closed_by_far (sym (base_link w f) ∙ l.link)) ∙ left in cc)
+      by_here (inr (stage, h)) lasts =
+          let ends = stage_ends read f.now f.ask f.is_ask f.sound f.own stage f.stands.way f.stands.base f.stands.cut f.stands.fits h
+          (ap is_closed_by_far (base_link w f) ∙ left) lasts (base_queue w f ∙ empty) in
+          fetch_after (told DataToClient w) (fetching_moved w (told DataToClient w) f (record { marks = refl; reports = refl; control = refl; cutoff = refl })
+          (subst (λ u. PlacedAt (At w f) (told DataToClient u)) (sym f.stands.is) ends))
+
+  -- what a refusal leaves as it is
+  record IsRefusal (w new : World) : Type 0 where
+    marks : new.marks ≡ marked_last Refused w.marks
+    reports : new.reports ≡ w.reports
+    control : new.control ≡ w.control
+    cutoff : new.cutoff ≡ w.cutoff
+
+  refuses_by : (w : World) (connects : Bool) → IsRefusal w (with_mark Refused (refused_by connects w))
+  refuses_by w true = record { marks = refl; reports = refl; control = refl; cutoff = refl }
+  refuses_by w false = record { marks = refl; reports = refl; control = refl; cutoff = refl }
+
+  pub fetch_opens : (w : World) → IsFetchingOn read from begun w → is_asked_for w ≡ true → Runs read from begun (after_event (link_opens w))
+  fetch_opens w on asks = by_dial (dials_or_none read f.now f.ask f.is_ask.plan f.own w f.stands on.lasts)
+    where
+      f : Fetching w
+      f = on.fetching
+
+      by_dial : ((port : ℕ) × Holds f.now f.ask f.own (Dials port) f.stands.way f.stands.base)
+          ⊎ (((port : ℕ) × Holds f.now f.ask f.own (Awaits port true) f.stands.way f.stands.base) ⊎ (is_asked_for w ≡ false)) → Runs read from begun (after_event (link_opens w))
+      by_dial (inl (port, h)) =
+          let is = rest_placed _ w f.stands h.way_is in
+          fetch_after (link_opens w) (fetching_moved w (link_opens w) f (record { marks = refl; reports = refl; control = refl; cutoff = refl })
+          (opened_placed read f.now f.ask f.is_ask f.sound f.own port w f.stands.base f.stands.way f.stands.cut is h))
+      by_dial (inr (inl (port, h))) =
+          let is = rest_placed _ w f.stands h.way_is in
+          fetch_after (link_opens w) (fetching_moved w (link_opens w) f (record { marks = refl; reports = refl; control = refl; cutoff = refl })
+          (accepted_placed read f.now f.ask f.is_ask f.sound f.own port w f.stands.base f.stands.way f.stands.cut is h))
+      by_dial (inr (inr none)) = absurd (let e : true ≡ false = sym asks ∙ none in cc)
+
+  pub fetch_refuses : (w : World) → IsFetchingOn read from begun w → is_asked_for w ≡ true → Runs read from begun (after_event (link_refused w))
+  fetch_refuses w on asks = by_dial (dials_or_none read f.now f.ask f.is_ask.plan f.own w f.stands on.lasts)
+    where
+      f : Fetching w
+      f = on.fetching
+
+      left : IsRefusal w (link_refused w)
+      left = refuses_by w (is_connecting (near.wants w.near))
+
+      by_dial : ((port : ℕ) × Holds f.now f.ask f.own (Dials port) f.stands.way f.stands.base)
+          ⊎ (((port : ℕ) × Holds f.now f.ask f.own (Awaits port true) f.stands.way f.stands.base) ⊎ (is_asked_for w ≡ false)) → Runs read from begun (after_event (link_refused w))
+      by_dial (inl (port, h)) =
+          let is = rest_placed _ w f.stands h.way_is in
+          fetch_after (link_refused w) (fetching_marked w (link_refused w) f (f.own ++ Refused ∷ [])
+          (left.marks ∙ ap (marked_last Refused) f.marks_are ∙ marks_last Refused f.marks f.own) left.reports left.control left.cutoff
+          (refused_placed read f.now f.ask f.is_ask f.sound f.own port w f.stands.base f.stands.way f.stands.cut is h))
+      by_dial (inr (inl (port, h))) =
+          let is = rest_placed _ w f.stands h.way_is in
+          fetch_after (link_refused w) (fetching_marked w (link_refused w) f (f.own ++ Refused ∷ [])
+          (left.marks ∙ ap (marked_last Refused) f.marks_are ∙ marks_last Refused f.marks f.own) left.reports left.control left.cutoff
+          (unaccepted_placed read f.now f.ask f.is_ask f.sound f.own port w f.stands.base f.stands.way f.stands.cut is h))
+      by_dial (inr (inr none)) = absurd (let e : true ≡ false = sym asks ∙ none in cc)

@@ -1,0 +1,271 @@
+-- Every event keeps what follows of operations without a transfer and of downloads and listings, and so every list of them.
+use Rattle.std.proofs.Common.{◌≡◌, ◌⊎◌, inl, inr, ℕ, ◌==◌, List, [], ◌∷◌, ◌++◌, Bool, true, false, not, ◌&&◌, refl, sym, ap, subst, ◌∙◌, append-nil, append_assoc}
+use Rattle.std.specs.Prelude.{IsTrue}
+use Rattle.std.proofs.lemmas.Bool.{and_parts}
+use Rattle.ftp_operation.specs.Operation.{can_be_sent}
+use Rattle.ftp_operation.specs.declared.op.Op.{Op}
+use Rattle.ftp_direct.specs.Direct.{State}
+use Rattle.ftp_client_model.specs.Calls as near
+use Rattle.ftp_server_model.specs.Calls as far
+use Rattle.ftp_server_model.specs.Machine.{Reading, IsReading}
+use Rattle.ftp_client_model.specs.Tries.{OverBreaks}
+use Rattle.ftp_pair_world.specs.Agreement.{Order, Single, Tries, Leads, begun_by}
+use Rattle.ftp_ends.specs.Octets.{has_octets}
+use Rattle.ftp_pair_world.specs.Events.{Queue, ControlToServer, ControlToClient, DataToServer, DataToClient, Event, Deliver, Open, Refuse, End, Break, EndControl, Next, Upload, Happens, can_happen, can_begin, operation_begins, upload_begins, is_asked_for, is_gone, is_closed_by_far, is_left_by_near, is_left_by_far}
+use Rattle.ftp_pair_world.specs.Serving.{after_event}
+use Rattle.ftp_pair_world.specs.World.{World}
+use Rattle.ftp_pair_dialogues.specs.Dialogue.{HasNoTransfer}
+use Rattle.ftp_pair_dialogues.specs.Fetches.{IsFetch}
+use Rattle.ftp_pair_agreement.specs.Follows.{IsFree, IsUnder, IsLinked, Phase, Follows}
+use Rattle.ftp_pair_agreement.specs.Laws.{IsPlain, ArePlain}
+use Rattle.ftp_pair_agreement.specs.Runs.{IsFetchingOn, IsTrailing, Runs}
+use Rattle.ftp_pair_agreement.proofs.Asks.{IsAskOf, ask_of}
+use Rattle.ftp_pair_agreement.proofs.Begins.{begins_free}
+use Rattle.ftp_pair_agreement.proofs.Deliveries.{taken_at}
+use Rattle.ftp_pair_agreement.proofs.Events.{IsNoBeginning, both_false, happens, lent_again, never, under_busy}
+use Rattle.ftp_pair_agreement.proofs.FetchBegins.{begins_fetch}
+use Rattle.ftp_pair_agreement.proofs.FetchParting.{fetch_parts, trailing_parts}
+use Rattle.ftp_pair_agreement.proofs.FetchRuns.{fetching_on_taken, fetch_delivers_server, fetch_delivers_client, fetch_delivers_data, fetch_breaks, fetch_ends, fetch_opens, fetch_refuses}
+use Rattle.ftp_pair_agreement.proofs.FetchWants.{flows_or_none, gives_none, lasting_busy}
+use Rattle.ftp_pair_agreement.proofs.FetchTold.{closed_is, trailing_ends, trailing_breaks}
+use Rattle.ftp_pair_agreement.proofs.Parting.{begins_lost}
+use Rattle.ftp_pair_agreement.proofs.Unsendable.{upload_free, upload_lost}
+
+-- what is lent is of no matter
+trailing_taken : (from : State) (begun : List Order) (octets : List ℕ) (w : World) → IsTrailing from begun w → IsTrailing from begun (record w { taken = octets })
+trailing_taken from begun octets w t =
+    let lends : World → World = λ u. record u { taken = octets } in
+    let s = t.stands in
+    record {
+      done = t.done;
+      marks = t.marks;
+      reports = t.reports;
+      ask = t.ask;
+      plan = t.plan;
+      moment = t.moment;
+      said = t.said;
+      begun_is = t.begun_is;
+      marks_are = t.marks_are;
+      reports_are = t.reports_are;
+      now = t.now;
+      sound = t.sound;
+      told = t.told;
+      fares = t.fares;
+      linked = record { control = t.linked.control; cutoff = t.linked.cutoff };
+      stands = record {
+        base = record s.base { taken = octets };
+        way = s.way;
+        cut = s.cut;
+        is = ap lends s.is ∙ taken_at s.base s.way s.cut octets;
+        fits = s.fits;
+        here = record {
+          near = s.here.near;
+          session = s.here.session;
+          steady = s.here.steady;
+          link = s.here.link;
+          to_server = s.here.to_server;
+          to_client = s.here.to_client;
+          way_is = s.here.way_is;
+        };
+      };
+    }
+
+three_parts : (a b c : Bool) → (a && b && c) ≡ true → (a ≡ true) × (b ≡ true)
+three_parts a b c is = let both = and_parts (a && b) c is in and_parts a b both.0
+
+none_there : (b c : Bool) → (b && false && c) ≡ false
+none_there true c = refl
+none_there false c = refl
+
+no_octet : (l : List ℕ) → not (has_octets l) ≡ true → l ≡ []
+no_octet [] is = refl
+no_octet (octet ∷ l) is = absurd (cc)
+
+not_so : (b : Bool) → not b ≡ true → b ≡ false
+not_so false is = refl
+not_so true is = absurd (cc)
+
+module _ (read : Reading) (reads : IsReading read) (from : State) where
+  abbrev Holds : List Order → World → Type 0
+  Holds begun w = Runs read from begun w
+
+  -- ---- a download is under way
+
+  on_happens : (begun : List Order) (event : Event) (w new : World) → IsNoBeginning event → IsFetchingOn read from begun w → Happens read event w true new → Holds begun new
+  on_happens begun (Deliver ControlToServer count) w new plain on e = fetch_delivers_server read reads from begun _ count _ new (fetching_on_taken read reads from begun [] w on) e.1
+  on_happens begun (Deliver ControlToClient count) w new plain on e = fetch_delivers_client read reads from begun _ count _ new (fetching_on_taken read reads from begun [] w on) e.1
+  on_happens begun (Deliver DataToServer count) w new plain on e =
+      let f = on.fetching in
+      let none = gives_none read f.now f.ask f.is_ask.plan f.own w f.stands on.lasts in
+      absurd (never (can_happen (Deliver DataToServer count) w) (both_false (near.to_give w.near) w.data_to_server _ (not (count == 0)) _ none.due none.queue) e.0)
+  on_happens begun (Deliver DataToClient count) w new plain on e =
+      let u : World = record w { taken = [] } in
+      let on_u = fetching_on_taken read reads from begun [] w on in
+      let f = on_u.fetching in
+      elim (flows_or_none read f.now f.ask f.is_ask.plan f.own u f.stands on_u.lasts) [
+        | inl flowing ↦ fetch_delivers_data read reads from begun _ count u new f flowing e.1
+        | inr none ↦ absurd (never (can_happen (Deliver DataToClient count) w) (both_false (far.to_give w.far) w.data_to_client _ (not (count == 0)) _ none.0 none.1) e.0)
+      ]
+  on_happens begun Open w new plain on e =
+      subst (Holds begun) (sym e.1) (fetch_opens read reads from begun (record w { taken = [] }) (fetching_on_taken read reads from begun [] w on) e.0)
+  on_happens begun Refuse w new plain on e =
+      subst (Holds begun) (sym e.1) (fetch_refuses read reads from begun (record w { taken = [] }) (fetching_on_taken read reads from begun [] w on) e.0)
+  on_happens begun (End ControlToServer) w new plain on e = absurd (never _ (rw (ap is_left_by_near on.fetching.linked.control) refl) e.0)
+  on_happens begun (End ControlToClient) w new plain on e = absurd (never _ (rw (ap is_left_by_far on.fetching.linked.control) refl) e.0)
+  on_happens begun (End DataToServer) w new plain on e =
+      let f = on.fetching in
+      absurd (never _ (rw (gives_none read f.now f.ask f.is_ask.plan f.own w f.stands on.lasts).closed refl) e.0)
+  on_happens begun (End DataToClient) w new plain on e =
+      let left = three_parts (is_closed_by_far w.link) (not (has_octets w.data_to_client)) _ e.0 in
+      subst (Holds begun) (sym e.1)
+      (fetch_ends read reads from begun (record w { taken = [] }) (fetching_on_taken read reads from begun [] w on) left.0 (no_octet w.data_to_client left.1))
+  on_happens begun Break w new plain on e =
+      subst (Holds begun) (sym e.1) (fetch_breaks read reads from begun (record w { taken = [] }) (fetching_on_taken read reads from begun [] w on) (not_so (is_gone w.link) e.0))
+  on_happens begun EndControl w new plain on e =
+      subst (Holds begun) (sym e.1) (inl (fetch_parts read from begun (record w { taken = [] }) (fetching_on_taken read reads from begun [] w on)))
+  on_happens begun (Next op moment) w new plain on e = absurd plain
+  on_happens begun (Upload upload moment) w new plain on e = absurd plain
+
+  -- ---- behind a refused REST
+
+  module _ (begun : List Order) (w new : World) (t : IsTrailing from begun w) where
+    later : IsTrailing from begun (record w { taken = [] })
+    later = trailing_taken from begun [] w t
+
+    -- what a closed link lets happen
+    lets : (event : Event) → Happens read event w true new → IsTrue (can_happen event w)
+    lets event e = e.0
+
+    trails_deliver : (queue : Queue) (count : ℕ) → IsTrue (can_happen (Deliver queue count) w) → ⊥
+    trails_deliver ControlToServer count can = never _ (none_there (not (count == 0)) _) (subst (λ u. IsTrue (can_happen (Deliver ControlToServer count) u)) (closed_is read reads from begun w t) can)
+    trails_deliver ControlToClient count can = never _ (none_there (not (count == 0)) _) (subst (λ u. IsTrue (can_happen (Deliver ControlToClient count) u)) (closed_is read reads from begun w t) can)
+    trails_deliver DataToServer count can = never _ (none_there (not (count == 0)) _) (subst (λ u. IsTrue (can_happen (Deliver DataToServer count) u)) (closed_is read reads from begun w t) can)
+    trails_deliver DataToClient count can = never _ (none_there (not (count == 0)) _) (subst (λ u. IsTrue (can_happen (Deliver DataToClient count) u)) (closed_is read reads from begun w t) can)
+
+    trails_happen : (event : Event) → IsNoBeginning event → Happens read event w true new → Holds begun new
+    trails_happen (Deliver queue count) plain e = absurd (trails_deliver queue count e.0)
+    trails_happen Open plain e = absurd (never _ (ap is_asked_for (closed_is read reads from begun w t)) e.0)
+    trails_happen Refuse plain e = absurd (never _ (ap is_asked_for (closed_is read reads from begun w t)) e.0)
+    trails_happen (End ControlToServer) plain e = absurd (never _ (rw (ap is_left_by_near t.linked.control) refl) e.0)
+    trails_happen (End ControlToClient) plain e = absurd (never _ (rw (ap is_left_by_far t.linked.control) refl) e.0)
+    trails_happen (End DataToServer) plain e = subst (Holds begun) (sym e.1) (inl (trailing_ends read reads from begun (record w { taken = [] }) later))
+    trails_happen (End DataToClient) plain e = absurd (never _ (ap (can_happen (End DataToClient)) (closed_is read reads from begun w t)) e.0)
+    trails_happen Break plain e = subst (Holds begun) (sym e.1) (inl (trailing_breaks read reads from begun (record w { taken = [] }) later))
+    trails_happen EndControl plain e = subst (Holds begun) (sym e.1) (inl (trailing_parts read reads from begun (record w { taken = [] }) later))
+    trails_happen (Next op moment) plain e = absurd plain
+    trails_happen (Upload upload moment) plain e = absurd plain
+
+  -- ---- every event
+
+  other_happens : (begun : List Order) (event : Event) (w new : World) → IsNoBeginning event → Holds begun w → Happens read event w true new → Holds begun new
+  other_happens begun event w new plain (inl h) e = inl (subst (λ l. Follows read from l new) (append-nil begun) (subst (λ l. Follows read from (begun ++ l) new) (nothing_begun event plain) (happens read reads from begun event w new plain h e)))
+    where
+      nothing_begun : (event : Event) → IsNoBeginning event → begun_by event true ≡ []
+      nothing_begun (Deliver queue count) plain = refl
+      nothing_begun Open plain = refl
+      nothing_begun Refuse plain = refl
+      nothing_begun (End queue) plain = refl
+      nothing_begun Break plain = refl
+      nothing_begun EndControl plain = refl
+      nothing_begun (Next op moment) plain = absurd plain
+      nothing_begun (Upload upload moment) plain = absurd plain
+  other_happens begun event w new plain (inr (inl on)) e = on_happens begun event w new plain on e
+  other_happens begun event w new plain (inr (inr t)) e = trails_happen begun w new t event plain e
+
+  -- an operation begins where none is under way
+  free_begins : (begun : List Order) (op : Op (List ℕ)) (moment : ℕ) (u : World) → IsPlain (Next op moment) → (h : Follows read from begun u) → IsLinked u → IsFree from begun u
+      → Holds (begun ++ Single op moment ∷ []) (after_event (operation_begins op moment u))
+  free_begins begun op moment u plain h l f = by_sent (can_be_sent op) refl
+    where
+      by_ask : IsAskOf op → Holds (begun ++ Single op moment ∷ []) (after_event (operation_begins op moment u))
+      by_ask o =
+          subst (λ op. Holds (begun ++ Single op moment ∷ []) (after_event (operation_begins op moment u))) (sym o.op_is)
+          (begins_fetch read reads from begun o.ask moment o.good u h.unlinked l f)
+
+      by_plain : can_be_sent op ≡ true → HasNoTransfer op ⊎ IsFetch op → Holds (begun ++ Single op moment ∷ []) (after_event (operation_begins op moment u))
+      by_plain can (inl alone) = inl (begins_free read reads from begun op moment u h.unlinked l f (λ sent. alone))
+      by_plain can (inr fetches) = by_ask (ask_of op fetches can)
+
+      by_sent : (b : Bool) → can_be_sent op ≡ b → Holds (begun ++ Single op moment ∷ []) (after_event (operation_begins op moment u))
+      by_sent true can = by_plain can (plain can)
+      by_sent false cannot = inl (begins_free read reads from begun op moment u h.unlinked l f (λ sent. absurd (let e : true ≡ false = sym sent ∙ cannot in cc)))
+
+  -- nothing begins while an operation is under way
+  under_way : (begun : List Order) (u : World) → IsUnder read from begun u → IsTrue (can_begin u) → ⊥
+  under_way begun u under can = never (can_begin u) (ap (λ (b : Bool). not b && is_gone u.link && not (is_asked_for u)) (under_busy read from begun u under)) can
+
+  fetch_under_way : (begun : List Order) (w : World) → IsFetchingOn read from begun w → IsTrue (can_begin w) → ⊥
+  fetch_under_way begun w on can =
+      let f = on.fetching in
+      never (can_begin w) (ap (λ (b : Bool). not b && is_gone w.link && not (is_asked_for w)) (lasting_busy read f.now f.ask f.is_ask.plan f.own w f.stands on.lasts)) can
+
+  trails_on : (begun : List Order) (w : World) → IsTrailing from begun w → IsTrue (can_begin w) → ⊥
+  trails_on begun w t can = never (can_begin w) (ap can_begin (closed_is read reads from begun w t)) can
+
+  next_runs : (begun : List Order) (op : Op (List ℕ)) (moment : ℕ) (w new : World) → IsPlain (Next op moment) → Holds begun w → Happens read (Next op moment) w true new
+      → Holds (begun ++ Single op moment ∷ []) new
+  next_runs begun op moment w new plain (inl h) e =
+      let u : World = record w { taken = [] } in
+      let hu = lent_again read reads from begun w h in
+      subst (Holds (begun ++ Single op moment ∷ [])) (sym e.1) (by_phase u hu e.0 hu.phase)
+    where
+      by_phase : (u : World) → Follows read from begun u → IsTrue (can_begin u) → Phase read from begun u → Holds (begun ++ Single op moment ∷ []) (after_event (operation_begins op moment u))
+      by_phase u h can (inl (l, inl f)) = free_begins begun op moment u plain h l f
+      by_phase u h can (inl (l, inr under)) = absurd (under_way begun u under can)
+      by_phase u h can (inr l) = inl (begins_lost read from begun op moment u h.unlinked l)
+  next_runs begun op moment w new plain (inr (inl on)) e = absurd (fetch_under_way begun w on e.0)
+  next_runs begun op moment w new plain (inr (inr t)) e = absurd (trails_on begun w t e.0)
+
+  -- an upload over breaks that can't be sent
+  upload_runs : (begun : List Order) (upload : OverBreaks) (moment : ℕ) (w new : World) → IsPlain (Upload upload moment) → Holds begun w → Happens read (Upload upload moment) w true new
+      → Holds (begun ++ Tries upload moment ∷ []) new
+  upload_runs begun upload moment w new plain (inl h) e =
+      let u : World = record w { taken = [] } in
+      let hu = lent_again read reads from begun w h in
+      subst (Holds (begun ++ Tries upload moment ∷ [])) (sym e.1) (inl (by_phase u hu e.0 hu.phase))
+    where
+      by_phase : (u : World) → Follows read from begun u → IsTrue (can_begin u) → Phase read from begun u
+          → Follows read from (begun ++ Tries upload moment ∷ []) (after_event (upload_begins upload moment u))
+      by_phase u h can (inl (l, inl f)) = upload_free read reads from begun upload moment plain u h.unlinked l f
+      by_phase u h can (inl (l, inr under)) = absurd (under_way begun u under can)
+      by_phase u h can (inr l) = upload_lost read reads from begun upload moment plain u h.unlinked l
+  upload_runs begun upload moment w new plain (inr (inl on)) e = absurd (fetch_under_way begun w on e.0)
+  upload_runs begun upload moment w new plain (inr (inr t)) e = absurd (trails_on begun w t e.0)
+
+  same : (begun : List Order) (w : World) → Holds begun w → Holds (begun ++ []) w
+  same begun w h = subst (λ l. Holds l w) (sym (append-nil begun)) h
+
+  runs_happen : (begun : List Order) (event : Event) (w new : World) → IsPlain event → Holds begun w → Happens read event w true new → Holds (begun ++ begun_by event true) new
+  runs_happen begun (Deliver queue count) w new plain h e = same begun new (other_happens begun (Deliver queue count) w new tt h e)
+  runs_happen begun Open w new plain h e = same begun new (other_happens begun Open w new tt h e)
+  runs_happen begun Refuse w new plain h e = same begun new (other_happens begun Refuse w new tt h e)
+  runs_happen begun (End queue) w new plain h e = same begun new (other_happens begun (End queue) w new tt h e)
+  runs_happen begun Break w new plain h e = same begun new (other_happens begun Break w new tt h e)
+  runs_happen begun EndControl w new plain h e = same begun new (other_happens begun EndControl w new tt h e)
+  runs_happen begun (Next op moment) w new plain h e = next_runs begun op moment w new plain h e
+  runs_happen begun (Upload upload moment) w new plain h e = upload_runs begun upload moment w new plain h e
+
+  none_begun : (event : Event) → begun_by event false ≡ []
+  none_begun (Deliver queue count) = refl
+  none_begun Open = refl
+  none_begun Refuse = refl
+  none_begun (End queue) = refl
+  none_begun Break = refl
+  none_begun EndControl = refl
+  none_begun (Next op moment) = refl
+  none_begun (Upload upload moment) = refl
+
+  step : (begun : List Order) (event : Event) (possible : Bool) (w new : World) → IsPlain event → Holds begun w → Happens read event w possible new → Holds (begun ++ begun_by event possible) new
+  step begun event true w new plain h e = runs_happen begun event w new plain h e
+  step begun event false w new plain h e =
+      subst (Holds (begun ++ begun_by event false)) (sym e.1) (subst (λ l. Holds (begun ++ l) w) (sym (none_begun event)) (same begun w h))
+
+  -- every list
+  pub runs_lead : (before : List Order) (events : List Event) (begun : List Order) (w new : World) → ArePlain events → Holds before w → Leads read w events begun new
+      → Holds (before ++ begun) new
+  runs_lead before [] begun w new plain h leads =
+      subst (Holds (before ++ begun)) (sym leads.1) (subst (λ l. Holds (before ++ l) w) (sym leads.0) (same before w h))
+  runs_lead before (event ∷ events) begun w new plain h leads =
+      let here = step before event leads.0 w leads.1 plain.0 h leads.3 in
+      let behind = runs_lead (before ++ begun_by event leads.0) events leads.2 leads.1 new plain.1 here leads.5 in
+      subst (λ l. Holds l new) (append_assoc before (begun_by event leads.0) leads.2 ∙ ap (λ l. before ++ l) (sym leads.4)) behind

@@ -1,0 +1,44 @@
+-- The claims, for lists whose operations have no transfer or are downloads or listings.
+use Rattle.std.proofs.Common.{inl, List, [], refl, subst}
+use Rattle.ftp_server_model.specs.Machine.{Reading, IsReading}
+use Rattle.ftp_pair_world.specs.Agreement.{Order, Agrees, WorldAgrees, Leads}
+use Rattle.ftp_pair_world.specs.Claims.{Beginning, IsFair, state_of, world_of}
+use Rattle.ftp_pair_world.specs.Events.{Event}
+use Rattle.ftp_pair_world.specs.World.{World}
+use Rattle.ftp_pair_world.proofs.AgreementLemmas.{unmarked_is_direct}
+use Rattle.ftp_pair_world.proofs.HonestLemmas.{leads_clean}
+use Rattle.ftp_pair_world.proofs.StillLemmas.{quiet_is_still}
+use Rattle.ftp_pair_agreement.specs.Runs.{Runs}
+use Rattle.ftp_pair_agreement.specs.Laws.{ArePlain, PlainAgrees, PlainIsAnswered, PlainHeadline, PlainStillIsQuiet}
+use Rattle.ftp_pair_agreement.proofs.Agreeing.{runs_agree}
+use Rattle.ftp_pair_agreement.proofs.Beginning.{begins_follow}
+use Rattle.ftp_pair_agreement.proofs.FetchQuiet.{runs_answered, runs_quiet}
+use Rattle.ftp_pair_agreement.proofs.Running.{runs_lead}
+
+plain_runs : (read : Reading) → IsReading read → (b : Beginning) → IsFair b → (events : List Event) (begun : List Order) (w : World)
+    → Leads read (world_of b) events begun w → ArePlain events → Runs read (state_of b) begun w
+plain_runs read reads b fair events begun w leads plain =
+    runs_lead read reads (state_of b) [] events begun (world_of b) w plain (inl (begins_follow read b fair)) leads
+
+pub plain-agrees : PlainAgrees
+plain-agrees read reads b fair events begun w timed leads plain =
+    runs_agree read reads (state_of b) begun w (plain_runs read reads b fair events begun w leads plain)
+
+pub plain-is-answered : PlainIsAnswered
+plain-is-answered read reads b fair events begun w timed leads plain quiet =
+    runs_answered read reads (state_of b) begun w (plain_runs read reads b fair events begun w leads plain) (quiet_is_still w quiet)
+
+pub plain-still-is-quiet : PlainStillIsQuiet
+plain-still-is-quiet read reads b fair events begun w timed leads plain still =
+    runs_quiet read reads (state_of b) begun w (plain_runs read reads b fair events begun w leads plain) still
+
+-- ---- the headline
+
+pub plain-headline : PlainHeadline
+plain-headline read reads b fair events begun w timed leads plain honest single quiet =
+    let clean = leads_clean read (world_of b) events begun w honest leads (record { marks = tt; cutoff = refl }) in
+    let agree : WorldAgrees (state_of b) begun w = plain-agrees read reads b fair events begun w timed leads plain in
+    let done = plain-is-answered read reads b fair events begun w timed leads plain quiet in
+    let direct = unmarked_is_direct (state_of b) begun w.marks w.reports w.far.session.table single clean.marks done.reported
+    (subst (λ cutoff. Agrees (state_of b) begun w.marks cutoff w.reports w.far.session.table) clean.cutoff agree) in
+    record { reports = direct.0; table = direct.1 }

@@ -1,0 +1,324 @@
+-- A download or a listing: what both ends hold while it is under way (RFC 959, sections 3.2 to 3.5 and 4.1.2; RFC 2428; RFC 3659,
+-- sections 5 and 7).
+use Rattle.std.specs.Prelude.{◌≡◌, ◌⊎◌, ℕ, ◌<◌, ◌^◌, Bool, true, false, drop, List, [], ◌++◌, codes, decimal, Option, Some, None, if◌then◌else◌}
+use Rattle.std.specs.Option.{unwrap_or}
+use Rattle.ftp_command.specs.Line.{IsStated, IsTyped}
+use Rattle.ftp_command.specs.declared.command.Command.{Command}
+use Rattle.ftp_command.specs.declared.command.Command.TheVariants as Commands
+use Rattle.ftp_endpoint.specs.Written.{IsTypedHost}
+use Rattle.ftp_endpoint.specs.declared.host.Host.{Host}
+use Rattle.ftp_wire.specs.Decoder.{no_octets, decoder_of}
+use Rattle.ftp_ends.specs.Link.{is_v6}
+use Rattle.ftp_ends.specs.Reply.{Reply, reply_of}
+use Rattle.ftp_operation.specs.Answer.{Said, Octets, Refused, Entries, Names as NameList}
+use Rattle.ftp_operation.specs.Operation.{can_be_sent}
+use Rattle.ftp_operation.specs.declared.op.How.{How}
+use Rattle.ftp_operation.specs.declared.op.Op.{Op}
+use Rattle.ftp_operation.specs.declared.op.Op.TheVariants as Ops
+use Rattle.ftp_path.specs.Path.{Names}
+use Rattle.ftp_settings.specs.Representation.{has_markers}
+use Rattle.ftp_settings.specs.declared.representation.Representation.{Representation}
+use Rattle.ftp_tree.specs.Tree.{Table}
+use Rattle.ftp_direct.specs.declared.refusal.Refusal.{Refusal}
+use Rattle.ftp_direct.specs.Direct.{State, done, entries_in, file_of, named, named_or_here, names_for, offset_refusal, or_refused, part, place_at, refusal, refused_file, refused_there}
+use Rattle.ftp_client_model.specs.Dialogue.{judged}
+use Rattle.ftp_client_model.specs.Octets.{download_flow, flow_of, written}
+use Rattle.ftp_client_model.specs.Plan.{asked_settings, count_of, how_of, is_extended, listing_settings, offset_of, optional, own_command}
+use Rattle.ftp_client_model.specs.View.{View as Near, Job, Doing, Transferring, Told, Receiving}
+use Rattle.ftp_client_model.specs.declared.client.Abort.TheVariants as Aborts
+use Rattle.ftp_client_model.specs.declared.client.ClientLink.{ClientLink as NearConnection}
+use Rattle.ftp_client_model.specs.declared.client.ClientLink.TheVariants as NearData
+use Rattle.ftp_client_model.specs.declared.client.Ending.TheVariants as Endings
+use Rattle.ftp_client_model.specs.declared.client.Replied.{Replied}
+use Rattle.ftp_client_model.specs.declared.client.Replied.TheVariants as Replies
+use Rattle.ftp_client_model.specs.declared.client.Standing.TheVariants as Standings
+use Rattle.ftp_client_model.specs.declared.client.Step.TheVariants as Steps
+use Rattle.ftp_server_model.specs.Act.{act, is_in}
+use Rattle.ftp_server_model.specs.Listing.{entry_lines, listing_wire, name_lines}
+use Rattle.ftp_server_model.specs.Machine.{is_abor}
+use Rattle.ftp_server_model.specs.Replies.{extended_text, passive_text}
+use Rattle.ftp_server_model.specs.Transfer.{file_wire, misplaced, transfer_starts}
+use Rattle.ftp_server_model.specs.View.{View as Far, Footing, Session, Transfer, all_facts, direct_of, how_in_force}
+use Rattle.ftp_server_model.specs.declared.heard.HeardLine.TheVariants.{Asks}
+use Rattle.ftp_server_model.specs.declared.session.Access.{Access}
+use Rattle.ftp_server_model.specs.declared.session.PassiveVerb.{PassiveVerb}
+use Rattle.ftp_server_model.specs.declared.session.PassiveVerb.TheVariants as Asking
+use Rattle.ftp_server_model.specs.declared.session.ServerLink.{ServerLink as FarConnection}
+use Rattle.ftp_server_model.specs.declared.session.ServerLink.TheVariants as FarData
+use Rattle.ftp_server_model.specs.declared.session.Facts.{Facts}
+use Rattle.ftp_server_model.specs.declared.session.Life.TheVariants as Lives
+use Rattle.ftp_server_model.specs.declared.session.Pending.{Pending}
+use Rattle.ftp_server_model.specs.declared.session.Pending.TheVariants as Pendings
+use Rattle.ftp_server_model.specs.declared.session.Transfer.TheVariants as Transfers
+use Rattle.ftp_pair_world.specs.Outcome.{download_of, fetched, mark_in, upload_of}
+use Rattle.ftp_pair_dialogues.specs.Dialogue.{Ends, IsSound, is_aside}
+
+-- ---- what is asked for
+
+-- a download of a file or a listing
+abbrev pub IsFetch : Op (List ℕ) → Type 0
+IsFetch (Ops.Get text how) = Unit {0}
+IsFetch (Ops.GetFrom text offset how) = Unit {0}
+IsFetch (Ops.List text how) = Unit {0}
+IsFetch (Ops.Names text how) = Unit {0}
+IsFetch other = ⊥
+
+-- what an operation asks for whose octets come to the client: how its link is opened, the settings that it goes in, the offset of REST,
+-- its own command, why the server refuses that, whether the octets are those of a listing, the octets, and the answer where they come whole
+pub record Ask : Type 0 where
+  pub op : Op (List ℕ)
+  pub how : How
+  pub settings : Representation
+  pub offset : Option ℕ
+  pub command : Command (List ℕ)
+  pub why : State → Option Refusal
+  pub listed : Bool
+  pub wire : State → List ℕ
+  pub said : State → Said
+
+-- ---- the client
+
+-- it has entered, and has this job and this link
+abbrev pub busy : Job → NearConnection → Near → Near
+busy job connection n = record n { standing = Standings.Entered; job = job; run = None; connection = connection; closing = false }
+
+-- the job whose command was sent: replies that came, and octets that came
+abbrev pub fetching : Op (List ℕ) → Replied → Representation → List ℕ → Job
+fetching op replied settings came =
+    Transferring op (record { replied = replied; abort = Aborts.Unsent; flow = Receiving (decoder_of settings came) (mark_in (no_octets settings) None came) })
+
+-- it has told this, and its link is to be closed or not
+abbrev pub leaving : Said → Bool → Near → Near
+leaving said closing n = record n { standing = Standings.Entered; job = Told said; run = None; connection = NearData.Free; closing = closing }
+
+-- the first job and the first command behind the opening: REST where there is an offset, else the own command
+abbrev pub opened_job : Option ℕ → Ask → Job
+opened_job None ask = fetching ask.op Replies.Nothing ask.settings []
+opened_job (Some offset) ask = Doing ask.op Steps.Restart
+
+-- the command of that job
+abbrev pub opened_command : Option ℕ → Ask → Command (List ℕ)
+opened_command None ask = ask.command
+opened_command (Some offset) ask = Commands.Rest offset
+
+-- ---- the server
+
+-- a session with this data connection, which is to be closed or not, and with this pending for the next line
+abbrev pub linked : FarConnection Transfer → Bool → Pending Names → Session → Session
+linked connection closing pending s = record s { connection = connection; closing = closing; pending = pending; life = Lives.Running }
+
+-- EPSV or PASV was heard
+abbrev pub asked_of : Bool → PassiveVerb
+asked_of extended = if extended then Asking.Epsv else Asking.Pasv
+
+-- the reply to it, once there is a port
+abbrev pub port_reply : Bool → Host → ℕ → Reply
+port_reply true host port = reply_of 229 (extended_text port)
+port_reply false host port = reply_of 227 (passive_text (record { host = host; port = port }))
+
+-- REST is accepted
+abbrev pub rest_reply : ℕ → Reply
+rest_reply offset = reply_of 350 (codes "Restarting at " ++ decimal offset)
+
+-- octets that are still to be given, of a file or of a listing
+abbrev pub giving_of : Bool → List ℕ → Transfer
+giving_of false octets = Transfers.Download octets
+giving_of true octets = Transfers.Listing octets
+
+-- what REST left for the own command
+abbrev pub offset_pending : Option ℕ → Pending Names
+offset_pending None = Pendings.Nothing
+offset_pending (Some offset) = Pendings.Restart offset
+
+-- ---- what no turn changes
+
+-- hosts, settings and what the direct run sees
+pub record Kept : Type 0 where
+  pub near_here : Host
+  pub near_peer : Host
+  pub near_settings : Representation
+  pub far_here : Host
+  pub far_peer : Host
+  pub table : Table
+  pub access : Access (List ℕ)
+  pub root : Names
+  pub cwd : Names
+  pub far_settings : Representation
+  pub facts : Facts
+  pub only_extended : Bool
+
+-- of both ends
+abbrev pub kept : Near → Far → Kept
+kept n f = record {
+  near_here = n.here;
+  near_peer = n.peer;
+  near_settings = n.settings;
+  far_here = f.footing.here;
+  far_peer = f.footing.peer;
+  table = f.session.table;
+  access = f.session.access;
+  root = f.session.root;
+  cwd = f.session.cwd;
+  far_settings = f.session.settings;
+  facts = f.session.facts;
+  only_extended = f.session.only_extended;
+}
+
+-- each end is the other's peer, both are of one family; the server is in this state, in the settings that the client knows, with all facts in
+-- force
+pub record IsSteady (state : State) (k : Kept) : Type 0 where
+  pub peer : k.near_peer ≡ k.far_here
+  pub here : k.near_here ≡ k.far_peer
+  pub typed : IsTypedHost k.far_here
+  pub own : IsTypedHost k.near_here
+  pub family : is_v6 k.near_here ≡ is_v6 k.near_peer
+  pub all_ways : k.only_extended ≡ false
+  pub table : k.table ≡ state.table
+  pub access : is_in k.access ≡ state.known
+  pub root : state.known ≡ true → k.root ≡ state.root
+  pub cwd : k.cwd ≡ state.cwd
+  pub settings : k.far_settings ≡ k.near_settings
+  pub facts : k.facts ≡ all_facts
+
+-- ---- where the settings are made
+
+-- the server was asked for a port
+pub record PortIsAsked (state : State) (ask : Ask) (n : Near) (f : Far) : Type 0 where
+  pub near : n ≡ busy (Doing ask.op Steps.Passive) NearData.Free n
+  pub closing : Bool
+  pub session : f.session ≡ linked (FarData.Asked (asked_of (is_extended n ask.op))) closing Pendings.Nothing f.session
+  pub steady : IsSteady state (kept n f)
+  pub set : n.settings ≡ ask.settings
+  pub known : state.known ≡ true
+
+-- the client wants a port of its own, and the server stands as it did
+pub record PortIsWanted (state : State) (ask : Ask) (n : Near) (f : Far) : Type 0 where
+  pub near : n ≡ busy (Doing ask.op Steps.Listen) NearData.ListenWanted n
+  pub connection : FarConnection Transfer
+  pub aside : is_aside connection ≡ true
+  pub pending : Pending Names
+  pub session : f.session ≡ linked connection false pending f.session
+  pub steady : IsSteady state (kept n f)
+  pub set : state.known ≡ true → n.settings ≡ ask.settings
+
+-- a port is asked for or wanted; or the first command was refused, as nobody is logged in
+abbrev pub Opens : State → Ask → Near → Far → Type 0
+Opens state ask n f = PortIsAsked state ask n f ⊎ PortIsWanted state ask n f ⊎ ((state.known ≡ false) × Ends (Refused 530, state) n f)
+
+-- ---- downloads: what is sent, and why nothing is
+
+-- both in one, by the offset
+abbrev pub fetch : Option ℕ → List ℕ → How → Op (List ℕ)
+fetch None text how = Ops.Get text how
+fetch (Some offset) text how = Ops.GetFrom text offset how
+
+-- where a download begins in its file, if there is such a place
+abbrev pub place_in_file : State → Option ℕ → List ℕ → How → Option ℕ
+place_in_file state None text how = Some 0
+place_in_file state (Some offset) text how = place_at state (named state text) how offset
+
+-- why RETR is refused
+abbrev pub why_not : State → Option ℕ → List ℕ → How → Option Refusal
+why_not state offset text how = or_refused (refused_file state text) (refused_there (misplaced (place_in_file state offset text how)))
+
+-- what is asked for, from the place where the download begins
+abbrev pub content_from : State → Option ℕ → List ℕ → How → List ℕ
+content_from state offset text how = drop (unwrap_or (place_in_file state offset text how) 0) (file_of state text)
+
+-- the octets of the link
+abbrev pub fetched_wire : State → Option ℕ → List ℕ → How → List ℕ
+fetched_wire state offset text how = file_wire how.representation (unwrap_or (place_in_file state offset text how) 0) (content_from state offset text how)
+
+-- a download as what is asked for
+abbrev pub download_ask : Option ℕ → List ℕ → How → Ask
+download_ask offset text how = record {
+  op = fetch offset text how;
+  how = how;
+  settings = how.representation;
+  offset = offset;
+  command = Commands.Retr text;
+  why = λ state. why_not state offset text how;
+  listed = false;
+  wire = λ state. fetched_wire state offset text how;
+  said = λ state. Octets (content_from state offset text how);
+}
+
+-- ---- listings: lines that end in LF, in type A (RFC 959, section 4.1.3; RFC 3659, section 7)
+
+-- entries, one a line
+abbrev pub list_ask : List ℕ → How → Ask
+list_ask text how = record {
+  op = Ops.List text how;
+  how = how;
+  settings = listing_settings how.representation.mode;
+  offset = None;
+  command = Commands.Mlsd (optional text);
+  why = λ state. refusal state (Ops.List text how);
+  listed = true;
+  wire = λ state. listing_wire how.representation.mode (entry_lines all_facts (part state) (named_or_here state text));
+  said = λ state. Entries (entries_in (part state) (named_or_here state text));
+}
+
+-- pathnames, one a line
+abbrev pub names_ask : List ℕ → How → Ask
+names_ask text how = record {
+  op = Ops.Names text how;
+  how = how;
+  settings = listing_settings how.representation.mode;
+  offset = None;
+  command = Commands.Nlst (optional text);
+  why = λ state. refusal state (Ops.Names text how);
+  listed = true;
+  wire = λ state. listing_wire how.representation.mode (name_lines (part state) (named_or_here state text) text);
+  said = λ state. NameList (names_for (part state) (named_or_here state text) text);
+}
+
+-- ---- what is so of what is asked for
+
+-- the client plans it so
+pub record HasPlan (ask : Ask) : Type 0 where
+  pub how_is : how_of ask.op ≡ Some ask.how
+  pub asks : asked_settings ask.op ≡ Some ask.settings
+  pub offset_is : offset_of ask.op ≡ ask.offset
+  pub own : own_command ask.op ≡ ask.command
+  pub flow : flow_of ask.op ≡ Some (download_flow ask.settings)
+  pub all : count_of ask.op ≡ None
+
+-- the server reads its commands, and acts on the own one so in these settings
+pub record HasRow (ask : Ask) : Type 0 where
+  pub typed : IsTyped ask.command
+  pub stated : IsStated ask.command
+  pub other : is_abor (Asks ask.command) ≡ false
+  pub few : (at : ℕ) → ask.offset ≡ Some at → at < 10 ^ 18
+  pub acts : (footing : Footing) (s : Session) → s.settings ≡ ask.settings → s.facts ≡ all_facts
+      → act footing ask.command (offset_pending ask.offset) s ≡ transfer_starts (ask.why (direct_of s)) (giving_of ask.listed (ask.wire (direct_of s))) s
+
+-- REST is not refused
+abbrev pub IsPlacedAt : Representation → Option ℕ → Type 0
+IsPlacedAt settings None = Unit {0}
+IsPlacedAt settings (Some at) = offset_refusal at (how_in_force settings) ≡ None
+
+-- its octets are the one text of a download that the world knows
+pub record IsKnownText (ask : Ask) (state : State) : Type 0 where
+  pub start : ℕ
+  pub octets : List ℕ
+  pub down : download_of state ask.op ≡ Some (fetched ask.settings start octets)
+  pub text : written (has_markers ask.settings) ask.settings start octets ≡ ask.wire state
+
+-- the direct run refuses it or answers so, and the client reads that answer out of the whole octets
+pub record HasAnswer (ask : Ask) : Type 0 where
+  pub can : can_be_sent ask.op ≡ true
+  pub refused : (state : State) → IsPlacedAt ask.settings ask.offset → refusal state ask.op ≡ ask.why state
+  pub unplaced : (state : State) (at : ℕ) (why : Refusal) → ask.offset ≡ Some at → offset_refusal at (how_in_force ask.settings) ≡ Some why
+      → refusal state ask.op ≡ Some why
+  pub done_so : (state : State) (moment : ℕ) → done state ask.op moment ≡ (ask.said state, state)
+  pub whole : (state : State) (mark : Option ℕ) → IsSound state → state.known ≡ true → ask.why state ≡ None
+      → judged Endings.Clean Aborts.Unsent 226 ask.op (Receiving (decoder_of ask.settings (ask.wire state)) mark) ≡ Some (ask.said state)
+  pub no_upload : (state : State) → upload_of state ask.op ≡ None
+  pub sent_so : (state : State) → ask.why state ≡ None → IsKnownText ask state
+
+-- all of these
+pub record IsAsk (ask : Ask) : Type 0 where
+  pub plan : HasPlan ask
+  pub row : HasRow ask
+  pub answer : HasAnswer ask

@@ -1,0 +1,34 @@
+use Rattle.std.proofs.Common.{Ok, subst}
+use Rattle.ftp_server_drive.specs.Beside.{beside}
+use Rattle.ftp_server_drive.specs.Deeds.{Clock}
+use Rattle.ftp_server_drive.specs.Driving.{Turns}
+use Rattle.ftp_server_drive.proofs.Leading.{fails_here, fails_then, leads_then}
+use Rattle.ftp_server_drive.proofs.Turning.{call_leads, ends_err}
+use Rattle.ftp_server_drive.proofs.drive.turns.Goals as goal
+
+pub loop-init : goal.loop-init
+loop-init g c =
+    let old = beside g.R.Read.remaining g.W.Write.contents (g.F.Far.server c.args.server.now) c.args.control.now in
+    call_leads (Clock c.moment.result.seconds) old (g.F.Far.server c.clock.new.self) c.clock.ensures
+
+pub returns-in_err-turn : goal.returns-in_err-turn
+returns-in_err-turn g c =
+    ends_err _ _ c.from_residual.result c.from_residual.ensures.0 (fails_then _ _ _ c.loop.invariant c.in_err-turn.ensures)
+
+pub returns-in-Over : goal.returns-in-Over
+returns-in-Over g c =
+    let stand = beside g.R.Read.remaining g.W.Write.contents in
+    let mid = stand (g.F.Far.server c.loop.server) c.loop.control in
+    let new = stand (g.F.Far.server c.turn.new.server) c.turn.new.control in
+    let over = subst (λ life. Turns mid new (Ok life)) c.in-Over.is c.in_ok-turn.ensures in
+    (leads_then _ mid new c.loop.invariant over.0, over.1)
+
+pub loop-preserved : goal.loop-preserved
+loop-preserved g c =
+    let stand = beside g.R.Read.remaining g.W.Write.contents in
+    let mid = stand (g.F.Far.server c.loop.server) c.loop.control in
+    let new = stand (g.F.Far.server c.turn.new.server) c.turn.new.control in
+    leads_then _ mid new c.loop.invariant (subst (λ life. Turns mid new (Ok life)) c.in-GoesOn.is c.in_ok-turn.ensures)
+
+pub returns : goal.returns
+returns g c = fails_here _ _ c.loop.invariant

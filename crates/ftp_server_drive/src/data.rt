@@ -1,0 +1,256 @@
+// The octets of a data connection, between a stream and the server, and those of a download that are not written yet.
+ghost use Rattle.std.specs.Prelude.{◌≡◌, ◌≢◌, ◌<◌, ◌≤◌, IfOk, length};
+ghost use Rattle.ftp_server_model.specs.Calls.{wants};
+ghost use Rattle.ftp_server_drive.specs.Beside.{beside};
+ghost use Rattle.ftp_server_drive.specs.Driving.{Goes, Quietly};
+
+use crate::control::Control;
+use ftp_control::{
+    DATA_PIECE, DataConnection, Failed, For, Halt, Ports, Ready, Rest, Spoken, Watch,
+};
+use ftp_ends::Wants;
+use ftp_server_model::Far;
+use ftp_tree::Tree;
+use std::alloc::Allocator;
+use std::io::{Read, Write};
+
+/// What a data connection has.
+#[derive(Clone, Copy, Debug, PartialEq, Eq)]
+pub(crate) enum Came {
+    /// Room, where octets go.
+    Room,
+    /// So many octets, which were read.
+    Octets(usize),
+    /// Nothing yet.
+    Nothing,
+    End,
+    Break,
+}
+
+/// A data connection, if there is one, and room for its octets.
+pub(crate) struct Data<S> {
+    pub(crate) connection: DataConnection<S>,
+    room: [u8; DATA_PIECE],
+}
+
+impl<S: Read + Write> Data<S> {
+    /// No data connection.
+    pub(crate) fn new() -> Data<S> {
+        Data {
+            connection: DataConnection::new(),
+            room: [0; DATA_PIECE],
+        }
+    }
+
+    /// Notes whether the server has more octets of a download.
+    pub(crate) fn note<A, T, F>(&mut self, server: &F)
+    where
+        A: Allocator,
+        T: Tree<A>,
+        F: Far<A, T>,
+        ensures { (self.new.connection.rest ≡ Rest.Nothing) → wants (F.server server.now).view ≢ Wants.Send }
+    {
+        self.connection.note(rest_of(server));
+    }
+
+    /// What it has: octets that are read now, or room where the server wants to send.
+    pub(crate) fn come(&mut self, wants: Wants) -> Came {
+        if wants == Wants::Send {
+            return Came::Room;
+        }
+        match self.connection.read(&mut self.room) {
+            Ok(0) => Came::End,
+            Ok(count) => Came::Octets(count),
+            Err(Halt::Again | Halt::Spoken) => Came::Nothing,
+            Err(Halt::Broken) => Came::Break,
+        }
+    }
+
+    /// Closes it for good.
+    pub(crate) fn finish<P: Ports<Stream = S>>(self, ports: &mut P) {
+        let Data {
+            connection,
+            room: _,
+        } = self;
+        connection.finish(ports);
+    }
+
+    /// The front of the room, so many octets.
+    pub(crate) fn front(&self, count: usize) -> &[u8] {
+        self.room.get(..count).unwrap_or(&[])
+    }
+
+    /// Takes octets of a download from the server, where all before were written.
+    fn fill<A, T, F>(&mut self, server: &mut F)
+    where
+        A: Allocator,
+        T: Tree<A>,
+        F: Far<A, T>,
+        ensures { Quietly (F.server server.old) (F.server server.new) }
+    {
+        if !self.connection.has_unwritten() {
+            let (front, _) = self.room.split_at_mut(self.connection.piece());
+            let count = fill(server, front);
+            self.connection.took(count);
+        }
+    }
+
+    /// Writes octets that are not written yet: what one write takes, or all where no others come.
+    fn write(&mut self) -> Result<(), Failed>
+        ensures { self.new.connection.rest ≡ self.old.connection.rest }
+    {
+        if self.connection.rest() == Rest::Nothing {
+            return self.connection.write_all(&self.room);
+        }
+        match self.connection.write(&self.room) {
+            Ok(()) | Err(Halt::Again | Halt::Spoken) => Ok(()),
+            Err(Halt::Broken) => Err(Failed),
+        }
+    }
+}
+
+/// Waits until octets can go over the data connection, or where `hears` the control connection is to be served.
+pub(crate) fn wait_at<A, T, F, P>(
+    server: &F,
+    ports: &mut P,
+    data: &mut Data<P::Stream>,
+    hears: bool,
+) -> Ready
+where
+    A: Allocator,
+    T: Tree<A>,
+    F: Far<A, T>,
+    P: Ports,
+{
+    let what = match server.wants() {
+        Wants::Send => For::Room,
+        _ => For::Octets,
+    };
+    data.connection.wait(ports, what, hears)
+}
+
+/// The data connection ended now, and the control connection, which was looked at behind that, has not.
+pub(crate) fn end<A, T, F, C>(server: &mut F, watch: &mut C, _spoken: Spoken)
+where
+    A: Allocator,
+    T: Tree<A>,
+    F: Far<A, T>,
+    C: Watch,
+    requires { _spoken ≢ Spoken.Ended }
+    ensures { Quietly (F.server server.old) (F.server server.new) }
+{
+    server.clock(watch.moment());
+    server.data_end();
+}
+
+/// The data connection broke now.
+pub(crate) fn fault<A, T, F, C>(server: &mut F, watch: &mut C)
+where
+    A: Allocator,
+    T: Tree<A>,
+    F: Far<A, T>,
+    C: Watch,
+    ensures { Quietly (F.server server.old) (F.server server.new) }
+{
+    server.clock(watch.moment());
+    server.data_fault();
+}
+
+/// Hands octets of an upload to the server until it has taken them all or the upload is over, which drops the rest.
+pub(crate) fn hand<A, T, F, R, W>(
+    server: &mut F,
+    control: &mut Control<R, W>,
+    octets: &[u8],
+) -> Result<(), Failed>
+where
+    A: Allocator,
+    T: Tree<A>,
+    F: Far<A, T>,
+    R: Read + Drop,
+    W: Write + Drop,
+    ensures { Goes (beside R.remaining W.contents (F.server server.old) control.old) (beside R.remaining W.contents (F.server server.new) control.new) result }
+{
+    let mut at = 0;
+    while at < octets.len() {
+        if server.wants() != Wants::Receive {
+            return Ok(());
+        }
+        let (_, rest) = octets.split_at(at);
+        at += hand_some(server, control, rest)?;
+    }
+    Ok(())
+}
+
+/// Hands octets to the server once, and writes what it owes then; gives how many it took, one at least.
+fn hand_some<A, T, F, R, W>(
+    server: &mut F,
+    control: &mut Control<R, W>,
+    octets: &[u8],
+) -> Result<usize, Failed>
+where
+    A: Allocator,
+    T: Tree<A>,
+    F: Far<A, T>,
+    R: Read + Drop,
+    W: Write + Drop,
+    ensures some { IfOk result (λ taken. 0 < taken) }
+    ensures within { IfOk result (λ taken. taken ≤ length octets.now) }
+    ensures goes { Goes (beside R.remaining W.contents (F.server server.old) control.old) (beside R.remaining W.contents (F.server server.new) control.new) result }
+{
+    let taken = server.data_hear(octets);
+    if taken == 0 {
+        return Err(Failed);
+    }
+    control.flush(server)?;
+    Ok(taken)
+}
+
+/// Writes octets of a download, once. With the last octet of it the server owes its reply, so all is written before that.
+pub(crate) fn send<A, T, F, S>(server: &mut F, data: &mut Data<S>) -> Result<(), Failed>
+where
+    A: Allocator,
+    T: Tree<A>,
+    F: Far<A, T>,
+    S: Read + Write,
+    ensures quiet { Quietly (F.server server.old) (F.server server.new) }
+    ensures rest { («data».new.connection.rest ≡ Rest.Nothing) → wants (F.server server.new).view ≢ Wants.Send }
+{
+    data.fill(server);
+    data.note(server);
+    data.write()
+}
+
+/// Whether the server has more octets of a download.
+fn rest_of<A, T, F>(server: &F) -> Rest
+where
+    A: Allocator,
+    T: Tree<A>,
+    F: Far<A, T>,
+    ensures { (result ≡ Rest.Nothing) → wants (F.server server.now).view ≢ Wants.Send }
+{
+    match server.wants() {
+        Wants::Send => Rest::More,
+        _ => Rest::Nothing,
+    }
+}
+
+/// Fills the room with the octets that the server gives, as far as they go; gives how many they are.
+fn fill<A, T, F>(server: &mut F, room: &mut [u8]) -> usize
+where
+    A: Allocator,
+    T: Tree<A>,
+    F: Far<A, T>,
+    ensures within { result ≤ length room.new }
+    ensures quiet { Quietly (F.server server.old) (F.server server.new) }
+{
+    let mut at = 0;
+    while at < room.len() {
+        let (_, rest) = room.split_at_mut(at);
+        let count = server.data_out(rest);
+        if count == 0 {
+            return at;
+        }
+        at += count;
+    }
+    at
+}

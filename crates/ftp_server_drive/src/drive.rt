@@ -1,0 +1,497 @@
+// The drive: what the server wants is done, turn by turn.
+ghost use Rattle.std.specs.Prelude.{◌≢◌, ◌<◌, ◌≤◌};
+ghost use Rattle.ftp_server_drive.specs.Beside.{beside};
+ghost use Rattle.ftp_server_drive.specs.Driving.{Drives, EndsOver, Goes, GoesSettled, Quietly, Turns};
+
+use crate::control::Control;
+use crate::data::{Came, Data, end, fault, hand, send, wait_at};
+use ftp_control::{Accepted, Failed, Ports, Ready, Spoken, TURNS, Watch};
+use ftp_endpoint::Endpoint;
+use ftp_ends::Wants;
+use ftp_server_model::Far;
+use ftp_tree::Tree;
+use std::alloc::Allocator;
+use std::io::{Read, Write};
+
+/// Whether a drive goes on.
+#[derive(Clone, Copy, Debug, PartialEq, Eq)]
+pub(crate) enum Life {
+    GoesOn,
+    Over,
+}
+
+/// Serves a control connection until the server is done with it.
+///
+/// All that the server owes is written before more is read, and all that was read is heard, while a transfer is under way too: between its
+/// pieces, and where its data connection would wait. After a read or a write of the control connection that failed, or 1,099,511,627,776
+/// turns, the server is told that the control connection ended. Data connections and ports are closed at the end.
+pub fn drive_server<A, T, F, R, W, P, C>(
+    server: &mut F,
+    control: &mut Control<R, W>,
+    ports: &mut P,
+    watch: &mut C,
+) -> Result<(), Failed>
+where
+    A: Allocator,
+    T: Tree<A>,
+    F: Far<A, T>,
+    R: Read + Drop,
+    W: Write + Drop,
+    P: Ports,
+    C: Watch,
+    ensures { Drives (beside R.remaining W.contents (F.server server.old) control.old) (beside R.remaining W.contents (F.server server.new) control.new) result }
+{
+    let mut data = Data::new();
+    match turns(server, control, ports, watch, &mut data) {
+        Ok(()) => {
+            data.finish(ports);
+            Ok(())
+        }
+        Err(Failed) => {
+            data.note(server);
+            server.control_end();
+            data.finish(ports);
+            Err(Failed)
+        }
+    }
+}
+
+/// The turns of a drive.
+fn turns<A, T, F, R, W, P, C>(
+    server: &mut F,
+    control: &mut Control<R, W>,
+    ports: &mut P,
+    watch: &mut C,
+    data: &mut Data<P::Stream>,
+) -> Result<(), Failed>
+where
+    A: Allocator,
+    T: Tree<A>,
+    F: Far<A, T>,
+    R: Read + Drop,
+    W: Write + Drop,
+    P: Ports,
+    C: Watch,
+    ensures { EndsOver (beside R.remaining W.contents (F.server server.old) control.old) (beside R.remaining W.contents (F.server server.new) control.new) result }
+{
+    server.clock(watch.moment());
+    for _ in 0..TURNS {
+        match turn(server, control, ports, watch, data)? {
+            Life::GoesOn => {}
+            Life::Over => return Ok(()),
+        }
+    }
+    Err(Failed)
+}
+
+/// One turn: what the server owes is written, and then what it wants is done.
+fn turn<A, T, F, R, W, P, C>(
+    server: &mut F,
+    control: &mut Control<R, W>,
+    ports: &mut P,
+    watch: &mut C,
+    data: &mut Data<P::Stream>,
+) -> Result<Life, Failed>
+where
+    A: Allocator,
+    T: Tree<A>,
+    F: Far<A, T>,
+    R: Read + Drop,
+    W: Write + Drop,
+    P: Ports,
+    C: Watch,
+    ensures { Turns (beside R.remaining W.contents (F.server server.old) control.old) (beside R.remaining W.contents (F.server server.new) control.new) result }
+{
+    control.flush(server)?;
+    if let Wants::CloseAll = server.wants() {
+        return Ok(Life::Over);
+    }
+    act(server, control, ports, watch, data)?;
+    Ok(Life::GoesOn)
+}
+
+/// Does what the server wants.
+fn act<A, T, F, R, W, P, C>(
+    server: &mut F,
+    control: &mut Control<R, W>,
+    ports: &mut P,
+    watch: &mut C,
+    data: &mut Data<P::Stream>,
+) -> Result<(), Failed>
+where
+    A: Allocator,
+    T: Tree<A>,
+    F: Far<A, T>,
+    R: Read + Drop,
+    W: Write + Drop,
+    P: Ports,
+    C: Watch,
+    ensures { GoesSettled (beside R.remaining W.contents (F.server server.old) control.old) (beside R.remaining W.contents (F.server server.new) control.new) result }
+{
+    match server.wants() {
+        Wants::Nothing => attend(server, control, watch),
+        Wants::Accept => accept(server, control, ports, watch, data),
+        Wants::Receive | Wants::Send => carry(server, control, ports, watch, data),
+        Wants::Listen => {
+            listen(server, ports);
+            Ok(())
+        }
+        Wants::Connect(endpoint) => {
+            connect(server, ports, data, endpoint);
+            Ok(())
+        }
+        Wants::CloseData => {
+            data.connection.close(ports);
+            server.data_closed();
+            Ok(())
+        }
+        Wants::CloseAll => Ok(()),
+    }
+}
+
+/// Serves a transfer: what was read of the control connection is heard, or else that is read or octets go over the data connection. Where the
+/// server takes nothing more, since a line waits, only the data connection is served.
+fn carry<A, T, F, R, W, P, C>(
+    server: &mut F,
+    control: &mut Control<R, W>,
+    ports: &mut P,
+    watch: &mut C,
+    data: &mut Data<P::Stream>,
+) -> Result<(), Failed>
+where
+    A: Allocator,
+    T: Tree<A>,
+    F: Far<A, T>,
+    R: Read + Drop,
+    W: Write + Drop,
+    P: Ports,
+    C: Watch,
+    ensures { GoesSettled (beside R.remaining W.contents (F.server server.old) control.old) (beside R.remaining W.contents (F.server server.new) control.new) result }
+{
+    data.note(server);
+    if !control.has_unheard() {
+        return carry_hearing(server, control, ports, watch, data);
+    }
+    if control.hear_one(server) {
+        return Ok(());
+    }
+    carry_alone(server, control, ports, watch, data)
+}
+
+/// Reads the control connection where it has octets, or where the data connection waits or is over and the control connection ended; and else
+/// moves octets over the data connection.
+fn carry_hearing<A, T, F, R, W, P, C>(
+    server: &mut F,
+    control: &mut Control<R, W>,
+    ports: &mut P,
+    watch: &mut C,
+    data: &mut Data<P::Stream>,
+) -> Result<(), Failed>
+where
+    A: Allocator,
+    T: Tree<A>,
+    F: Far<A, T>,
+    R: Read + Drop,
+    W: Write + Drop,
+    P: Ports,
+    C: Watch,
+    requires { control.old.end ≤ control.old.at }
+    ensures { GoesSettled (beside R.remaining W.contents (F.server server.old) control.old) (beside R.remaining W.contents (F.server server.new) control.new) result }
+{
+    match wait_at(server, ports, data, true) {
+        Ready::Control => read(server, control, watch),
+        Ready::Data => {
+            let came = data.come(server.wants());
+            let spoken = spoken_behind(ports, came);
+            if spoken != Spoken::Nothing {
+                return read(server, control, watch);
+            }
+            carry_came(server, control, ports, watch, data, came, spoken)
+        }
+        Ready::Lost => Err(Failed),
+    }
+}
+
+/// Moves octets over the data connection, however long that waits. Where the control connection ended while that waits, or before it is over,
+/// this fails: what the client said last is not heard, and the server is told of that end alone.
+fn carry_alone<A, T, F, R, W, P, C>(
+    server: &mut F,
+    control: &mut Control<R, W>,
+    ports: &mut P,
+    watch: &mut C,
+    data: &mut Data<P::Stream>,
+) -> Result<(), Failed>
+where
+    A: Allocator,
+    T: Tree<A>,
+    F: Far<A, T>,
+    R: Read + Drop,
+    W: Write + Drop,
+    P: Ports,
+    C: Watch,
+    ensures { Goes (beside R.remaining W.contents (F.server server.old) control.old) (beside R.remaining W.contents (F.server server.new) control.new) result }
+{
+    match wait_at(server, ports, data, false) {
+        Ready::Data => {
+            let came = data.come(server.wants());
+            let spoken = spoken_behind(ports, came);
+            if spoken == Spoken::Ended {
+                return Err(Failed);
+            }
+            carry_came(server, control, ports, watch, data, came, spoken)
+        }
+        Ready::Control | Ready::Lost => Err(Failed),
+    }
+}
+
+/// What the control connection has where nothing more comes over the data connection: its end is told before that of the data connection, so that
+/// an upload is dropped with its session.
+fn spoken_behind<P: Ports>(ports: &mut P, came: Came) -> Spoken {
+    match came {
+        Came::End | Came::Break => ports.spoken(),
+        Came::Room | Came::Octets(_) | Came::Nothing => Spoken::Nothing,
+    }
+}
+
+/// Serves what a data connection has: octets go over it, or the server is told what came; it is closed where it is over. The control connection
+/// has not ended then, as far as it was looked at.
+fn carry_came<A, T, F, R, W, P, C>(
+    server: &mut F,
+    control: &mut Control<R, W>,
+    ports: &mut P,
+    watch: &mut C,
+    data: &mut Data<P::Stream>,
+    came: Came,
+    spoken: Spoken,
+) -> Result<(), Failed>
+where
+    A: Allocator,
+    T: Tree<A>,
+    F: Far<A, T>,
+    R: Read + Drop,
+    W: Write + Drop,
+    P: Ports,
+    C: Watch,
+    requires { spoken ≢ Spoken.Ended }
+    ensures { Goes (beside R.remaining W.contents (F.server server.old) control.old) (beside R.remaining W.contents (F.server server.new) control.new) result }
+{
+    match came {
+        Came::Octets(count) => hand(server, control, data.front(count)),
+        Came::Nothing => Ok(()),
+        Came::Room => {
+            send_once(server, ports, watch, data);
+            Ok(())
+        }
+        Came::End => {
+            end(server, watch, spoken);
+            data.connection.close(ports);
+            Ok(())
+        }
+        Came::Break => {
+            fault(server, watch);
+            data.connection.close(ports);
+            Ok(())
+        }
+    }
+}
+
+/// Writes octets of a download, once; where that fails, the data connection is lost.
+fn send_once<A, T, F, P, C>(
+    server: &mut F,
+    ports: &mut P,
+    watch: &mut C,
+    data: &mut Data<P::Stream>,
+)
+where
+    A: Allocator,
+    T: Tree<A>,
+    F: Far<A, T>,
+    P: Ports,
+    C: Watch,
+    ensures { Quietly (F.server server.old) (F.server server.new) }
+{
+    match send(server, data) {
+        Ok(()) => {}
+        Err(Failed) => lose(server, ports, watch, data),
+    }
+}
+
+/// The data connection is lost: the server is told, and it is closed.
+fn lose<A, T, F, P, C>(server: &mut F, ports: &mut P, watch: &mut C, data: &mut Data<P::Stream>)
+where
+    A: Allocator,
+    T: Tree<A>,
+    F: Far<A, T>,
+    P: Ports,
+    C: Watch,
+    ensures { Quietly (F.server server.old) (F.server server.new) }
+{
+    fault(server, watch);
+    data.connection.close(ports);
+}
+
+/// Hears the next octet of the control connection, which is read where all before were heard.
+fn attend<A, T, F, R, W, C>(
+    server: &mut F,
+    control: &mut Control<R, W>,
+    watch: &mut C,
+) -> Result<(), Failed>
+where
+    A: Allocator,
+    T: Tree<A>,
+    F: Far<A, T>,
+    R: Read + Drop,
+    W: Write + Drop,
+    C: Watch,
+    ensures { GoesSettled (beside R.remaining W.contents (F.server server.old) control.old) (beside R.remaining W.contents (F.server server.new) control.new) result }
+{
+    if !control.has_unheard() {
+        return read(server, control, watch);
+    }
+    if !control.hear_one(server) {
+        return Err(Failed);
+    }
+    Ok(())
+}
+
+/// Reads from the control connection, and tells the server of the moment, or that the connection ended.
+fn read<A, T, F, R, W, C>(
+    server: &mut F,
+    control: &mut Control<R, W>,
+    watch: &mut C,
+) -> Result<(), Failed>
+where
+    A: Allocator,
+    T: Tree<A>,
+    F: Far<A, T>,
+    R: Read + Drop,
+    W: Write + Drop,
+    C: Watch,
+    requires { control.old.end ≤ control.old.at }
+    ensures { GoesSettled (beside R.remaining W.contents (F.server server.old) control.old) (beside R.remaining W.contents (F.server server.new) control.new) result }
+{
+    let count = control.read()?;
+    if count == 0 {
+        server.control_end();
+        return Ok(());
+    }
+    server.clock(watch.moment());
+    Ok(())
+}
+
+/// Waits for the data connection that the client opens; a line that comes before it is heard first.
+fn accept<A, T, F, R, W, P, C>(
+    server: &mut F,
+    control: &mut Control<R, W>,
+    ports: &mut P,
+    watch: &mut C,
+    data: &mut Data<P::Stream>,
+) -> Result<(), Failed>
+where
+    A: Allocator,
+    T: Tree<A>,
+    F: Far<A, T>,
+    R: Read + Drop,
+    W: Write + Drop,
+    P: Ports,
+    C: Watch,
+    ensures { GoesSettled (beside R.remaining W.contents (F.server server.old) control.old) (beside R.remaining W.contents (F.server server.new) control.new) result }
+{
+    if !control.has_unheard() {
+        return wait(server, control, ports, watch, data);
+    }
+    if control.hear_one(server) {
+        return Ok(());
+    }
+    wait_alone(server, ports, data);
+    Ok(())
+}
+
+/// Waits for the data connection; where octets of the control connection come first, they are read.
+fn wait<A, T, F, R, W, P, C>(
+    server: &mut F,
+    control: &mut Control<R, W>,
+    ports: &mut P,
+    watch: &mut C,
+    data: &mut Data<P::Stream>,
+) -> Result<(), Failed>
+where
+    A: Allocator,
+    T: Tree<A>,
+    F: Far<A, T>,
+    R: Read + Drop,
+    W: Write + Drop,
+    P: Ports,
+    C: Watch,
+    requires { control.old.end ≤ control.old.at }
+    ensures { GoesSettled (beside R.remaining W.contents (F.server server.old) control.old) (beside R.remaining W.contents (F.server server.new) control.new) result }
+{
+    match ports.accept(true) {
+        Accepted::Came(open, host) => {
+            data.connection.begin(ports, open);
+            server.data_opened(host);
+            Ok(())
+        }
+        Accepted::Spoken => read(server, control, watch),
+        Accepted::Refused => {
+            server.data_refused();
+            Ok(())
+        }
+    }
+}
+
+/// Waits for the data connection alone.
+fn wait_alone<A, T, F, P>(server: &mut F, ports: &mut P, data: &mut Data<P::Stream>)
+where
+    A: Allocator,
+    T: Tree<A>,
+    F: Far<A, T>,
+    P: Ports,
+    ensures { Quietly (F.server server.old) (F.server server.new) }
+{
+    match ports.accept(false) {
+        Accepted::Came(open, host) => {
+            data.connection.begin(ports, open);
+            server.data_opened(host);
+        }
+        Accepted::Spoken | Accepted::Refused => server.data_refused(),
+    }
+}
+
+/// Listens at a port, and tells the server which.
+fn listen<A, T, F, P>(server: &mut F, ports: &mut P)
+where
+    A: Allocator,
+    T: Tree<A>,
+    F: Far<A, T>,
+    P: Ports,
+    ensures { Quietly (F.server server.old) (F.server server.new) }
+{
+    match ports.listen() {
+        Some(port) => server.listening(port),
+        None => server.listen_refused(),
+    }
+}
+
+/// Opens the data connection to an endpoint, and tells the server.
+fn connect<A, T, F, P>(
+    server: &mut F,
+    ports: &mut P,
+    data: &mut Data<P::Stream>,
+    endpoint: Endpoint,
+)
+where
+    A: Allocator,
+    T: Tree<A>,
+    F: Far<A, T>,
+    P: Ports,
+    ensures { Quietly (F.server server.old) (F.server server.new) }
+{
+    match ports.connect(endpoint) {
+        Some(open) => {
+            data.connection.begin(ports, open);
+            server.data_opened(endpoint.host);
+        }
+        None => server.data_refused(),
+    }
+}

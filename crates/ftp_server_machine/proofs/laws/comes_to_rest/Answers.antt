@@ -1,5 +1,0 @@
-use Rattle.ftp_server_machine.proofs.ServerBounds.{server_lowers}
-use Rattle.ftp_server_machine.proofs.laws.comes_to_rest.Goals as goal
-
-pub returns : goal.returns
-returns c = server_lowers

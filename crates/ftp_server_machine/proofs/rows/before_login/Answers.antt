@@ -1,5 +1,0 @@
-use Rattle.ftp_server_machine.proofs.ServerRows.{before_login}
-use Rattle.ftp_server_machine.proofs.rows.before_login.Goals as goal
-
-pub returns : goal.returns
-returns c = before_login

@@ -1,5 +1,0 @@
-use Rattle.ftp_server_machine.proofs.ServerUploads.{dropped_upload}
-use Rattle.ftp_server_machine.proofs.rows.dropped_upload.Goals as goal
-
-pub returns : goal.returns
-returns c = dropped_upload

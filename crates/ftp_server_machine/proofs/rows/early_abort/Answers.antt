@@ -1,5 +1,0 @@
-use Rattle.ftp_server_machine.proofs.ServerRows.{early_abort}
-use Rattle.ftp_server_machine.proofs.rows.early_abort.Goals as goal
-
-pub returns : goal.returns
-returns c = early_abort

@@ -1,5 +1,0 @@
-use Rattle.ftp_server_machine.proofs.ServerUploads.{faulty_upload}
-use Rattle.ftp_server_machine.proofs.rows.faulty_upload.Goals as goal
-
-pub returns : goal.returns
-returns c = faulty_upload

@@ -1,5 +1,0 @@
-use Rattle.ftp_server_machine.proofs.ServerRows.{foreign_endpoint}
-use Rattle.ftp_server_machine.proofs.rows.foreign_endpoint.Goals as goal
-
-pub returns : goal.returns
-returns c = foreign_endpoint

@@ -1,5 +1,0 @@
-use Rattle.ftp_server_machine.proofs.ServerRows.{foreign_opener}
-use Rattle.ftp_server_machine.proofs.rows.foreign_opener.Goals as goal
-
-pub returns : goal.returns
-returns c = foreign_opener

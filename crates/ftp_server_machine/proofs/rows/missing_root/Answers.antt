@@ -1,5 +1,0 @@
-use Rattle.ftp_server_machine.proofs.ServerRows.{missing_root}
-use Rattle.ftp_server_machine.proofs.rows.missing_root.Goals as goal
-
-pub returns : goal.returns
-returns c = missing_root

@@ -1,5 +1,0 @@
-use Rattle.ftp_server_machine.proofs.ServerRows.{only_extended}
-use Rattle.ftp_server_machine.proofs.rows.only_extended.Goals as goal
-
-pub returns : goal.returns
-returns c = only_extended

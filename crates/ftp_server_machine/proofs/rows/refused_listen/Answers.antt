@@ -1,5 +1,0 @@
-use Rattle.ftp_server_machine.proofs.ServerRows.{refused_listen}
-use Rattle.ftp_server_machine.proofs.rows.refused_listen.Goals as goal
-
-pub returns : goal.returns
-returns c = refused_listen

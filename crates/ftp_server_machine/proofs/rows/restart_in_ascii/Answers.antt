@@ -1,5 +1,0 @@
-use Rattle.ftp_server_machine.proofs.ServerRows.{restart_in_ascii}
-use Rattle.ftp_server_machine.proofs.rows.restart_in_ascii.Goals as goal
-
-pub returns : goal.returns
-returns c = restart_in_ascii

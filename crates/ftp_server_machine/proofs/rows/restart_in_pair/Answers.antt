@@ -1,5 +1,0 @@
-use Rattle.ftp_server_machine.proofs.ServerRows.{restart_in_pair}
-use Rattle.ftp_server_machine.proofs.rows.restart_in_pair.Goals as goal
-
-pub returns : goal.returns
-returns c = restart_in_pair

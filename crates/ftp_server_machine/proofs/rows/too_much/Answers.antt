@@ -1,5 +1,0 @@
-use Rattle.ftp_server_machine.proofs.ServerUploads.{too_much}
-use Rattle.ftp_server_machine.proofs.rows.too_much.Goals as goal
-
-pub returns : goal.returns
-returns c = too_much

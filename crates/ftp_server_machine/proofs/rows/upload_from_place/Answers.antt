@@ -1,5 +1,0 @@
-use Rattle.ftp_server_machine.proofs.ServerUploads.{upload_from_place}
-use Rattle.ftp_server_machine.proofs.rows.upload_from_place.Goals as goal
-
-pub returns : goal.returns
-returns c = upload_from_place

@@ -1,0 +1,5 @@
+use Rattle.ftp_server_model.proofs.ServerRows.{restart_in_ascii}
+use Rattle.ftp_server_model.proofs.rows.restart_in_ascii.Goals as goal
+
+pub returns : goal.returns
+returns c = restart_in_ascii

@@ -1,0 +1,114 @@
+// The server's end of a session, as a world of both sees it: each call is a step of the view that `specs` has for it.
+ghost use Rattle.std.specs.Prelude.{◌≡◌, ◌<◌, ◌≤◌, ℕ, IsTrue, length, take};
+ghost use Rattle.ftp_server_model.specs.Calls.{break_step, clock_step, close_step, control_end, control_step, end_step, given_step, listening_step, may_receive, no_port_step, opened_step, refused_step, to_give, wants};
+ghost use Rattle.ftp_server_model.specs.Failing.{EndFails, GiveFails};
+ghost use Rattle.ftp_server_model.specs.Machine.{may_hear};
+ghost use Rattle.ftp_server_model.specs.Far.{Acts, Hears, Receives, Server, Steps, counts_told};
+ghost use Rattle.ftp_ends.specs.Octets.{has_octets};
+
+use crate::counts::Counts;
+use ftp_endpoint::Host;
+use ftp_ends::Wants;
+use ftp_facts::Moment;
+use ftp_tree::Tree;
+use std::alloc::Allocator;
+
+/// The server's end. Its `view` is what it holds; where a count of refused growths or of device failures changed in a call
+/// (both wrap), the call left what `specs/Failing` says, and every later call is a step again.
+pub trait Far<A: Allocator, T: Tree<A>>: Drop {
+    ghost server: { Self → Server };
+
+    /// The moment in force from now on.
+    fn clock(&mut self, moment: Moment)
+        ensures { Acts (clock_step moment.seconds) (server self.old) (server self.new) };
+
+    /// Takes octets of the control connection, and says how many.
+    fn hear(&mut self, piece: &[u8]) -> usize
+        ensures within { result ≤ length piece.now }
+        ensures took { Hears (take result piece.now) (server self.old) (server self.new) }
+        ensures some { IsTrue (may_hear (server self.old).view) → 0 < length piece.now → 0 < result };
+
+    /// Gives octets of the control connection, and says how many.
+    fn control_out(&mut self, room: &mut [u8]) -> usize
+        ensures within { (result ≤ length room.old) × (result ≤ length (server self.old).view.owed) }
+        ensures gave { take result room.new ≡ take result (server self.old).view.owed }
+        ensures now { Acts (control_step result) (server self.old) (server self.new) }
+        ensures some { 0 < length room.old → 0 < length (server self.old).view.owed → 0 < result };
+
+    /// The control connection ended.
+    fn control_end(&mut self)
+        ensures { server self.new ≡ record (server self.old) { view = control_end (server self.old).view } };
+
+    /// A port is listened at.
+    fn listening(&mut self, port: u16)
+        ensures { Acts (listening_step port) (server self.old) (server self.new) };
+
+    /// No port was had.
+    fn listen_refused(&mut self)
+        ensures { Acts no_port_step (server self.old) (server self.new) };
+
+    /// The data connection is open; this host is at its other end.
+    fn data_opened(&mut self, host: Host)
+        ensures { Acts (opened_step host) (server self.old) (server self.new) };
+
+    /// The data connection was not had.
+    fn data_refused(&mut self)
+        ensures { Acts refused_step (server self.old) (server self.new) };
+
+    /// Takes octets of the data connection, and says how many.
+    fn data_hear(&mut self, piece: &[u8]) -> usize
+        ensures within { result ≤ length piece.now }
+        ensures took { Receives (take result piece.now) (server self.old) (server self.new) }
+        ensures some { IsTrue (may_receive (server self.old).view) → 0 < length piece.now → 0 < result };
+
+    /// The other end closed the data connection.
+    fn data_end(&mut self)
+        ensures { Steps EndFails end_step (server self.old) (server self.new) };
+
+    /// The data connection broke.
+    fn data_fault(&mut self)
+        ensures { Steps EndFails break_step (server self.old) (server self.new) };
+
+    /// Gives octets of the data connection, and says how many.
+    fn data_out(&mut self, room: &mut [u8]) -> usize
+        ensures within { (result ≤ length room.old) × (result ≤ length (to_give (server self.old).view)) }
+        ensures gave { take result room.new ≡ take result (to_give (server self.old).view) }
+        ensures now { Steps (GiveFails result) (given_step result) (server self.old) (server self.new) }
+        ensures some { (server self.new).counts ≡ (server self.old).counts → 0 < length room.old → 0 < length (to_give (server self.old).view) → 0 < result };
+
+    /// A close that it wanted is done.
+    fn data_closed(&mut self)
+        ensures { Acts close_step (server self.old) (server self.new) };
+
+    /// What it wants of the connections. Takes no memory.
+    fn wants(&self) -> Wants
+        ensures { result ≡ wants (server self.now).view };
+
+    /// The host that it stands on.
+    fn here(&self) -> Host
+        ensures { result ≡ (server self.now).view.footing.here };
+
+    /// What has failed so far.
+    fn counts(&self) -> Counts
+        ensures { counts_told result ≡ (server self.now).counts };
+
+    /// Whether it owes octets of the control connection.
+    fn owes(&self) -> bool
+        ensures { result ≡ has_octets (server self.now).view.owed };
+
+    /// Whether it has octets of the data connection to give.
+    fn has_data(&self) -> bool
+        ensures { result ≡ has_octets (to_give (server self.now).view) };
+
+    /// Whether it may take an octet of the control connection.
+    fn may_hear(&self) -> bool
+        ensures { result ≡ may_hear (server self.now).view };
+
+    /// Whether it may take an octet of the data connection.
+    fn may_receive(&self) -> bool
+        ensures { result ≡ may_receive (server self.now).view };
+
+    /// Its tree, whose map is that of the session.
+    fn tree(&self) -> &T
+        ensures { T.table result.now ≡ (server self.now).view.session.table };
+}

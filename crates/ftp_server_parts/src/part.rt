@@ -1,0 +1,49 @@
+// How much the parts of a server's session hold.
+ghost use Rattle.std.specs.Prelude.{◌≡◌, ◌<◌, ◌≤◌, ◌^◌};
+ghost use Rattle.ftp_server_model.specs.Held.{access_len, path_len, pending_len, waiting_len};
+
+use crate::line::line_len;
+use ftp_command::Argument;
+use ftp_path::Path;
+use ftp_server_model::{Access, HeardLine, Pending};
+use std::alloc::Allocator;
+
+/// A path, by its text: at most 900 octets.
+pub fn path_len<A: Allocator>(path: &Path<A>) -> usize
+    ensures len { result ≡ path_len path.now }
+    ensures short { result ≤ 900 }
+{
+    path.text().len()
+}
+
+/// The name of a USER that waits for its PASS.
+pub fn access_len<A: Allocator>(access: &Access<Argument<A>>) -> usize
+    ensures len { result ≡ access_len access.now }
+    ensures short { result < 2 ^ 63 }
+{
+    match access {
+        Access::AwaitsPass(name) => name.octets().len(),
+        Access::Nobody | Access::Known => 0,
+    }
+}
+
+/// The path of an RNFR: at most 900 octets.
+pub fn pending_len<A: Allocator>(pending: &Pending<Path<A>>) -> usize
+    ensures len { result ≡ pending_len pending.now }
+    ensures short { result ≤ 900 }
+{
+    match pending {
+        Pending::Rename(from) => path_len(from),
+        Pending::Nothing | Pending::Restart(_) => 0,
+    }
+}
+
+/// A line that waits, as it would be written.
+pub fn waiting_len<A: Allocator>(waiting: &Option<HeardLine<Argument<A>>>) -> usize
+    ensures { result ≡ waiting_len waiting.now }
+{
+    match waiting {
+        Some(HeardLine::Asks(command)) => line_len(command),
+        Some(HeardLine::TooLong) | Some(HeardLine::Bad(_)) | None => 0,
+    }
+}

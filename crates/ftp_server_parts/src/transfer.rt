@@ -1,0 +1,162 @@
+// What a transfer does, however it holds what came and what is still to be given.
+ghost use Rattle.std.specs.Prelude.{◌≡◌, ◌≤◌, ◌<◌, ◌^◌, IfOk, OnErr, drop, false, length, take, true};
+ghost use Rattle.ftp_wire.specs.Decoder.{no_octets};
+ghost use Rattle.ftp_server_model.specs.Ask.{or_empty};
+ghost use Rattle.ftp_server_model.specs.Listing.{entry_lines, list_lines, listing_wire, name_lines};
+ghost use Rattle.ftp_server_model.specs.Machine.{at_break, at_end};
+ghost use Rattle.ftp_server_model.specs.Transfer.{file_wire};
+ghost use Rattle.ftp_server_model.specs.View.{Session as Seen};
+ghost use Rattle.ftp_server_model.specs.declared.session.Transfer.TheVariants as Transfers;
+ghost use Rattle.ftp_server_parts.specs.ServerTransfer.{Comes, Ends, IsUpload, MayStop, behind, given_of, is_out, takes_octets};
+ghost use Rattle.ftp_tree.specs.Tree.{octets_or_none, under};
+
+use crate::fault::Fault;
+use arrayvec::ArrayVec;
+use ftp_command::Argument;
+use ftp_facts::Moment;
+use ftp_path::Path;
+use ftp_server_model::{Facts, FixedReply};
+use ftp_settings::{MARKER_LIMIT, Mode, Representation};
+use ftp_tree::Tree;
+use std::alloc::{AllocError, Allocator};
+
+/// A restart marker that came, and how many octets of the file are held by then, kept and settled ones.
+#[derive(Drop)]
+pub struct Marker {
+    pub text: ArrayVec<u8, MARKER_LIMIT>,
+    pub held: u64,
+}
+
+/// What is to be said of octets that came.
+#[derive(Drop)]
+pub enum Told {
+    Nothing,
+    /// A restart marker is to be answered.
+    Mark(Marker),
+    /// A fault was met: the transfer is over.
+    Faulty,
+    /// Memory was refused: the transfer is over.
+    NoMemory,
+}
+
+/// How many octets were taken, and what is to be said of the last of them.
+#[derive(Drop)]
+pub struct Received {
+    pub count: usize,
+    pub told: Told,
+}
+
+/// How many octets were given, and whether memory was refused for the next of them.
+#[derive(Clone, Copy, Debug, PartialEq, Eq)]
+pub struct Given {
+    pub count: usize,
+    pub lost: bool,
+}
+
+/// A transfer beside a tree `T`. It need not hold what it is still to give: that is read from the tree, which stays as it is meanwhile.
+pub trait ServerTransfer<A: Allocator, T: Tree<A>>: Drop {
+    ghost use Rattle.ftp_server_model.specs.View.{Transfer};
+    ghost use Rattle.ftp_tree.specs.Tree.{Table};
+
+    /// The transfer of the definitions, beside the part of the tree that the account sees.
+    ghost view: { Table → Self → Transfer };
+
+    /// A download of the file at a path, from a place on. The path is taken out, here and below.
+    fn download(
+        alloc: A,
+        path: &mut Path<A>,
+        place: u64,
+        settings: Representation,
+    ) -> Result<Self, AllocError>
+        ensures { IfOk result (λ transfer. (part : Table) → length (octets_or_none part path.old) < 2 ^ 64 → view part transfer ≡ Transfers.Download (file_wire settings place (drop place (octets_or_none part path.old)))) };
+
+    /// An upload to a path, behind so many octets of the file there.
+    fn upload(
+        alloc: A,
+        path: &mut Path<A>,
+        keep: u64,
+        settings: Representation,
+    ) -> Result<Self, AllocError>
+        ensures { IfOk result (λ transfer. (part : Table) → view part transfer ≡ Transfers.Upload path.old keep (no_octets settings)) };
+
+    /// What LIST sends of what stands at a path.
+    fn list(
+        alloc: A,
+        tree: &T,
+        root: &Path<A>,
+        path: &mut Path<A>,
+        mode: Mode,
+    ) -> Result<Self, AllocError>
+        ensures { IfOk result (λ listing. let part = under (T.table tree.now) root.now in view part listing ≡ Transfers.Listing (listing_wire mode (list_lines part path.old))) };
+
+    /// What NLST sends of what stands at a path, for the argument that named it.
+    fn names(
+        alloc: A,
+        tree: &T,
+        root: &Path<A>,
+        path: &mut Path<A>,
+        text: &Option<Argument<A>>,
+        mode: Mode,
+    ) -> Result<Self, AllocError>
+        ensures { IfOk result (λ listing. let part = under (T.table tree.now) root.now in view part listing ≡ Transfers.Listing (listing_wire mode (name_lines part path.old (or_empty text.now)))) };
+
+    /// What MLSD sends of the directory at a path, with these facts.
+    fn entries(
+        alloc: A,
+        tree: &T,
+        root: &Path<A>,
+        path: &mut Path<A>,
+        facts: Facts,
+        mode: Mode,
+    ) -> Result<Self, AllocError>
+        ensures { IfOk result (λ listing. let part = under (T.table tree.now) root.now in view part listing ≡ Transfers.Listing (listing_wire mode (entry_lines facts part path.old))) };
+
+    /// Whether it takes octets of the data connection, and does not give them.
+    fn takes_octets(&self) -> bool
+        ensures { (part : Table) → result ≡ takes_octets (view part self.now) };
+
+    /// Takes octets of the data connection. Where the transfer is over by them, it is of no use any more.
+    fn receive(&mut self, tree: &T, root: &Path<A>, piece: &[u8]) -> Received
+        ensures within { result.count ≤ length piece.now }
+        ensures comes { let part = under (T.table tree.now) root.now in Comes part (view part self.old) (take result.count piece.now) result.told (view part self.new) }
+        ensures some { takes_octets (view (under (T.table tree.now) root.now) self.old) ≡ true → 0 < length piece.now → 0 < result.count };
+
+    /// Gives octets to the data connection.
+    fn give(&mut self, tree: &T, root: &Path<A>, room: &mut [u8]) -> Given
+        ensures within { result.count ≤ length room.old }
+        ensures gave { let part = under (T.table tree.now) root.now in take result.count room.new ≡ take result.count (given_of (view part self.old)) }
+        ensures most { let part = under (T.table tree.now) root.now in result.count ≤ length (given_of (view part self.old)) }
+        ensures on { let part = under (T.table tree.now) root.now in view part self.new ≡ behind result.count (view part self.old) }
+
+        // It gives some where there are any, or memory was refused for the next line of a listing.
+        ensures some { result.lost ≡ false → 0 < length room.old → 0 < length (given_of (view (under (T.table tree.now) root.now) self.old)) → 0 < result.count }
+        ensures lost { result.lost ≡ true → MayStop result.count (view (under (T.table tree.now) root.now) self.old) };
+
+    /// Whether all is given.
+    fn is_given_out(&self, tree: &T, root: &Path<A>) -> bool
+        ensures { result ≡ is_out (view (under (T.table tree.now) root.now) self.now) };
+
+    /// The other end closed the data connection: what came of an upload is put into the tree. The reply that ends the transfer.
+    fn at_end(
+        self,
+        alloc: A,
+        tree: &mut T,
+        root: &Path<A>,
+        moment: Moment,
+    ) -> Result<FixedReply, Fault>
+        ensures ends { (s : Seen) → s.table ≡ T.table tree.old → s.root ≡ root.now
+            → Ends (at_end moment.seconds (view (under (T.table tree.old) root.now) self) s) s (T.table tree.new) result (T.failures tree.old) (T.failures tree.new) }
+        ensures upload { OnErr result (IsUpload (view (under (T.table tree.old) root.now) self)) };
+
+    /// The data connection broke: what was settled of an upload is put into the tree. The reply that ends the transfer.
+    fn at_break(
+        self,
+        alloc: A,
+        tree: &mut T,
+        root: &Path<A>,
+        moment: Moment,
+    ) -> Result<FixedReply, Fault>
+        ensures ends { (s : Seen) → s.table ≡ T.table tree.old → s.root ≡ root.now
+            → Ends (at_break moment.seconds (view (under (T.table tree.old) root.now) self) s) s (T.table tree.new) result (T.failures tree.old) (T.failures tree.new) }
+        ensures upload { OnErr result (IsUpload (view (under (T.table tree.old) root.now) self)) };
+}

@@ -1,0 +1,68 @@
+-- A call that the tree refused: what it makes of a command.
+use Rattle.std.proofs.Common.{◌≡◌, ◌∙◌, ℕ, Bool, true, false, if◌then◌else◌, inl, inr, List, Option, Some, None, is_some, Result, Ok, Err, ap, refl, sym}
+use Rattle.ftp_path.specs.Path.{Names, fits, resolved}
+use Rattle.ftp_tree.specs.Change.{IsRefused}
+use Rattle.ftp_tree.specs.Tree.{Table, moved, rename_refusal, under}
+use Rattle.ftp_tree.specs.declared.fault.TreeFault.{TreeFault}
+use Rattle.ftp_tree.specs.declared.fault.TreeFault.TheVariants as Faults
+use Rattle.ftp_direct.specs.Direct.{limited, refused_name, refused_there}
+use Rattle.ftp_direct.specs.declared.refusal.Refusal.TheVariants as Refusals
+use Rattle.ftp_direct.proofs.RefusalLemmas.{NoDevice, there_some}
+use Rattle.ftp_server_model.specs.Replies.{Turn, tells}
+use Rattle.ftp_server_model.specs.View.{Session, Transfer, seen, with_seen}
+use Rattle.ftp_server_model.specs.Walk.{path_of, renames, unless}
+use Rattle.ftp_server_model.specs.declared.reply.ReplyKind.{ReplyKind}
+use Rattle.ftp_server_model.specs.declared.reply.ReplyKind.TheVariants as Replies
+use Rattle.ftp_server_model.specs.declared.reply.FixedReply.{FixedReply}
+use Rattle.ftp_server_model.specs.declared.reply.FixedReply.TheVariants as Texts
+use Rattle.ftp_server_session.specs.Session.{RefusedAs, Turns, connection_of, session_of}
+use Rattle.ftp_server_parts.specs.declared.fault.Fault.{Fault}
+use Rattle.ftp_server_parts.specs.declared.fault.Fault.TheVariants.{Memory, Device}
+use Rattle.ftp_server_session.specs.declared.session.Session.{Session as Held}
+
+-- a tree that holds the same is seen as the same session
+same_session : {A T J : Type 0} (table : T → Table) (view : Table → J → Transfer) (old : Held A T J) (tree : T) → table tree ≡ table old.tree
+    → session_of table view (record old { tree = tree }) ≡ session_of table view old
+same_session table view old tree same =
+    ap (λ t. record (session_of table view old) { table = t; connection = connection_of (view (under t old.root)) old.connection }) same
+
+-- what a refused call leaves and answers is the row: where the map gave a reason, this reply is due
+pub tree_refused : {A T J : Type 0} (table : T → Table) (failures : T → ℕ) (view : Table → J → Transfer) (row : Session → Turn) (old : Held A T J) (tree : T)
+    (refusal : Option TreeFault) (fault : TreeFault) (text : FixedReply) (result : Result (ReplyKind Names) Fault)
+    → IsRefused refusal fault (table old.tree) (table tree) (failures old.tree) (failures tree) → NoDevice refusal → RefusedAs fault text result
+    → ((why : TreeFault) → refusal ≡ Some why → row (session_of table view old) ≡ (session_of table view old, Replies.Fixed text))
+    → Turns table failures view row old (record old { tree = tree }) result
+tree_refused table failures view row old tree None fault text (Ok kind) (same, inl (memory, kept)) never told due = absurd (told.1 memory)
+tree_refused table failures view row old tree None fault text (Ok kind) (same, inr (device, moved)) never told due = absurd (told.2 device)
+tree_refused table failures view row old tree (Some why) fault text (Ok kind) (same, (reason, kept)) never told due =
+    (ap (λ s. (s, kind)) (same_session table view old tree same) ∙ ap (λ k. (session_of table view old, k)) told.0 ∙ sym (due why refl), kept)
+tree_refused table failures view row old tree None fault text (Err Memory) (same, inl (memory, kept)) never told due = (same_session table view old tree same, kept)
+tree_refused table failures view row old tree None fault text (Err Memory) (same, inr (device, moved)) never told due = absurd (cc)
+tree_refused table failures view row old tree (Some why) fault text (Err Memory) (same, (reason, kept)) never told due = (same_session table view old tree same, kept)
+tree_refused table failures view row old tree None fault text (Err Device) (same, inl (memory, kept)) never told due = absurd (cc)
+tree_refused table failures view row old tree None fault text (Err Device) (same, inr (device, moved)) never told due = (same_session table view old tree same, moved)
+tree_refused table failures view row old tree (Some why) fault text (Err Device) (same, (reason, kept)) never told due = absurd (never (ap Some (sym reason ∙ told)))
+
+-- ---- the reply that is due
+
+-- by what stands there
+pub there_due : (s : Session) (turn : Turn) (named path : Names) (refusal : Names → Option TreeFault) (why : TreeFault) → path ≡ named → fits path ≡ true → refusal path ≡ Some why
+    → unless (refused_there (limited named (refusal named))) s turn ≡ (s, Replies.Fixed Texts.Refused)
+there_due s turn named path refusal why is fit e =
+    ap (λ r. unless r s turn) (there_some (fits named) (refusal named) (ap fits (sym is) ∙ fit) (ap (λ p. is_some (refusal p)) (sym is) ∙ ap is_some e))
+
+name_some : (fit : Bool) (refusal : Option TreeFault) → fit ≡ true → is_some refusal ≡ true → refused_name (if fit then refusal else Some Faults.TooBig) ≡ Some Refusals.BadName
+name_some false refusal fit some = absurd (cc)
+name_some true None fit some = absurd (cc)
+name_some true (Some fault) fit some = refl
+
+-- by the new name
+name_due : (s : Session) (turn : Turn) (named path : Names) (refusal : Names → Option TreeFault) (why : TreeFault) → path ≡ named → fits path ≡ true → refusal path ≡ Some why
+    → unless (refused_name (limited named (refusal named))) s turn ≡ (s, Replies.Fixed Texts.NameRefused)
+name_due s turn named path refusal why is fit e =
+    ap (λ r. unless r s turn) (name_some (fits named) (refusal named) (ap fits (sym is) ∙ fit) (ap (λ p. is_some (refusal p)) (sym is) ∙ ap is_some e))
+
+pub rename_due : (s : Session) (from to : Names) (text : List ℕ) (why : TreeFault) → to ≡ resolved s.cwd text → fits to ≡ true → rename_refusal (seen s) from to ≡ Some why
+    → renames from (path_of s text) s ≡ (s, Replies.Fixed Texts.NameRefused)
+rename_due s from to text why is fit e =
+    name_due s (tells Texts.Done (with_seen (moved (seen s) from (path_of s text)) s)) (path_of s text) to (rename_refusal (seen s) from) why is fit e

@@ -1,0 +1,74 @@
+-- A line as a session is given it, and what it leaves where it could not be done.
+use Rattle.std.specs.Prelude.{◌≡◌, ℕ, List, Bool, true, false, Result, Ok, Err}
+use Rattle.ftp_command.specs.Line.{IfGiven}
+use Rattle.ftp_command.specs.declared.command.Command.{Command}
+use Rattle.ftp_command.specs.declared.command.Command.TheVariants as command
+use Rattle.ftp_path.specs.Path.{IsPathText, Names}
+use Rattle.ftp_tree.specs.Tree.{Table}
+use Rattle.ftp_server_model.specs.Act.{decided, forgets, is_allowed}
+use Rattle.ftp_server_model.specs.Failing.{may_fail}
+use Rattle.ftp_server_model.specs.View.{Footing, Session, Transfer}
+use Rattle.ftp_server_model.specs.declared.reply.ReplyKind.{ReplyKind}
+use Rattle.ftp_server_session.specs.Session.{session_of}
+use Rattle.ftp_server_parts.specs.Fault.{Counted}
+use Rattle.ftp_server_parts.specs.declared.fault.Fault.{Fault}
+use Rattle.ftp_server_session.specs.declared.session.Session.{Session as Held}
+use Rattle.ftp_server_model.specs.declared.heard.HeardLine.{HeardLine}
+use Rattle.ftp_server_model.specs.declared.heard.HeardLine.TheVariants.{TooLong, Bad, Asks}
+use Rattle.ftp_server_model.specs.declared.session.Pending.{Pending}
+use Rattle.ftp_server_model.specs.declared.session.Pending.TheVariants as Pendings
+
+-- the texts by which a command names paths are path texts, as those of each line that is read are
+abbrev pub HasPathTexts : Command (List ℕ) → Type 0
+HasPathTexts (command.Cwd text) = IsPathText text
+HasPathTexts (command.Retr text) = IsPathText text
+HasPathTexts (command.Stor text) = IsPathText text
+HasPathTexts (command.Appe text) = IsPathText text
+HasPathTexts (command.Rnfr text) = IsPathText text
+HasPathTexts (command.Rnto text) = IsPathText text
+HasPathTexts (command.Dele text) = IsPathText text
+HasPathTexts (command.Rmd text) = IsPathText text
+HasPathTexts (command.Mkd text) = IsPathText text
+HasPathTexts (command.List text) = IfGiven IsPathText text
+HasPathTexts (command.Nlst text) = IfGiven IsPathText text
+HasPathTexts (command.Mlst text) = IfGiven IsPathText text
+HasPathTexts (command.Mlsd text) = IfGiven IsPathText text
+HasPathTexts (command.Size text) = IsPathText text
+HasPathTexts (command.Mdtm text) = IsPathText text
+HasPathTexts other = Unit {0}
+
+-- USER alone gives its name away
+abbrev pub is_user : Command (List ℕ) → Bool
+is_user (command.User name) = true
+is_user other = false
+
+-- the same of a line
+abbrev pub HeardPaths : HeardLine (List ℕ) → Type 0
+HeardPaths TooLong = Unit {0}
+HeardPaths (Bad fault) = Unit {0}
+HeardPaths (Asks command) = HasPathTexts command
+
+-- a command that could not be done: one that may fail and is allowed. What was pending for it is gone, a transfer command has
+-- forgotten the endpoint, and all else is as before
+abbrev pub LineLost : HeardLine (List ℕ) → Session → Session → Type 0
+LineLost TooLong old new = ⊥
+LineLost (Bad fault) old new = ⊥
+LineLost (Asks command) old new =
+    (is_allowed command old ≡ true) × (may_fail command ≡ true) × (new ≡ forgets command (record old { pending = Pendings.Nothing }))
+
+-- what a command leaves once its turn has come: its row and the login it needs; or it could not be done, and a transfer command has
+-- forgotten the endpoint
+abbrev pub Asked : {A T J : Type 0} → (T → Table) → (T → ℕ) → (Table → J → Transfer) → Footing → Command (List ℕ) → Pending Names → Held A T J → Held A T J → Result (ReplyKind Names) Fault → Type 0
+Asked table failures view footing command pending old new (Ok kind) =
+    ((session_of table view new, kind) ≡ decided footing (Asks command) pending (session_of table view old)) × (failures new.tree ≡ failures old.tree)
+Asked table failures view footing command pending old new (Err fault) =
+    (is_allowed command (session_of table view old) ≡ true) × (may_fail command ≡ true)
+    × (session_of table view new ≡ forgets command (session_of table view old)) × Counted fault (failures old.tree) (failures new.tree)
+
+-- what a line leaves: what was pending is taken, then session and reply are those of the order of decisions; or it could not be done
+abbrev pub Decides : {A T J : Type 0} → (T → Table) → (T → ℕ) → (Table → J → Transfer) → Footing → HeardLine (List ℕ) → Held A T J → Held A T J → Result (ReplyKind Names) Fault → Type 0
+Decides table failures view footing heard old new (Ok kind) =
+    let s = session_of table view old in
+    ((session_of table view new, kind) ≡ decided footing heard s.pending (record s { pending = Pendings.Nothing })) × (failures new.tree ≡ failures old.tree)
+Decides table failures view footing heard old new (Err fault) =
+    LineLost heard (session_of table view old) (session_of table view new) × Counted fault (failures old.tree) (failures new.tree)

@@ -1,0 +1,38 @@
+-- What octets of the data connection, and its end, make of a session, whatever view it stands in.
+use Rattle.std.specs.Prelude.{◌≡◌, ℕ, Bool, true, false, List, Result, Ok, Err}
+use Rattle.ftp_server_model.specs.View.{Session, View}
+use Rattle.ftp_server_model.specs.Machine.{Ending, with_session, owes, replied, later, completed}
+use Rattle.ftp_server_model.specs.Replies.{reply_octets, mark_reply}
+use Rattle.ftp_server_model.specs.Calls.{connection_of, receives, MayReceive, takes_given}
+use Rattle.ftp_server_model.specs.Failing.{Late, AreReceived, GiveFails}
+use Rattle.ftp_server_model.specs.declared.reply.FixedReply.{FixedReply}
+use Rattle.ftp_server_model.specs.declared.reply.FixedReply.TheVariants as Texts
+use Rattle.ftp_server_parts.specs.Fault.{Counted}
+use Rattle.ftp_server_parts.specs.declared.fault.Fault.{Fault}
+use Rattle.ftp_server_parts.specs.declared.transfer.Told.{Told}
+use Rattle.ftp_server_parts.specs.declared.transfer.Told.TheVariants.{Nothing, Mark, Faulty, NoMemory}
+
+-- octets came, and this is the session then; where the transfer is over by the last of them, the 451 is to be said
+abbrev pub ComesIn : View → List ℕ → Told → Session → Type 0
+ComesIn v octets Nothing s = MayReceive v octets × (receives v octets ≡ with_session s v)
+ComesIn v octets (Mark marker) s =
+    MayReceive v octets × (receives v octets ≡ owes (reply_octets (mark_reply marker.text.items marker.held)) (with_session s v))
+ComesIn v octets Faulty s =
+    MayReceive v octets × (receives v octets ≡ later (replied Texts.LocalFault s v))
+    × ((x : View) → Late (replied Texts.LocalFault s v) x → AreReceived v octets x)
+ComesIn v octets NoMemory s = (x : View) → Late (replied Texts.LocalFault s v) x → AreReceived v octets x
+
+-- so many octets were given, and this is the session then; where memory was refused for the next, the 451 is to be said
+abbrev pub Gives : View → ℕ → Bool → Session → Type 0
+Gives v count false s = takes_given (connection_of v.session) count v ≡ with_session s v
+Gives v count true s = (x : View) → Late (replied Texts.LocalFault s v) x → GiveFails count v x
+
+-- a transfer of which all is given is over, and the 226 is to be said
+abbrev pub GivesOut : View → Bool → Session → Type 0
+GivesOut v true s = completed v ≡ replied Texts.Complete s v
+GivesOut v false s = completed v ≡ with_session s v
+
+-- how a transfer ended: session and reply are these, or nothing has changed
+abbrev pub Concludes : Ending → (old new : Session) → Result FixedReply Fault → (before after : ℕ) → Type 0
+Concludes ending old new (Ok text) before after = ((new, text) ≡ ending) × (after ≡ before)
+Concludes ending old new (Err fault) before after = (new ≡ old) × Counted fault before after

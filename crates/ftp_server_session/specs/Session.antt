@@ -1,0 +1,70 @@
+-- How a session that is held is seen by the definitions of the server.
+use Rattle.std.specs.Prelude.{◌≡◌, ◌≢◌, ℕ, Bool, true, false, Result, Ok, Err}
+use Rattle.ftp_path.specs.Path.{Names}
+use Rattle.ftp_tree.specs.Tree.{Table, under}
+use Rattle.ftp_tree.specs.declared.fault.TreeFault.{TreeFault}
+use Rattle.ftp_tree.specs.declared.fault.TreeFault.TheVariants as Faults
+use Rattle.ftp_server_model.specs.Replies.{Turn}
+use Rattle.ftp_server_model.specs.View.{Footing, Session, Transfer}
+use Rattle.ftp_server_model.specs.declared.reply.ReplyKind.{ReplyKind}
+use Rattle.ftp_server_model.specs.declared.reply.ReplyKind.TheVariants as Replies
+use Rattle.ftp_server_model.specs.declared.reply.FixedReply.{FixedReply}
+use Rattle.ftp_server_model.specs.declared.session.ServerLink.{ServerLink}
+use Rattle.ftp_server_model.specs.declared.session.ServerLink.TheVariants as Data
+use Rattle.ftp_server_parts.specs.Fault.{Counted}
+use Rattle.ftp_server_parts.specs.declared.fault.Fault.{Fault}
+use Rattle.ftp_server_parts.specs.declared.fault.Fault.TheVariants.{Memory, Device}
+use Rattle.ftp_server_session.specs.declared.footing.Footing.{Footing as Stands}
+use Rattle.ftp_server_session.specs.declared.session.Session.{Session as Held}
+
+-- a data connection, by how its transfer is seen
+abbrev pub connection_of : {J : Type 0} → (J → Transfer) → ServerLink J → ServerLink Transfer
+connection_of view Data.Free = Data.Free
+connection_of view (Data.Asked asked) = Data.Asked asked
+connection_of view (Data.Active endpoint) = Data.Active endpoint
+connection_of view Data.Passive = Data.Passive
+connection_of view Data.Ready = Data.Ready
+connection_of view (Data.Opening transfer way) = Data.Opening (view transfer) way
+connection_of view (Data.Transferring transfer) = Data.Transferring (view transfer)
+
+-- a transfer is under way, its data connection open or still to come
+abbrev pub has_transfer : {J : Type 0} → ServerLink J → Bool
+has_transfer Data.Free = false
+has_transfer (Data.Asked asked) = false
+has_transfer (Data.Active endpoint) = false
+has_transfer Data.Passive = false
+has_transfer Data.Ready = false
+has_transfer (Data.Opening transfer way) = true
+has_transfer (Data.Transferring transfer) = true
+
+-- a session, by how its tree is seen, and its transfer beside the part of the tree that the account sees
+abbrev pub session_of : {A T J : Type 0} → (T → Table) → (Table → J → Transfer) → Held A T J → Session
+session_of table view s = record {
+  table = table s.tree;
+  access = s.access;
+  root = s.root;
+  cwd = s.cwd;
+  pending = s.pending;
+  settings = s.settings;
+  facts = s.facts;
+  only_extended = s.only_extended;
+  connection = connection_of (view (under (table s.tree) s.root)) s.connection;
+  closing = s.closing;
+  life = s.life;
+}
+
+-- what no command changes
+abbrev pub footing_of : {A : Type 0} → Stands A → Footing
+footing_of f = record { accounts = f.accounts; here = f.here; peer = f.peer; moment = f.moment.seconds }
+
+-- what a command leaves: session and reply are its row of the definitions; or nothing has changed, for want of memory or as the
+-- device failed
+abbrev pub Turns : {A T J : Type 0} → (T → Table) → (T → ℕ) → (Table → J → Transfer) → (Session → Turn) → Held A T J → Held A T J → Result (ReplyKind Names) Fault → Type 0
+Turns table failures view row old new (Ok kind) = ((session_of table view new, kind) ≡ row (session_of table view old)) × (failures new.tree ≡ failures old.tree)
+Turns table failures view row old new (Err fault) = (session_of table view new ≡ session_of table view old) × Counted fault (failures old.tree) (failures new.tree)
+
+-- what a refused call of the tree makes of a command: want of memory, a failed device, or a reply
+abbrev pub RefusedAs : TreeFault → FixedReply → Result (ReplyKind Names) Fault → Type 0
+RefusedAs fault text (Ok kind) = (kind ≡ Replies.Fixed text) × (fault ≢ Faults.Memory) × (fault ≢ Faults.Device)
+RefusedAs fault text (Err Memory) = fault ≡ Faults.Memory
+RefusedAs fault text (Err Device) = fault ≡ Faults.Device

@@ -1,0 +1,93 @@
+// What each command does, one arm a verb in the order of RFC 959, section 4.1.
+ghost use Rattle.std.specs.Prelude.{◌≡◌, OnErr, false, true};
+ghost use Rattle.ftp_server_model.specs.Act.{act};
+ghost use Rattle.ftp_server_model.specs.Failing.{may_fail};
+ghost use Rattle.ftp_server_session.specs.Line.{HasPathTexts, is_user};
+
+use crate::footing::Footing;
+use crate::session::Session;
+use ftp_command::{Argument, Command};
+use ftp_path::Path;
+use ftp_server_model::{FixedReply, Pending, ReplyKind};
+use ftp_server_parts::{Fault, ServerTransfer};
+use ftp_tree::Tree;
+use std::alloc::Allocator;
+
+impl<A: Allocator + Copy, T: Tree<A>, J: ServerTransfer<A, T>> Session<A, T, J> {
+    ghost use Rattle.ftp_server_session.specs.Session.{Turns, footing_of, has_transfer};
+
+    /// Does a command, after what the line before left pending for it. An ABOR during a transfer is not done here. The name of USER is
+    /// kept; any other command is lent, and let go here alone.
+    pub(crate) fn act(
+        &mut self,
+        footing: &Footing<A>,
+        command: Command<Argument<A>>,
+        pending: &Pending<Path<A>>,
+    ) -> Result<ReplyKind<Path<A>>, Fault>
+        requires idle { has_transfer self.old.connection ≡ false }
+        requires paths { HasPathTexts command }
+        ensures turn { Turns T.table T.failures J.view (act (footing_of footing.now) command pending.now) self.old self.new result }
+        ensures may_fail { OnErr result (may_fail command ≡ true) }
+    {
+        match command {
+            Command::User(name) => self.user(&footing.accounts, name),
+            other => self.act_on(footing, &other, pending),
+        }
+    }
+
+    /// Does a command that is not USER.
+    fn act_on(
+        &mut self,
+        footing: &Footing<A>,
+        command: &Command<Argument<A>>,
+        pending: &Pending<Path<A>>,
+    ) -> Result<ReplyKind<Path<A>>, Fault>
+        requires idle { has_transfer self.old.connection ≡ false }
+        requires paths { HasPathTexts command.now }
+        requires other { is_user command.now ≡ false }
+        ensures turn { Turns T.table T.failures J.view (act (footing_of footing.now) command.now pending.now) self.old self.new result }
+        ensures may_fail { OnErr result (may_fail command.now ≡ true) }
+    {
+        match command {
+            // It does not come here.
+            Command::User(_) => Ok(ReplyKind::Nothing),
+            Command::Pass(word) => self.pass(&footing.accounts, word.octets()),
+            Command::Acct(_) => Ok(ReplyKind::Fixed(FixedReply::NotNeeded)),
+            Command::Cwd(text) => self.change_dir(text.octets()),
+            Command::Cdup => Ok(self.go_up()),
+            Command::Rein => Ok(self.rein()),
+            Command::Quit => Ok(self.quit()),
+            Command::Port(endpoint) => Ok(self.port(footing, *endpoint)),
+            Command::Pasv => Ok(self.pasv(footing)),
+            Command::Eprt(endpoint) => Ok(self.port(footing, *endpoint)),
+            Command::Epsv(family) => Ok(self.epsv(footing, *family)),
+            Command::Repr(kind) => Ok(self.set_kind(*kind)),
+            Command::Stru(structure) => Ok(self.set_structure(*structure)),
+            Command::Mode(mode) => Ok(self.set_mode(*mode)),
+            Command::Retr(text) => self.retr(pending, text.octets()),
+            Command::Stor(text) => self.stor(pending, text.octets()),
+            Command::Appe(text) => self.appe(text.octets()),
+            Command::Allo(_, _) => Ok(ReplyKind::Fixed(FixedReply::NotNeeded)),
+            Command::Rest(offset) => Ok(self.rest(*offset)),
+            Command::Rnfr(text) => self.rename_from(text.octets()),
+            Command::Rnto(text) => self.rename_to(pending, text.octets()),
+            Command::Abor => Ok(ReplyKind::Fixed(FixedReply::AbortDone)),
+            Command::Dele(text) => self.delete(text.octets()),
+            Command::Rmd(text) => self.remove_dir(text.octets()),
+            Command::Mkd(text) => self.make_dir(text.octets()),
+            Command::Pwd => Ok(ReplyKind::Here),
+            Command::List(text) => self.list(text),
+            Command::Nlst(text) => self.nlst(text),
+            Command::Mlst(text) => self.entry(text),
+            Command::Mlsd(text) => self.mlsd(text),
+            Command::Size(text) => self.size(text.octets()),
+            Command::Mdtm(text) => self.modified(text.octets()),
+            Command::Syst => Ok(ReplyKind::Fixed(FixedReply::System)),
+            Command::Stat => Ok(ReplyKind::Fixed(FixedReply::Serving)),
+            Command::Help(_) => Ok(ReplyKind::Fixed(FixedReply::Help)),
+            Command::Noop => Ok(ReplyKind::Fixed(FixedReply::Fine)),
+            Command::Feat => Ok(ReplyKind::Features),
+            Command::Opts(text) => Ok(self.opts(text.octets())),
+        }
+    }
+}

@@ -1,0 +1,22 @@
+//! What commands and the data connection change of a server's session, over any tree and any transfer; no IO (RFC 959, sections 3.2
+//! and 4.1; RFC 2389, RFC 2428, RFC 3659).
+#![tactic(auto)]
+
+mod act;
+mod ask;
+mod conclude;
+mod decide;
+mod endpoint;
+mod footing;
+mod login;
+mod options;
+mod receive;
+mod session;
+mod settings;
+mod transfers;
+mod walk;
+
+pub use footing::Footing;
+pub use ftp_ends::is_same_host;
+pub use ftp_server_parts::{Fault, Given, Marker, Received, ServerTransfer, Told};
+pub use session::Session;

@@ -1,0 +1,112 @@
+// USER, PASS, REIN and QUIT (RFC 959, sections 4.1.1 and 5.4).
+ghost use Rattle.std.specs.Prelude.{◌≡◌, [], false};
+ghost use Rattle.ftp_server_model.specs.Login.{logged_out, logs_in, pass, quit, rein, user};
+
+use crate::session::{ALL_FACTS, DEFAULTS, Session};
+use ftp_command::Argument;
+use ftp_direct::is_dir;
+use ftp_operation::Accounts;
+use ftp_path::Path;
+use ftp_server_model::{Access, FixedReply, Life, ReplyKind};
+use ftp_server_parts::{Fault, ServerTransfer};
+use ftp_tree::Tree;
+use std::alloc::Allocator;
+
+impl<A: Allocator + Copy, T: Tree<A>, J: ServerTransfer<A, T>> Session<A, T, J> {
+    ghost use Rattle.ftp_server_session.specs.Session.{Turns, has_transfer, session_of};
+
+    /// Who is logged in, and the root of his account, from now on; that root is the current directory.
+    fn enter(&mut self, access: Access<Argument<A>>, root: Path<A>)
+        requires { has_transfer self.old.connection ≡ false }
+        ensures view { session_of T.table J.view self.new ≡ record (session_of T.table J.view self.old) { access = access; root = root; cwd = [] } }
+        ensures tree { self.new.tree ≡ self.old.tree }
+    {
+        self.access = access;
+        self.root = root;
+        self.cwd = Path::root(self.alloc);
+    }
+
+    /// Nobody is logged in any longer.
+    fn log_out(&mut self)
+        requires { has_transfer self.old.connection ≡ false }
+        ensures view { session_of T.table J.view self.new ≡ logged_out (session_of T.table J.view self.old) }
+        ensures tree { self.new.tree ≡ self.old.tree }
+    {
+        self.enter(Access::Nobody, Path::root(self.alloc));
+    }
+
+    /// A login is done where a directory stands at the root of its account.
+    fn log_in(&mut self, root: &Path<A>) -> Result<ReplyKind<Path<A>>, Fault>
+        requires { has_transfer self.old.connection ≡ false }
+        ensures { Turns T.table T.failures J.view (logs_in root.now) self.old self.new result }
+    {
+        if !is_dir(&self.tree, &Path::root(self.alloc), root) {
+            self.log_out();
+            return Ok(ReplyKind::Fixed(FixedReply::LoginRefused));
+        }
+        let Ok(root) = root.copy(self.alloc) else {
+            return Err(Fault::Memory);
+        };
+        self.enter(Access::Known, root);
+        Ok(ReplyKind::Fixed(FixedReply::LoggedIn))
+    }
+
+    /// USER. The name that waits for its password takes no memory of its own.
+    pub(crate) fn user(
+        &mut self,
+        accounts: &Accounts<A>,
+        name: Argument<A>,
+    ) -> Result<ReplyKind<Path<A>>, Fault>
+        requires { has_transfer self.old.connection ≡ false }
+        ensures { Turns T.table T.failures J.view (user accounts.now name) self.old self.new result }
+    {
+        if let Some(root) = accounts.open_root(name.octets()) {
+            return self.log_in(root);
+        }
+        self.enter(Access::AwaitsPass(name), Path::root(self.alloc));
+        Ok(ReplyKind::Fixed(FixedReply::PasswordNeeded))
+    }
+
+    /// PASS.
+    pub(crate) fn pass(
+        &mut self,
+        accounts: &Accounts<A>,
+        word: &[u8],
+    ) -> Result<ReplyKind<Path<A>>, Fault>
+        requires { has_transfer self.old.connection ≡ false }
+        ensures { Turns T.table T.failures J.view (λ s. pass s.access accounts.now word.now s) self.old self.new result }
+    {
+        let root = match &self.access {
+            Access::AwaitsPass(name) => accounts.root_of(name.octets(), word),
+            Access::Nobody | Access::Known => return Ok(ReplyKind::Fixed(FixedReply::BadSequence)),
+        };
+        if let Some(root) = root {
+            return self.log_in(root);
+        }
+        self.log_out();
+        Ok(ReplyKind::Fixed(FixedReply::LoginRefused))
+    }
+
+    /// REIN.
+    pub(crate) fn rein(&mut self) -> ReplyKind<Path<A>>
+        ensures turn { (session_of T.table J.view self.new, result) ≡ rein (session_of T.table J.view self.old) }
+        ensures tree { self.new.tree ≡ self.old.tree }
+    {
+        self.forget();
+        self.log_out();
+        self.settings = DEFAULTS;
+        self.facts = ALL_FACTS;
+        self.only_extended = false;
+        ReplyKind::Fixed(FixedReply::Ready)
+    }
+
+    /// QUIT.
+    pub(crate) fn quit(&mut self) -> ReplyKind<Path<A>>
+        ensures turn { (session_of T.table J.view self.new, result) ≡ quit (session_of T.table J.view self.old) }
+        ensures tree { self.new.tree ≡ self.old.tree }
+    {
+        self.forget();
+        self.life = Life::Quit;
+        ReplyKind::Fixed(FixedReply::Goodbye)
+    }
+}

@@ -1,0 +1,126 @@
+// Octets of the data connection (RFC 959, section 3).
+ghost use Rattle.std.specs.Prelude.{◌≡◌, ◌≤◌, ◌<◌, false, length, take, true};
+ghost use Rattle.ftp_server_model.specs.Calls.{connection_of as connection_in, given_by, is_upload};
+ghost use Rattle.ftp_server_model.specs.Machine.{has_room};
+ghost use Rattle.ftp_ends.specs.Octets.{has_octets};
+ghost use Rattle.ftp_server_model.specs.View.{View};
+ghost use Rattle.ftp_server_session.specs.Receiving.{ComesIn, Gives, GivesOut};
+
+use crate::session::Session;
+use ftp_server_model::ServerLink;
+use ftp_server_parts::{Given, Received, ServerTransfer, Told};
+use ftp_tree::Tree;
+use std::alloc::Allocator;
+
+impl<A: Allocator + Copy, T: Tree<A>, J: ServerTransfer<A, T>> Session<A, T, J> {
+    ghost use Rattle.ftp_server_session.specs.Session.{has_transfer, session_of};
+
+    /// Takes octets of the data connection, at least one where an upload is under way. There has to be room for what is to be said.
+    pub fn receive(&mut self, piece: &[u8]) -> Received
+        ensures within { result.count ≤ length piece.now }
+        ensures comes { (v : View) → v.session ≡ session_of T.table J.view self.old → has_room v ≡ true → ComesIn v (take result.count piece.now) result.told (session_of T.table J.view self.new) }
+        ensures some { is_upload (connection_in (session_of T.table J.view self.old)) ≡ true → 0 < length piece.now → 0 < result.count }
+        ensures tree { self.new.tree ≡ self.old.tree }
+        ensures access { self.new.access ≡ self.old.access }
+    {
+        if self.closing {
+            return no_octets();
+        }
+        let received = match &mut self.connection {
+            ServerLink::Transferring(transfer) => transfer.receive(&self.tree, &self.root, piece),
+            _ => no_octets(),
+        };
+        if matches!(received.told, Told::Faulty | Told::NoMemory) {
+            self.forget();
+        }
+        received
+    }
+
+    /// Whether an upload is under way.
+    pub fn is_upload(&self) -> bool
+        ensures { result ≡ is_upload (connection_in (session_of T.table J.view self.now)) }
+    {
+        if self.closing {
+            return false;
+        }
+        match &self.connection {
+            ServerLink::Transferring(transfer) => transfer.takes_octets(),
+            _ => false,
+        }
+    }
+
+    /// Whether octets of a download or a listing are still to be given.
+    #[tactic(auto, using(crate::proofs::GivenLemmas::some_left))]
+    pub fn has_data(&self) -> bool
+        ensures { result ≡ has_octets (given_by (connection_in (session_of T.table J.view self.now))) }
+    {
+        if self.closing {
+            return false;
+        }
+        match &self.connection {
+            ServerLink::Transferring(transfer) => {
+                !transfer.takes_octets() && !transfer.is_given_out(&self.tree, &self.root)
+            }
+            _ => false,
+        }
+    }
+
+    /// Gives octets to the data connection.
+    pub fn give(&mut self, room: &mut [u8]) -> Given
+        ensures within { result.count ≤ length room.old }
+        ensures gave { take result.count room.new ≡ take result.count (given_by (connection_in (session_of T.table J.view self.old))) }
+        ensures most { result.count ≤ length (given_by (connection_in (session_of T.table J.view self.old))) }
+        ensures on { (v : View) → v.session ≡ session_of T.table J.view self.old → Gives v result.count result.lost (session_of T.table J.view self.new) }
+        ensures some { result.lost ≡ false → 0 < length room.old → 0 < length (given_by (connection_in (session_of T.table J.view self.old))) → 0 < result.count }
+        ensures tree { self.new.tree ≡ self.old.tree }
+        ensures free { result.lost ≡ true → self.new.connection ≡ ServerLink.Free }
+        ensures busy { has_transfer self.new.connection ≡ true → has_transfer self.old.connection ≡ true }
+        ensures access { self.new.access ≡ self.old.access }
+    {
+        if self.closing {
+            return Given {
+                count: 0,
+                lost: false,
+            };
+        }
+        let given = match &mut self.connection {
+            ServerLink::Transferring(transfer) => transfer.give(&self.tree, &self.root, room),
+            _ => Given {
+                count: 0,
+                lost: false,
+            },
+        };
+        if given.lost {
+            self.forget();
+        }
+        given
+    }
+
+    /// A download or a listing of which all is given is over: whether the 226 is to be said.
+    pub fn give_out(&mut self) -> bool
+        ensures on { (v : View) → v.session ≡ session_of T.table J.view self.old → GivesOut v result (session_of T.table J.view self.new) }
+        ensures tree { self.new.tree ≡ self.old.tree }
+        ensures free { result ≡ true → self.new.connection ≡ ServerLink.Free }
+        ensures same { result ≡ false → self.new.connection ≡ self.old.connection }
+        ensures access { self.new.access ≡ self.old.access }
+    {
+        let ServerLink::Transferring(transfer) = &self.connection else {
+            return false;
+        };
+        if !transfer.is_given_out(&self.tree, &self.root) {
+            return false;
+        }
+        self.forget();
+        true
+    }
+}
+
+/// No octet was taken.
+fn no_octets() -> Received
+    ensures { (result.count ≡ 0) × (result.told ≡ Told.Nothing) }
+{
+    Received {
+        count: 0,
+        told: Told::Nothing,
+    }
+}

@@ -1,0 +1,101 @@
+// What commands and the data connection change (RFC 959, sections 3.2 and 4.1).
+ghost use Rattle.std.specs.Prelude.{◌≡◌, IfOk, MatchOption, false, true};
+ghost use Rattle.ftp_path.specs.Path.{IsPathText, fits, resolved};
+ghost use Rattle.ftp_server_model.specs.Machine.{is_connection_busy};
+ghost use Rattle.ftp_server_model.specs.View.{first_session};
+ghost use Rattle.ftp_tree.specs.Tree.{under};
+
+use ftp_command::Argument;
+use ftp_path::{Path, PathFault};
+use ftp_server_model::{Access, Facts, Life, Pending, ServerLink};
+use ftp_server_parts::ServerTransfer;
+use ftp_settings::{Kind, Mode, Representation, Structure};
+use ftp_tree::Tree;
+use std::alloc::{AllocError, Allocator};
+
+/// A session over a tree `T`, with transfers `J`.
+#[derive(Drop)]
+pub struct Session<A: Allocator, T: Drop, J: Drop> {
+    pub alloc: A,
+    pub tree: T,
+    pub access: Access<Argument<A>>,
+    /// The root of the account, which is `/` to its user.
+    pub root: Path<A>,
+    /// The current directory, below that root.
+    pub cwd: Path<A>,
+    pub pending: Pending<Path<A>>,
+    pub settings: Representation,
+    pub facts: Facts,
+    pub only_extended: bool,
+    pub connection: ServerLink<J>,
+    /// Whether the data connection, or the port that is listened at, is to be closed.
+    pub closing: bool,
+    pub life: Life,
+}
+
+/// All facts, which are in force at the start (RFC 3659, section 7.9).
+pub(crate) const ALL_FACTS: Facts = Facts {
+    kind: true,
+    size: true,
+    modify: true,
+    perm: true,
+};
+
+/// The settings at the start (RFC 959, section 5.1).
+pub(crate) const DEFAULTS: Representation = Representation {
+    kind: Kind::Ascii,
+    structure: Structure::File,
+    mode: Mode::Stream,
+};
+
+impl<A: Allocator + Copy, T: Tree<A>, J: ServerTransfer<A, T>> Session<A, T, J> {
+    ghost use Rattle.ftp_server_session.specs.Session.{connection_of, has_transfer, session_of};
+
+    /// A session as it begins: nobody is logged in, and all is as after REIN. Takes no memory.
+    pub fn new(alloc: A, tree: T) -> Session<A, T, J>
+        ensures begun { session_of T.table J.view result ≡ first_session (T.table tree) }
+        ensures tree { result.tree ≡ tree }
+        ensures idle { has_transfer result.connection ≡ false }
+        ensures nobody { result.access ≡ Access.Nobody }
+    {
+        Session {
+            alloc,
+            tree,
+            access: Access::Nobody,
+            root: Path::root(alloc),
+            cwd: Path::root(alloc),
+            pending: Pending::Nothing,
+            settings: DEFAULTS,
+            facts: ALL_FACTS,
+            only_extended: false,
+            connection: ServerLink::Free,
+            closing: false,
+            life: Life::Running,
+        }
+    }
+
+    /// Whether a transfer is under way, or a port was asked for.
+    pub fn is_busy(&self) -> bool
+        ensures busy { result ≡ is_connection_busy (connection_of (J.view (under (T.table self.now.tree) self.now.root)) self.now.connection) }
+        ensures idle { result ≡ false → has_transfer self.now.connection ≡ false }
+    {
+        match &self.connection {
+            ServerLink::Asked(_) | ServerLink::Opening(_, _) | ServerLink::Transferring(_) => true,
+            ServerLink::Free | ServerLink::Active(_) | ServerLink::Passive | ServerLink::Ready =>
+                false,
+        }
+    }
+
+    /// The path that a text names from the current directory, or `None` where it is past the limits of paths.
+    pub(crate) fn find(&self, text: &[u8]) -> Result<Option<Path<A>>, AllocError>
+        requires { IsPathText text.now }
+        ensures { IfOk result (λ found. MatchOption found (fits (resolved self.now.cwd text.now) ≡ false)
+            (λ path. (path ≡ resolved self.now.cwd text.now) × (fits path ≡ true))) }
+    {
+        match self.cwd.resolve(self.alloc, text) {
+            Ok(path) => Ok(Some(path)),
+            Err(PathFault::TooBig) => Ok(None),
+            Err(PathFault::Memory) => Err(AllocError),
+        }
+    }
+}

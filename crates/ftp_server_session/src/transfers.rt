@@ -1,0 +1,267 @@
+// RETR, STOR, APPE, LIST, NLST and MLSD (RFC 959, section 4.1.3; RFC 3659, section 7).
+ghost use Rattle.std.specs.Prelude.{◌≡◌, ◌<◌, ◌≤◌, ◌^◌, false, length, true};
+ghost use Rattle.ftp_command.specs.Line.{IfGiven};
+ghost use Rattle.ftp_direct.specs.Direct.{refused_room};
+ghost use Rattle.ftp_direct.specs.Refusal.{listing_refusal, name_refusal};
+ghost use Rattle.ftp_wire.specs.Decoder.{no_octets};
+ghost use Rattle.ftp_path.specs.Path.{IsPathText, fits};
+ghost use Rattle.ftp_server_model.specs.Endpoint.{forgotten};
+ghost use Rattle.ftp_server_model.specs.Replies.{tells};
+ghost use Rattle.ftp_server_model.specs.Transfer.{appe, begin, list, mlsd, nlst, place_of, retr, stor, transfer_starts};
+ghost use Rattle.ftp_server_model.specs.Walk.{refusal_text};
+ghost use Rattle.ftp_server_model.specs.declared.session.Transfer.TheVariants as Transfers;
+ghost use Rattle.ftp_tree.specs.Tree.{octets_or_none, room_refusal, under};
+
+use crate::session::Session;
+use ftp_command::Argument;
+use ftp_direct::{absent_fault, directory_fault, len_at, place_at};
+use ftp_path::Path;
+use ftp_server_model::{FixedReply, Pending, ReplyKind, ServerLink, Way};
+use ftp_server_parts::{Fault, ServerTransfer};
+use ftp_tree::{Tree, TreeFault};
+use std::alloc::Allocator;
+
+impl<A: Allocator + Copy, T: Tree<A>, J: ServerTransfer<A, T>> Session<A, T, J> {
+    ghost use Rattle.ftp_server_session.specs.Session.{Turns, connection_of, has_transfer, session_of};
+
+    /// RETR, where the REST before it put it.
+    pub(crate) fn retr(
+        &mut self,
+        pending: &Pending<Path<A>>,
+        text: &[u8],
+    ) -> Result<ReplyKind<Path<A>>, Fault>
+        requires idle { has_transfer self.old.connection ≡ false }
+        requires path { IsPathText text.now }
+        ensures { Turns T.table T.failures J.view (retr pending.now text.now) self.old self.new result }
+    {
+        let Ok(found) = self.find_file(text) else {
+            return Err(Fault::Memory);
+        };
+        let Some(mut path) = found else {
+            return Ok(self.not_begun(FixedReply::Refused));
+        };
+        let Some(place) = self.place_of(pending, &path) else {
+            return Ok(self.not_begun(FixedReply::Refused));
+        };
+        let Ok(download) = J::download(self.alloc, &mut path, place, self.settings) else {
+            return Err(Fault::Memory);
+        };
+        Ok(self.begin(download))
+    }
+
+    /// STOR, where the REST before it put it.
+    pub(crate) fn stor(
+        &mut self,
+        pending: &Pending<Path<A>>,
+        text: &[u8],
+    ) -> Result<ReplyKind<Path<A>>, Fault>
+        requires idle { has_transfer self.old.connection ≡ false }
+        requires path { IsPathText text.now }
+        ensures { Turns T.table T.failures J.view (stor pending.now text.now) self.old self.new result }
+    {
+        let Ok(found) = self.find(text) else {
+            return Err(Fault::Memory);
+        };
+        let Some(mut path) = found else {
+            return Ok(self.not_begun(FixedReply::NameRefused));
+        };
+        let Some(place) = self.place_of(pending, &path) else {
+            return Ok(self.not_begun(FixedReply::NameRefused));
+        };
+        let refusal = self.room_fault(&path);
+        let Ok(upload) = J::upload(self.alloc, &mut path, place, self.settings) else {
+            return Err(Fault::Memory);
+        };
+        Ok(self.hold(refusal, upload))
+    }
+
+    /// APPE: a REST before it is of no matter.
+    pub(crate) fn appe(&mut self, text: &[u8]) -> Result<ReplyKind<Path<A>>, Fault>
+        requires idle { has_transfer self.old.connection ≡ false }
+        requires path { IsPathText text.now }
+        ensures { Turns T.table T.failures J.view (appe text.now) self.old self.new result }
+    {
+        let Ok(found) = self.find(text) else {
+            return Err(Fault::Memory);
+        };
+        let Some(mut path) = found else {
+            return Ok(self.not_begun(FixedReply::NameRefused));
+        };
+        let keep = len_at(&self.tree, &self.root, &path);
+        let refusal = self.room_fault(&path);
+        let Ok(upload) = J::upload(self.alloc, &mut path, keep, self.settings) else {
+            return Err(Fault::Memory);
+        };
+        Ok(self.hold(refusal, upload))
+    }
+
+    /// LIST.
+    pub(crate) fn list(&mut self, text: &Option<Argument<A>>) -> Result<ReplyKind<Path<A>>, Fault>
+        requires idle { has_transfer self.old.connection ≡ false }
+        requires path { IfGiven IsPathText text.now }
+        ensures { Turns T.table T.failures J.view (list text.now) self.old self.new result }
+    {
+        let Ok(found) = self.find_here(text) else {
+            return Err(Fault::Memory);
+        };
+        let Some(mut path) = found else {
+            return Ok(self.not_begun(FixedReply::Refused));
+        };
+        if absent_fault(&self.tree, &self.root, &path).is_some() {
+            return Ok(self.not_begun(FixedReply::Refused));
+        }
+        let Ok(listing) = J::list(
+            self.alloc,
+            &self.tree,
+            &self.root,
+            &mut path,
+            self.settings.mode,
+        ) else {
+            return Err(Fault::Memory);
+        };
+        Ok(self.begin(listing))
+    }
+
+    /// NLST.
+    pub(crate) fn nlst(&mut self, text: &Option<Argument<A>>) -> Result<ReplyKind<Path<A>>, Fault>
+        requires idle { has_transfer self.old.connection ≡ false }
+        requires path { IfGiven IsPathText text.now }
+        ensures { Turns T.table T.failures J.view (nlst text.now) self.old self.new result }
+    {
+        let Ok(found) = self.find_here(text) else {
+            return Err(Fault::Memory);
+        };
+        let Some(mut path) = found else {
+            return Ok(self.not_begun(FixedReply::Refused));
+        };
+        if absent_fault(&self.tree, &self.root, &path).is_some() {
+            return Ok(self.not_begun(FixedReply::Refused));
+        }
+        let Ok(listing) = J::names(
+            self.alloc,
+            &self.tree,
+            &self.root,
+            &mut path,
+            text,
+            self.settings.mode,
+        ) else {
+            return Err(Fault::Memory);
+        };
+        Ok(self.begin(listing))
+    }
+
+    /// MLSD.
+    pub(crate) fn mlsd(&mut self, text: &Option<Argument<A>>) -> Result<ReplyKind<Path<A>>, Fault>
+        requires idle { has_transfer self.old.connection ≡ false }
+        requires path { IfGiven IsPathText text.now }
+        ensures { Turns T.table T.failures J.view (mlsd text.now) self.old self.new result }
+    {
+        let Ok(found) = self.find_here(text) else {
+            return Err(Fault::Memory);
+        };
+        let Some(mut path) = found else {
+            return Ok(self.not_begun(FixedReply::Refused));
+        };
+        if let Some(fault) = directory_fault(&self.tree, &self.root, &path) {
+            return Ok(self.not_begun(listing_text(fault)));
+        }
+        let Ok(listing) = J::entries(
+            self.alloc,
+            &self.tree,
+            &self.root,
+            &mut path,
+            self.facts,
+            self.settings.mode,
+        ) else {
+            return Err(Fault::Memory);
+        };
+        Ok(self.begin(listing))
+    }
+
+    /// The place in the file at a path where a transfer begins, or `None` where the offset of the REST before it leads to none.
+    fn place_of(&self, pending: &Pending<Path<A>>, path: &Path<A>) -> Option<u64>
+        ensures place { result ≡ place_of pending.now path.now (session_of T.table J.view self.now) }
+        ensures counted { length (octets_or_none (under (T.table self.now.tree) self.now.root) path.now) < 2 ^ 64 }
+    {
+        let _octets = len_at(&self.tree, &self.root, path);
+        match pending {
+            Pending::Restart(offset) => place_at(
+                &self.tree,
+                &self.root,
+                path,
+                self.settings.kind,
+                *offset,
+            ),
+            Pending::Nothing | Pending::Rename(_) => Some(0),
+        }
+    }
+
+    /// Why the tree takes no file at a path.
+    fn room_fault(&self, path: &Path<A>) -> Option<TreeFault>
+        ensures { result ≡ room_refusal (under (T.table self.now.tree) self.now.root) path.now }
+    {
+        match self.tree.room(&self.root, path) {
+            Ok(_) => None,
+            Err(fault) => Some(fault),
+        }
+    }
+
+    /// An upload begins, if the tree takes a file where it goes.
+    fn hold(&mut self, refusal: Option<TreeFault>, upload: J) -> ReplyKind<Path<A>>
+        ensures turn { let s = session_of T.table J.view self.old in
+            (session_of T.table J.view self.new, result) ≡ transfer_starts (refused_room refusal) (J.view (under (T.table self.old.tree) self.old.root) upload) s }
+        ensures tree { self.new.tree ≡ self.old.tree }
+    {
+        match refusal {
+            Some(fault) => self.not_begun(room_text(fault)),
+            None => self.begin(upload),
+        }
+    }
+
+    /// A transfer begins, where there is an endpoint for it.
+    fn begin(&mut self, transfer: J) -> ReplyKind<Path<A>>
+        ensures turn { let s = session_of T.table J.view self.old in
+            (session_of T.table J.view self.new, result) ≡ begin s.connection (J.view (under (T.table self.old.tree) self.old.root) transfer) s }
+        ensures tree { self.new.tree ≡ self.old.tree }
+    {
+        self.connection = match self.connection {
+            ServerLink::Active(endpoint) => ServerLink::Opening(transfer, Way::Connect(endpoint)),
+            ServerLink::Passive => ServerLink::Opening(transfer, Way::Accept),
+            ServerLink::Ready => ServerLink::Transferring(transfer),
+            ServerLink::Free
+            | ServerLink::Asked(_)
+            | ServerLink::Opening(_, _)
+            | ServerLink::Transferring(_) => return ReplyKind::Fixed(FixedReply::NoConnection),
+        };
+        ReplyKind::Fixed(FixedReply::Opens)
+    }
+
+    /// A transfer is refused, and the endpoint is forgotten.
+    fn not_begun(&mut self, text: FixedReply) -> ReplyKind<Path<A>>
+        ensures turn { (session_of T.table J.view self.new, result) ≡ tells text (forgotten (session_of T.table J.view self.old)) }
+        ensures tree { self.new.tree ≡ self.old.tree }
+    {
+        self.forget();
+        ReplyKind::Fixed(text)
+    }
+}
+
+/// The reply where the tree takes no file.
+fn room_text(fault: TreeFault) -> FixedReply
+    ensures { result ≡ refusal_text (name_refusal fault) }
+{
+    match fault {
+        TreeFault::Full => FixedReply::NoRoom,
+        _ => FixedReply::NameRefused,
+    }
+}
+
+/// The reply where no directory can be listed.
+fn listing_text(fault: TreeFault) -> FixedReply
+    ensures { result ≡ refusal_text (listing_refusal fault) }
+{
+    match fault {
+        TreeFault::WrongKind => FixedReply::BadArgument,
+        _ => FixedReply::Refused,
+    }
+}

@@ -1,0 +1,156 @@
+// CWD, CDUP, MKD, RMD, DELE, RNFR and RNTO (RFC 959, section 4.1.3).
+ghost use Rattle.std.specs.Prelude.{◌≡◌, false};
+ghost use Rattle.ftp_path.specs.Path.{IsPathText};
+ghost use Rattle.ftp_server_model.specs.Walk.{cdup, cwd, dele, mkd, rmd, rnfr, rnto};
+ghost use Rattle.ftp_server_session.specs.Session.{RefusedAs};
+
+use crate::session::Session;
+use ftp_direct::{directory_fault, is_busy, is_held};
+use ftp_path::Path;
+use ftp_server_model::{FixedReply, Pending, ReplyKind};
+use ftp_server_parts::{Fault, ServerTransfer};
+use ftp_tree::{Tree, TreeFault};
+use std::alloc::Allocator;
+
+impl<A: Allocator + Copy, T: Tree<A>, J: ServerTransfer<A, T>> Session<A, T, J> {
+    ghost use Rattle.ftp_server_session.specs.Session.{Turns, has_transfer, session_of};
+
+    /// CWD.
+    pub(crate) fn change_dir(&mut self, text: &[u8]) -> Result<ReplyKind<Path<A>>, Fault>
+        requires { IsPathText text.now }
+        ensures { Turns T.table T.failures J.view (cwd text.now) self.old self.new result }
+    {
+        let Ok(found) = self.find(text) else {
+            return Err(Fault::Memory);
+        };
+        let Some(path) = found else {
+            return Ok(ReplyKind::Fixed(FixedReply::Refused));
+        };
+        if directory_fault(&self.tree, &self.root, &path).is_some() {
+            return Ok(ReplyKind::Fixed(FixedReply::Refused));
+        }
+        self.cwd = path;
+        Ok(ReplyKind::Fixed(FixedReply::Done))
+    }
+
+    /// CDUP. It takes no memory.
+    pub(crate) fn go_up(&mut self) -> ReplyKind<Path<A>>
+        ensures turn { (session_of T.table J.view self.new, result) ≡ cdup (session_of T.table J.view self.old) }
+        ensures tree { self.new.tree ≡ self.old.tree }
+    {
+        self.cwd.up();
+        ReplyKind::Fixed(FixedReply::Done)
+    }
+
+    /// MKD.
+    pub(crate) fn make_dir(&mut self, text: &[u8]) -> Result<ReplyKind<Path<A>>, Fault>
+        requires idle { has_transfer self.old.connection ≡ false }
+        requires path { IsPathText text.now }
+        ensures { Turns T.table T.failures J.view (mkd text.now) self.old self.new result }
+    {
+        let Ok(found) = self.find(text) else {
+            return Err(Fault::Memory);
+        };
+        let Some(path) = found else {
+            return Ok(ReplyKind::Fixed(FixedReply::Refused));
+        };
+        match self.tree.make_dir(&self.root, &path) {
+            Ok(()) => Ok(ReplyKind::Made(path)),
+            Err(fault) => refused(fault, FixedReply::Refused),
+        }
+    }
+
+    /// RMD.
+    pub(crate) fn remove_dir(&mut self, text: &[u8]) -> Result<ReplyKind<Path<A>>, Fault>
+        requires idle { has_transfer self.old.connection ≡ false }
+        requires path { IsPathText text.now }
+        ensures { Turns T.table T.failures J.view (rmd text.now) self.old self.new result }
+    {
+        let Ok(found) = self.find(text) else {
+            return Err(Fault::Memory);
+        };
+        let Some(path) = found else {
+            return Ok(ReplyKind::Fixed(FixedReply::Refused));
+        };
+        if is_busy(&path, &self.cwd) {
+            return Ok(ReplyKind::Fixed(FixedReply::Refused));
+        }
+        match self.tree.remove_dir(&self.root, &path) {
+            Ok(()) => Ok(ReplyKind::Fixed(FixedReply::Done)),
+            Err(fault) => refused(fault, FixedReply::Refused),
+        }
+    }
+
+    /// DELE.
+    pub(crate) fn delete(&mut self, text: &[u8]) -> Result<ReplyKind<Path<A>>, Fault>
+        requires idle { has_transfer self.old.connection ≡ false }
+        requires path { IsPathText text.now }
+        ensures { Turns T.table T.failures J.view (dele text.now) self.old self.new result }
+    {
+        let Ok(found) = self.find(text) else {
+            return Err(Fault::Memory);
+        };
+        let Some(path) = found else {
+            return Ok(ReplyKind::Fixed(FixedReply::Refused));
+        };
+        match self.tree.delete(&self.root, &path) {
+            Ok(()) => Ok(ReplyKind::Fixed(FixedReply::Done)),
+            Err(fault) => refused(fault, FixedReply::Refused),
+        }
+    }
+
+    /// RNFR.
+    pub(crate) fn rename_from(&mut self, text: &[u8]) -> Result<ReplyKind<Path<A>>, Fault>
+        requires { IsPathText text.now }
+        ensures { Turns T.table T.failures J.view (rnfr text.now) self.old self.new result }
+    {
+        let Ok(found) = self.find(text) else {
+            return Err(Fault::Memory);
+        };
+        let Some(path) = found else {
+            return Ok(ReplyKind::Fixed(FixedReply::Refused));
+        };
+        if is_held(&self.tree, &self.root, &path, &self.cwd) {
+            return Ok(ReplyKind::Fixed(FixedReply::Refused));
+        }
+        self.pending = Pending::Rename(path);
+        Ok(ReplyKind::Fixed(FixedReply::NewName))
+    }
+
+    /// RNTO, after what was pending for it.
+    pub(crate) fn rename_to(
+        &mut self,
+        pending: &Pending<Path<A>>,
+        text: &[u8],
+    ) -> Result<ReplyKind<Path<A>>, Fault>
+        requires idle { has_transfer self.old.connection ≡ false }
+        requires path { IsPathText text.now }
+        ensures { Turns T.table T.failures J.view (rnto pending.now text.now) self.old self.new result }
+    {
+        let Pending::Rename(from) = pending else {
+            return Ok(ReplyKind::Fixed(FixedReply::BadSequence));
+        };
+        let Ok(found) = self.find(text) else {
+            return Err(Fault::Memory);
+        };
+        let Some(to) = found else {
+            return Ok(ReplyKind::Fixed(FixedReply::NameRefused));
+        };
+        match self.tree.rename(&self.root, from, &to) {
+            Ok(()) => Ok(ReplyKind::Fixed(FixedReply::Done)),
+            Err(fault) => refused(fault, FixedReply::NameRefused),
+        }
+    }
+}
+
+/// What a call that the tree refused makes of a command: refused memory and a failed device are told as such, any other refusal by a
+/// reply.
+fn refused<A: Allocator>(fault: TreeFault, text: FixedReply) -> Result<ReplyKind<Path<A>>, Fault>
+    ensures { RefusedAs fault text result }
+{
+    match fault {
+        TreeFault::Memory => Err(Fault::Memory),
+        TreeFault::Device => Err(Fault::Device),
+        _ => Ok(ReplyKind::Fixed(text)),
+    }
+}

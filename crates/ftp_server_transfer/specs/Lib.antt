@@ -1,0 +1,4 @@
+pub mod Download
+pub mod Receiving
+pub mod Upload
+pub mod TreeTransfer

@@ -1,0 +1,183 @@
+// A transfer of any kind: each call is that of its kind.
+ghost use Rattle.std.specs.Prelude.{◌≡◌, IfOk};
+ghost use Rattle.ftp_server_model.specs.Ask.{or_empty};
+ghost use Rattle.ftp_server_transfer.specs.TreeTransfer.{transfer_of};
+
+use crate::{Download, Upload};
+use ftp_command::Argument;
+use ftp_facts::{Moment, Text};
+use ftp_path::Path;
+use ftp_server_listing::{Listing, What};
+use ftp_server_model::{Facts, FixedReply};
+use ftp_server_parts::{Fault, Given, Received, ServerTransfer, Told};
+use ftp_settings::{Mode, Representation};
+use ftp_tree::Tree;
+use std::alloc::{AllocError, Allocator};
+use std::mem;
+
+/// A transfer of a server.
+#[derive(Drop)]
+pub enum TreeTransfer<A: Allocator + Copy> {
+    /// An upload below its limits.
+    Upload(Upload<A>),
+    /// An upload that passed a limit of octets: the rest is dropped unread.
+    OverLimit,
+    Download(Download<A>),
+    Listing(Listing<A>),
+}
+
+impl<A: Allocator + Copy, T: Tree<A>> ServerTransfer<A, T> for TreeTransfer<A> {
+    ghost view = { λ part transfer. transfer_of part transfer };
+
+    fn download(
+        alloc: A,
+        path: &mut Path<A>,
+        place: u64,
+        settings: Representation,
+    ) -> Result<TreeTransfer<A>, AllocError> {
+        let path = mem::replace(path, Path::root(alloc));
+        Ok(TreeTransfer::Download(Download::new(path, place, settings)))
+    }
+
+    fn upload(
+        alloc: A,
+        path: &mut Path<A>,
+        keep: u64,
+        settings: Representation,
+    ) -> Result<TreeTransfer<A>, AllocError> {
+        let path = mem::replace(path, Path::root(alloc));
+        Ok(TreeTransfer::Upload(Upload::new(alloc, path, keep, settings)))
+    }
+
+    fn list(
+        alloc: A,
+        tree: &T,
+        root: &Path<A>,
+        path: &mut Path<A>,
+        mode: Mode,
+    ) -> Result<TreeTransfer<A>, AllocError> {
+        let path = mem::replace(path, Path::root(alloc));
+        let listing = Listing::new(alloc, tree, root, path, What::Lines, mode)?;
+        Ok(TreeTransfer::Listing(listing))
+    }
+
+    fn names(
+        alloc: A,
+        tree: &T,
+        root: &Path<A>,
+        path: &mut Path<A>,
+        text: &Option<Argument<A>>,
+        mode: Mode,
+    ) -> Result<TreeTransfer<A>, AllocError> {
+        let text = named(alloc, text)?;
+        let path = mem::replace(path, Path::root(alloc));
+        let listing = Listing::new(alloc, tree, root, path, What::Names(text), mode)?;
+        Ok(TreeTransfer::Listing(listing))
+    }
+
+    fn entries(
+        alloc: A,
+        tree: &T,
+        root: &Path<A>,
+        path: &mut Path<A>,
+        facts: Facts,
+        mode: Mode,
+    ) -> Result<TreeTransfer<A>, AllocError> {
+        let path = mem::replace(path, Path::root(alloc));
+        let listing = Listing::new(alloc, tree, root, path, What::Entries(facts), mode)?;
+        Ok(TreeTransfer::Listing(listing))
+    }
+
+    fn takes_octets(&self) -> bool {
+        match self {
+            TreeTransfer::Upload(_) | TreeTransfer::OverLimit => true,
+            TreeTransfer::Download(_) | TreeTransfer::Listing(_) => false,
+        }
+    }
+
+    fn receive(&mut self, tree: &T, root: &Path<A>, piece: &[u8]) -> Received {
+        match self {
+            TreeTransfer::Upload(upload) => {
+                let arrived = upload.receive(tree, root, piece);
+                if arrived.is_over {
+                    *self = TreeTransfer::OverLimit;
+                }
+                arrived.received
+            }
+            TreeTransfer::OverLimit => Received {
+                count: piece.len(),
+                told: Told::Nothing,
+            },
+            TreeTransfer::Download(_) | TreeTransfer::Listing(_) => Received {
+                count: 0,
+                told: Told::Nothing,
+            },
+        }
+    }
+
+    fn give(&mut self, tree: &T, root: &Path<A>, room: &mut [u8]) -> Given {
+        match self {
+            TreeTransfer::Download(download) => Given {
+                count: download.give(tree, root, room),
+                lost: false,
+            },
+            TreeTransfer::Listing(listing) => {
+                let given = listing.give(tree, root, room);
+                Given {
+                    count: given.made,
+                    lost: given.refused,
+                }
+            }
+            TreeTransfer::Upload(_) | TreeTransfer::OverLimit => Given {
+                count: 0,
+                lost: false,
+            },
+        }
+    }
+
+    fn is_given_out(&self, tree: &T, root: &Path<A>) -> bool {
+        match self {
+            TreeTransfer::Download(download) => download.is_given_out(tree, root),
+            TreeTransfer::Listing(listing) => listing.is_given_out(),
+            TreeTransfer::Upload(_) | TreeTransfer::OverLimit => false,
+        }
+    }
+
+    fn at_end(
+        self,
+        alloc: A,
+        tree: &mut T,
+        root: &Path<A>,
+        moment: Moment,
+    ) -> Result<FixedReply, Fault> {
+        match self {
+            TreeTransfer::Upload(upload) => upload.at_end(alloc, tree, root, moment),
+            TreeTransfer::OverLimit => Ok(FixedReply::TooMuch),
+            TreeTransfer::Download(_) | TreeTransfer::Listing(_) => Ok(FixedReply::Broken),
+        }
+    }
+
+    fn at_break(
+        self,
+        alloc: A,
+        tree: &mut T,
+        root: &Path<A>,
+        moment: Moment,
+    ) -> Result<FixedReply, Fault> {
+        match self {
+            TreeTransfer::Upload(upload) => upload.at_break(alloc, tree, root, moment),
+            TreeTransfer::OverLimit => Ok(FixedReply::TooMuch),
+            TreeTransfer::Download(_) | TreeTransfer::Listing(_) => Ok(FixedReply::Broken),
+        }
+    }
+}
+
+/// The text that named what is listed; none is empty.
+fn named<A: Allocator>(alloc: A, text: &Option<Argument<A>>) -> Result<Text<A>, AllocError>
+    ensures { IfOk result (λ named. named ≡ or_empty text.now) }
+{
+    match text {
+        Some(text) => Text::copy_of(alloc, text.octets()),
+        None => Text::copy_of(alloc, &[]),
+    }
+}

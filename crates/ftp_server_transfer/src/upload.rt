@@ -1,0 +1,223 @@
+// An upload: the octets of its data connection are settled into a file, apart from the tree until it ends (RFC 959, section 3.4).
+ghost use Rattle.std.specs.Prelude.{◌≡◌, ◌≤◌, ◌<◌, ◌+◌, ◌^◌, ℕ, Some, false, length, take, if◌then◌else◌};
+ghost use Rattle.std.specs.Option.{IfSome};
+ghost use Rattle.ftp_wire.specs.Decoder.{no_octets};
+ghost use Rattle.ftp_server_parts.specs.ServerTransfer.{Comes, Ends};
+ghost use Rattle.ftp_server_model.specs.Machine.{at_break, at_end, installs};
+ghost use Rattle.ftp_server_model.specs.View.{Session};
+ghost use Rattle.ftp_server_model.specs.declared.session.Transfer.TheVariants as Transfers;
+ghost use Rattle.ftp_server_transfer.specs.Receiving.{is_over};
+ghost use Rattle.ftp_tree.specs.Tree.{under};
+
+use crate::came::Came;
+use crate::install::{passes, put_in, room_behind};
+use arrayvec::ArrayVec;
+use ftp_facts::Moment;
+use ftp_path::Path;
+use ftp_server_model::FixedReply;
+use ftp_server_parts::{Fault, Marker, Received, Told};
+use ftp_settings::{MARKER_LIMIT, Representation};
+use ftp_tree::{Content, Tree};
+use ftp_wire::{Decoded, Decoder, Taken};
+use std::alloc::Allocator;
+
+/// A file that is received. It holds what is settled of it.
+#[derive(Drop)]
+pub struct Upload<A: Allocator + Clone> {
+    pub(crate) path: Path<A>,
+    /// So many octets of the file that stands at the path are kept in front.
+    pub(crate) keep: u64,
+    pub(crate) decoder: Decoder<Came<A>>,
+}
+
+/// What came of octets, and whether the upload passed a limit of octets by them. Past it the rest is dropped unread, and the
+/// upload is of no use any more.
+#[derive(Drop)]
+pub struct Arrived {
+    pub received: Received,
+    pub is_over: bool,
+}
+
+impl<A: Allocator + Clone> Upload<A> {
+    ghost use Rattle.ftp_server_transfer.specs.Receiving.{IsTold, Leaves};
+    ghost use Rattle.ftp_server_transfer.specs.Upload.{upload_of};
+
+    /// An upload to a path, behind so many octets of the file there, in a representation. Takes no memory.
+    pub fn new(alloc: A, path: Path<A>, keep: u64, settings: Representation) -> Upload<A>
+        ensures { upload_of result ≡ Transfers.Upload path keep (no_octets settings) }
+    {
+        let came = Came {
+            content: Content::new(alloc),
+        };
+        Upload {
+            path,
+            keep,
+            decoder: Decoder::new(settings, came),
+        }
+    }
+
+    /// Takes octets of the data connection: all of them, or up to the first of which something is to be said.
+    ///
+    /// Where the octets that are kept pass a limit by themselves, or the tree takes no file at the path any more, the first octet
+    /// is told as want of memory (own choice: a tree within its own limits meets neither).
+    pub fn receive<B: Allocator, C: Allocator, T: Tree<B>>(
+        &mut self,
+        tree: &T,
+        root: &Path<C>,
+        piece: &[u8],
+    ) -> Arrived
+        ensures within { result.received.count ≤ length piece.now }
+        ensures comes { Comes (under (T.table tree.now) root.now) (upload_of self.old) (take result.received.count piece.now)
+            result.received.told (if result.is_over then Transfers.OverLimit else upload_of self.new) }
+        ensures some { 0 < length piece.now → 0 < result.received.count }
+    {
+        if piece.is_empty() {
+            return Arrived::of(0, Told::Nothing);
+        }
+        let Some(room) = self.room_left(tree, root) else {
+            return Arrived::of(1, Told::NoMemory);
+        };
+        let taken = self.decoder.hear(piece, room);
+        Arrived {
+            received: Received {
+                count: taken.count,
+                told: self.told(taken),
+            },
+            is_over: is_over(taken.heard),
+        }
+    }
+
+    /// How many octets may still be settled; `None` where those that are held pass a limit, or the tree takes no file there.
+    fn room_left<B: Allocator, C: Allocator, T: Tree<B>>(
+        &self,
+        tree: &T,
+        root: &Path<C>,
+    ) -> Option<u64>
+        ensures { IfSome result (λ room. Leaves (under (T.table tree.now) root.now) self.now.path self.now.keep (length self.now.decoder.decoder.content + room)) }
+    {
+        let Some(most) = room_behind(tree, root, &self.path, self.keep) else {
+            return None;
+        };
+        most.checked_sub(self.decoder.len())
+    }
+
+    /// What is to be said of octets that were taken.
+    fn told(&self, taken: Taken) -> Told
+        requires { (held : ℕ) → taken.mark ≡ Some held → (self.now.keep + held < 2 ^ 64) × (length self.now.decoder.marker ≤ MARKER_LIMIT) }
+        ensures { IsTold self.now.keep taken.mark self.now.decoder.marker taken.heard result }
+    {
+        match taken.heard {
+            Decoded::Faulty(_) => Told::Faulty,
+            Decoded::NoMemory => Told::NoMemory,
+            Decoded::More | Decoded::Over => match taken.mark {
+                None => Told::Nothing,
+                Some(held) => Told::Mark(Marker {
+                    text: copied(self.decoder.marker()),
+                    held: self.keep + held,
+                }),
+            },
+        }
+    }
+
+    /// The other end closed the data connection: the file is whole and put into the tree, or it ended early, which counts as broken.
+    /// The reply that ends the transfer.
+    pub fn at_end<B: Allocator, T: Tree<A>>(
+        mut self,
+        alloc: A,
+        tree: &mut T,
+        root: &Path<B>,
+        moment: Moment,
+    ) -> Result<FixedReply, Fault>
+        ensures { (s : Session) → s.table ≡ T.table tree.old → s.root ≡ root.now
+            → Ends (at_end moment.seconds (upload_of self) s) s (T.table tree.new) result (T.failures tree.old) (T.failures tree.new) }
+    {
+        if !self.decoder.is_whole() {
+            return self.at_break(alloc, tree, root, moment);
+        }
+        let Ok(()) = self.decoder.end() else {
+            return Err(Fault::Memory);
+        };
+        self.install(alloc, tree, root, moment, FixedReply::Complete)
+    }
+
+    /// The data connection broke: what was settled is put into the tree. The reply that ends the transfer.
+    pub fn at_break<B: Allocator, T: Tree<A>>(
+        self,
+        alloc: A,
+        tree: &mut T,
+        root: &Path<B>,
+        moment: Moment,
+    ) -> Result<FixedReply, Fault>
+        ensures { (s : Session) → s.table ≡ T.table tree.old → s.root ≡ root.now
+            → Ends (at_break moment.seconds (upload_of self) s) s (T.table tree.new) result (T.failures tree.old) (T.failures tree.new) }
+    {
+        self.install(alloc, tree, root, moment, FixedReply::Broken)
+    }
+
+    /// What was settled is put into the tree and answered so; past a limit of octets nothing is.
+    fn install<B: Allocator, T: Tree<A>>(
+        self,
+        alloc: A,
+        tree: &mut T,
+        root: &Path<B>,
+        moment: Moment,
+        text: FixedReply,
+    ) -> Result<FixedReply, Fault>
+        ensures { (s : Session) → s.table ≡ T.table tree.old → s.root ≡ root.now
+            → Ends (installs moment.seconds self.path self.keep self.decoder.decoder text s) s (T.table tree.new) result (T.failures tree.old) (T.failures tree.new) }
+    {
+        let Upload {
+            path,
+            keep,
+            decoder,
+        } = self;
+        let Some(passes) = passes(tree, root, &path, keep, decoder.len()) else {
+            return Err(Fault::Memory);
+        };
+        if passes {
+            return Ok(FixedReply::TooMuch);
+        }
+        let failures = tree.device_failures();
+        let Came { content } = decoder.into_sink();
+        let Err(_) = put_in(alloc, tree, root, &path, keep, content, moment) else {
+            return Ok(text);
+        };
+        if tree.device_failures() == failures {
+            Err(Fault::Memory)
+        } else {
+            Err(Fault::Device)
+        }
+    }
+}
+
+impl Arrived {
+    /// So many octets were taken, the limits were not passed, and this is to be said.
+    fn of(count: usize, told: Told) -> Arrived
+        ensures { (result.received.count ≡ count) × (result.received.told ≡ told) × (result.is_over ≡ false) }
+    {
+        Arrived {
+            received: Received { count, told },
+            is_over: false,
+        }
+    }
+}
+
+/// Whether the file passes its limit with what was heard.
+fn is_over(heard: Decoded) -> bool
+    ensures { result ≡ is_over heard }
+{
+    match heard {
+        Decoded::Over => true,
+        Decoded::More | Decoded::Faulty(_) | Decoded::NoMemory => false,
+    }
+}
+
+/// The text of a marker, in a place of its own.
+fn copied(text: &[u8]) -> ArrayVec<u8, MARKER_LIMIT>
+    requires { length text.now ≤ MARKER_LIMIT }
+    ensures { result.items ≡ text.now }
+{
+    let mut copy = ArrayVec::new();
+    copy.try_extend_from_slice(text).unwrap();
+    copy
+}

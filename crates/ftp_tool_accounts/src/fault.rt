@@ -1,0 +1,61 @@
+// Why a file says no accounts.
+ghost use Rattle.std.specs.Prelude.{◌≡◌};
+ghost use Rattle.ftp_tool_accounts.specs.Line.{of_accounts};
+
+use ftp_operation::AccountsFault;
+use std::io;
+use thiserror::Error;
+
+/// What is wrong with a line.
+#[derive(Clone, Copy, Debug, PartialEq, Eq, Error)]
+pub enum LineFault {
+    #[error("wanted is user:password:root")]
+    Fields,
+    /// No octet, or over 255, or CR or NUL.
+    #[error("the user is no user name")]
+    User,
+    /// Over 255 octets, or CR or NUL.
+    #[error("the password is none")]
+    Password,
+    /// It does not begin with `/`, or is no path text, or is past the limits of a path.
+    #[error("the root is no path that begins with /")]
+    Root,
+    #[error("a line above has this user")]
+    SameUser,
+    #[error("the root is below one of a line above, or above it")]
+    NestedRoots,
+    #[error("out of memory")]
+    Memory,
+}
+
+impl From<AccountsFault> for LineFault {
+    ghost from_gives = { λ fault told. told ≡ of_accounts fault };
+
+    fn from(fault: AccountsFault) -> LineFault {
+        match fault {
+            AccountsFault::SameUser => LineFault::SameUser,
+            AccountsFault::NestedRoots => LineFault::NestedRoots,
+        }
+    }
+}
+
+/// Why a file says no accounts. Lines count from 1.
+#[derive(Debug, Drop, Error)]
+pub enum AccountsFileFault {
+    #[error("line {line}: {fault}")]
+    Line { line: u32, fault: LineFault },
+    /// Its mode has a bit for its group or for others.
+    #[error("others may use the file (mode {0:o}): its owner alone may")]
+    Shared(u32),
+    /// A directory, a device or a pipe, or over 1,048,576 octets.
+    #[error("no file of accounts: a file of at most 1,048,576 octets is wanted")]
+    Kind,
+    #[error("more than 1,000 accounts")]
+    TooMany,
+    /// The system refused to read it.
+    #[error("{0}")]
+    System(io::Error),
+    /// The allocator refused a growth.
+    #[error("out of memory")]
+    Memory,
+}

@@ -1,0 +1,98 @@
+// What is asked anew where its control connection ends.
+use crate::fault::{Phase, SessionFault};
+use crate::last_reply::LastReply;
+use crate::live::SessionTask;
+use crate::login::User;
+use crate::server::ServerAddress;
+use crate::talking::converse_as;
+use ftp_operation::Answer;
+use ftp_tool_sockets::pause;
+use std::alloc::Global;
+use std::env::Env;
+use std::fs::Files;
+use std::io::Eprint;
+use std::net::{Net, TcpListener, TcpStream};
+use std::time::Clock;
+
+/// How long is waited before each further control connection, in seconds.
+const WAITS: [u16; 4] = [1, 2, 4, 8];
+
+const SECOND_MILLIS: u16 = 1000;
+
+/// Why there is no answer of the server.
+#[derive(Clone, Copy)]
+enum Loss {
+    /// The control connection ended.
+    Ended,
+    /// There was none.
+    Unconnected,
+}
+
+/// Plays over a control connection of its own, for a user. Where one was made and ended before the answer, it is played anew, from the beginning,
+/// over at most four more.
+pub fn ask<R, P>(
+    rt: &R,
+    server: ServerAddress<'_>,
+    user: User<'_>,
+    noticed: &mut LastReply,
+    play: &mut P,
+) -> Result<Answer<Global>, SessionFault>
+where
+    R: Net<Listener = TcpListener, Stream = TcpStream> + Files + Env + Eprint + Clock + AllocGlobal,
+    P: SessionTask<Result<Answer<Global>, SessionFault>>,
+{
+    let answered = converse_as(rt, server, user, noticed, play);
+    match loss_of(&answered) {
+        Some(Loss::Ended) => ask_again(rt, server, user, noticed, play),
+        _ => answered,
+    }
+}
+
+/// Plays anew, each time after a longer wait.
+fn ask_again<R, P>(
+    rt: &R,
+    server: ServerAddress<'_>,
+    user: User<'_>,
+    noticed: &mut LastReply,
+    play: &mut P,
+) -> Result<Answer<Global>, SessionFault>
+where
+    R: Net<Listener = TcpListener, Stream = TcpStream> + Files + Env + Eprint + Clock + AllocGlobal,
+    P: SessionTask<Result<Answer<Global>, SessionFault>>,
+{
+    let mut loss = Loss::Ended;
+    for seconds in WAITS {
+        tell_wait(rt, loss, seconds, noticed);
+        pause(seconds.saturating_mul(SECOND_MILLIS));
+        let answered = converse_as(rt, server, user, noticed, play);
+        match loss_of(&answered) {
+            Some(found) => loss = found,
+            None => return answered,
+        }
+    }
+    Ok(Answer::Lost)
+}
+
+/// Why there is no answer, where a further control connection may bring one.
+fn loss_of(answered: &Result<Answer<Global>, SessionFault>) -> Option<Loss> {
+    match answered {
+        Ok(Answer::Lost) => Some(Loss::Ended),
+        Ok(_) => None,
+        Err(stop) => match stop.stage() {
+            Phase::Talking => Some(Loss::Ended),
+            Phase::Connection => Some(Loss::Unconnected),
+            _ => None,
+        },
+    }
+}
+
+/// Tells that it is asked anew after so many seconds; where that can't be told, it is asked all the same.
+fn tell_wait<R: Eprint>(rt: &R, loss: Loss, seconds: u16, noticed: &LastReply) {
+    let _told = match loss {
+        Loss::Ended => eprintln!(rt;
+            "note: the control connection ended{}; trying again in {seconds} s",
+            noticed.farewell()
+        ),
+        Loss::Unconnected => eprintln!(rt; "note: no connection; trying again in {seconds} s"),
+    };
+}

@@ -1,0 +1,211 @@
+// What is noticed of a server beside its answer: the line of its replies that came last, and how many data connections were opened.
+use std::fmt::{Display, Formatter};
+use std::io::Read;
+use std::net::TcpStream;
+use std::{fmt, io};
+
+/// The most octets of a line that are kept.
+const LINE_LIMIT: usize = 512;
+
+/// What stands for an octet that a terminal might obey, or that is of no text.
+const HIDDEN: char = '?';
+
+/// The code of a server that ends the control connection (RFC 959, section 4.2.2).
+const NOT_AVAILABLE: u16 = 421;
+
+/// The code of a refused login, and of what is asked behind it (RFC 959, section 4.2.2).
+const NOT_LOGGED_IN: u16 = 530;
+
+/// The code of a server that gave up what it was doing (RFC 959, section 4.2.2).
+const GIVEN_UP: u16 = 451;
+
+/// What was noticed so far.
+#[derive(Drop)]
+pub struct LastReply {
+    /// The first octets of the line that came last, without the CR LF at its end.
+    line: [u8; LINE_LIMIT],
+    len: usize,
+    /// Whether that line came whole.
+    is_whole: bool,
+    /// How many data connections were opened, over all control connections.
+    opened: u32,
+}
+
+impl LastReply {
+    /// Nothing yet.
+    pub fn new() -> LastReply {
+        LastReply {
+            line: [0; LINE_LIMIT],
+            len: 0,
+            is_whole: false,
+            opened: 0,
+        }
+    }
+
+    /// So many data connections more were opened.
+    pub(crate) fn add_opened(&mut self, count: u32) {
+        self.opened = self.opened.saturating_add(count);
+    }
+
+    /// How many data connections were opened.
+    pub fn opened(&self) -> u32 {
+        self.opened
+    }
+
+    /// A refusal by a code, as it is told: the line of the reply, and where that is not known the code alone.
+    pub fn refusal(&self, code: u16) -> Refusal<'_> {
+        Refusal {
+            code,
+            line: self.last(code),
+        }
+    }
+
+    /// Why the server ends the control connection, as it is told behind a sentence; nothing where it does not say.
+    pub fn farewell(&self) -> Said<'_> {
+        Said {
+            line: self.last(NOT_AVAILABLE),
+        }
+    }
+
+    /// What the server said last, whole or not, as it is told behind a sentence.
+    pub fn said(&self) -> Said<'_> {
+        Said {
+            line: self.line.get(..self.len).unwrap_or(&[]),
+        }
+    }
+
+    /// The line that came last, where it is whole and begins with this code; else an empty one.
+    fn last(&self, code: u16) -> &[u8] {
+        let line = self.line.get(..self.len).unwrap_or(&[]);
+        if self.is_whole && code_of(line) == Some(code) {
+            line
+        } else {
+            &[]
+        }
+    }
+
+    /// Whether the line that came last stays: it refuses a login, and what is asked behind it is refused by the same code with less to say; or it
+    /// gives up what was asked, and the size of what came is asked behind it.
+    fn stays(&self) -> bool {
+        self.ends_with(NOT_LOGGED_IN) || self.ends_with(GIVEN_UP)
+    }
+
+    /// Whether the line that came last ends a reply with this code.
+    fn ends_with(&self, code: u16) -> bool {
+        let line = self.last(code);
+        !line.is_empty() && !matches!(line.get(3), Some(b'-'))
+    }
+
+    /// A control connection begins, on which no line came.
+    fn begin(&mut self) {
+        self.len = 0;
+        self.is_whole = false;
+    }
+
+    /// Keeps octets of replies.
+    fn keep(&mut self, octets: &[u8]) {
+        for octet in octets {
+            self.keep_one(*octet);
+        }
+    }
+
+    fn keep_one(&mut self, octet: u8) {
+        if self.stays() {
+            return;
+        }
+        if self.is_whole {
+            self.is_whole = false;
+            self.len = 0;
+        }
+        match octet {
+            b'\n' => self.is_whole = true,
+            b'\r' => {}
+            _ => {
+                if let Some(place) = self.line.get_mut(self.len) {
+                    *place = octet;
+                    self.len += 1;
+                }
+            }
+        }
+    }
+}
+
+/// The code that a line of a reply begins with (RFC 959, section 4.2).
+fn code_of(line: &[u8]) -> Option<u16> {
+    let digits = line.get(..3)?;
+    std::str::from_utf8(digits).ok()?.parse().ok()
+}
+
+/// Reads a control connection, and notices what is read.
+#[derive(Drop)]
+pub(crate) struct Noticing<'a> {
+    stream: &'a TcpStream,
+    noticed: &'a mut LastReply,
+}
+
+impl<'a> Noticing<'a> {
+    pub(crate) fn new(stream: &'a TcpStream, noticed: &'a mut LastReply) -> Noticing<'a> {
+        noticed.begin();
+        Noticing { stream, noticed }
+    }
+}
+
+impl<'a> Read for Noticing<'a> {
+    fn read(&mut self, room: &mut [u8]) -> io::Result<usize> {
+        let mut stream = self.stream;
+        let count = stream.read(room)?;
+        self.noticed.keep(room.get(..count).unwrap_or(&[]));
+        Ok(count)
+    }
+}
+
+/// The text of a server, or its code where the text is not known.
+#[derive(Clone, Copy)]
+pub struct Refusal<'a> {
+    code: u16,
+    /// Empty where the text is not known.
+    line: &'a [u8],
+}
+
+impl<'a> Display for Refusal<'a> {
+    fn fmt<W: fmt::Write>(&self, formatter: &mut Formatter<W>) -> fmt::Result {
+        if self.line.is_empty() {
+            return write!(formatter, "{}", self.code);
+        }
+        write_plain(self.line, formatter)
+    }
+}
+
+/// A colon and what a server said, or nothing where that is not known.
+#[derive(Clone, Copy)]
+pub struct Said<'a> {
+    line: &'a [u8],
+}
+
+impl<'a> Display for Said<'a> {
+    fn fmt<W: fmt::Write>(&self, formatter: &mut Formatter<W>) -> fmt::Result {
+        if self.line.is_empty() {
+            return Ok(());
+        }
+        formatter.write_str(": ")?;
+        write_plain(self.line, formatter)
+    }
+}
+
+/// Writes octets of a server for a terminal: none of its control characters, by which a hostile server could rule it.
+fn write_plain<W: fmt::Write>(octets: &[u8], formatter: &mut Formatter<W>) -> fmt::Result {
+    for chunk in octets.utf8_chunks() {
+        write_text(chunk.valid(), formatter)?;
+        if !chunk.invalid().is_empty() {
+            formatter.write_char(HIDDEN)?;
+        }
+    }
+    Ok(())
+}
+
+fn write_text<W: fmt::Write>(text: &str, formatter: &mut Formatter<W>) -> fmt::Result {
+    for each in text.chars() {
+        formatter.write_char(if each.is_control() { HIDDEN } else { each })?;
+    }
+    Ok(())
+}

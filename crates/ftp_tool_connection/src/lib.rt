@@ -1,0 +1,21 @@
+//! What the programs of a client do over one control connection: connecting, logging in, asking by one client, and saying goodbye (RFC 959).
+#![tactic(auto)]
+
+mod again;
+mod fault;
+mod last_reply;
+mod live;
+mod login;
+mod progress;
+mod request;
+mod server;
+mod talking;
+
+pub use again::ask;
+pub use fault::{Phase, SessionFault, at};
+pub use last_reply::{LastReply, Refusal, Said};
+pub use live::{ClientSession, SessionTask};
+pub use login::User;
+pub use request::Request;
+pub use server::ServerAddress;
+pub use talking::converse;

@@ -1,0 +1,146 @@
+// A control connection from its beginning to its end, and the one client at it.
+use crate::fault::{Phase, SessionFault, at};
+use crate::last_reply::{LastReply, Noticing};
+use crate::live::{LiveSession, Opens, SessionTask};
+use crate::login::{User, login_of};
+use crate::progress::MeteredPorts;
+use crate::server::{ServerAddress, connected, leave};
+use ftp_client::Client;
+use ftp_client_drive::Control;
+use ftp_client_model::Near;
+use ftp_client_transfer::OperationTransfer;
+use ftp_endpoint::Host;
+use ftp_operation::Login;
+use ftp_tool_sockets::{GOODBYE_MILLIS, host_of};
+use std::alloc::Global;
+use std::env::Env;
+use std::fs::Files;
+use std::io;
+use std::io::{Eprint, Read, Write};
+use std::net::{Net, TcpListener, TcpStream};
+use std::time::Clock;
+
+/// Opens a control connection for a user whose password is still to be had, plays over it, and closes it.
+pub(crate) fn converse_as<R, T, P>(
+    rt: &R,
+    server: ServerAddress<'_>,
+    user: User<'_>,
+    noticed: &mut LastReply,
+    play: &mut P,
+) -> Result<T, SessionFault>
+where
+    R: Net<Listener = TcpListener, Stream = TcpStream> + Files + Env + Eprint + Clock + AllocGlobal,
+    T: Drop,
+    P: SessionTask<Result<T, SessionFault>>,
+{
+    let login = at(Phase::Login, login_of(rt, user))?;
+    converse(rt, server, login, noticed, play)
+}
+
+/// Opens a control connection, plays over it by a client, says goodbye and closes it.
+pub fn converse<R, T, P>(
+    rt: &R,
+    server: ServerAddress<'_>,
+    login: Login<Global>,
+    noticed: &mut LastReply,
+    play: &mut P,
+) -> Result<T, SessionFault>
+where
+    R: Net<Listener = TcpListener, Stream = TcpStream> + Eprint + Clock + AllocGlobal,
+    T: Drop,
+    P: SessionTask<Result<T, SessionFault>>,
+{
+    let mut login = Some(login);
+    let stream = at(Phase::Connection, connected(rt, server))?;
+    let done = talk(rt, server.progress, &mut login, &stream, noticed, play);
+    let _gone = leave(&stream);
+    done
+}
+
+/// Plays over a control connection that is open.
+fn talk<R, T, P>(
+    rt: &R,
+    is_told: bool,
+    login: &mut Option<Login<Global>>,
+    stream: &TcpStream,
+    noticed: &mut LastReply,
+    play: &mut P,
+) -> Result<T, SessionFault>
+where
+    R: Net<Listener = TcpListener, Stream = TcpStream> + Eprint + Clock + AllocGlobal,
+    T: Drop,
+    P: SessionTask<Result<T, SessionFault>>,
+{
+    let hosts = at(Phase::Talking, hosts_of(stream))?;
+    let mut ports = at(Phase::Talking, MeteredPorts::hearing(rt, stream, is_told))?;
+    let mut control = Control::new(Noticing::new(stream, noticed), stream);
+    let done = play_between(rt.alloc(), hosts, login, &mut control, &mut ports, play);
+    drop(control);
+    ports.finish(i32::from(GOODBYE_MILLIS));
+    noticed.add_opened(ports.opened());
+    done
+}
+
+/// The hosts at this end of a control connection and at the other.
+fn hosts_of(stream: &TcpStream) -> io::Result<(Host, Host)> {
+    let here = host_of(stream.local_addr()?);
+    let peer = host_of(stream.peer_addr()?);
+    Ok((here, peer))
+}
+
+/// Makes the client between two hosts, by which is played.
+fn play_between<C, W, O, T, P>(
+    alloc: Global,
+    hosts: (Host, Host),
+    login: &mut Option<Login<Global>>,
+    control: &mut Control<C, W>,
+    ports: &mut O,
+    play: &mut P,
+) -> Result<T, SessionFault>
+where
+    C: Read + Drop,
+    W: Write + Drop,
+    O: Opens,
+    T: Drop,
+    P: SessionTask<Result<T, SessionFault>>,
+{
+    match client_of(alloc, login, hosts) {
+        Some(client) => play_by(client, control, ports, play),
+        None => Err(SessionFault::of_memory()),
+    }
+}
+
+/// A client between two hosts, which takes the login; none where memory is refused.
+fn client_of(
+    alloc: Global,
+    login: &mut Option<Login<Global>>,
+    (here, peer): (Host, Host),
+) -> Option<Client<Global, OperationTransfer<Global>>> {
+    match login.take() {
+        Some(login) => Client::new(alloc, login, here, peer).ok(),
+        None => None,
+    }
+}
+
+/// Plays by a client.
+fn play_by<N, C, W, O, T, P>(
+    client: N,
+    control: &mut Control<C, W>,
+    ports: &mut O,
+    play: &mut P,
+) -> Result<T, SessionFault>
+where
+    N: Near<Global>,
+    C: Read + Drop,
+    W: Write + Drop,
+    O: Opens,
+    T: Drop,
+    P: SessionTask<Result<T, SessionFault>>,
+{
+    let mut seat = LiveSession {
+        client,
+        control,
+        ports,
+    };
+    play.play(&mut seat)
+}

@@ -1,0 +1,216 @@
+// A download, which goes on where it was cut: where its data connection broke, and where the server says that all is sent and not all came.
+use crate::came::Came;
+use crate::trying::{ended_of, is_counted, size_request, there_of};
+use ftp_client_steps::MOST_TRIES;
+use ftp_facts::Text;
+use ftp_operation::{Answer, How, Op};
+use ftp_tool_connection::{ClientSession, Request, SessionFault, SessionTask};
+use ftp_tool_steps::{Arrival, Ended, Size, Step, There, arrived, follows_download};
+use std::alloc::{AllocError, Global};
+use std::io::Eprint;
+
+/// A download, until the server answers to it.
+pub struct Downloading<'a, R> {
+    rt: &'a R,
+    path: &'a str,
+    how: How,
+    /// What came so far over the control connection of now.
+    came: Came,
+    /// How many tries may still begin, over all control connections.
+    left: u64,
+    size: Size,
+}
+
+/// By hand: a derived drop is proved again, part by part, wherever a download is let go.
+impl<'a, R> Drop for Downloading<'a, R> {
+    fn drop(self) {
+        let Self {
+            rt: _,
+            path: _,
+            how: _,
+            came: _,
+            left: _,
+            size: _,
+        } = self;
+    }
+}
+
+impl<'a, R: Eprint + AllocGlobal> Downloading<'a, R> {
+    /// What is asked for: the file at a path of a server.
+    pub fn new(rt: &'a R, path: &'a str, how: How) -> Downloading<'a, R> {
+        Downloading {
+            rt,
+            path,
+            how,
+            came: Came::new(rt.alloc()),
+            left: MOST_TRIES,
+            size: if is_counted(how) {
+                Size::Untold
+            } else {
+                Size::Uncounted
+            },
+        }
+    }
+
+    /// What came.
+    pub fn came(&self) -> &Came {
+        &self.came
+    }
+
+    /// How it stands, once the server said that it is done.
+    pub fn arrived(&self) -> Arrival {
+        arrived(self.size, self.came.count())
+    }
+
+    /// Asks for the size of the file before the first try; says whether tries may follow over this control connection.
+    fn look<S: ClientSession>(&mut self, seat: &mut S) -> bool {
+        match self.size {
+            Size::Uncounted | Size::Strange => true,
+            Size::Told(_) | Size::Untold => self.see(seat),
+        }
+    }
+
+    /// Takes in what the server tells of the size; says whether anything more is answered over this control connection.
+    fn see<S: ClientSession>(&mut self, seat: &mut S) -> bool {
+        match self.size_answer(seat) {
+            Answer::Number(count) => self.size = Size::Told(count),
+            Answer::Strange => self.size = Size::Strange,
+            Answer::Lost => return false,
+            _ => self.size = Size::Untold,
+        }
+        !matches!(self.size, Size::Strange)
+    }
+
+    /// What the server answers to the question for the size.
+    fn size_answer<S: ClientSession>(&self, seat: &mut S) -> Answer<Global> {
+        match size_request(self.rt.alloc(), self.path, self.how) {
+            Ok(request) => seat.answer(request),
+            Err(AllocError) => Answer::Memory,
+        }
+    }
+
+    /// One try, behind what came so far.
+    fn turn<S: ClientSession>(&mut self, seat: &mut S) -> Turn {
+        let Ok(request) = self.request() else {
+            return Turn::Over(Answer::Memory);
+        };
+        let opened = seat.opened();
+        self.left = self.left.saturating_sub(1);
+        let answer = self.take(seat.answer(request));
+        let step = self.step_behind(seat, &answer, seat.opened() > opened);
+        self.follow(answer, step)
+    }
+
+    /// What is asked for a try.
+    fn request(&self) -> Result<Request, AllocError> {
+        let path = Text::copy_of(self.rt.alloc(), self.path.as_bytes())?;
+        Ok(Request::One(Some(match self.came.count() {
+            0 => Op::Get(path, self.how),
+            from => Op::GetFrom(path, from, self.how),
+        })))
+    }
+
+    /// Takes the octets out of an answer.
+    fn take(&mut self, answer: Answer<Global>) -> Answer<Global> {
+        match answer {
+            Answer::Octets(octets) => self.taken(octets, Answer::Done),
+            Answer::Broken { got, mark } => {
+                let none = Text::from_vec(Vec::new(self.rt.alloc()));
+                self.taken(got, Answer::Broken { got: none, mark })
+            }
+            other => other,
+        }
+    }
+
+    /// Takes octets that came, and gives the answer that is left.
+    fn taken(&mut self, octets: Text<Global>, answer: Answer<Global>) -> Answer<Global> {
+        match self.came.add(octets) {
+            Ok(()) => answer,
+            Err(AllocError) => Answer::Memory,
+        }
+    }
+
+    /// What follows a try that was answered so, with a data connection or without.
+    fn step_behind<S: ClientSession>(
+        &mut self,
+        seat: &mut S,
+        answer: &Answer<Global>,
+        is_opened: bool,
+    ) -> Step {
+        match (ended_of(answer, is_opened), self.size) {
+            (Some(ended), Size::Told(told)) => self.judge(seat, ended, told),
+            _ => Step::Tell,
+        }
+    }
+
+    /// What follows a try that ended so, where the server told a size before it.
+    fn judge<S: ClientSession>(&mut self, seat: &mut S, ended: Ended, told: u64) -> Step {
+        let behind = self.size_behind(seat, ended, told);
+        if let There::Octets(size) = behind {
+            self.size = Size::Told(size);
+        }
+        follows_download(told, self.left, ended, self.came.count(), behind)
+    }
+
+    /// The size that the server tells behind a try. It is asked where not as many octets came as it told before, and anything may follow.
+    fn size_behind<S: ClientSession>(&self, seat: &mut S, ended: Ended, told: u64) -> There {
+        let is_asked = match ended {
+            Ended::Done => self.came.count() != told,
+            Ended::Broken | Ended::Failed => self.left > 0,
+            Ended::Unopened => false,
+        };
+        if is_asked {
+            there_of(&self.size_answer(seat))
+        } else {
+            There::Octets(told)
+        }
+    }
+
+    /// Takes a step.
+    fn follow(&mut self, answer: Answer<Global>, step: Step) -> Turn {
+        match step {
+            Step::From(next) => {
+                self.go_on(next);
+                Turn::GoesOn
+            }
+            Step::Again => Turn::GoesOn,
+            Step::Lost => Turn::Over(Answer::Lost),
+            Step::Done | Step::Tell | Step::Wrong(_) | Step::Missing => Turn::Over(answer),
+        }
+    }
+
+    /// Tells from where the download goes on; where that is not behind what came, it begins anew.
+    fn go_on(&mut self, from: u64) {
+        if from != self.came.count() {
+            self.came = Came::new(self.rt.alloc());
+            let _told = eprintln!(self.rt; "note: the download begins anew");
+        } else if let Size::Told(total) = self.size {
+            let _told = eprintln!(self.rt; "note: {from} of {total} octets came; going on");
+        }
+    }
+}
+
+impl<'a, R: Eprint + AllocGlobal> SessionTask<Result<Answer<Global>, SessionFault>>
+    for Downloading<'a, R> {
+    fn play<S: ClientSession>(&mut self, seat: &mut S) -> Result<Answer<Global>, SessionFault> {
+        self.came = Came::new(self.rt.alloc());
+        if !self.look(seat) {
+            return Ok(Answer::Lost);
+        }
+        for _ in 0..self.left {
+            match self.turn(seat) {
+                Turn::GoesOn => {}
+                Turn::Over(answer) => return Ok(answer),
+            }
+        }
+        Ok(Answer::Lost)
+    }
+}
+
+/// What a try leads to.
+#[derive(Drop)]
+enum Turn {
+    /// Another try, behind what came.
+    GoesOn,
+    Over(Answer<Global>),
+}

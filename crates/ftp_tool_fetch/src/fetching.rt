@@ -1,0 +1,113 @@
+// What the subcommands `get`, `put` and `ls` do.
+use crate::download::{Download, get};
+use crate::listing::{Listing, listing_of};
+use crate::location::Target;
+use crate::single::{Wish, ask_for};
+use crate::telling::tell;
+use crate::uploading::put;
+use ftp_operation::Answer;
+use ftp_tool_connection::{LastReply, Phase, SessionFault, at};
+use ftp_tool_status::Status;
+use std::alloc::Global;
+use std::env::Env;
+use std::fs::Files;
+use std::io;
+use std::io::{Eprint, Print, Write};
+use std::net::{Net, TcpListener, TcpStream};
+use std::time::Clock;
+
+/// The code of the reply to a command that is not known (RFC 959, section 4.2.2).
+const UNKNOWN: u16 = 500;
+
+/// The code of the reply to a command that is not implemented (RFC 959, section 4.2.2).
+const NOT_IMPLEMENTED: u16 = 502;
+
+/// What is to be done at a place.
+#[derive(Clone, Copy)]
+pub enum Task<'a> {
+    /// The file is downloaded.
+    Get(Download<'a>),
+    /// This file of this end is uploaded.
+    Put(&'a str),
+    /// The entries of the directory go to standard output, or its names where the server has no machine listing.
+    List,
+}
+
+/// Does a task, and gives the exit status: 0; 1 where it was refused or broke; 2 for a bad login or path; 3 where a connection or a device failed, or
+/// memory was refused. All but 0 are told on standard error.
+pub fn fetch<R>(rt: &R, asked: &Target<'_>, task: Task<'_>) -> io::Result<Status>
+where
+    R: Net<Listener = TcpListener, Stream = TcpStream>
+        + Files
+        + Env
+        + Print
+        + Eprint
+        + Clock
+        + AllocGlobal,
+{
+    let mut noticed = LastReply::new();
+    let done = match task {
+        Task::Get(download) => get(rt, asked, download, &mut noticed),
+        Task::Put(file) => put(rt, asked, file, &mut noticed),
+        Task::List => list(rt, asked, &mut noticed),
+    };
+    match done {
+        Ok(status) => Ok(status),
+        Err(stop) => stop.tell(rt),
+    }
+}
+
+/// Lists a directory on standard output.
+fn list<R>(rt: &R, asked: &Target<'_>, noticed: &mut LastReply) -> Result<Status, SessionFault>
+where
+    R: Net<Listener = TcpListener, Stream = TcpStream>
+        + Files
+        + Env
+        + Print
+        + Eprint
+        + Clock
+        + AllocGlobal,
+{
+    let answer = listed(rt, asked, noticed)?;
+    at(Phase::Report, show(rt, asked.place.path, &answer, noticed))
+}
+
+/// The entries of a directory, or its names where MLSD is not known there (RFC 959, section 4.2.2).
+fn listed<R>(
+    rt: &R,
+    asked: &Target<'_>,
+    noticed: &mut LastReply,
+) -> Result<Answer<Global>, SessionFault>
+where
+    R: Net<Listener = TcpListener, Stream = TcpStream> + Files + Env + Eprint + Clock + AllocGlobal,
+{
+    match ask_for(rt, asked, Wish::Entries, noticed) {
+        Ok(Answer::Refused(UNKNOWN | NOT_IMPLEMENTED)) => {
+            ask_for(rt, asked, Wish::Names, noticed)
+        }
+        listed => listed,
+    }
+}
+
+/// Writes a listing to standard output, or tells why there is none.
+fn show<R>(rt: &R, path: &str, answer: &Answer<Global>, noticed: &LastReply) -> io::Result<Status>
+where
+    R: Print + Eprint + AllocGlobal,
+{
+    match listing_of(rt.alloc(), path, answer)? {
+        Some(listing) => write(rt, listing),
+        None => tell(rt, answer, noticed),
+    }
+}
+
+/// Writes a listing to standard output, and tells how much of it is left out.
+fn write<R: Print + Eprint>(rt: &R, listing: Listing) -> io::Result<Status> {
+    io::writer(rt).write_all(listing.lines.as_slice())?;
+    if listing.left_out > 0 {
+        let _told = eprintln!(rt;
+            "note: names that are none of a single file are left out: {}",
+            listing.left_out
+        );
+    }
+    Ok(Status::Done)
+}

@@ -1,0 +1,24 @@
+//! The programs `get`, `put` and `ls`: files and listings over real connections to a server; `run`: a script of operations over one (RFC 959;
+//! RFC 3659).
+#![tactic(auto)]
+
+mod came;
+mod download;
+mod downloading;
+mod fetching;
+mod file;
+mod listing;
+mod location;
+mod running;
+mod single;
+mod telling;
+mod trying;
+mod uploading;
+
+pub use came::Came;
+pub use download::Download;
+pub use downloading::Downloading;
+pub use fetching::{Task, fetch};
+pub use location::{Location, Target, place_of};
+pub use running::run;
+pub use uploading::Uploading;

@@ -1,0 +1,166 @@
+// A script of operations over one control connection: each is done and reported before the next begins.
+use ftp_facts::Text;
+use ftp_operation::Answer;
+use ftp_tool_connection::{
+    ClientSession, LastReply, Phase, Request, ServerAddress, SessionFault, SessionTask, at,
+    converse,
+};
+use ftp_tool_script::{Order, Script, ScriptFault, report_of, script_of};
+use ftp_tool_status::Status;
+use std::alloc::Global;
+use std::io;
+use std::io::{Eprint, Read, Write};
+use std::net::{Net, TcpListener, TcpStream};
+use std::time::Clock;
+
+/// The orders of a script.
+type Orders = Vec<Order<Text<Global>>, Global>;
+
+/// Does the script of standard input over one control connection to a server, and writes a report of each of its orders to standard output once it
+/// is done. Gives the exit status: 0; 1 where an order was refused or broke; 2 for a line that fits no form, and then nothing is sent; 3 where the
+/// control connection or a device failed, or memory was refused for the script or a report. What keeps it from a report is told on standard error.
+pub fn run<R>(rt: &R, host: &str, port: u16) -> io::Result<Status>
+where
+    R: Net<Listener = TcpListener, Stream = TcpStream>
+        + Input
+        + Print
+        + Eprint
+        + Clock
+        + AllocGlobal,
+{
+    match read_and_do(rt, host, port) {
+        Ok(status) => Ok(status),
+        Err(stop) => stop.tell(rt),
+    }
+}
+
+/// Reads the script, and does it.
+fn read_and_do<R>(rt: &R, host: &str, port: u16) -> Result<Status, SessionFault>
+where
+    R: Net<Listener = TcpListener, Stream = TcpStream>
+        + Input
+        + Print
+        + Eprint
+        + Clock
+        + AllocGlobal,
+{
+    let text = at(Phase::Script, text_of(rt))?;
+    match script_of(rt.alloc(), text.as_slice()) {
+        Ok(script) => do_script(rt, host, port, script),
+        Err(fault) => at(Phase::Report, tell_fault(rt, fault)),
+    }
+}
+
+/// All of standard input.
+fn text_of<R: Input + AllocGlobal>(rt: &R) -> io::Result<Vec<u8, Global>> {
+    let mut text = Vec::new(rt.alloc());
+    let _count = rt.reader().read_to_end(&mut text)?;
+    Ok(text)
+}
+
+/// Tells why a text is no script.
+fn tell_fault<R: Eprint>(rt: &R, fault: ScriptFault) -> io::Result<Status> {
+    match fault {
+        ScriptFault::Line(number) => {
+            eprintln!(rt; "error: line {number} fits no form")?;
+            Ok(Status::BadWords)
+        }
+        ScriptFault::Memory => {
+            eprintln!(rt; "error: out of memory")?;
+            Ok(Status::Failed)
+        }
+    }
+}
+
+/// Does a script over a control connection.
+fn do_script<R>(
+    rt: &R,
+    host: &str,
+    port: u16,
+    script: Script<Global>,
+) -> Result<Status, SessionFault>
+where
+    R: Net<Listener = TcpListener, Stream = TcpStream> + Print + Eprint + Clock + AllocGlobal,
+{
+    let Script { login, orders } = script;
+    let server = ServerAddress {
+        host,
+        port,
+        progress: false,
+    };
+    let mut all = All {
+        rt,
+        orders: Some(orders),
+    };
+    converse(rt, server, login, &mut LastReply::new(), &mut all)
+}
+
+/// The orders of a script, until they are done.
+struct All<'a, R> {
+    rt: &'a R,
+    orders: Option<Orders>,
+}
+
+/// By hand: a derived drop is proved again, part by part, wherever orders are let go.
+impl<'a, R> Drop for All<'a, R> {
+    fn drop(self) {
+        let Self { rt: _, orders: _ } = self;
+    }
+}
+
+impl<'a, R: Print + AllocGlobal> SessionTask<Result<Status, SessionFault>> for All<'a, R> {
+    fn play<S: ClientSession>(&mut self, seat: &mut S) -> Result<Status, SessionFault> {
+        match self.orders.take() {
+            Some(orders) => at(Phase::Report, do_all(self.rt, orders, seat)),
+            None => Ok(Status::Done),
+        }
+    }
+}
+
+/// Does orders, one after another, and gives the worst of their statuses.
+fn do_all<R, S>(rt: &R, orders: Orders, seat: &mut S) -> io::Result<Status>
+where
+    R: Print + AllocGlobal,
+    S: ClientSession,
+{
+    let mut worst = Status::Done;
+    for order in orders {
+        worst = worst.worse(do_one(rt, order, seat)?);
+    }
+    Ok(worst)
+}
+
+/// Does an order, writes its report, and gives its status.
+fn do_one<R, S>(rt: &R, order: Order<Text<Global>>, seat: &mut S) -> io::Result<Status>
+where
+    R: Print + AllocGlobal,
+    S: ClientSession,
+{
+    let answer = seat.answer(request_of(order));
+    report(rt, &answer)
+}
+
+/// The request of an order.
+fn request_of(order: Order<Text<Global>>) -> Request {
+    match order.into_parts() {
+        Ok(op) => Request::One(Some(op)),
+        Err((path, octets, how)) => Request::Upload(Some((path, octets)), how),
+    }
+}
+
+/// Writes the report of an answer, and gives its status.
+fn report<R: Print + AllocGlobal>(rt: &R, answer: &Answer<Global>) -> io::Result<Status> {
+    let text = report_of(rt.alloc(), answer)?;
+    io::writer(rt).write_all(text.as_slice())?;
+    Ok(status_of(answer))
+}
+
+fn status_of(answer: &Answer<Global>) -> Status {
+    match answer {
+        Answer::Lost => Status::Failed,
+        Answer::Refused(_) | Answer::BadOperation | Answer::Broken { got: _, mark: _ } =>
+            Status::Refused,
+        Answer::Unopened | Answer::Foreign | Answer::Strange | Answer::Memory => Status::Refused,
+        _ => Status::Done,
+    }
+}

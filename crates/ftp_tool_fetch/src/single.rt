@@ -1,0 +1,68 @@
+// One operation over a control connection of its own.
+use crate::location::Target;
+use ftp_facts::Text;
+use ftp_operation::{Answer, How, Op};
+use ftp_tool_connection::{ClientSession, LastReply, Request, SessionFault, SessionTask, ask};
+use std::alloc::{AllocError, Global};
+use std::env::Env;
+use std::fs::Files;
+use std::io::Eprint;
+use std::net::{Net, TcpListener, TcpStream};
+use std::time::Clock;
+
+/// What is wished for at a place.
+#[derive(Clone, Copy)]
+pub(crate) enum Wish {
+    /// The moment of the last change of a file (RFC 3659, section 3).
+    Moment,
+    /// The entries, with their facts.
+    Entries,
+    Names,
+}
+
+/// Asks for one thing. Where its control connection ends, it is asked anew over another one.
+pub(crate) fn ask_for<R>(
+    rt: &R,
+    asked: &Target<'_>,
+    wish: Wish,
+    noticed: &mut LastReply,
+) -> Result<Answer<Global>, SessionFault>
+where
+    R: Net<Listener = TcpListener, Stream = TcpStream> + Files + Env + Eprint + Clock + AllocGlobal,
+{
+    let mut single = Single {
+        alloc: rt.alloc(),
+        path: asked.place.path,
+        how: asked.how,
+        wish,
+    };
+    ask(rt, asked.server(), asked.by(), noticed, &mut single)
+}
+
+/// A wish at a path, whose request is made anew for each control connection.
+#[derive(Drop)]
+struct Single<'a> {
+    alloc: Global,
+    path: &'a str,
+    how: How,
+    wish: Wish,
+}
+
+impl<'a> SessionTask<Result<Answer<Global>, SessionFault>> for Single<'a> {
+    fn play<S: ClientSession>(&mut self, seat: &mut S) -> Result<Answer<Global>, SessionFault> {
+        match request_of(self.alloc, self.path, self.how, self.wish) {
+            Ok(request) => Ok(seat.answer(request)),
+            Err(AllocError) => Ok(Answer::Memory),
+        }
+    }
+}
+
+/// The request of a wish.
+fn request_of(alloc: Global, path: &str, how: How, wish: Wish) -> Result<Request, AllocError> {
+    let path = Text::copy_of(alloc, path.as_bytes())?;
+    match wish {
+        Wish::Moment => Ok(Request::One(Some(Op::Modified(path)))),
+        Wish::Entries => Ok(Request::One(Some(Op::List(path, how)))),
+        Wish::Names => Ok(Request::One(Some(Op::Names(path, how)))),
+    }
+}

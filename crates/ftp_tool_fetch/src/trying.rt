@@ -1,0 +1,46 @@
+// What uploads and downloads that go on have in common.
+use ftp_facts::Text;
+use ftp_operation::{Answer, How, Op};
+use ftp_settings::{Kind, Structure};
+use ftp_tool_connection::Request;
+use ftp_tool_steps::{Ended, There};
+use std::alloc::{AllocError, Global};
+
+/// The code of a reply that there is no such file (RFC 959, section 4.2.2).
+pub(crate) const NO_FILE: u16 = 550;
+
+/// The code of a server that gave up what it was doing (RFC 959, section 4.2.2).
+const GIVEN_UP: u16 = 451;
+
+/// Whether SIZE counts the octets of the transfer: in type I and file structure.
+pub(crate) fn is_counted(how: How) -> bool {
+    let form = how.representation;
+    form.kind == Kind::Image && form.structure == Structure::File
+}
+
+/// A question for the size of a file (RFC 3659, section 4).
+pub(crate) fn size_request(alloc: Global, path: &str, how: How) -> Result<Request, AllocError> {
+    let path = Text::copy_of(alloc, path.as_bytes())?;
+    Ok(Request::One(Some(Op::Size(path, how))))
+}
+
+/// How a try ended that was answered so, with a data connection or without; none where its answer is told, whatever is there.
+pub(crate) fn ended_of(answer: &Answer<Global>, is_opened: bool) -> Option<Ended> {
+    match answer {
+        Answer::Done => Some(Ended::Done),
+        Answer::Broken { got: _, mark: _ } => Some(Ended::Broken),
+        Answer::Refused(GIVEN_UP) if is_opened => Some(Ended::Failed),
+        Answer::Unopened => Some(Ended::Unopened),
+        _ => None,
+    }
+}
+
+/// What the answer to SIZE tells.
+pub(crate) fn there_of(answer: &Answer<Global>) -> There {
+    match answer {
+        Answer::Number(count) => There::Octets(*count),
+        Answer::Refused(NO_FILE) => There::Nothing,
+        Answer::Lost | Answer::Strange => There::Lost,
+        _ => There::Untold,
+    }
+}

@@ -1,0 +1,285 @@
+// An upload, which goes on where the server has it: over breaks, and where a 226 came and not all is there.
+use crate::file::{Content, read_from};
+use crate::location::Target;
+use crate::telling::tell;
+use crate::trying::{NO_FILE, ended_of, is_counted, size_request, there_of};
+use ftp_client_steps::MOST_TRIES;
+use ftp_facts::Text;
+use ftp_operation::{Answer, How, Op};
+use ftp_tool_connection::{
+    ClientSession, LastReply, Phase, Request, SessionFault, SessionTask, ask, at,
+};
+use ftp_tool_status::Status;
+use ftp_tool_steps::{Ended, Step, There, Transfer, follows};
+use std::alloc::{AllocError, Global};
+use std::env::Env;
+use std::fs::Files;
+use std::io;
+use std::io::{Eprint, Error, ErrorKind};
+use std::net::{Net, TcpListener, TcpStream};
+use std::time::{Clock, SystemTime};
+
+/// An upload, until the server answers to it.
+pub struct Uploading<'a, R> {
+    rt: &'a R,
+    file: &'a str,
+    path: &'a str,
+    how: How,
+    /// All octets of the file, until they go for the first time; then they are read anew.
+    octets: Option<Vec<u8, Global>>,
+    /// When the file was changed last, where that is known.
+    changed: Option<SystemTime>,
+    upload: Transfer,
+    /// Whether a control connection ended behind the question for the size of what stands there.
+    is_blind: bool,
+    /// What the server has, where it says that all is done and that is not the file.
+    wrong: Option<Wrong>,
+}
+
+/// By hand: a derived drop is proved again, part by part, wherever an upload is let go.
+impl<'a, R> Drop for Uploading<'a, R> {
+    fn drop(self) {
+        let Self {
+            rt: _,
+            file: _,
+            path: _,
+            how: _,
+            octets: _,
+            changed: _,
+            upload: _,
+            is_blind: _,
+            wrong: _,
+        } = self;
+    }
+}
+
+/// Uploads a file, and gives the exit status.
+pub(crate) fn put<R>(
+    rt: &R,
+    asked: &Target<'_>,
+    file: &str,
+    noticed: &mut LastReply,
+) -> Result<Status, SessionFault>
+where
+    R: Net<Listener = TcpListener, Stream = TcpStream> + Files + Env + Eprint + Clock + AllocGlobal,
+{
+    let mut uploading = at(
+        Phase::Reading,
+        Uploading::new(rt, file, asked.place.path, asked.how),
+    )?;
+    let answer = ask(rt, asked.server(), asked.by(), noticed, &mut uploading)?;
+    at(Phase::Report, uploading.finish(&answer, noticed))
+}
+
+impl<'a, R: Files + Eprint + AllocGlobal> Uploading<'a, R> {
+    /// Reads a file of this end, which is to be at a path of a server.
+    pub fn new(rt: &'a R, file: &'a str, path: &'a str, how: How) -> io::Result<Uploading<'a, R>> {
+        let content = read_from(rt, file, 0)?;
+        let total = content.octets.len() as u64;
+        Ok(Uploading {
+            rt,
+            file,
+            path,
+            how,
+            octets: Some(content.octets),
+            changed: content.changed,
+            upload: Transfer {
+                total,
+                left: MOST_TRIES,
+                older: There::Untold,
+            },
+            is_blind: false,
+            wrong: None,
+        })
+    }
+
+    /// Asks for the size of what stands there before the first try; says whether tries may follow over this control connection.
+    fn look<S: ClientSession>(&mut self, seat: &mut S) -> bool {
+        if !is_counted(self.how) || self.is_blind {
+            return true;
+        }
+        self.upload.older = self.size(seat);
+        self.is_blind = matches!(self.upload.older, There::Lost);
+        !self.is_blind
+    }
+
+    /// The size of what stands there.
+    fn size<S: ClientSession>(&self, seat: &mut S) -> There {
+        match size_request(self.rt.alloc(), self.path, self.how) {
+            Ok(request) => there_of(&seat.answer(request)),
+            Err(AllocError) => There::Untold,
+        }
+    }
+
+    fn path(&self) -> Result<Text<Global>, AllocError> {
+        Text::copy_of(self.rt.alloc(), self.path.as_bytes())
+    }
+
+    /// One try, from an octet of the file on: where the next one begins, or the answer where there is none.
+    fn turn<S: ClientSession>(&mut self, seat: &mut S, from: u64) -> Result<Turn, SessionFault> {
+        let request = at(Phase::Reading, self.request(from))?;
+        let opened = seat.opened();
+        self.upload.left = self.upload.left.saturating_sub(1);
+        let answer = seat.answer(request);
+        let step = self.step_behind(seat, &answer, seat.opened() > opened);
+        Ok(self.follow(answer, step, from))
+    }
+
+    /// What is asked for a try.
+    fn request(&mut self, from: u64) -> io::Result<Request> {
+        let path = self.path()?;
+        let octets = Text::from_vec(self.octets_from(from)?);
+        Ok(Request::One(Some(if from == 0 {
+            Op::Put(path, octets, self.how)
+        } else {
+            Op::PutFrom(path, from, octets, self.how)
+        })))
+    }
+
+    /// The octets of the file from one of them on. Those of the first try are there already.
+    fn octets_from(&mut self, from: u64) -> io::Result<Vec<u8, Global>> {
+        match self.octets.take() {
+            Some(octets) => Ok(octets),
+            None => self.read_again(from),
+        }
+    }
+
+    /// Reads octets of the file anew; fails where it has changed.
+    fn read_again(&self, from: u64) -> io::Result<Vec<u8, Global>> {
+        let Content { octets, changed } = read_from(self.rt, self.file, from)?;
+        let total = from.saturating_add(octets.len() as u64);
+        if total != self.upload.total || changed != self.changed {
+            return Err(Error::new(
+                ErrorKind::InvalidData,
+                "it has changed since the upload began",
+            ));
+        }
+        Ok(octets)
+    }
+
+    /// What follows a try that was answered so, with a data connection or without.
+    fn step_behind<S: ClientSession>(
+        &self,
+        seat: &mut S,
+        answer: &Answer<Global>,
+        is_opened: bool,
+    ) -> Step {
+        match ended_of(answer, is_opened) {
+            Some(ended) if is_counted(self.how) => {
+                follows(self.upload, ended, self.there_behind(seat, ended))
+            }
+            _ => Step::Tell,
+        }
+    }
+
+    /// The size of what stands there behind a try, where anything follows it.
+    fn there_behind<S: ClientSession>(&self, seat: &mut S, ended: Ended) -> There {
+        match ended {
+            Ended::Done => self.size(seat),
+            Ended::Broken | Ended::Failed if self.upload.left > 0 => self.size(seat),
+            _ => There::Untold,
+        }
+    }
+
+    /// Takes a step.
+    fn follow(&mut self, answer: Answer<Global>, step: Step, from: u64) -> Turn {
+        match step {
+            Step::From(next) => {
+                self.go_on(next);
+                Turn::From(next)
+            }
+            Step::Again => Turn::From(from),
+            Step::Lost => Turn::Over(Answer::Lost),
+            Step::Wrong(count) => {
+                self.wrong = Some(Wrong::Octets(count));
+                Turn::Over(answer)
+            }
+            Step::Missing => {
+                self.wrong = Some(Wrong::Nothing);
+                Turn::Over(answer)
+            }
+            Step::Done | Step::Tell => Turn::Over(answer),
+        }
+    }
+
+    /// Tells from where the upload goes on. What the server has then is known to be of this upload, unless it begins anew.
+    fn go_on(&mut self, from: u64) {
+        if from == 0 {
+            let _told = eprintln!(self.rt; "note: the upload begins anew");
+            return;
+        }
+        self.upload.older = There::Nothing;
+        let total = self.upload.total;
+        let _told = eprintln!(self.rt; "note: the server has {from} of {total} octets; going on");
+    }
+
+    /// Tells how many tries the upload took, or why it is not done, and gives the exit status.
+    pub fn finish(&self, answer: &Answer<Global>, noticed: &LastReply) -> io::Result<Status> {
+        match (answer, self.wrong) {
+            (Answer::Done, None) => self.tell_tries(noticed.opened()),
+            (Answer::Done, Some(Wrong::Octets(count))) => self.tell_wrong(count),
+            (Answer::Done, Some(Wrong::Nothing)) => self.tell_missing(noticed),
+            _ => tell(self.rt, answer, noticed),
+        }
+    }
+
+    /// Tells how many tries the upload took, where it was more than one: each has a data connection of its own.
+    fn tell_tries(&self, tries: u32) -> io::Result<Status> {
+        if tries > 1 {
+            eprintln!(self.rt; "note: the upload took {tries} tries")?;
+        }
+        Ok(Status::Done)
+    }
+
+    /// Tells that the server has not what it says that it has.
+    fn tell_wrong(&self, count: u64) -> io::Result<Status> {
+        let total = self.upload.total;
+        eprintln!(self.rt;
+            "error: the server says that it is done, and has {count} octets of a file that has {total}"
+        )?;
+        Ok(Status::Refused)
+    }
+
+    /// Tells that the server says that it is done, and then that there is no such file.
+    fn tell_missing(&self, noticed: &LastReply) -> io::Result<Status> {
+        eprintln!(self.rt;
+            "error: the server says that it is done, and tells no size of it: {}",
+            noticed.refusal(NO_FILE)
+        )?;
+        Ok(Status::Refused)
+    }
+}
+
+impl<'a, R: Files + Eprint + AllocGlobal> SessionTask<Result<Answer<Global>, SessionFault>>
+    for Uploading<'a, R> {
+    fn play<S: ClientSession>(&mut self, seat: &mut S) -> Result<Answer<Global>, SessionFault> {
+        if !self.look(seat) {
+            return Ok(Answer::Lost);
+        }
+        let mut from = 0;
+        for _ in 0..self.upload.left {
+            match self.turn(seat, from)? {
+                Turn::From(next) => from = next,
+                Turn::Over(answer) => return Ok(answer),
+            }
+        }
+        Ok(Answer::Lost)
+    }
+}
+
+/// What a try leads to.
+#[derive(Drop)]
+enum Turn {
+    /// Another try, from this octet of the file on.
+    From(u64),
+    Over(Answer<Global>),
+}
+
+/// What a server has that says that all is done.
+#[derive(Clone, Copy)]
+enum Wrong {
+    /// So many octets.
+    Octets(u64),
+    /// No such file.
+    Nothing,
+}

@@ -1,0 +1,102 @@
+// A script between standard input and standard output.
+use crate::client::ClientEnd;
+use crate::making::{client_of, server_of};
+use crate::orders::obey;
+use crate::pair::Pair;
+use crate::server::ServerEnd;
+use ftp_client_model::Near;
+use ftp_facts::Text;
+use ftp_operation::Login;
+use ftp_server_model::Far;
+use ftp_tool_script::{Order, Script, ScriptFault, script_of};
+use ftp_tool_status::Status;
+use ftp_tree::MemTree;
+use std::alloc::Global;
+use std::io;
+use std::io::{Eprint, Error, ErrorKind, Read, Write};
+use std::net::{Net, TcpListener, TcpStream};
+
+/// Plays the script that standard input has, and writes the report of each order to standard output; gives the exit status.
+///
+/// The client's end is `ftp_client`, and the server's is `ftp_server` over an empty tree, where `guest` with the password `secret` and `anonymous`
+/// without one may log in; what goes between them goes over loopback sockets. The first order has the first second of the year 2000, each other
+/// the next one. `Done`: each order was answered as wanted. `Refused`: an order was refused or failed. `BadWords`: a line of the script fits no form,
+/// and nothing was done. `Failed`: a read, a write or a socket failed, or memory was refused. The last two are told on standard error.
+pub fn play<R>(rt: &R) -> io::Result<Status>
+where
+    R: Net<Listener = TcpListener, Stream = TcpStream> + Input + Print + Eprint + AllocGlobal,
+{
+    match played(rt) {
+        Ok(status) => Ok(status),
+        Err(error) => {
+            eprintln!(rt; "error: {error}")?;
+            Ok(Status::Failed)
+        }
+    }
+}
+
+/// Reads the script, and plays it.
+fn played<R>(rt: &R) -> io::Result<Status>
+where
+    R: Net<Listener = TcpListener, Stream = TcpStream> + Input + Print + Eprint + AllocGlobal,
+{
+    let mut text = Vec::new(rt.alloc());
+    let _count = rt.reader().read_to_end(&mut text)?;
+    match script_of(rt.alloc(), text.as_slice()) {
+        Ok(script) => play_script(rt, script),
+        Err(ScriptFault::Line(number)) => {
+            eprintln!(rt; "error: line {number} fits no form")?;
+            Ok(Status::BadWords)
+        }
+        Err(ScriptFault::Memory) => Err(Error::from(ErrorKind::OutOfMemory)),
+    }
+}
+
+/// Plays a script with a server of its own.
+fn play_script<R>(rt: &R, script: Script<Global>) -> io::Result<Status>
+where
+    R: Net<Listener = TcpListener, Stream = TcpStream> + Print + AllocGlobal,
+{
+    let Script { login, orders } = script;
+    match server_of(rt.alloc()) {
+        Some(server) => play_at(rt, server, login, orders),
+        None => Err(Error::from(ErrorKind::OutOfMemory)),
+    }
+}
+
+/// Plays orders at a server, by a client of their own.
+fn play_at<R, S>(
+    rt: &R,
+    server: S,
+    login: Login<Global>,
+    orders: Vec<Order<Text<Global>>>,
+) -> io::Result<Status>
+where
+    R: Net<Listener = TcpListener, Stream = TcpStream> + Print + AllocGlobal,
+    S: Far<Global, MemTree<Global>>,
+{
+    match client_of(rt.alloc(), login) {
+        Some(client) => play_between(rt, client, server, orders),
+        None => Err(Error::from(ErrorKind::OutOfMemory)),
+    }
+}
+
+/// Plays orders between a client and a server.
+fn play_between<R, N, S>(
+    rt: &R,
+    client: N,
+    server: S,
+    orders: Vec<Order<Text<Global>>>,
+) -> io::Result<Status>
+where
+    R: Net<Listener = TcpListener, Stream = TcpStream> + Print + AllocGlobal,
+    N: Near<Global>,
+    S: Far<Global, MemTree<Global>>,
+{
+    let mut pair = Pair::new(rt, ClientEnd::new(client), ServerEnd::new(server))?;
+    if obey(rt, &mut pair, orders, &mut io::writer(rt))? {
+        Ok(Status::Done)
+    } else {
+        Ok(Status::Refused)
+    }
+}

@@ -1,0 +1,10 @@
+use Rattle.std.proofs.Common.{rules, tests}
+use Rattle.std.proofs.lemmas.Iterator.Consumers.{map_from_collect}
+use Rattle.std.proofs.lemmas.Iterator.Splits.{YieldsList-from_slice_split}
+use Rattle.ftp_tool_script.specs.Line.{is_space}
+use Rattle.ftp_tool_script.proofs.line.fields_of.Goals as goal
+
+pub returns : goal.returns
+returns g c =
+    map_from_collect _ c.collect.ensures.ran
+    (YieldsList-from_slice_split _ is_space c.args.line.now c.split.ensures.rest c.split.ensures.done c.split.ensures.closure (λ x r q k. search (rules, tests)))

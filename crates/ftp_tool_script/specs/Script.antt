@@ -1,0 +1,49 @@
+-- A script: a login, and then orders, one a line (own choice).
+use Rattle.std.specs.Prelude.{◌≡◌, ◌+◌, ℕ, List, [], ◌∷◌, ◌++◌, Result, Ok, Err, Option, Some, None}
+use Rattle.ftp_facts.specs.Listing.{lines_of}
+use Rattle.ftp_tool_script.specs.declared.order.Order.{Order}
+use Rattle.ftp_tool_script.specs.Line.{login_value, order_value}
+use Rattle.ftp_tool_script.specs.declared.fault.LineFault.{LineFault}
+use Rattle.ftp_tool_script.specs.declared.fault.LineFault.TheVariants as LineFaults
+use Rattle.ftp_tool_script.specs.declared.script.ScriptFault.{ScriptFault}
+use Rattle.ftp_tool_script.specs.declared.script.ScriptFault.TheVariants.{Line, Memory}
+
+-- what a line says and what those behind it say; or the number of the first that says nothing
+abbrev pub with_line : {X Y Z : Type 0} → (X → Y → Z) → ℕ → Option X → Result Y ℕ → Result Z ℕ
+with_line join number None behind = Err number
+with_line join number (Some value) (Err later) = Err later
+with_line join number (Some value) (Ok values) = Ok (join value values)
+
+-- the orders of lines, whose first has this number
+abbrev pub orders_value : ℕ → List (List ℕ) → Result (List (Order (List ℕ))) ℕ
+orders_value number [] = Ok []
+orders_value number (line ∷ lines) = with_line (λ order orders. order ∷ orders) number (order_value line) (orders_value (number + 1) lines)
+
+-- orders in front of those that follow
+abbrev pub orders_behind : List (Order (List ℕ)) → Result (List (Order (List ℕ))) ℕ → Result (List (Order (List ℕ))) ℕ
+orders_behind front (Ok orders) = Ok (front ++ orders)
+orders_behind front (Err number) = Err number
+
+-- the login of the first line, and the orders of the others
+abbrev pub script_from : Option (List ℕ × List ℕ) → List (List ℕ) → Result ((List ℕ × List ℕ) × List (Order (List ℕ))) ℕ
+script_from login lines = with_line (λ login orders. (login, orders)) 1 login (orders_value 2 lines)
+
+-- the login and the orders of lines: the first is the login, and lines count from 1
+abbrev pub script_in : List (List ℕ) → Result ((List ℕ × List ℕ) × List (Order (List ℕ))) ℕ
+script_in [] = Err 1
+script_in (line ∷ lines) = script_from (login_value line) lines
+
+-- what a script says, or the number of the first line that is refused; each line is ended by LF, which the last may lack
+abbrev pub script_value : List ℕ → Result ((List ℕ × List ℕ) × List (Order (List ℕ))) ℕ
+script_value text = script_in (lines_of text)
+
+-- what is read is the value, seen so; a line is refused where this is the first that says nothing, or memory ran out
+abbrev pub ReadsAll : {X V : Type 0} → (X → V) → Result X ScriptFault → Result V ℕ → Type 0
+ReadsAll seen (Ok x) value = value ≡ Ok (seen x)
+ReadsAll seen (Err (Line number)) value = value ≡ Err number
+ReadsAll seen (Err Memory) value = Unit {0}
+
+-- why a script is refused, of why the line with this number is
+abbrev pub at_line : ℕ → LineFault → ScriptFault
+at_line number LineFaults.Unfit = Line number
+at_line number LineFaults.Memory = Memory

@@ -1,0 +1,152 @@
+// One control connection, from its greeting to its end.
+use crate::heard::{CountedPorts, HeardReader, SaidWriter};
+use crate::journal::{Journal, Log};
+use ftp_control::Failed;
+use ftp_endpoint::Host;
+use ftp_operation::Accounts;
+use ftp_server::{NotBegun, Server};
+use ftp_server_drive::{Control, drive_server};
+use ftp_server_model::Far;
+use ftp_server_transfer::TreeTransfer;
+use ftp_tool_sockets::{
+    ControlReader, GOODBYE_MILLIS, SocketPorts, SystemWatch, host_of, keep_alive, say_goodbye,
+};
+use ftp_tree::Tree;
+use ftp_tree_folder::Reasons;
+use std::alloc::{AllocError, Global};
+use std::io;
+use std::io::Eprint;
+use std::net::{Net, SocketAddr, TcpListener, TcpStream};
+use std::time::{Clock, Duration};
+
+/// The host of a control connection that the client reached, and the client's address.
+fn ends_of(stream: &TcpStream) -> io::Result<(Host, SocketAddr)> {
+    stream.set_nodelay(true)?;
+    keep_alive(stream)?;
+    Ok((host_of(stream.local_addr()?), stream.peer_addr()?))
+}
+
+/// Serves one control connection over a tree, and gives the tree back and whether no read, no write and no growth outside of the server failed.
+/// Why a change of the tree's folder failed is told from `reasons`.
+pub fn session<R, T>(
+    rt: &R,
+    tree: T,
+    accounts: Accounts<Global>,
+    stream: &TcpStream,
+    log: Log,
+    reasons: &Reasons,
+) -> (T, Result<(), Failed>)
+where
+    R: Net<Listener = TcpListener, Stream = TcpStream> + Clock + Eprint + AllocGlobal,
+    T: Tree<Global>,
+{
+    match ends_of(stream) {
+        Ok((here, peer)) => session_between(
+            rt,
+            tree,
+            accounts,
+            stream,
+            (here, peer),
+            (log, reasons),
+        ),
+        Err(_) => (tree, Err(Failed)),
+    }
+}
+
+/// Makes a server between two ends of a control connection, which serves it.
+fn session_between<R, T>(
+    rt: &R,
+    tree: T,
+    accounts: Accounts<Global>,
+    stream: &TcpStream,
+    (here, peer): (Host, SocketAddr),
+    telling: (Log, &Reasons),
+) -> (T, Result<(), Failed>)
+where
+    R: Net<Listener = TcpListener, Stream = TcpStream> + Clock + Eprint + AllocGlobal,
+    T: Tree<Global>,
+{
+    let made: Result<Server<Global, T, TreeTransfer<Global>>, NotBegun<Global, T>> = Server::new(
+        rt.alloc(),
+        tree,
+        accounts,
+        here,
+        host_of(peer),
+    );
+    match made {
+        Ok(server) => session_by(rt, server, stream, peer, telling),
+        Err(back) => (back.tree, Err(Failed)),
+    }
+}
+
+/// Serves a control connection by a server, and gives its tree back.
+fn session_by<R, T>(
+    rt: &R,
+    server: Server<Global, T, TreeTransfer<Global>>,
+    stream: &TcpStream,
+    peer: SocketAddr,
+    (log, reasons): (Log, &Reasons),
+) -> (T, Result<(), Failed>)
+where
+    R: Net<Listener = TcpListener, Stream = TcpStream> + Clock + Eprint + AllocGlobal,
+    T: Tree<Global>,
+{
+    let mut server = server;
+    let ended = match Journal::new(rt, log, peer, reasons) {
+        Ok(journal) => connected(rt, &mut server, stream, &journal),
+        Err(AllocError) => Err(Failed),
+    };
+    (server.into_tree(), ended)
+}
+
+/// Serves a control connection by a server, with data connections.
+fn connected<'a, R, T, F>(
+    rt: &'a R,
+    server: &mut F,
+    stream: &'a TcpStream,
+    journal: &'a Journal<'a, R>,
+) -> Result<(), Failed>
+where
+    R: Net<Listener = TcpListener, Stream = TcpStream> + Clock + Eprint + AllocGlobal,
+    T: Tree<Global>,
+    F: Far<Global, T>,
+{
+    match SocketPorts::new(rt, stream) {
+        Ok(ports) => driven(rt, server, stream, ports, journal),
+        Err(_) => Err(Failed),
+    }
+}
+
+/// Serves a control connection by a server until it is done with it, and says goodbye.
+fn driven<'a, R, T, F>(
+    rt: &'a R,
+    server: &mut F,
+    stream: &'a TcpStream,
+    ports: SocketPorts<'a, R>,
+    journal: &'a Journal<'a, R>,
+) -> Result<(), Failed>
+where
+    R: Net<Listener = TcpListener, Stream = TcpStream> + Clock + Eprint + AllocGlobal,
+    T: Tree<Global>,
+    F: Far<Global, T>,
+{
+    journal.note("begins");
+    let reader = HeardReader {
+        inner: ControlReader::new(stream),
+        journal,
+    };
+    let writer = SaidWriter::new(stream, journal);
+    let mut ports = CountedPorts {
+        inner: ports,
+        journal,
+    };
+    let mut control = Control::new(reader, writer);
+    let ended = drive_server(server, &mut control, &mut ports, &mut SystemWatch::new(rt));
+    ports.inner.finish(i32::from(GOODBYE_MILLIS));
+    if ended.is_ok() {
+        let _gone = say_goodbye(stream, Duration::from_millis(u64::from(GOODBYE_MILLIS)));
+    }
+    journal.finish();
+    journal.note(if ended.is_ok() { "ends" } else { "breaks off" });
+    ended
+}

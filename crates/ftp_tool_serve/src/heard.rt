@@ -1,0 +1,144 @@
+// The connections of a session, of which its journal is told.
+use crate::journal::{Fate, Journal};
+use ftp_control::{Accepted, For, Ports, Ready, Spoken, Whole};
+use ftp_endpoint::Endpoint;
+use ftp_tool_sockets::{ControlReader, Link, SocketPorts};
+use std::io;
+use std::io::{Eprint, Read, Write};
+use std::net::{Net, TcpListener, TcpStream};
+use std::time::Clock;
+
+/// The reading side of a control connection.
+#[derive(Drop)]
+pub(crate) struct HeardReader<'a, R: Clock + Eprint> {
+    pub(crate) inner: ControlReader<'a>,
+    pub(crate) journal: &'a Journal<'a, R>,
+}
+
+impl<'a, R: Clock + Eprint> Read for HeardReader<'a, R> {
+    fn read(&mut self, room: &mut [u8]) -> io::Result<usize> {
+        let count = self.inner.read(room)?;
+        let (octets, _) = room.split_at(count);
+        self.journal.hear(octets);
+        Ok(count)
+    }
+}
+
+/// The writing side of a control connection. The journal is told what is said before it is written.
+#[derive(Drop)]
+pub(crate) struct SaidWriter<'a, R: Clock + Eprint> {
+    stream: &'a TcpStream,
+    journal: &'a Journal<'a, R>,
+    /// How many octets at the front of the next write were told already.
+    told: usize,
+}
+
+impl<'a, R: Clock + Eprint> SaidWriter<'a, R> {
+    pub(crate) fn new(stream: &'a TcpStream, journal: &'a Journal<'a, R>) -> SaidWriter<'a, R> {
+        SaidWriter {
+            stream,
+            journal,
+            told: 0,
+        }
+    }
+}
+
+impl<'a, R: Clock + Eprint> Write for SaidWriter<'a, R> {
+    fn write(&mut self, octets: &[u8]) -> io::Result<usize> {
+        let (_, fresh) = octets.split_at(self.told.min(octets.len()));
+        self.journal.say(fresh);
+        self.told = octets.len();
+        let mut stream = self.stream;
+        let count = stream.write(octets)?;
+        self.told = octets.len().saturating_sub(count);
+        Ok(count)
+    }
+
+    fn flush(&mut self) -> io::Result<()> {
+        Ok(())
+    }
+}
+
+/// A data connection whose octets are counted.
+#[derive(Drop)]
+pub(crate) struct CountedLink<'a, R: Clock + Eprint> {
+    inner: Link<'a>,
+    journal: &'a Journal<'a, R>,
+}
+
+impl<'a, R: Clock + Eprint> Read for CountedLink<'a, R> {
+    fn read(&mut self, room: &mut [u8]) -> io::Result<usize> {
+        let count = self.inner.read(room)?;
+        self.journal.carry(count);
+        Ok(count)
+    }
+}
+
+impl<'a, R: Clock + Eprint> Write for CountedLink<'a, R> {
+    fn write(&mut self, octets: &[u8]) -> io::Result<usize> {
+        let count = self.inner.write(octets)?;
+        self.journal.carry(count);
+        Ok(count)
+    }
+
+    fn flush(&mut self) -> io::Result<()> {
+        self.inner.flush()
+    }
+}
+
+/// Data connections whose octets are counted.
+#[derive(Drop)]
+pub(crate) struct CountedPorts<
+    'a,
+    R: Net<Listener = TcpListener, Stream = TcpStream> + Clock + Eprint,
+> {
+    pub(crate) inner: SocketPorts<'a, R>,
+    pub(crate) journal: &'a Journal<'a, R>,
+}
+
+impl<'a, R: Net<Listener = TcpListener, Stream = TcpStream> + Clock + Eprint> Ports
+    for CountedPorts<'a, R> {
+    type Stream = CountedLink<'a, R>;
+
+    fn listen(&mut self) -> Option<u16> {
+        self.inner.listen()
+    }
+
+    fn accept(&mut self, hears: bool) -> Accepted<CountedLink<'a, R>> {
+        let journal = self.journal;
+        match self.inner.accept(hears) {
+            Accepted::Came(inner, host) => Accepted::Came(CountedLink { inner, journal }, host),
+            Accepted::Spoken => Accepted::Spoken,
+            Accepted::Refused => Accepted::Refused,
+        }
+    }
+
+    fn connect(&mut self, endpoint: Endpoint) -> Option<CountedLink<'a, R>> {
+        let journal = self.journal;
+        let inner = self.inner.connect(endpoint)?;
+        Some(CountedLink { inner, journal })
+    }
+
+    fn wait(&mut self, stream: &mut CountedLink<'a, R>, what: For, hears: bool) -> Ready {
+        self.inner.wait(&mut stream.inner, what, hears)
+    }
+
+    fn spoken(&mut self) -> Spoken {
+        self.inner.spoken()
+    }
+
+    fn close(&mut self, stream: Option<Whole<CountedLink<'a, R>>>) {
+        match stream {
+            Some(whole) => {
+                self.journal.close(Fate::Ended);
+                self.inner.close(Some(whole.map(|counted| counted.inner)));
+            }
+            None => self.inner.close(None),
+        }
+    }
+
+    fn reset(&mut self, stream: CountedLink<'a, R>) {
+        self.journal.close(Fate::Reset);
+        self.inner.reset(stream.inner);
+    }
+}

@@ -1,0 +1,209 @@
+// What is told of a session on standard error.
+use crate::line::Line;
+use crate::talk::{Answered, Talk};
+use crate::telling::{Asked, Guest, Quoted, tells};
+use ftp_control::Watch;
+use ftp_facts::moment_text;
+use ftp_tool_sockets::SystemWatch;
+use ftp_tree_folder::Reasons;
+use std::alloc::AllocError;
+use std::cell::{Cell, RefCell};
+use std::fmt::{Display, Formatter};
+use std::io::Eprint;
+use std::net::SocketAddr;
+use std::time::Clock;
+use std::{fmt, io};
+
+/// Whether sessions are told on standard error.
+#[derive(Clone, Copy, Debug, PartialEq, Eq)]
+pub enum Log {
+    Silent,
+    Told,
+}
+
+/// How the last data connection was closed.
+#[derive(Clone, Copy, Debug, PartialEq, Eq)]
+pub(crate) enum Fate {
+    Ended,
+    /// By a reset, since octets that were to go did not.
+    Reset,
+}
+
+/// What is known of a session.
+#[derive(Drop)]
+struct Known {
+    talk: Talk,
+    guest: Guest,
+}
+
+/// Tells of one session, a line each: the moment, the peer, the user, the verb, what it names, the octets that went over data connections for
+/// it, and the code of the last reply, behind it `reset` where the data connection was, and the reason where the folder failed. A line is told
+/// before its reply is written, so whether or not that can be. What standard error refuses is dropped.
+#[derive(Drop)]
+pub(crate) struct Journal<'a, R: Clock + Eprint> {
+    rt: &'a R,
+    log: Log,
+    peer: SocketAddr,
+    reasons: &'a Reasons,
+    known: RefCell<Known>,
+    moved: Cell<u64>,
+    fate: Cell<Fate>,
+}
+
+impl<'a, R: Clock + Eprint + AllocGlobal> Journal<'a, R> {
+    pub(crate) fn new(
+        rt: &'a R,
+        log: Log,
+        peer: SocketAddr,
+        reasons: &'a Reasons,
+    ) -> Result<Journal<'a, R>, AllocError> {
+        let known = Known {
+            talk: Talk::new(rt.alloc())?,
+            guest: Guest::nobody(),
+        };
+        Ok(Journal {
+            rt,
+            log,
+            peer,
+            reasons,
+            known: RefCell::new(known),
+            moved: Cell::new(0),
+            fate: Cell::new(Fate::Ended),
+        })
+    }
+}
+
+impl<'a, R: Clock + Eprint> Journal<'a, R> {
+    /// Tells how a session goes, in a word or two.
+    pub(crate) fn note(&self, what: &str) {
+        if self.log == Log::Told {
+            let now = moment_text(SystemWatch::new(self.rt).moment());
+            let now = str::from_utf8(&now).unwrap_or("-");
+            let _told = eprintln!(self.rt; "{now} {} {what}", self.peer);
+        }
+    }
+
+    /// The client said octets.
+    pub(crate) fn hear(&self, octets: &[u8]) {
+        if self.log == Log::Silent {
+            return;
+        }
+        if let Ok(mut known) = self.known.try_borrow_mut() {
+            for octet in octets {
+                known.talk.hear(*octet);
+            }
+        }
+    }
+
+    /// Octets are to be said to the client.
+    pub(crate) fn say(&self, octets: &[u8]) {
+        if self.log == Log::Silent {
+            return;
+        }
+        for octet in octets {
+            if let Some(answered) = self.answered_by(*octet) {
+                self.tell(&answered);
+            }
+        }
+    }
+
+    /// What is answered with an octet that is said.
+    fn answered_by(&self, octet: u8) -> Option<Answered> {
+        self.known.try_borrow_mut().ok()?.talk.say(octet)
+    }
+
+    /// Octets went over a data connection.
+    pub(crate) fn carry(&self, count: usize) {
+        self.moved
+            .set(self.moved.get().saturating_add(count as u64));
+    }
+
+    /// A data connection was closed.
+    pub(crate) fn close(&self, fate: Fate) {
+        self.fate.set(fate);
+    }
+
+    /// Nothing more is said: tells of a line that was not answered, where it may have done something.
+    pub(crate) fn finish(&self) {
+        if self.log == Log::Silent {
+            return;
+        }
+        let Some(asked) = self.unanswered() else {
+            return;
+        };
+        if asked.is_told() {
+            let answered = Answered { asked, code: None };
+            self.tell(&answered);
+        }
+    }
+
+    /// The first line that was not answered.
+    fn unanswered(&self) -> Option<Asked> {
+        self.known.try_borrow_mut().ok()?.talk.next_line()
+    }
+
+    /// Takes in who is logged in now; gives who was when the line was said, or is by it, and what the line names.
+    fn named(&self, answered: &Answered) -> Option<(Guest, Line)> {
+        let mut known = self.known.try_borrow_mut().ok()?;
+        let names = match answered.code {
+            Some(code) => known.guest.answered(&answered.asked, code),
+            None => answered.asked.names,
+        };
+        Some((known.guest, names))
+    }
+
+    /// Tells a line, where it is one that is told.
+    fn tell(&self, answered: &Answered) {
+        let Some((guest, names)) = self.named(answered) else {
+            return;
+        };
+        if answered
+            .code
+            .is_some_and(|code| !tells(&answered.asked, code))
+        {
+            return;
+        }
+        let moved = self.moved.replace(0);
+        let now = moment_text(SystemWatch::new(self.rt).moment());
+        let now = str::from_utf8(&now).unwrap_or("-");
+        let verb = match answered.asked.verb {
+            Some(verb) => str::from_utf8(verb.letters()).unwrap_or("-"),
+            None => "-",
+        };
+        let _told = eprintln!(self.rt;
+            "{now} {} {} {verb} {} {moved} {}",
+            self.peer,
+            Quoted(guest.user()),
+            Quoted(names.octets()),
+            Outcome {
+                code: answered.code,
+                fate: self.fate.replace(Fate::Ended),
+                why: self.reasons.take()
+            }
+        );
+    }
+}
+
+/// How a line ended: the code of its last reply, `reset`, and the system's reason.
+#[derive(Drop)]
+struct Outcome {
+    code: Option<u16>,
+    fate: Fate,
+    why: Option<io::Error>,
+}
+
+impl Display for Outcome {
+    fn fmt<W: fmt::Write>(&self, formatter: &mut Formatter<W>) -> fmt::Result {
+        match self.code {
+            Some(code) => write!(formatter, "{code}")?,
+            None => write!(formatter, "unanswered")?,
+        }
+        if self.fate == Fate::Reset {
+            write!(formatter, " reset")?;
+        }
+        match &self.why {
+            Some(why) => write!(formatter, " {why}"),
+            None => Ok(()),
+        }
+    }
+}

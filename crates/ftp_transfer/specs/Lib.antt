@@ -1,3 +1,0 @@
-pub mod Download
-pub mod Receiving
-pub mod Upload

@@ -1,8 +1,0 @@
--- An upload as the definitions of the server see it.
-use Rattle.ftp_server_machine.specs.View.{Transfer}
-use Rattle.ftp_server_machine.specs.declared.session.Transfer.TheVariants as Transfers
-use Rattle.ftp_transfer.specs.declared.upload.Upload.{Upload}
-
--- the transfer that it is
-abbrev pub upload_of : {A : Type 0} → Upload A → Transfer
-upload_of u = Transfers.Upload u.path u.keep u.decoder.decoder

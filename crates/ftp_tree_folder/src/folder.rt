@@ -1,0 +1,189 @@
+// The folder of files that a mirrored tree changes first.
+ghost use Rattle.std.specs.Prelude.{◌≡◌, None, IfOk, OnOk, OnErr, string_bytes};
+ghost use Rattle.ftp_tree.specs.Change.{next_count};
+ghost use Rattle.ftp_tree_folder.specs.Place.{folder_text};
+
+use crate::place::{check_free, check_way, place_of};
+use crate::reasons::Reasons;
+use crate::writing::{sync_above, write_over};
+use crate::{Folder, FolderFault};
+use ftp_facts::Moment;
+use ftp_path::Path;
+use ftp_tree::Content;
+use std::alloc::{AllocError, Allocator, Global};
+use std::fs::Files;
+use std::{fs, io};
+
+/// The files and directories below a directory of the system. No clause says what files keep: what it keeps is not known. A link on
+/// the way to what is changed is not followed: the call fails.
+#[derive(Drop)]
+pub struct DiskFolder<'a, R: Files + AllocGlobal + Clone + Drop> {
+    files: R,
+    reasons: &'a Reasons,
+    dir: String<Global>,
+    failures: u64,
+}
+
+impl<'a, R: Files + AllocGlobal + Clone + Drop> DiskFolder<'a, R> {
+    /// The folder below a directory, which is the current one for an empty text. Nothing is looked at. Why a change fails goes to `reasons`.
+    pub fn new(files: R, dir: &str, reasons: &'a Reasons) -> Result<DiskFolder<'a, R>, AllocError>
+        ensures dir { IfOk result (λ folder. string_bytes folder.dir ≡ folder_text dir.now) }
+        ensures failures { IfOk result (λ folder. folder.failures ≡ 0) }
+    {
+        let dir = String::from_str(files.alloc(), if dir.is_empty() { "." } else { dir })?;
+        Ok(DiskFolder {
+            files,
+            reasons,
+            dir,
+            failures: 0,
+        })
+    }
+
+    /// Where a path lies, to which no link leads.
+    fn place<B: Allocator, C: Allocator>(
+        &self,
+        root: &Path<B>,
+        path: &Path<C>,
+    ) -> io::Result<String<Global>> {
+        let place = place_of(self.files.alloc(), self.dir.as_str(), root, path)?;
+        check_way(&self.files, place.as_str(), self.dir.len())?;
+        Ok(place)
+    }
+
+    fn made<B: Allocator, C: Allocator>(&self, root: &Path<B>, path: &Path<C>) -> io::Result<()> {
+        let place = self.place(root, path)?;
+        fs::create_dir(&self.files, place.as_str())?;
+        let synced = sync_above(&self.files, place.as_str());
+        if synced.is_err() {
+            let _gone = fs::remove_dir(&self.files, place.as_str());
+        }
+        synced
+    }
+
+    fn removed<B: Allocator, C: Allocator>(
+        &self,
+        root: &Path<B>,
+        path: &Path<C>,
+    ) -> io::Result<()> {
+        let place = self.place(root, path)?;
+        fs::remove_dir(&self.files, place.as_str())?;
+        sync_above(&self.files, place.as_str())
+    }
+
+    fn deleted<B: Allocator, C: Allocator>(
+        &self,
+        root: &Path<B>,
+        path: &Path<C>,
+    ) -> io::Result<()> {
+        let place = self.place(root, path)?;
+        fs::remove_file(&self.files, place.as_str())?;
+        sync_above(&self.files, place.as_str())
+    }
+
+    fn renamed<B: Allocator, C: Allocator, D: Allocator>(
+        &self,
+        root: &Path<B>,
+        from: &Path<C>,
+        to: &Path<D>,
+    ) -> io::Result<()> {
+        let from = self.place(root, from)?;
+        let to = self.place(root, to)?;
+        check_free(&self.files, to.as_str())?;
+        fs::rename(&self.files, from.as_str(), to.as_str())?;
+        let synced = self.synced(from.as_str(), to.as_str());
+        if synced.is_err() {
+            let _back = fs::rename(&self.files, to.as_str(), from.as_str());
+        }
+        synced
+    }
+
+    /// Both names of a move are on the disk: the new one first, so that the file never has none there.
+    fn synced(&self, from: &str, to: &str) -> io::Result<()> {
+        sync_above(&self.files, to)?;
+        sync_above(&self.files, from)
+    }
+
+    fn written<A: Allocator, B: Allocator, C: Allocator>(
+        &self,
+        root: &Path<B>,
+        path: &Path<C>,
+        content: &Content<A>,
+        moment: Moment,
+    ) -> io::Result<()> {
+        let place = self.place(root, path)?;
+        write_over(&self.files, place.as_str(), content, moment)
+    }
+
+    /// What a call answers; a failure is counted, and its reason is kept for whoever tells of it.
+    fn counted(&mut self, done: io::Result<()>) -> Result<(), FolderFault>
+        ensures ok { OnOk result (self.new.failures ≡ self.old.failures) }
+        ensures err { OnErr result (self.new.failures ≡ next_count self.old.failures) }
+    {
+        match done {
+            Ok(()) => Ok(()),
+            Err(error) => {
+                self.reasons.put(error);
+                self.failures = self.failures.wrapping_add(1);
+                Err(FolderFault)
+            }
+        }
+    }
+}
+
+impl<'a, R: Files + AllocGlobal + Clone + Drop> Folder for DiskFolder<'a, R> {
+    ghost kept = { λ _. None };
+
+    ghost failures = { λ folder. folder.failures };
+
+    fn failures(&self) -> u64 {
+        self.failures
+    }
+
+    fn make_dir<B: Allocator, C: Allocator>(
+        &mut self,
+        root: &Path<B>,
+        path: &Path<C>,
+    ) -> Result<(), FolderFault> {
+        let done = self.made(root, path);
+        self.counted(done)
+    }
+
+    fn remove_dir<B: Allocator, C: Allocator>(
+        &mut self,
+        root: &Path<B>,
+        path: &Path<C>,
+    ) -> Result<(), FolderFault> {
+        let done = self.removed(root, path);
+        self.counted(done)
+    }
+
+    fn delete<B: Allocator, C: Allocator>(
+        &mut self,
+        root: &Path<B>,
+        path: &Path<C>,
+    ) -> Result<(), FolderFault> {
+        let done = self.deleted(root, path);
+        self.counted(done)
+    }
+
+    fn rename<B: Allocator, C: Allocator, D: Allocator>(
+        &mut self,
+        root: &Path<B>,
+        from: &Path<C>,
+        to: &Path<D>,
+    ) -> Result<(), FolderFault> {
+        let done = self.renamed(root, from, to);
+        self.counted(done)
+    }
+
+    fn write<A: Allocator, B: Allocator, C: Allocator>(
+        &mut self,
+        root: &Path<B>,
+        path: &Path<C>,
+        content: &Content<A>,
+        moment: Moment,
+    ) -> Result<(), FolderFault> {
+        let done = self.written(root, path, content, moment);
+        self.counted(done)
+    }
+}

@@ -1,0 +1,18 @@
+//! A tree whose changes go to a folder first, and the folder of a disk that keeps it: loading, writing, and what refused (own choice).
+#![tactic(auto)]
+
+mod device;
+mod fault;
+mod folder;
+mod loading;
+mod mirror;
+mod place;
+mod reasons;
+mod writing;
+
+pub use device::{Folder, FolderFault};
+pub use fault::{LoadFault, Reason};
+pub use folder::DiskFolder;
+pub use loading::{load, open};
+pub use mirror::Mirror;
+pub use reasons::Reasons;

@@ -1,0 +1,223 @@
+// A tree in memory and the folder that keeps it.
+ghost use Rattle.std.specs.Prelude.{◌≡◌, ◌⊎◌, None, OnOk, OnErr, IfErr, [], length};
+ghost use Rattle.ftp_tree.specs.Change.{Refuses};
+ghost use Rattle.ftp_tree.specs.Tree.{delete_refusal, installed, remove_refusal, under, with_part};
+ghost use Rattle.ftp_tree_folder.specs.Folder.{IsKept, Mirrors, changed_below};
+
+use crate::device::Folder;
+use ftp_facts::Moment;
+use ftp_path::{Name, Path};
+use ftp_tree::{Content, MemTree, NodeKind, Tree, TreeFault};
+use std::alloc::Allocator;
+
+/// A tree in memory, and a folder that keeps the same outside memory. All that a change needs of memory is had first, then the
+/// folder makes the change, and then the tree does, which can't fail: so where the folder fails the tree is as it was.
+#[derive(Drop)]
+pub struct Mirror<A: Allocator + Copy, D: Folder> {
+    tree: MemTree<A>,
+    folder: D,
+    ghost mirrors: { Mirrors (D.kept folder) tree },
+}
+
+impl<A: Allocator + Copy, D: Folder> Mirror<A, D> {
+    /// A tree, and the folder that keeps it. Takes no memory.
+    pub fn new(tree: MemTree<A>, folder: D) -> Mirror<A, D>
+        requires { Mirrors (D.kept folder) tree }
+        ensures tree { result.tree ≡ tree }
+        ensures folder { result.folder ≡ folder }
+    {
+        Mirror { tree, folder }
+    }
+
+    /// The folder.
+    pub fn folder(&self) -> &D
+        ensures folder { result.now ≡ self.now.folder }
+        ensures mirrors { Mirrors (D.kept result.now) self.now.tree }
+    {
+        &self.folder
+    }
+}
+
+impl<A: Allocator + Copy, D: Folder> Tree<A> for Mirror<A, D> {
+    ghost table = { λ mirror. mirror.tree };
+
+    ghost failures = { λ mirror. D.failures mirror.folder };
+
+    fn kind<B: Allocator, C: Allocator>(&self, root: &Path<B>, path: &Path<C>) -> Option<NodeKind> {
+        self.tree.kind(root, path)
+    }
+
+    fn size<B: Allocator, C: Allocator>(&self, root: &Path<B>, path: &Path<C>) -> Option<u64> {
+        self.tree.size(root, path)
+    }
+
+    fn stamp<B: Allocator, C: Allocator>(&self, root: &Path<B>, path: &Path<C>) -> Option<Moment> {
+        self.tree.stamp(root, path)
+    }
+
+    fn piece<B: Allocator, C: Allocator>(
+        &self,
+        root: &Path<B>,
+        path: &Path<C>,
+        at: u64,
+        max: usize,
+    ) -> &[u8] {
+        self.tree.piece(root, path, at, max)
+    }
+
+    fn nth_name<B: Allocator, C: Allocator>(
+        &self,
+        root: &Path<B>,
+        path: &Path<C>,
+        place: usize,
+    ) -> Option<Name<'_>> {
+        self.tree.nth_name(root, path, place)
+    }
+
+    fn room<B: Allocator, C: Allocator>(
+        &self,
+        root: &Path<B>,
+        path: &Path<C>,
+    ) -> Result<u64, TreeFault> {
+        self.tree.room(root, path)
+    }
+
+    fn device_failures(&self) -> u64 {
+        self.folder.failures()
+    }
+
+    fn fits<B: Allocator>(&self, root: &Path<B>) -> bool {
+        self.tree.fits(root)
+    }
+
+    fn make_dir<B: Allocator, C: Allocator>(
+        &mut self,
+        root: &Path<B>,
+        path: &Path<C>,
+    ) -> Result<(), TreeFault> {
+        if let Some(fault) = self.tree.make_refusal(root, path) {
+            return Err(fault);
+        }
+        if self.tree.make_place(root, path).is_err() {
+            return Err(TreeFault::Memory);
+        }
+        if self.folder.make_dir(root, path).is_err() {
+            self.tree.take_away(root, path);
+            return Err(TreeFault::Device);
+        }
+        Ok(())
+    }
+
+    fn remove_dir<B: Allocator, C: Allocator>(
+        &mut self,
+        root: &Path<B>,
+        path: &Path<C>,
+    ) -> Result<(), TreeFault> {
+        if let Some(fault) = self.tree.remove_refusal(root, path) {
+            return Err(fault);
+        }
+        if self.folder.remove_dir(root, path).is_err() {
+            return Err(TreeFault::Device);
+        }
+        self.tree.take_away(root, path);
+        Ok(())
+    }
+
+    fn delete<B: Allocator, C: Allocator>(
+        &mut self,
+        root: &Path<B>,
+        path: &Path<C>,
+    ) -> Result<(), TreeFault> {
+        if let Some(fault) = self.tree.delete_refusal(root, path) {
+            return Err(fault);
+        }
+        if self.folder.delete(root, path).is_err() {
+            return Err(TreeFault::Device);
+        }
+        self.tree.take_away(root, path);
+        Ok(())
+    }
+
+    fn rename<B: Allocator, C: Allocator, E: Allocator>(
+        &mut self,
+        root: &Path<B>,
+        from: &Path<C>,
+        to: &Path<E>,
+    ) -> Result<(), TreeFault> {
+        if let Some(fault) = self.tree.rename_refusal(root, from, to) {
+            return Err(fault);
+        }
+        if self.tree.make_place(root, to).is_err() {
+            return Err(TreeFault::Memory);
+        }
+        if self.folder.rename(root, from, to).is_err() {
+            self.tree.take_away(root, to);
+            return Err(TreeFault::Device);
+        }
+        self.tree.move_over(root, from, to);
+        Ok(())
+    }
+
+    fn install<B: Allocator, C: Allocator>(
+        &mut self,
+        root: &Path<B>,
+        path: &Path<C>,
+        content: &mut Content<A>,
+        moment: Moment,
+    ) -> Result<(), TreeFault> {
+        if let Some(fault) = self.tree.install_refusal(root, path, content.len()) {
+            return Err(fault);
+        }
+        if self.tree.kind(root, path).is_some() {
+            return put_over(
+                &mut self.tree,
+                &mut self.folder,
+                root,
+                path,
+                content,
+                moment,
+            );
+        }
+        if self.tree.make_place(root, path).is_err() {
+            return Err(TreeFault::Memory);
+        }
+        if let Err(fault) = put_over(
+            &mut self.tree,
+            &mut self.folder,
+            root,
+            path,
+            content,
+            moment,
+        ) {
+            self.tree.take_away(root, path);
+            return Err(fault);
+        }
+        Ok(())
+    }
+}
+
+/// Writes a file to the folder, and then puts it in the place of what stands in the tree: a file or an empty directory.
+fn put_over<A: Allocator + Copy, B: Allocator, C: Allocator, D: Folder>(
+    tree: &mut MemTree<A>,
+    folder: &mut D,
+    root: &Path<B>,
+    path: &Path<C>,
+    content: &mut Content<A>,
+    moment: Moment,
+) -> Result<(), TreeFault>
+    requires { let part = under tree.old root.now in (delete_refusal part path.now ≡ None) ⊎ (remove_refusal part path.now ≡ None) }
+    ensures tree { OnOk result (tree.new ≡ with_part tree.old root.now (installed (under tree.old root.now) path.now content.old moment.seconds)) }
+    ensures taken { OnOk result (content.new ≡ []) }
+    ensures kept { OnOk result (IsKept (changed_below root.now (λ part. installed part path.now content.old moment.seconds)) (D.kept folder.old) (D.kept folder.new) (D.failures folder.old) (D.failures folder.new)) }
+    ensures same { OnErr result ((tree.new ≡ tree.old) × (content.new ≡ content.old) × (D.kept folder.new ≡ D.kept folder.old)) }
+    ensures fault { IfErr result (λ fault. Refuses None fault (D.failures folder.old) (D.failures folder.new)) }
+{
+    if !tree.can_count(content.len()) {
+        return Err(TreeFault::Memory);
+    }
+    if folder.write(root, path, content, moment).is_err() {
+        return Err(TreeFault::Device);
+    }
+    tree.put_over(root, path, content, moment);
+    Ok(())
+}

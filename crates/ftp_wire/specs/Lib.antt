@@ -1,0 +1,4 @@
+pub mod Encoding
+pub mod Decoder
+pub mod Hearing
+pub mod Taking

@@ -1,0 +1,101 @@
+// What the programs answer where nobody listens, or where nothing can be asked.
+use crate::typing::Typing;
+use ftp_operation::How;
+use ftp_settings::{Kind, Mode, Representation, Structure};
+use ftp_tool_fetch::{Download, Location, Target, Task, fetch, run};
+use ftp_tool_status::Status;
+use rows_base::Paper;
+use std::env::Env;
+use std::fs::Files;
+use std::io::{Eprint, Print};
+use std::net::{Net, TcpListener, TcpStream};
+use std::time::Clock;
+use std::{fs, io};
+
+/// An address of the loopback, and a port of it at which nobody listens.
+const HERE: &str = "127.83.41.9";
+
+const NOBODY: u16 = 1;
+
+/// A file that is not there.
+const NONE: &str = "rows_of_fetch_none";
+
+/// Scripts, of which none gets as far as a server.
+const SCRIPTS: &[(&str, &[u8])] = &[
+    ("run, where nobody listens", b"login a b\nwhere\n"),
+    ("run, a line that fits no form", b"login a b\nwhere\nlook\n"),
+    ("run, no line", b""),
+    ("run, no login", b"where\n"),
+];
+
+pub(crate) const HOW: How = How {
+    representation: Representation {
+        kind: Kind::Image,
+        structure: Structure::File,
+        mode: Mode::Stream,
+    },
+    marks: false,
+    active: false,
+    extended: false,
+};
+
+/// What is asked where nobody listens, by `anonymous` or by a user whose password is in a file that is not there.
+fn asked(has_password: bool) -> Target<'static> {
+    Target {
+        place: Location {
+            host: HERE,
+            port: NOBODY,
+            path: "a",
+        },
+        user: if has_password { "anonymous" } else { "guest" },
+        password_file: if has_password { None } else { Some(NONE) },
+        how: HOW,
+        progress: false,
+    }
+}
+
+fn download() -> Task<'static> {
+    Task::Get(Download {
+        file: NONE,
+        keep: true,
+        moment: true,
+    })
+}
+
+/// Puts the status of each run.
+pub(crate) fn rows<R>(rt: &R, paper: &mut Paper) -> io::Result<()>
+where
+    R: Net<Listener = TcpListener, Stream = TcpStream>
+        + Files
+        + Env
+        + Print
+        + Eprint
+        + Clock
+        + AllocGlobal,
+{
+    for (what, text) in SCRIPTS {
+        let status = run(&Typing { rt, text }, HERE, NOBODY)?;
+        put(paper, what, status);
+    }
+    put(paper, "get", fetch(rt, &asked(true), download())?);
+    put(
+        paper,
+        "put, no file",
+        fetch(rt, &asked(true), Task::Put(NONE))?,
+    );
+    put(paper, "ls", fetch(rt, &asked(true), Task::List)?);
+    put(
+        paper,
+        "ls, no password",
+        fetch(rt, &asked(false), Task::List)?,
+    );
+    paper.holds("no file is left", !fs::exists(rt, NONE)?);
+    Ok(())
+}
+
+fn put(paper: &mut Paper, what: &str, status: Status) {
+    paper.put(what.as_bytes());
+    paper.put(b": ");
+    paper.number(u64::from(status.number()));
+    paper.line(b"");
+}

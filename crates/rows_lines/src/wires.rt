@@ -1,0 +1,244 @@
+//! Files to wires, in pieces and rooms, and wires to files.
+use crate::report::Paper;
+use ftp_mode::{Deframer, FrameFault, Framer, Part};
+use ftp_repr::{Item, Receiver, ReprFault, Sender};
+use ftp_settings::{Kind, Mode, Representation, Structure};
+use ftp_wire::Encoder;
+use std::alloc::Global;
+
+pub const FILE_STREAM: Representation = Representation {
+    kind: Kind::Image,
+    structure: Structure::File,
+    mode: Mode::Stream,
+};
+
+pub const RECORD_STREAM: Representation = Representation {
+    kind: Kind::Image,
+    structure: Structure::Record,
+    mode: Mode::Stream,
+};
+
+pub const FILE_BLOCK: Representation = Representation {
+    kind: Kind::Image,
+    structure: Structure::File,
+    mode: Mode::Block,
+};
+
+pub const RECORD_BLOCK: Representation = Representation {
+    kind: Kind::Image,
+    structure: Structure::Record,
+    mode: Mode::Block,
+};
+
+pub const ASCII_STREAM: Representation = Representation {
+    kind: Kind::Ascii,
+    structure: Structure::File,
+    mode: Mode::Stream,
+};
+
+pub const ASCII_RECORD_STREAM: Representation = Representation {
+    kind: Kind::Ascii,
+    structure: Structure::Record,
+    mode: Mode::Stream,
+};
+
+pub const ASCII_BLOCK: Representation = Representation {
+    kind: Kind::Ascii,
+    structure: Structure::File,
+    mode: Mode::Block,
+};
+
+pub const ASCII_RECORD_BLOCK: Representation = Representation {
+    kind: Kind::Ascii,
+    structure: Structure::Record,
+    mode: Mode::Block,
+};
+
+/// Puts an item until it is taken, into rooms of this size.
+fn put_item(framer: &mut Framer, item: Item<'_>, room: usize, wire: &mut Paper) {
+    let mut space = [0; 4096];
+    let mut rest = item;
+    for _ in 0..100_000 {
+        let (front, _) = space.split_at_mut(room.min(4096));
+        let written = framer.put(rest, front);
+        let (made, _) = front.split_at(written.made);
+        wire.put(made);
+        match written.rest(rest) {
+            Some(left) => rest = left,
+            None => return,
+        }
+    }
+}
+
+/// Writes a file by a sender and a framer.
+fn put_file(
+    sender: &mut Sender,
+    framer: &mut Framer,
+    file: &[u8],
+    (piece, room): (usize, usize),
+    wire: &mut Paper,
+) {
+    let mut rest = file;
+    for _ in 0..500_000 {
+        let (front, behind) = rest.split_at(piece.min(rest.len()));
+        let (taken, item) = sender.next(front, behind.is_empty());
+        match item {
+            Some(item) => put_item(framer, item, room, wire),
+            None => return,
+        }
+        let (_, left) = rest.split_at(taken);
+        rest = left;
+    }
+}
+
+/// Puts the wire of a file that comes in pieces of one size, by rooms of another, with own markers counted from a start.
+pub fn write(
+    form: Representation,
+    start: Option<u64>,
+    file: &[u8],
+    sizes: (usize, usize),
+    wire: &mut Paper,
+) {
+    let mut sender = Sender::new(form.kind, form.structure);
+    let mut framer = Framer::new(form.mode, form.structure);
+    if let Some(start) = start {
+        framer.mark(start);
+    }
+    put_file(&mut sender, &mut framer, file, sizes, wire);
+}
+
+pub fn encoder(form: Representation, start: Option<u64>) -> Encoder {
+    match start {
+        None => Encoder::new(form),
+        Some(start) => Encoder::marked(form, start),
+    }
+}
+
+/// Puts the wire of a file by an encoder. Whether all of it is out.
+pub fn encode(
+    encoder: &mut Encoder,
+    file: &[u8],
+    (piece, room): (usize, usize),
+    wire: &mut Paper,
+) -> bool {
+    let mut space = [0; 64];
+    let mut rest = file;
+    for _ in 0..200 {
+        let (front, behind) = rest.split_at(piece.min(rest.len()));
+        let (free, _) = space.split_at_mut(room.min(64));
+        let encoded = encoder.put(front, behind.is_empty(), free);
+        let (made, _) = free.split_at(encoded.made);
+        wire.put(made);
+        let (_, left) = rest.split_at(encoded.taken);
+        rest = left;
+    }
+    rest.is_empty() & encoder.is_done() & encoder.is_out(true)
+}
+
+fn take_part(receiver: &mut Receiver, part: Part<'_>, file: &mut Vec<u8>) -> Result<(), ReprFault> {
+    match part {
+        Part::Need | Part::Marker => Ok(()),
+        Part::Data(octets) => receiver.take(Item::Octets(octets), file),
+        Part::EndRecord => receiver.take(Item::EndRecord, file),
+        Part::EndFile => receiver.take(Item::EndFile, file),
+    }
+}
+
+/// Reads the parts of a wire that comes in pieces of this size, and gives its fault.
+fn read_parts(
+    deframer: &mut Deframer,
+    receiver: &mut Receiver,
+    wire: &[u8],
+    piece: usize,
+    file: &mut Vec<u8>,
+) -> Result<Option<FrameFault>, ReprFault> {
+    let mut rest = wire;
+    for _ in 0..500_000 {
+        let (front, _) = rest.split_at(piece.min(rest.len()));
+        match deframer.feed(front) {
+            Err(met) => return Ok(Some(met.fault)),
+            Ok(step) => {
+                if rest.is_empty() && step.part == Part::Need {
+                    return Ok(None);
+                }
+                take_part(receiver, step.part, file)?;
+                let (_, left) = rest.split_at(step.taken);
+                rest = left;
+            }
+        }
+    }
+    Ok(None)
+}
+
+/// Reads a wire that comes in pieces of this size and then ends, and gives its fault.
+fn read(
+    deframer: &mut Deframer,
+    receiver: &mut Receiver,
+    wire: &[u8],
+    piece: usize,
+    file: &mut Vec<u8>,
+) -> Result<Option<FrameFault>, ReprFault> {
+    if let Some(fault) = read_parts(deframer, receiver, wire, piece, file)? {
+        return Ok(Some(fault));
+    }
+    if let Err(fault) = deframer.end() {
+        return Ok(Some(fault));
+    }
+    receiver.end(file)?;
+    Ok(None)
+}
+
+/// Reads a wire in this representation, and gives its fault.
+fn read_in(
+    form: Representation,
+    wire: &[u8],
+    piece: usize,
+    file: &mut Vec<u8>,
+) -> Result<Option<FrameFault>, ReprFault> {
+    let mut deframer = Deframer::new(form.mode, form.structure);
+    let mut receiver = Receiver::new(form.kind, form.structure);
+    read(&mut deframer, &mut receiver, wire, piece, file)
+}
+
+/// Whether a wire reads as this file, with this fault.
+pub fn reads_as(
+    alloc: Global,
+    form: Representation,
+    wire: &[u8],
+    (file, fault): (&[u8], Option<FrameFault>),
+    piece: usize,
+) -> bool {
+    let mut got = Vec::new(alloc);
+    match read_in(form, wire, piece, &mut got) {
+        Ok(met) => (met == fault) & (got.as_slice() == file),
+        Err(_) => false,
+    }
+}
+
+/// Whether a file is read again from its wire, by pieces and rooms of this size.
+fn comes_back_by(
+    alloc: Global,
+    form: Representation,
+    start: Option<u64>,
+    file: &[u8],
+    size: usize,
+) -> bool {
+    let mut wire = Paper::new(alloc);
+    write(form, start, file, (size, size), &mut wire);
+    reads_as(alloc, form, wire.octets(), (file, None), size)
+}
+
+/// Whether a file is read again from its wire, by pieces and rooms of each of these sizes.
+pub fn comes_back(
+    alloc: Global,
+    form: Representation,
+    start: Option<u64>,
+    file: &[u8],
+    sizes: &[usize],
+) -> bool {
+    let mut all = true;
+    for size in sizes {
+        all &= comes_back_by(alloc, form, start, file, *size);
+    }
+    all
+}

@@ -1,0 +1,151 @@
+// A session over the loopback, with both ends in one thread: the client says all its lines, and then the server serves them.
+use crate::made::file;
+use crate::meeting::Meeting;
+use ftp_tool_serve::{Log, session, users_of};
+use ftp_tree_folder::{Reasons, open};
+use rows_base::{Paper, cut};
+use std::fs::Files;
+use std::io::{Eprint, ErrorKind, Print, Write};
+use std::net::{Net, SocketAddr, TcpListener, TcpStream};
+use std::time::Clock;
+use std::{fs, io};
+
+const DIR: &str = "rows_of_serve/served";
+
+/// What the client says before it names a port by PORT, between that and EPRT, and behind that.
+const BEFORE: &[u8] =
+    b"USER guest\r\nPASS wrong\r\nUSER guest\r\nPASS secret\r\nTYPE I\r\nMKD d\r\nPASV\r\nSTOR d/up\r\nEPSV\r\nAPPE d/up\r\nPORT 127,0,0,1,";
+
+const BETWEEN: &[u8] = b"\r\nRETR a\r\nEPRT |1|127.0.0.1|";
+
+const BEHIND: &[u8] =
+    b"|\r\nNLST\r\nRETR none\r\nRNFR a\r\nRNTO d/b\r\nDELE d\r\nSIZE d/up\r\nQUIT\r\n";
+
+/// What stands before each line of a reply.
+const MARK: &[u8] = b"< ";
+
+/// A client that is connected, the server's side of its connection, and where it awaits data connections.
+struct Joined {
+    client: TcpStream,
+    stream: TcpStream,
+    awaits: TcpListener,
+}
+
+/// Joins a client to a server over the loopback.
+fn join<R: Net<Listener = TcpListener, Stream = TcpStream>>(rt: &R) -> io::Result<Joined> {
+    let any = SocketAddr::from(([127, 0, 0, 1], 0));
+    let listener = TcpListener::bind(rt, any)?;
+    let client = TcpStream::connect(rt, listener.local_addr()?)?;
+    let (stream, _) = listener.accept()?;
+    let awaits = TcpListener::bind(rt, any)?;
+    Ok(Joined {
+        client,
+        stream,
+        awaits,
+    })
+}
+
+/// Puts all that the client says, which awaits data connections at this port.
+fn say(paper: &mut Paper, port: u16) {
+    paper.put(BEFORE);
+    paper.number(u64::from(port / 256));
+    paper.put(b",");
+    paper.number(u64::from(port % 256));
+    paper.put(BETWEEN);
+    paper.number(u64::from(port));
+    paper.put(BEHIND);
+}
+
+/// Puts the replies; of those that name a port the code alone, since the system chooses it.
+fn put_replies(paper: &mut Paper, replies: &[u8]) {
+    let mut rest = replies;
+    for _ in 0..replies.len() {
+        if rest.is_empty() {
+            break;
+        }
+        let (line, behind) = cut(rest, b'\n');
+        if line.starts_with(b"227 ") || line.starts_with(b"229 ") {
+            paper.put(MARK);
+            paper.line(&line[..3]);
+        } else {
+            paper.lines(MARK, line);
+            paper.lines(MARK, b"\n");
+        }
+        rest = behind;
+    }
+}
+
+/// Serves a control connection; gives whether all went well.
+fn served<R>(rt: &R, stream: &TcpStream) -> io::Result<bool>
+where
+    R: Net<Listener = TcpListener, Stream = TcpStream>
+        + Files
+        + Clock
+        + Print
+        + Eprint
+        + AllocGlobal,
+{
+    let reasons = Reasons::new();
+    let Ok(tree) = open(rt, DIR, &[], &reasons) else {
+        return Err(io::Error::from(ErrorKind::InvalidData));
+    };
+    let Ok(accounts) = users_of(rt, None) else {
+        return Err(io::Error::from(ErrorKind::OutOfMemory));
+    };
+    let (_tree, ended) = session(&Meeting { rt }, tree, accounts, stream, Log::Told, &reasons);
+    Ok(ended.is_ok())
+}
+
+/// Puts what stands in a file.
+fn put_file<R: Files + AllocGlobal>(rt: &R, paper: &mut Paper, place: &str) -> io::Result<()> {
+    let text = fs::read_to_string(rt, place)?;
+    paper.put(place.as_bytes());
+    paper.put(b": ");
+    paper.quote(text.as_bytes());
+    paper.put(b"\n");
+    Ok(())
+}
+
+/// Puts what came over the next data connection that the client awaits.
+fn put_came<R: AllocGlobal>(rt: &R, paper: &mut Paper, awaits: &TcpListener) -> io::Result<()> {
+    let (came, _) = awaits.accept()?;
+    let text = io::read_to_string(rt.alloc(), came)?;
+    paper.put(b"came: ");
+    paper.quote(text.as_bytes());
+    paper.put(b"\n");
+    Ok(())
+}
+
+/// Writes what a client is answered, what its downloads give, and what the folder has then.
+pub(crate) fn row<R>(rt: &R) -> io::Result<()>
+where
+    R: Net<Listener = TcpListener, Stream = TcpStream>
+        + Files
+        + Clock
+        + Print
+        + Eprint
+        + AllocGlobal,
+{
+    fs::create_dir(rt, DIR)?;
+    file(rt, "rows_of_serve/served/a", "hello\n", 0o600)?;
+    let Joined {
+        client,
+        stream,
+        awaits,
+    } = join(rt)?;
+    let mut said = Paper::new(rt.alloc());
+    say(&mut said, awaits.local_addr()?.port());
+    let mut speaks = &client;
+    speaks.write_all(said.text())?;
+    let mut paper = Paper::new(rt.alloc());
+    paper.holds("a session", served(rt, &stream)?);
+    drop(stream);
+    put_came(rt, &mut paper, &awaits)?;
+    put_came(rt, &mut paper, &awaits)?;
+    let replies = io::read_to_string(rt.alloc(), client)?;
+    put_replies(&mut paper, replies.as_bytes());
+    put_file(rt, &mut paper, "rows_of_serve/served/d/b")?;
+    put_file(rt, &mut paper, "rows_of_serve/served/d/up")?;
+    paper.holds("moved", !fs::exists(rt, "rows_of_serve/served/a")?);
+    rt.write_all(paper.text())
+}

@@ -1,0 +1,193 @@
+// What `serve` answers where nobody is served.
+use crate::made::{deep, file};
+use ftp_tool_serve::{Log, Serving, Sessions, serve, users_of};
+use ftp_tree_folder::{LoadFault, Reasons, open};
+use std::fs::Files;
+use std::io::{Eprint, Print};
+use std::net::{IpAddr, Ipv4Addr, Net, SocketAddr, TcpListener, TcpStream};
+use std::os::unix::fs::symlink;
+use std::time::Clock;
+use std::{fs, io};
+
+/// An address of the loopback, and a port of it that nobody else listens at, below those that a system chooses.
+const HERE: [u8; 4] = [127, 83, 41, 7];
+
+const PORT: u16 = 24_121;
+
+/// An address that is none of the loopback (RFC 5737).
+const ELSEWHERE: [u8; 4] = [192, 0, 2, 1];
+
+/// Any address.
+const ANY: [u8; 4] = [0, 0, 0, 0];
+
+const EMPTY: &str = "rows_of_serve/empty";
+
+const ACCOUNTS: &str = "rows_of_serve/accounts";
+
+/// The most octets of a place that are written.
+const SHOWN: usize = 100;
+
+/// Folders, one for each reason.
+const FOLDERS: &[(&str, &str)] = &[
+    ("an empty folder", EMPTY),
+    ("no folder", "rows_of_serve/none"),
+    ("a name that is none of a tree", "rows_of_serve/name"),
+    ("a link", "rows_of_serve/link"),
+    ("a path that is too long", "rows_of_serve/deep"),
+    ("a part that an upload left", "rows_of_serve/left"),
+];
+
+/// Files of accounts, with their modes.
+const FILES: &[(&str, &str, u32)] = &[
+    ("accounts", "# who may log in\n\nguest:secret:/\n", 0o600),
+    ("accounts that others may read", "guest:secret:/\n", 0o640),
+    ("two fields", "a::/a\nb:/b\n", 0o600),
+    ("no user", "a::/a\n# b\n\n:b:/b\n", 0o600),
+    ("a password with CR", "a:\r:/a\n", 0o600),
+    ("a root without a slash", "a::/a\nb::b\n", 0o600),
+    ("a user twice", "a::/a\na::/b\n", 0o600),
+    ("a root below another", "a::/a\nb::/a/b\n", 0o600),
+];
+
+/// The address of four numbers.
+fn address(octets: [u8; 4]) -> IpAddr {
+    IpAddr::V4(Ipv4Addr::from_octets(octets))
+}
+
+/// A folder that nobody is served.
+fn nobody<'a>(dir: &'a str) -> Serving<'a> {
+    Serving {
+        host: address(HERE),
+        port: PORT,
+        dir,
+        sessions: Sessions::Count(0),
+        accounts: None,
+        log: Log::Silent,
+    }
+}
+
+/// The empty folder, with a file of accounts.
+fn with_accounts<'a>(file: &'a str) -> Serving<'a> {
+    let mut job = nobody(EMPTY);
+    job.accounts = Some(file);
+    job
+}
+
+/// Writes the status of a job.
+fn status_row<R>(rt: &R, name: &str, job: Serving<'_>) -> io::Result<()>
+where
+    R: Net<Listener = TcpListener, Stream = TcpStream>
+        + Files
+        + Clock
+        + Print
+        + Eprint
+        + AllocGlobal,
+{
+    let status = serve(rt, job)?;
+    println!(rt; "{name}: {}", status.number())
+}
+
+/// Writes why a folder is refused; of a long place its length alone.
+fn tell<R: Print>(rt: &R, fault: &LoadFault) -> io::Result<()> {
+    match fault {
+        LoadFault::Refused { place, why } if place.len() > SHOWN => {
+            println!(rt; "a place of {} octets: {why}", place.len())
+        }
+        _ => println!(rt; "{fault}"),
+    }
+}
+
+/// Writes the status of each folder, and why it is refused.
+fn folder_rows<R>(rt: &R) -> io::Result<()>
+where
+    R: Net<Listener = TcpListener, Stream = TcpStream>
+        + Files
+        + Clock
+        + Print
+        + Eprint
+        + AllocGlobal,
+{
+    for (name, dir) in FOLDERS {
+        if let Err(fault) = open(rt, *dir, &[], &Reasons::new()) {
+            tell(rt, &fault)?;
+        }
+        status_row(rt, *name, nobody(*dir))?;
+    }
+    let kept = fs::read_to_string(rt, "rows_of_serve/left/ftp-left-1\u{7f}")?;
+    println!(rt; "kept: {kept}")
+}
+
+/// Writes the status with each file of accounts, and why it is refused.
+fn accounts_rows<R>(rt: &R) -> io::Result<()>
+where
+    R: Net<Listener = TcpListener, Stream = TcpStream>
+        + Files
+        + Clock
+        + Print
+        + Eprint
+        + AllocGlobal,
+{
+    for (name, text, mode) in FILES {
+        file(rt, ACCOUNTS, *text, *mode)?;
+        if let Err(fault) = users_of(rt, Some(ACCOUNTS)) {
+            println!(rt; "{fault}")?;
+        }
+        status_row(rt, *name, with_accounts(ACCOUNTS))?;
+    }
+    status_row(
+        rt,
+        "no file of accounts",
+        with_accounts("rows_of_serve/none"),
+    )
+}
+
+/// Writes the status at addresses, and at a port that is in use.
+fn address_rows<R>(rt: &R) -> io::Result<()>
+where
+    R: Net<Listener = TcpListener, Stream = TcpStream>
+        + Files
+        + Clock
+        + Print
+        + Eprint
+        + AllocGlobal,
+{
+    file(rt, ACCOUNTS, "guest:secret:/\n", 0o600)?;
+    let mut job = nobody(EMPTY);
+    job.host = address(ELSEWHERE);
+    status_row(rt, "an address that is none of the loopback", job)?;
+    let mut job = with_accounts(ACCOUNTS);
+    job.host = address(ANY);
+    status_row(rt, "any address, with accounts", job)?;
+    let taken = TcpListener::bind(rt, SocketAddr::new(address(HERE), 0))?;
+    let mut job = nobody(EMPTY);
+    job.port = taken.local_addr()?.port();
+    status_row(rt, "a port that is in use", job)
+}
+
+/// Makes the folders.
+fn make<R: Files + AllocGlobal>(rt: &R) -> io::Result<()> {
+    fs::create_dir(rt, EMPTY)?;
+    fs::create_dir(rt, "rows_of_serve/name")?;
+    file(rt, "rows_of_serve/name/a\u{1}b", "", 0o600)?;
+    fs::create_dir(rt, "rows_of_serve/link")?;
+    symlink(rt, "../name", "rows_of_serve/link/to")?;
+    fs::create_dir(rt, "rows_of_serve/left")?;
+    file(rt, "rows_of_serve/left/.ftp-writing\u{7f}", "octets", 0o600)?;
+    deep(rt, "rows_of_serve/deep")
+}
+
+/// Writes all rows.
+pub(crate) fn rows<R>(rt: &R) -> io::Result<()>
+where
+    R: Net<Listener = TcpListener, Stream = TcpStream>
+        + Files
+        + Clock
+        + Print
+        + Eprint
+        + AllocGlobal,
+{
+    make(rt)?;
+    folder_rows(rt)?;
+    accounts_rows(rt)?;
+    address_rows(rt)
+}
