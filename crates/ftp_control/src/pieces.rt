@@ -4,6 +4,7 @@ ghost use Rattle.std.specs.Io.KnownBytes.{Appends, Consumes, IsAtEnd, Keeps};
 ghost use Rattle.ftp_control.specs.Beginning.{AppendsFront};
 
 use std::io::{ErrorKind, Read, Write};
+use thiserror::Error;
 
 /// A loop over reads or writes ends, as after a failed one, once it has made so many turns.
 pub const TURNS: u64 = 1_099_511_627_776;
@@ -12,7 +13,8 @@ pub const TURNS: u64 = 1_099_511_627_776;
 pub const PIECE_LIMIT: usize = 4096;
 
 /// A read or a write that failed, or memory that was refused: the program ends with status 3.
-#[derive(Clone, Copy, Debug, PartialEq, Eq)]
+#[derive(Clone, Copy, Debug, PartialEq, Eq, Error)]
+#[error("a read or a write failed, or memory was refused")]
 pub struct Failed;
 
 /// Writes all octets, call by call; a failure leaves a beginning of them.

@@ -8,6 +8,8 @@ use ftp_facts::Text;
 use ftp_path::key::is_within;
 use ftp_path::{Path, is_password, is_user};
 use std::alloc::Allocator;
+use std::error::Error;
+use std::fmt;
 use std::marker::Model;
 
 /// A user name, the password that it needs, if it needs one, and the path that is `/` to its user; `P` is how a text is held, `R` how a path is.
@@ -73,11 +75,12 @@ impl<A: Allocator> Model for Accounts<A> {
 }
 
 /// Why a list of accounts is refused.
-#[derive(Clone, Copy, Debug, PartialEq, Eq)]
+#[derive(Clone, Copy, Debug, PartialEq, Eq, thiserror::Error)]
 pub enum AccountsFault {
-    /// Two accounts have one user name.
+    #[error("two accounts have one user name")]
     SameUser,
-    /// An account's root is below another's. Equal ones are allowed.
+    /// Equal roots are allowed.
+    #[error("an account's root is below another's")]
     NestedRoots,
 }
 
@@ -87,6 +90,21 @@ pub struct RefusedAccounts<A: Allocator> {
     pub fault: AccountsFault,
     pub list: Vec<Account<Text<A>, Path<A>>, A>,
 }
+
+impl<A: Allocator> fmt::Display for RefusedAccounts<A> {
+    fn fmt<W: fmt::Write>(&self, f: &mut fmt::Formatter<W>) -> fmt::Result {
+        write!(f, "accounts are refused: {}", self.fault)
+    }
+}
+
+/// No password is shown.
+impl<A: Allocator> fmt::Debug for RefusedAccounts<A> {
+    fn fmt<W: fmt::Write>(&self, f: &mut fmt::Formatter<W>) -> fmt::Result {
+        write!(f, "RefusedAccounts {{ fault: {:?}, .. }}", self.fault)
+    }
+}
+
+impl<A: Allocator> Error for RefusedAccounts<A> {}
 
 impl<A: Allocator> Accounts<A> {
     /// These accounts, in this order, or the list back with the first reason why not. An account with a user name or a
