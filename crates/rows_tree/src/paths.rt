@@ -4,7 +4,7 @@ use crate::octets::number;
 use crate::paper::Paper;
 use crate::step::{Line, Step};
 use ftp_operation::is_number;
-use ftp_path::{Name, Path, is_path_text};
+use ftp_path::{Name, Path, is_listed_text, is_path_text};
 use ftp_tree::TreeFault;
 use std::alloc::Allocator;
 
@@ -26,6 +26,7 @@ pub fn place<A: Allocator + Copy>(alloc: A, text: &[u8]) -> Result<Path<A>, Tree
 pub fn show_text(line: &Line<'_>, paper: &mut Paper) {
     let is_so = match line.step {
         Step::Text => is_path_text(line.first),
+        Step::Listed => is_listed_text(line.first),
         Step::Name => Name::new(line.first).is_some(),
         _ => is_number(number(line.first)),
     };

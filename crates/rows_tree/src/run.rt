@@ -94,7 +94,7 @@ pub fn play_line<A: Allocator + Copy, T: Tree<A>>(
 ) -> bool {
     match line.step {
         Step::Heading => {}
-        Step::Text | Step::Name | Step::Number => show_text(line, paper),
+        Step::Text | Step::Listed | Step::Name | Step::Number => show_text(line, paper),
         Step::Login | Step::Known | Step::Accounts => show_login(alloc, line, paper),
         Step::Kind
         | Step::Size

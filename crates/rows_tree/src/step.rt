@@ -6,6 +6,7 @@ use rows_base::cut;
 #[derive(Clone, Copy)]
 pub enum Step {
     Text,
+    Listed,
     Name,
     Number,
     Leads,
@@ -38,6 +39,7 @@ pub enum Step {
 
 const STEPS: &[(&'static [u8], Step)] = &[
     (b"text", Step::Text),
+    (b"listed", Step::Listed),
     (b"name", Step::Name),
     (b"number", Step::Number),
     (b"leads", Step::Leads),
