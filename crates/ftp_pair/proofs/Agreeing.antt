@@ -4,9 +4,9 @@ use Rattle.std.specs.Prelude.{IfOk, OnOk}
 use Rattle.std.specs.declared.result.Result.{Result}
 use Rattle.ftp_pair_agreement.specs.Laws.{ArePlain, IsPlain}
 use Rattle.ftp_pair_agreement.proofs.Theorems.{plain-agrees, plain-headline, plain-is-answered, plain-still-is-quiet}
-use Rattle.ftp_server_model.specs.Machine.{Reading, IsReading}
-use Rattle.ftp_pair_world.specs.Agreement.{AreHonest, IsHonest, Leads, Order, WorldAgrees, begun_by}
-use Rattle.ftp_pair_world.specs.Claims.{AreTimed, Beginning, IsTimed, world_of, state_of}
+use Rattle.ftp_server_model.specs.Machine.{Reading}
+use Rattle.ftp_pair_world.specs.Agreement.{AreHonest, IsHonest, Leads, Order, begun_by}
+use Rattle.ftp_pair_world.specs.Claims.{AreTimed, Beginning, IsTimed, world_of}
 use Rattle.ftp_pair_world.specs.Events as events
 use Rattle.ftp_pair_world.specs.Events.{Event, Happens}
 use Rattle.ftp_pair_world.specs.Still.{IsStill}

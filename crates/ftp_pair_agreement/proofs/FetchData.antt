@@ -1,4 +1,4 @@
--- Octets of the link that are given and taken lead a download from a stage to a stage.
+-- Octets of the link that are given and taken lead what is asked for from a stage to a stage.
 use Rattle.std.proofs.Common.{◌≡◌, inr, ℕ, ◌+◌, ◌≤◌, Bool, true, false, List, [], ◌∷◌, ◌++◌, length, take, drop, Option, None, refl, sym, ap, subst, ◌∙◌, append-nil, append_assoc, arith, length-append}
 use Rattle.std.specs.Prelude.{min, if◌then◌else◌}
 use Rattle.std.proofs.Math.Seq.{take-nil}

@@ -1,4 +1,4 @@
--- The link of a download: it opens, is refused, ends or breaks, whatever is on its way over the control connection.
+-- The link of what is asked for: it opens, is refused, ends or breaks, whatever is on its way over the control connection.
 use Rattle.std.proofs.Common.{◌≡◌, ℕ, Bool, true, false, List, [], ◌∷◌, ◌++◌, Some, None, refl, sym, ap, subst, ◌∙◌, append-nil, append_assoc}
 use Rattle.ftp_wire.specs.Decoder.{decoder_of, no_octets}
 use Rattle.ftp_ends.specs.Ear.{Ear, quiet, ear}

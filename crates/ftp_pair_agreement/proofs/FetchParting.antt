@@ -1,4 +1,4 @@
--- The control connection ends while a download is under way, or before its link is closed: the operation is lost, and its link is closed.
+-- The control connection ends while what was asked for is under way, or before its link is closed: the operation is lost, and its link is closed.
 use Rattle.std.proofs.Common.{◌≡◌, ◌⊎◌, inl, inr, ℕ, suc, ◌+◌, ◌≤◌, Bool, true, false, ◌||◌, List, [], ◌∷◌, ◌++◌, length, Some, None, refl, sym, ap, subst, ◌∙◌, append-nil, arith}
 use Rattle.ftp_operation.specs.Answer.{Said, Lost as LostSaid}
 use Rattle.ftp_operation.specs.declared.op.Op.{Op}
@@ -87,7 +87,7 @@ parts_with w job connection near_is fails far pending far_is link queue link_is 
     ap after_event (parts_is w sound ∙ (λ i. parting (lost i) (near_closes i) (far_closes i) (record w { link = link_is i; data_to_server = to_server i; data_to_client = to_client i })))
     ∙ clears link queue (stands connection) (is_standing far) w clear
 
--- ---- at each stage of a download
+-- ---- at each stage of what is asked for
 
 -- an item that is lost, whatever its marks
 lost_item : Op (List ℕ) → ℕ → List Mark → Item

@@ -1,4 +1,4 @@
--- While a download is under way something can happen: octets can move, a link can open, or an end is still to be told.
+-- While what was asked for is under way something can happen: octets can move, a link can open, or an end is still to be told.
 use Rattle.std.proofs.Common.{◌≡◌, ◌≢◌, inl, inr, ℕ, true, false, not, ◌&&◌, ◌||◌, List, [], ◌∷◌, length, refl, sym, ap, subst, ◌∙◌, arith}
 use Rattle.std.specs.Prelude.{nat_lt}
 use Rattle.ftp_ends.specs.Link.{is_wanted}

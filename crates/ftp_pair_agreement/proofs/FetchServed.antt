@@ -1,4 +1,4 @@
--- What a world does for its ends behind an event of a download: nothing, or a port is told, a link is closed, a report is taken.
+-- What a world does for its ends behind an event of what is asked for: nothing, or a port is told, a link is closed, a report is taken.
 use Rattle.std.proofs.Common.{◌≡◌, ◌≢◌, inl, inr, ℕ, zero, suc, ◌<◌, ◌≤◌, Bool, true, false, ◌||◌, List, [], ◌∷◌, None, refl, sym, ap, subst, ◌∙◌, append-nil, arith}
 use Rattle.ftp_endpoint.specs.Written.{IsTypedHost, IsV4}
 use Rattle.ftp_endpoint.specs.declared.host.Host.{Host}

@@ -507,7 +507,7 @@ module _ (state : State) (ask : Ask) where
     pub to_client : b.data_to_client ≡ []
     pub marked : own ≡ []
 
-  -- how far the download is
+  -- how far what is asked for is
   abbrev pub AtFetch : Reading → List Mark → Way → World → Type 0
   AtFetch read own way b = Leads read own way b ⊎ ((stage : Stage) × Holds own stage way b)
 
