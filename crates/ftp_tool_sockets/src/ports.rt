@@ -1,4 +1,6 @@
 // Data connections over real sockets.
+ghost use Rattle.std.specs.Prelude.{◌≡◌};
+
 use crate::host::{addr_of, host_of};
 use crate::link::Link;
 use crate::wait::{Heeds, Woke, look_at, wait};
@@ -53,7 +55,9 @@ impl<'a, R: Net<Listener = TcpListener, Stream = TcpStream>> SocketPorts<'a, R> 
     }
 
     /// How many data connections were opened so far, by either end.
-    pub fn opened(&self) -> u32 {
+    pub fn opened(&self) -> u32
+        ensures { result ≡ self.now.opened }
+    {
         self.opened
     }
 
