@@ -1,4 +1,1 @@
-pub mod Leading
-pub mod Totals
-pub mod Going
 pub mod Turning

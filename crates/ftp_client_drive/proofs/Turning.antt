@@ -1,32 +1,28 @@
--- What turns say, put together: octets that are heard, and what is left where the drive gives up.
-use Rattle.std.proofs.Common.{◌≡◌, ◌∙◌, ℕ, ◌≤◌, [], ◌++◌, Option, Some, length, take, drop, refl, sym, ap, subst}
-use Rattle.std.specs.Prelude.{true, false}
+-- What turns say, put together: octets that are heard, and how a drive ends, or gives up.
+use Rattle.std.proofs.Common.{◌≡◌, ◌∙◌, ℕ, ◌≤◌, ◌∷◌, ◌++◌, Option, Some, length, take, drop, refl, sym, ap, subst, Result, Ok, Err}
+use Rattle.std.specs.Prelude.{IsErr, true, false}
 use Rattle.std.proofs.lemmas.List.{length-take-le, take-append-drop}
+use Rattle.ftp_control.specs.Deeds.{Heard, Led, Other, Stand, with_owner}
+use Rattle.ftp_control.specs.Driving.{Fails, Leads}
+use Rattle.ftp_control.specs.declared.pieces.Failed.{Failed}
+use Rattle.ftp_control.proofs.Leading.{call_leads, leads_by, leads_then}
+use Rattle.ftp_control.proofs.Totals.{cuts, sums}
+use Rattle.ftp_operation.specs.declared.answer.Answer.{Answer}
 use Rattle.ftp_operation.specs.Answer.{Said, Lost}
-use Rattle.ftp_client_model.specs.Calls.{control_end, data_closed, gives_control, is_sound, report_of, report_of_job}
-use Rattle.ftp_client_model.specs.Failing.{Client, HearsIfRoom, Holds}
+use Rattle.ftp_client_model.specs.Calls.{control_end, data_closed, is_sound, report_of, report_of_job}
+use Rattle.ftp_client_model.specs.Failing.{Client, HearsIfRoom}
 use Rattle.ftp_client_model.specs.View.{View, Job, Idle, Waiting, Doing, Transferring, Told, failed_job, fails_by}
 use Rattle.ftp_client_model.specs.declared.client.Failure.TheVariants as Failures
 use Rattle.ftp_client_model.specs.declared.client.Standing.{Standing}
 use Rattle.ftp_client_model.specs.declared.client.Standing.TheVariants as Stands
-use Rattle.ftp_client_drive.specs.Deeds.{Call, Called, Closed, Heard, IsCut, Other, Report, Stand, with_client}
-use Rattle.ftp_client_drive.specs.Driving.{GivesUp, Leads, Settles, Tells, is_under_way}
-use Rattle.ftp_client_drive.proofs.Leading.{leads_by, leads_then}
-
--- a call of the client alone
-pub call_leads : (call : Call) (stand : Stand) (new : Client) → Called call stand.client new → Leads stand (with_client new stand)
-call_leads call stand new called = leads_by (Other call) stand (with_client new stand) (called, refl)
-
--- it was asked what it owes, and that is nothing
-pub settles_here : (start mid : Stand) (client : Client) → Leads start mid → mid.client.view.owed ≡ [] → Holds mid.client client (gives_control 0 mid.client.view)
-    → Settles start (with_client client mid)
-settles_here start mid client leads owed gave = record { mid = mid; leads = leads; owes = record { owed = owed; gave = gave; same = refl } }
+use Rattle.ftp_client_drive.specs.Side.{Called, Closed, IsCut, Report, client_side}
+use Rattle.ftp_client_drive.specs.Driving.{Answers, BrokeOff, Drove, GivesUp, Tells, is_under_way}
 
 -- it heard the first of the octets that were read
-pub hears_next : (old new : Stand) (count : ℕ) → count ≤ length old.unheard → HearsIfRoom old.client new.client old.unheard count
+pub hears_next : (old new : Stand client_side) (count : ℕ) → count ≤ length old.unheard → HearsIfRoom old.owner new.owner old.unheard count
     → new.unheard ≡ drop count old.unheard → new.left ≡ old.left → new.written ≡ old.written → Leads old new
 hears_next old new count le hears unheard left written = leads_by (Heard (take count old.unheard)) old new (record {
-  hears = subst (λ n. HearsIfRoom old.client new.client old.unheard n) (sym (length-take-le count old.unheard le)) hears;
+  hears = subst (λ n. HearsIfRoom old.owner new.owner old.unheard n) (sym (length-take-le count old.unheard le)) hears;
   next = sym (ap (λ l. take count old.unheard ++ l) unheard ∙ take-append-drop count old.unheard);
   left = left;
   written = written;
@@ -67,9 +63,29 @@ gave_up said old cut closed new is_cut closes reports = record {
 -- ---- turns
 
 -- no report is there yet
-pub asked : (start mid : Stand) (client : Client) (said : Option Said) → Leads start mid → Called (Report said) mid.client client → Leads start (with_client client mid)
-asked start mid client said leads reports = leads_then start mid (with_client client mid) leads (call_leads (Report said) mid client reports)
+pub asked : (start mid : Stand client_side) (client : Client) (said : Option Said) → Leads start mid → Called (Report said) mid.owner client → Leads start (with_owner client mid)
+asked start mid client said leads reports = leads_then start mid (with_owner client mid) leads (call_leads mid (Report said) client reports)
 
 -- it was asked for its report
-pub tells : (start mid : Stand) (client : Client) (said : Option Said) → Leads start mid → Called (Report said) mid.client client → Tells said start (with_client client mid)
+pub tells : (start mid : Stand client_side) (client : Client) (said : Option Said) → Leads start mid → Called (Report said) mid.owner client → Tells said start (with_owner client mid)
 tells start mid client said leads reports = (mid, leads, (reports, refl))
+
+pub answers_err : {A : Type 0} (a b : Stand client_side) (r : Result (Answer A) Failed) → IsErr r → Fails a b → Answers a b r
+answers_err a b (Ok answer) failed fails = absurd (let e : false ≡ true = failed in cc)
+answers_err a b (Err e) failed fails = fails
+
+-- ---- a drive
+
+-- one that came to its end
+pub drove : (start now : Stand client_side) (client : Client) (answer : Said) → Tells (Some answer) start (with_owner client now) → Called Closed client now.owner
+    → Drove start now (Some answer)
+drove start now client answer tells closed =
+    let deeds = tells.1.deeds in
+    let led : Led {side = client_side} (Other Closed ∷ Other (Report (Some answer)) ∷ deeds) start now = (with_owner client now, (tells.0, tells.1.led, tells.2), (closed, refl)) in
+    record { answer = answer; answered = refl; deeds = deeds; sums = sums {side = client_side} (Other Closed ∷ Other (Report (Some answer)) ∷ deeds) start now led }
+
+-- one that broke off, and the client gave up
+pub broke_off : (start now : Stand client_side) (client : Client) (said : Option Said) → Fails start (with_owner client now) → GivesUp said client now.owner
+    → BrokeOff start now said
+broke_off start now client said fails gave_up =
+    record { deeds = fails.leads.deeds; last = fails.octets; client = client; cuts = cuts start (with_owner client now) fails; gave_up = gave_up }

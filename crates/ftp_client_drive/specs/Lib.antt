@@ -1,3 +1,3 @@
-pub mod Deeds
+pub mod Side
 pub mod Beside
 pub mod Driving

@@ -1,8 +1,8 @@
 // The octets of a control connection: those that were read are heard, and those that the client owes are written.
 ghost use Rattle.std.specs.Prelude.{◌≡◌, []};
+ghost use Rattle.ftp_control.specs.Driving.{Flushes, Goes, GoesSettled};
 ghost use Rattle.ftp_control.specs.Unheard.{unheard_of};
 ghost use Rattle.ftp_client_drive.specs.Beside.{beside};
-ghost use Rattle.ftp_client_drive.specs.Driving.{Flushes, Goes, GoesSettled};
 
 use ftp_client_model::Near;
 use ftp_control::{Control, Failed, TURNS};

@@ -1,7 +1,10 @@
 // A data connection, and room for its octets.
-ghost use Rattle.std.specs.Prelude.{◌≡◌, ◌≢◌};
+ghost use Rattle.std.specs.Prelude.{◌≡◌, ◌≢◌, IfOk};
+ghost use Rattle.std.specs.Io.KnownBytes.{IsAtEnd};
 ghost use Rattle.ftp_client_model.specs.Calls.{wants};
-ghost use Rattle.ftp_client_drive.specs.Driving.{Quietly};
+ghost use Rattle.ftp_control.specs.Carrying.{left_of};
+ghost use Rattle.ftp_control.specs.Driving.{Quietly};
+ghost use Rattle.ftp_client_drive.specs.Side.{client_side};
 
 use ftp_client_model::Near;
 use ftp_control::{DATA_PIECE, DataConnection, For, Halt, Ports, Ready, Rest};
@@ -26,7 +29,7 @@ impl<S: Read + Write> Data<S> {
 
     /// Takes octets of an upload from the client, where all before were written.
     pub(crate) fn fill<A: Allocator, N: Near<A>>(&mut self, client: &mut N)
-        ensures { Quietly (N.client client.old) (N.client client.new) }
+        ensures { Quietly client_side (N.client client.old) (N.client client.new) }
     {
         if self.connection.has_unwritten() {
             return;
@@ -41,11 +44,16 @@ impl<S: Read + Write> Data<S> {
         self.connection.write(&self.room)
     }
 
-    /// The octets that one call reads; none is the end of the data connection.
-    pub(crate) fn read(&mut self) -> Result<&[u8], Halt> {
-        let count = self.connection.read(&mut self.room)?;
-        let (octets, _) = self.room.split_at(count);
-        Ok(octets)
+    /// Reads once, and gives how many octets came: none only at the end of the data connection.
+    pub(crate) fn read(&mut self) -> Result<usize, Halt>
+        ensures { IfOk result (λ count. count ≡ 0 → IsAtEnd (left_of S.remaining self.new.connection)) }
+    {
+        self.connection.read(&mut self.room)
+    }
+
+    /// The front of the room, so many octets.
+    pub(crate) fn front(&self, count: usize) -> &[u8] {
+        self.room.get(..count).unwrap_or(&[])
     }
 
     /// Closes it for good.

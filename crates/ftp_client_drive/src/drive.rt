@@ -1,11 +1,14 @@
 // The drive: what the client wants is done, turn by turn, until its operation is answered.
 ghost use Rattle.std.specs.Prelude.{◌≡◌, []};
 ghost use Rattle.std.specs.Option.{option_map};
+ghost use Rattle.std.specs.Io.KnownBytes.{IsAtEnd};
+ghost use Rattle.ftp_control.specs.Carrying.{left_of};
+ghost use Rattle.ftp_control.specs.Driving.{Goes, GoesSettled, Quietly};
 ghost use Rattle.ftp_control.specs.Unheard.{unheard_of};
 ghost use Rattle.ftp_operation.specs.Answer.{said_of};
 ghost use Rattle.ftp_client_drive.specs.Beside.{beside};
-ghost use Rattle.ftp_client_drive.specs.Driving.{Answers, Drives, Goes, GoesSettled, Quietly};
-ghost use Rattle.ftp_client_drive.specs.Deeds.{Called, Closed};
+ghost use Rattle.ftp_client_drive.specs.Driving.{Answers, Drives};
+ghost use Rattle.ftp_client_drive.specs.Side.{Called, Closed, End, client_side};
 
 use crate::control::{flush, hear, read};
 use crate::data::{Data, is_spoken_first};
@@ -160,7 +163,7 @@ where
     A: Allocator,
     N: Near<A>,
     P: Ports,
-    ensures { Quietly (N.client client.old) (N.client client.new) }
+    ensures { Quietly client_side (N.client client.old) (N.client client.new) }
 {
     match ports.listen() {
         Some(port) => client.listening(port),
@@ -174,7 +177,7 @@ where
     A: Allocator,
     N: Near<A>,
     P: Ports,
-    ensures { Quietly (N.client client.old) (N.client client.new) }
+    ensures { Quietly client_side (N.client client.old) (N.client client.new) }
 {
     match ports.connect(endpoint) {
         Some(open) => {
@@ -264,12 +267,7 @@ where
         return read(client, control);
     }
     match data.read() {
-        Ok([]) => {
-            data.connection.close(ports);
-            client.data_end();
-            Ok(())
-        }
-        Ok(octets) => hand(client, octets),
+        Ok(count) => take_in(client, ports, data, count),
         Err(Halt::Again) => Ok(()),
         Err(Halt::Spoken) => read(client, control),
         Err(Halt::Broken) => {
@@ -281,9 +279,43 @@ where
     }
 }
 
+/// Serves so many octets that were read of a download: none is its end.
+fn take_in<A, N, P>(
+    client: &mut N,
+    ports: &mut P,
+    data: &mut Data<P::Stream>,
+    count: usize,
+) -> Result<(), Failed>
+where
+    A: Allocator,
+    N: Near<A>,
+    P: Ports,
+    requires { count ≡ 0 → IsAtEnd (left_of P.Stream.remaining «data».old.connection) }
+    ensures { Quietly client_side (N.client client.old) (N.client client.new) }
+{
+    if count == 0 {
+        end(client, ports, data);
+        return Ok(());
+    }
+    hand(client, data.front(count))
+}
+
+/// The data connection ended: it is closed, and the client told.
+fn end<A, N, P>(client: &mut N, ports: &mut P, data: &mut Data<P::Stream>)
+where
+    A: Allocator,
+    N: Near<A>,
+    P: Ports,
+    requires { IsAtEnd (left_of P.Stream.remaining «data».old.connection) }
+    ensures { Called End (N.client client.old) (N.client client.new) }
+{
+    data.connection.close(ports);
+    client.data_end();
+}
+
 /// Hands octets of a download to the client until it has taken them all or the transfer is over, which drops the rest.
 fn hand<A: Allocator, N: Near<A>>(client: &mut N, octets: &[u8]) -> Result<(), Failed>
-    ensures { Quietly (N.client client.old) (N.client client.new) }
+    ensures { Quietly client_side (N.client client.old) (N.client client.new) }
 {
     let mut at = 0;
     while at < octets.len() {

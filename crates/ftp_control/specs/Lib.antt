@@ -2,3 +2,6 @@ pub mod Unheard
 pub mod Beginning
 pub mod Whole
 pub mod Carrying
+pub mod Side
+pub mod Deeds
+pub mod Driving

@@ -1,31 +1,47 @@
--- What turns say, put together, and a control connection of which all was heard.
-use Rattle.std.proofs.Common.{◌≡◌, ℕ, ◌≤◌, List, [], length, take, drop, refl, sym, subst, Result, Ok, Err, arith}
+-- What turns say, put together, and how a drive ends.
+use Rattle.std.proofs.Common.{◌≡◌, ◌∙◌, ℕ, ◌≤◌, List, ◌++◌, length, take, drop, sym, ap, subst, Result, Ok, Err}
 use Rattle.std.specs.Prelude.{IsErr, true, false}
-use Rattle.std.proofs.Math.ListN.{drop_of_length-le}
-use Rattle.std.proofs.Math.Nat.{min-le_left}
-use Rattle.std.proofs.lemmas.List.{length-take}
+use Rattle.std.proofs.lemmas.List.{take-append-drop, take-take}
+use Rattle.ftp_control.specs.Deeds.{Heard, Stand, with_owner}
+use Rattle.ftp_control.specs.Driving.{Fails, Leads, Quietly}
 use Rattle.ftp_control.specs.declared.pieces.Failed.{Failed}
-use Rattle.ftp_server_model.specs.Calls.{control_step}
-use Rattle.ftp_server_model.specs.Far.{Acts, Server}
-use Rattle.ftp_server_drive.specs.Deeds.{Call, Called, Other, Stand, with_server}
-use Rattle.ftp_server_drive.specs.Driving.{EndsOver, Fails, Leads, Settles}
-use Rattle.ftp_server_drive.proofs.Leading.{leads_by}
+use Rattle.ftp_control.proofs.Leading.{leads_by, quiet_call, quiet_then}
+use Rattle.ftp_control.proofs.Totals.{cuts, sums}
+use Rattle.ftp_server_model.specs.Far.{Hears, Server}
+use Rattle.ftp_server_drive.specs.Side.{Call, Clock, ended, server_side}
+use Rattle.ftp_server_drive.specs.declared.drive.Life.{Life}
+use Rattle.ftp_server_drive.specs.Driving.{BrokeOff, Drove, EndsOver, IsOver, Timed, Turns}
 
--- where all was heard, nothing is left of a piece
-pub all_heard : (at end : ℕ) (piece : List ℕ) → end ≤ at → drop at (take end piece) ≡ []
-all_heard at end piece le =
-    let short : length (take end piece) ≤ end = subst (λ n. n ≤ end) (sym (length-take end piece)) (min-le_left end (length piece)) in
-    drop_of_length-le (take end piece) (omega (arith, short, le))
+pub turns_err : (a b : Stand server_side) (r : Result Life Failed) → IsErr r → Fails a b → Turns a b r
+turns_err a b (Ok value) failed fails = absurd (let e : false ≡ true = failed in cc)
+turns_err a b (Err e) failed fails = fails
 
--- a call of the server alone
-pub call_leads : (call : Call) (stand : Stand) (new : Server) → Called call stand.server new → Leads stand (with_server new stand)
-call_leads call stand new called = leads_by (Other call) stand (with_server new stand) (called, refl)
-
-pub ends_err : {T : Type 0} (a b : Stand) (r : Result T Failed) → IsErr r → Fails a b → EndsOver a b r
+pub ends_err : {T : Type 0} (a b : Stand server_side) (r : Result T Failed) → IsErr r → Fails a b → EndsOver a b r
 ends_err a b (Ok value) failed fails = absurd (let e : false ≡ true = failed in cc)
 ends_err a b (Err e) failed fails = fails
 
--- it was asked what it owes, and that is nothing
-pub settles_here : (start mid : Stand) (server : Server) → Leads start mid → mid.server.view.owed ≡ [] → Acts (control_step 0) mid.server server
-    → Settles start (with_server server mid)
-settles_here start mid server leads owed gave = record { mid = mid; leads = leads; owes = record { owed = owed; gave = gave; same = refl } }
+-- of what is not heard it heard the first octets, of those that it was given
+pub hears_next : (old new : Stand server_side) (given : ℕ) (octets : List ℕ) (count : ℕ) → octets ≡ take given old.unheard → count ≤ given
+    → Hears (take count octets) old.owner new.owner → new.unheard ≡ drop count old.unheard → new.left ≡ old.left → new.written ≡ old.written → Leads old new
+hears_next old new given octets count is le hears unheard left written =
+    let first : take count octets ≡ take count old.unheard = ap (take count) is ∙ take-take count given old.unheard le in
+    leads_by (Heard (take count octets)) old new (record {
+      hears = hears;
+      next = sym (ap (λ l. l ++ new.unheard) first ∙ ap (λ l. take count old.unheard ++ l) unheard ∙ take-append-drop count old.unheard);
+      left = left;
+      written = written;
+    })
+
+-- calls of the server alone, the moment first
+pub timed_quietly : (call : Call) (old new : Server) → Timed call old new → Quietly server_side old new
+timed_quietly call old new timed =
+    quiet_then server_side old timed.1 new (quiet_call server_side (Clock timed.0) old timed.1 timed.2) (quiet_call server_side call timed.1 new timed.3)
+
+-- a drive that came to its end
+pub drove : (start now : Stand server_side) → Leads start now → IsOver now → Drove start now
+drove start now leads over = record { deeds = leads.deeds; sums = sums leads.deeds start now leads.led; over = over }
+
+-- one that broke off, and the server is told
+pub broke_off : (start now : Stand server_side) (server : Server) → Fails start (with_owner server now) → now.owner ≡ ended server → BrokeOff start now
+broke_off start now server fails cut =
+    record { deeds = fails.leads.deeds; last = fails.octets; server = server; cuts = cuts start (with_owner server now) fails; cut = cut }

@@ -1,12 +1,16 @@
 // The octets of a data connection, between a stream and the server, and those of a download that are not written yet.
-ghost use Rattle.std.specs.Prelude.{◌≡◌, ◌≢◌, ◌<◌, ◌≤◌, IfOk, length};
+ghost use Rattle.std.specs.Prelude.{◌≡◌, ◌≢◌, ◌<◌, ◌≤◌, IfOk, OnOk, length};
 ghost use Rattle.ftp_server_model.specs.Calls.{wants};
+ghost use Rattle.std.specs.Io.KnownBytes.{IsAtEnd};
+ghost use Rattle.ftp_control.specs.Carrying.{left_of};
+ghost use Rattle.ftp_control.specs.Driving.{Goes, Quietly};
 ghost use Rattle.ftp_server_drive.specs.Beside.{beside};
-ghost use Rattle.ftp_server_drive.specs.Driving.{Goes, Quietly};
+ghost use Rattle.ftp_server_drive.specs.Driving.{Timed};
+ghost use Rattle.ftp_server_drive.specs.Side.{Break, End, server_side};
 
-use crate::control::Control;
+use crate::control::flush;
 use ftp_control::{
-    DATA_PIECE, DataConnection, Failed, For, Halt, Ports, Ready, Rest, Spoken, Watch,
+    Control, DATA_PIECE, DataConnection, Failed, For, Halt, Ports, Ready, Rest, Spoken, Watch,
 };
 use ftp_ends::Wants;
 use ftp_server_model::Far;
@@ -53,8 +57,10 @@ impl<S: Read + Write> Data<S> {
         self.connection.note(rest_of(server));
     }
 
-    /// What it has: octets that are read now, or room where the server wants to send.
-    pub(crate) fn come(&mut self, wants: Wants) -> Came {
+    /// What it has: octets that are read now, or room where the server wants to send; its end only where its stream is at its end.
+    pub(crate) fn come(&mut self, wants: Wants) -> Came
+        ensures { result ≡ Came.End → IsAtEnd (left_of S.remaining self.new.connection) }
+    {
         if wants == Wants::Send {
             return Came::Room;
         }
@@ -86,7 +92,7 @@ impl<S: Read + Write> Data<S> {
         A: Allocator,
         T: Tree<A>,
         F: Far<A, T>,
-        ensures { Quietly (F.server server.old) (F.server server.new) }
+        ensures { Quietly server_side (F.server server.old) (F.server server.new) }
     {
         if !self.connection.has_unwritten() {
             let (front, _) = self.room.split_at_mut(self.connection.piece());
@@ -97,7 +103,8 @@ impl<S: Read + Write> Data<S> {
 
     /// Writes octets that are not written yet: what one write takes, or all where no others come.
     fn write(&mut self) -> Result<(), Failed>
-        ensures { self.new.connection.rest ≡ self.old.connection.rest }
+        ensures rest { self.new.connection.rest ≡ self.old.connection.rest }
+        ensures all { OnOk result (self.new.connection.rest ≡ Rest.Nothing → self.new.connection.at ≡ self.new.connection.end) }
     {
         if self.connection.rest() == Rest::Nothing {
             return self.connection.write_all(&self.room);
@@ -130,14 +137,16 @@ where
 }
 
 /// The data connection ended now, and the control connection, which was looked at behind that, has not.
-pub(crate) fn end<A, T, F, C>(server: &mut F, watch: &mut C, _spoken: Spoken)
+pub(crate) fn end<A, T, F, C, S>(server: &mut F, watch: &mut C, _ended: &Data<S>, _spoken: Spoken)
 where
     A: Allocator,
     T: Tree<A>,
     F: Far<A, T>,
     C: Watch,
-    requires { _spoken ≢ Spoken.Ended }
-    ensures { Quietly (F.server server.old) (F.server server.new) }
+    S: Read + Write,
+    requires ended { IsAtEnd (left_of S.remaining _ended.now.connection) }
+    requires before { _spoken ≢ Spoken.Ended }
+    ensures { Timed End (F.server server.old) (F.server server.new) }
 {
     server.clock(watch.moment());
     server.data_end();
@@ -150,7 +159,7 @@ where
     T: Tree<A>,
     F: Far<A, T>,
     C: Watch,
-    ensures { Quietly (F.server server.old) (F.server server.new) }
+    ensures { Timed Break (F.server server.old) (F.server server.new) }
 {
     server.clock(watch.moment());
     server.data_fault();
@@ -201,7 +210,7 @@ where
     if taken == 0 {
         return Err(Failed);
     }
-    control.flush(server)?;
+    flush(server, control)?;
     Ok(taken)
 }
 
@@ -212,8 +221,9 @@ where
     T: Tree<A>,
     F: Far<A, T>,
     S: Read + Write,
-    ensures quiet { Quietly (F.server server.old) (F.server server.new) }
+    ensures quiet { Quietly server_side (F.server server.old) (F.server server.new) }
     ensures rest { («data».new.connection.rest ≡ Rest.Nothing) → wants (F.server server.new).view ≢ Wants.Send }
+    ensures all { OnOk result («data».new.connection.rest ≡ Rest.Nothing → «data».new.connection.at ≡ «data».new.connection.end) }
 {
     data.fill(server);
     data.note(server);
@@ -241,7 +251,7 @@ where
     T: Tree<A>,
     F: Far<A, T>,
     ensures within { result ≤ length room.new }
-    ensures quiet { Quietly (F.server server.old) (F.server server.new) }
+    ensures quiet { Quietly server_side (F.server server.old) (F.server server.new) }
 {
     let mut at = 0;
     while at < room.len() {

@@ -1,11 +1,16 @@
 // The drive: what the server wants is done, turn by turn.
-ghost use Rattle.std.specs.Prelude.{◌≢◌, ◌<◌, ◌≤◌};
+ghost use Rattle.std.specs.Prelude.{◌≡◌, ◌≢◌, []};
+ghost use Rattle.std.specs.Io.KnownBytes.{IsAtEnd};
+ghost use Rattle.ftp_control.specs.Carrying.{left_of};
+ghost use Rattle.ftp_control.specs.Driving.{Goes, GoesSettled, Quietly};
+ghost use Rattle.ftp_control.specs.Unheard.{unheard_of};
 ghost use Rattle.ftp_server_drive.specs.Beside.{beside};
-ghost use Rattle.ftp_server_drive.specs.Driving.{Drives, EndsOver, Goes, GoesSettled, Quietly, Turns};
+ghost use Rattle.ftp_server_drive.specs.Driving.{Drives, EndsOver, Timed, Turns};
+ghost use Rattle.ftp_server_drive.specs.Side.{Break, server_side};
 
-use crate::control::Control;
+use crate::control::{flush, hear_one};
 use crate::data::{Came, Data, end, fault, hand, send, wait_at};
-use ftp_control::{Accepted, Failed, Ports, Ready, Spoken, TURNS, Watch};
+use ftp_control::{Accepted, Control, Failed, Ports, Ready, Spoken, TURNS, Watch};
 use ftp_endpoint::Endpoint;
 use ftp_ends::Wants;
 use ftp_server_model::Far;
@@ -102,7 +107,7 @@ where
     C: Watch,
     ensures { Turns (beside R.remaining W.contents (F.server server.old) control.old) (beside R.remaining W.contents (F.server server.new) control.new) result }
 {
-    control.flush(server)?;
+    flush(server, control)?;
     if let Wants::CloseAll = server.wants() {
         return Ok(Life::Over);
     }
@@ -172,7 +177,7 @@ where
     if !control.has_unheard() {
         return carry_hearing(server, control, ports, watch, data);
     }
-    if control.hear_one(server) {
+    if hear_one(server, control) {
         return Ok(());
     }
     carry_alone(server, control, ports, watch, data)
@@ -195,7 +200,7 @@ where
     W: Write + Drop,
     P: Ports,
     C: Watch,
-    requires { control.old.end ≤ control.old.at }
+    requires { unheard_of control.old ≡ [] }
     ensures { GoesSettled (beside R.remaining W.contents (F.server server.old) control.old) (beside R.remaining W.contents (F.server server.new) control.new) result }
 {
     match wait_at(server, ports, data, true) {
@@ -272,7 +277,8 @@ where
     W: Write + Drop,
     P: Ports,
     C: Watch,
-    requires { spoken ≢ Spoken.Ended }
+    requires before { spoken ≢ Spoken.Ended }
+    requires ended { came ≡ Came.End → IsAtEnd (left_of P.Stream.remaining «data».old.connection) }
     ensures { Goes (beside R.remaining W.contents (F.server server.old) control.old) (beside R.remaining W.contents (F.server server.new) control.new) result }
 {
     match came {
@@ -283,7 +289,7 @@ where
             Ok(())
         }
         Came::End => {
-            end(server, watch, spoken);
+            end(server, watch, data, spoken);
             data.connection.close(ports);
             Ok(())
         }
@@ -308,7 +314,7 @@ where
     F: Far<A, T>,
     P: Ports,
     C: Watch,
-    ensures { Quietly (F.server server.old) (F.server server.new) }
+    ensures { Quietly server_side (F.server server.old) (F.server server.new) }
 {
     match send(server, data) {
         Ok(()) => {}
@@ -316,7 +322,7 @@ where
     }
 }
 
-/// The data connection is lost: the server is told, and it is closed.
+/// The data connection is lost: the server is told the moment and that, and it is closed.
 fn lose<A, T, F, P, C>(server: &mut F, ports: &mut P, watch: &mut C, data: &mut Data<P::Stream>)
 where
     A: Allocator,
@@ -324,7 +330,7 @@ where
     F: Far<A, T>,
     P: Ports,
     C: Watch,
-    ensures { Quietly (F.server server.old) (F.server server.new) }
+    ensures { Timed Break (F.server server.old) (F.server server.new) }
 {
     fault(server, watch);
     data.connection.close(ports);
@@ -348,7 +354,7 @@ where
     if !control.has_unheard() {
         return read(server, control, watch);
     }
-    if !control.hear_one(server) {
+    if !hear_one(server, control) {
         return Err(Failed);
     }
     Ok(())
@@ -367,7 +373,7 @@ where
     R: Read + Drop,
     W: Write + Drop,
     C: Watch,
-    requires { control.old.end ≤ control.old.at }
+    requires { unheard_of control.old ≡ [] }
     ensures { GoesSettled (beside R.remaining W.contents (F.server server.old) control.old) (beside R.remaining W.contents (F.server server.new) control.new) result }
 {
     let count = control.read()?;
@@ -400,7 +406,7 @@ where
     if !control.has_unheard() {
         return wait(server, control, ports, watch, data);
     }
-    if control.hear_one(server) {
+    if hear_one(server, control) {
         return Ok(());
     }
     wait_alone(server, ports, data);
@@ -423,7 +429,7 @@ where
     W: Write + Drop,
     P: Ports,
     C: Watch,
-    requires { control.old.end ≤ control.old.at }
+    requires { unheard_of control.old ≡ [] }
     ensures { GoesSettled (beside R.remaining W.contents (F.server server.old) control.old) (beside R.remaining W.contents (F.server server.new) control.new) result }
 {
     match ports.accept(true) {
@@ -447,7 +453,7 @@ where
     T: Tree<A>,
     F: Far<A, T>,
     P: Ports,
-    ensures { Quietly (F.server server.old) (F.server server.new) }
+    ensures { Quietly server_side (F.server server.old) (F.server server.new) }
 {
     match ports.accept(false) {
         Accepted::Came(open, host) => {
@@ -465,7 +471,7 @@ where
     T: Tree<A>,
     F: Far<A, T>,
     P: Ports,
-    ensures { Quietly (F.server server.old) (F.server server.new) }
+    ensures { Quietly server_side (F.server server.old) (F.server server.new) }
 {
     match ports.listen() {
         Some(port) => server.listening(port),
@@ -485,7 +491,7 @@ where
     T: Tree<A>,
     F: Far<A, T>,
     P: Ports,
-    ensures { Quietly (F.server server.old) (F.server server.new) }
+    ensures { Quietly server_side (F.server server.old) (F.server server.new) }
 {
     match ports.connect(endpoint) {
         Some(open) => {

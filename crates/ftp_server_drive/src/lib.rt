@@ -6,5 +6,5 @@ mod control;
 mod data;
 mod drive;
 
-pub use control::Control;
 pub use drive::drive_server;
+pub use ftp_control::Control;

@@ -2,10 +2,10 @@ use Rattle.std.proofs.Common.{◌≡◌, ◌∙◌, subst, length, rules}
 use Rattle.ftp_client_model.specs.Calls.{gives_control}
 use Rattle.ftp_client_model.specs.Failing.{Holds}
 use Rattle.ftp_client_drive.specs.Beside.{beside}
-use Rattle.ftp_client_drive.specs.Deeds.{Said}
-use Rattle.ftp_client_drive.proofs.Leading.{leads_nowhere, leads_on, fails_here}
-use Rattle.ftp_client_drive.proofs.Going.{flushes_err, none_owed, write_fails}
-use Rattle.ftp_client_drive.proofs.Turning.{settles_here}
+use Rattle.ftp_control.specs.Deeds.{Said}
+use Rattle.ftp_control.proofs.Leading.{leads_nowhere, leads_on, fails_here}
+use Rattle.ftp_control.proofs.Going.{flushes_err, none_owed, write_fails}
+use Rattle.ftp_control.proofs.Leading.{settles_here}
 use Rattle.ftp_client_drive.proofs.control.flush.Goals as goal
 
 pub loop-init : goal.loop-init
@@ -17,9 +17,10 @@ returns-then-count-eq0 g c =
     let mid = beside g.R.Read.remaining g.W.Write.contents (client c.loop.client) c.loop.control in
     let given = c.control_out-count.result in
     let none : given ≡ 0 = c.if-count-eq0.true in
-    settles_here _ mid (client c.control_out-count.new.self) c.loop.invariant
-    (none_owed given (length c.loop.room) _ none (search rules) c.control_out-count.ensures.some)
-    (subst (λ n. Holds (client c.loop.client) (client c.control_out-count.new.self) (gives_control n (client c.loop.client).view)) none c.control_out-count.ensures.now)
+    settles_here _ mid (client c.control_out-count.new.self) c.loop.invariant (record {
+      owed = none_owed given (length c.loop.room) _ none (search rules) c.control_out-count.ensures.some;
+      gave = subst (λ n. Holds (client c.loop.client) (client c.control_out-count.new.self) (gives_control n (client c.loop.client).view)) none c.control_out-count.ensures.now;
+    })
 
 pub returns-in_err-write : goal.returns-in_err-write
 returns-in_err-write g c =

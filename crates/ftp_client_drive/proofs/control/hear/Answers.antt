@@ -1,6 +1,6 @@
 use Rattle.std.proofs.Common.{◌≤◌, length, subst}
 use Rattle.ftp_client_model.specs.Failing.{HearsIfRoom}
-use Rattle.ftp_client_drive.proofs.Leading.{fails_here}
+use Rattle.ftp_control.proofs.Leading.{fails_here}
 use Rattle.ftp_client_drive.proofs.Turning.{hears_next}
 use Rattle.ftp_client_drive.proofs.control.hear.Goals as goal
 

@@ -1,9 +1,9 @@
-use Rattle.ftp_client_drive.specs.Deeds.{Opened, Refused}
-use Rattle.ftp_client_drive.proofs.Leading.{quiet_call}
+use Rattle.ftp_client_drive.specs.Side.{Opened, Refused, client_side}
+use Rattle.ftp_control.proofs.Leading.{quiet_call}
 use Rattle.ftp_client_drive.proofs.drive.connect.Goals as goal
 
 pub returns-in-Some : goal.returns-in-Some
-returns-in-Some g c = quiet_call (Opened c.args.endpoint.host) _ _ c.data_opened.ensures
+returns-in-Some g c = quiet_call client_side (Opened c.args.endpoint.host) _ _ c.data_opened.ensures
 
 pub returns-in-None : goal.returns-in-None
-returns-in-None g c = quiet_call Refused _ _ c.data_refused.ensures
+returns-in-None g c = quiet_call client_side Refused _ _ c.data_refused.ensures

@@ -1,5 +1,5 @@
 use Rattle.std.proofs.Common.{inl, inr}
-use Rattle.ftp_client_drive.proofs.Totals.{broke_off, drove}
+use Rattle.ftp_client_drive.proofs.Turning.{broke_off, drove}
 use Rattle.ftp_client_drive.proofs.Turning.{gave_up}
 use Rattle.ftp_client_drive.proofs.drive.drive_client.Goals as goal
 

@@ -1,21 +1,16 @@
 use Rattle.ftp_client_drive.specs.Beside.{beside}
-use Rattle.ftp_client_drive.specs.Deeds.{Break, End}
-use Rattle.ftp_client_drive.proofs.Leading.{leads_then, settled_leads}
-use Rattle.ftp_client_drive.proofs.Going.{goes_either}
-use Rattle.ftp_client_drive.proofs.Turning.{call_leads}
+use Rattle.ftp_client_drive.specs.Side.{Break}
+use Rattle.ftp_control.proofs.Leading.{leads_then, settled_leads}
+use Rattle.ftp_control.proofs.Going.{goes_either}
+use Rattle.ftp_control.proofs.Leading.{call_leads}
 use Rattle.ftp_client_drive.proofs.drive.receive.Goals as goal
 
 pub returns-in-Err-Broken : goal.returns-in-Err-Broken
 returns-in-Err-Broken g c start settles =
     let old = beside g.R.Read.remaining g.W.Write.contents (g.N.Near.client c.args.client.now) c.args.control.now in
-    leads_then start old _ (settled_leads start old settles) (call_leads Break old (g.N.Near.client c.data_fault.new.self) c.data_fault.ensures)
-
-pub returns-in-Ok-empty : goal.returns-in-Ok-empty
-returns-in-Ok-empty g c start settles =
-    let old = beside g.R.Read.remaining g.W.Write.contents (g.N.Near.client c.args.client.now) c.args.control.now in
-    leads_then start old _ (settled_leads start old settles) (call_leads End old (g.N.Near.client c.data_end.new.self) c.data_end.ensures)
+    leads_then start old _ (settled_leads start old settles) (call_leads old Break (g.N.Near.client c.data_fault.new.self) c.data_fault.ensures)
 
 pub returns-in-Ok : goal.returns-in-Ok
 returns-in-Ok g c start settles =
     let old = beside g.R.Read.remaining g.W.Write.contents (g.N.Near.client c.args.client.now) c.args.control.now in
-    goes_either start _ c.hand.result (leads_then start old _ (settled_leads start old settles) (c.hand.ensures _ _ _))
+    goes_either start _ c.take_in.result (leads_then start old _ (settled_leads start old settles) (c.take_in.ensures _ _ _))

@@ -1,7 +1,7 @@
 use Rattle.ftp_client_drive.specs.Beside.{beside}
-use Rattle.ftp_client_drive.specs.Deeds.{Closed}
-use Rattle.ftp_client_drive.proofs.Leading.{fails_here, leads_then, settled_leads}
-use Rattle.ftp_client_drive.proofs.Turning.{call_leads}
+use Rattle.ftp_client_drive.specs.Side.{Closed}
+use Rattle.ftp_control.proofs.Leading.{fails_here, leads_then, settled_leads}
+use Rattle.ftp_control.proofs.Leading.{call_leads}
 use Rattle.ftp_client_drive.proofs.drive.serve.Goals as goal
 
 pub returns-in-CloseAll : goal.returns-in-CloseAll
@@ -25,4 +25,4 @@ returns-in-Send g c start settles =
 pub returns-in-CloseData : goal.returns-in-CloseData
 returns-in-CloseData g c start settles =
     let old = beside g.R.Read.remaining g.W.Write.contents (g.N.Near.client c.args.client.now) c.args.control.now in
-    leads_then start old _ (settled_leads start old settles) (call_leads Closed old (g.N.Near.client c.close.new.client) c.close.ensures)
+    leads_then start old _ (settled_leads start old settles) (call_leads old Closed (g.N.Near.client c.close.new.client) c.close.ensures)

@@ -1,4 +1,4 @@
-use Rattle.ftp_client_drive.proofs.Going.{goes_settled}
+use Rattle.ftp_control.proofs.Going.{goes_settled}
 use Rattle.ftp_client_drive.proofs.drive.turn.Goals as goal
 
 pub returns-then-has_unheard : goal.returns-then-has_unheard

@@ -3,8 +3,8 @@ use Rattle.std.specs.Option.{option_map}
 use Rattle.ftp_operation.specs.Answer.{said_of}
 use Rattle.ftp_client_model.specs.Calls.{report_of}
 use Rattle.ftp_client_drive.specs.Beside.{beside}
-use Rattle.ftp_client_drive.proofs.Leading.{fails_here, fails_then, leads_nowhere, leads_then}
-use Rattle.ftp_client_drive.proofs.Going.{answers_err}
+use Rattle.ftp_control.proofs.Leading.{fails_here, fails_then, leads_nowhere, leads_then}
+use Rattle.ftp_client_drive.proofs.Turning.{answers_err}
 use Rattle.ftp_client_drive.proofs.Turning.{asked, tells}
 use Rattle.ftp_client_drive.proofs.drive.turns.Goals as goal
 
@@ -15,7 +15,7 @@ pub returns-in-Some : goal.returns-in-Some
 returns-in-Some g c =
     let mid = beside g.R.Read.remaining g.W.Write.contents (g.N.Near.client c.loop.client) c.loop.control in
     tells _ mid (g.N.Near.client c.report.new.self) _ c.loop.invariant
-    (subst (λ r. option_map said_of r ≡ report_of mid.client.view) c.in-Some.is c.report.ensures.answer, c.report.ensures.taken)
+    (subst (λ r. option_map said_of r ≡ report_of mid.owner.view) c.in-Some.is c.report.ensures.answer, c.report.ensures.taken)
 
 pub returns-in_err-turn-in-None : goal.returns-in_err-turn-in-None
 returns-in_err-turn-in-None g c =

@@ -1,5 +1,5 @@
 use Rattle.ftp_client_drive.specs.Beside.{beside}
-use Rattle.ftp_client_drive.specs.Driving.{Leads}
+use Rattle.ftp_control.specs.Driving.{Leads}
 use Rattle.ftp_client_drive.proofs.drive.turns.Given as goal
 
 abbrev pub invariant-loop : goal.invariant-loop

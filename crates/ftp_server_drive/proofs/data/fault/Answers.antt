@@ -1,6 +1,4 @@
-use Rattle.ftp_server_drive.specs.Deeds.{Clock, Break}
-use Rattle.ftp_server_drive.proofs.Leading.{quiet_call, quiet_then}
 use Rattle.ftp_server_drive.proofs.data.fault.Goals as goal
 
 pub returns : goal.returns
-returns g c = quiet_then _ _ _ (quiet_call (Clock c.moment.result.seconds) _ _ c.clock.ensures) (quiet_call Break _ _ c.data_fault.ensures)
+returns g c = (c.moment.result.seconds, _, c.clock.ensures, c.data_fault.ensures)

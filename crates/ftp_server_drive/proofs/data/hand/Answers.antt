@@ -1,6 +1,6 @@
 use Rattle.std.proofs.Common.{rules}
-use Rattle.ftp_server_drive.proofs.Leading.{fails_then, leads_then}
-use Rattle.ftp_server_drive.proofs.Going.{goes_err}
+use Rattle.ftp_control.proofs.Leading.{fails_then, leads_then}
+use Rattle.ftp_control.proofs.Going.{goes_err}
 use Rattle.ftp_server_drive.proofs.data.hand.Goals as goal
 
 pub returns-in_err-at : goal.returns-in_err-at

@@ -1,6 +1,6 @@
 use Rattle.std.proofs.Common.{length, ◌-◌, ◌≤◌}
 use Rattle.ftp_server_drive.specs.Beside.{beside}
-use Rattle.ftp_server_drive.specs.Driving.{Leads}
+use Rattle.ftp_control.specs.Driving.{Leads}
 use Rattle.ftp_server_drive.proofs.data.hand.Given as goal
 
 abbrev pub invariant-loop-at : goal.invariant-loop-at

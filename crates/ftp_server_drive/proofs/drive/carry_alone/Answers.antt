@@ -1,4 +1,4 @@
-use Rattle.ftp_server_drive.proofs.Leading.{fails_here, leads_nowhere}
+use Rattle.ftp_control.proofs.Leading.{fails_here, leads_nowhere}
 use Rattle.ftp_server_drive.proofs.drive.carry_alone.Goals as goal
 
 pub returns-then-eq : goal.returns-then-eq

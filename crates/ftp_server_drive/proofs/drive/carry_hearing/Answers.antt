@@ -1,6 +1,6 @@
 use Rattle.ftp_server_drive.specs.Beside.{beside}
-use Rattle.ftp_server_drive.proofs.Leading.{fails_here, settled_leads}
-use Rattle.ftp_server_drive.proofs.Going.{goes_settled}
+use Rattle.ftp_control.proofs.Leading.{fails_here, settled_leads}
+use Rattle.ftp_control.proofs.Going.{goes_settled}
 use Rattle.ftp_server_drive.proofs.drive.carry_hearing.Goals as goal
 
 pub returns-else-ne : goal.returns-else-ne

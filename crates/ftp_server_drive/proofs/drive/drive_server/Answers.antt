@@ -1,4 +1,4 @@
-use Rattle.ftp_server_drive.proofs.Totals.{broke_off, drove}
+use Rattle.ftp_server_drive.proofs.Turning.{broke_off, drove}
 use Rattle.ftp_server_drive.proofs.drive.drive_server.Goals as goal
 
 pub returns-in-Ok : goal.returns-in-Ok

@@ -1,9 +1,9 @@
-use Rattle.ftp_server_drive.specs.Deeds.{Listening, NoPort}
-use Rattle.ftp_server_drive.proofs.Leading.{quiet_call}
+use Rattle.ftp_server_drive.specs.Side.{Listening, NoPort, server_side}
+use Rattle.ftp_control.proofs.Leading.{quiet_call}
 use Rattle.ftp_server_drive.proofs.drive.listen.Goals as goal
 
 pub returns-in-Some : goal.returns-in-Some
-returns-in-Some g c = quiet_call (Listening c.in-Some.port) _ _ c.listening.ensures
+returns-in-Some g c = quiet_call server_side (Listening c.in-Some.port) _ _ c.listening.ensures
 
 pub returns-in-None : goal.returns-in-None
-returns-in-None g c = quiet_call NoPort _ _ c.listen_refused.ensures
+returns-in-None g c = quiet_call server_side NoPort _ _ c.listen_refused.ensures

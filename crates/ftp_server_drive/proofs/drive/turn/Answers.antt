@@ -1,5 +1,5 @@
 use Rattle.std.proofs.Common.{◌∙◌, sym}
-use Rattle.ftp_server_drive.proofs.Leading.{settled_leads}
+use Rattle.ftp_control.proofs.Leading.{settled_leads}
 use Rattle.ftp_server_drive.proofs.drive.turn.Goals as goal
 
 pub returns-in-CloseAll : goal.returns-in-CloseAll

@@ -1,15 +1,16 @@
 use Rattle.std.proofs.Common.{Ok, subst}
 use Rattle.ftp_server_drive.specs.Beside.{beside}
-use Rattle.ftp_server_drive.specs.Deeds.{Clock}
+use Rattle.ftp_server_drive.specs.Side.{Clock}
 use Rattle.ftp_server_drive.specs.Driving.{Turns}
-use Rattle.ftp_server_drive.proofs.Leading.{fails_here, fails_then, leads_then}
-use Rattle.ftp_server_drive.proofs.Turning.{call_leads, ends_err}
+use Rattle.ftp_control.proofs.Leading.{fails_here, fails_then, leads_then}
+use Rattle.ftp_control.proofs.Leading.{call_leads}
+use Rattle.ftp_server_drive.proofs.Turning.{ends_err}
 use Rattle.ftp_server_drive.proofs.drive.turns.Goals as goal
 
 pub loop-init : goal.loop-init
 loop-init g c =
     let old = beside g.R.Read.remaining g.W.Write.contents (g.F.Far.server c.args.server.now) c.args.control.now in
-    call_leads (Clock c.moment.result.seconds) old (g.F.Far.server c.clock.new.self) c.clock.ensures
+    call_leads old (Clock c.moment.result.seconds) (g.F.Far.server c.clock.new.self) c.clock.ensures
 
 pub returns-in_err-turn : goal.returns-in_err-turn
 returns-in_err-turn g c =

@@ -1,0 +1,103 @@
+-- What the parts of a drive say, put together.
+use Rattle.std.proofs.Common.{◌≡◌, ℕ, ◌<◌, ◌∙◌, List, [], ◌∷◌, length, refl, sym, ap, subst, inl, inr, Result, Ok, Err, arith}
+use Rattle.std.specs.Prelude.{IsErr, true, false}
+use Rattle.std.proofs.KnownBytes.{Keeps-refl}
+use Rattle.std.specs.Io.KnownBytes.{Consumes, IsAtEnd, Keeps}
+use Rattle.ftp_control.proofs.Fronts.{AppendsFront-none}
+use Rattle.ftp_control.specs.Beginning.{AppendsFront}
+use Rattle.ftp_control.specs.declared.pieces.Failed.{Failed}
+use Rattle.ftp_control.specs.Side.{Side}
+use Rattle.ftp_control.specs.Deeds.{Read, Ended, Stand}
+use Rattle.ftp_control.specs.Driving.{Fails, Flushes, Goes, Leads, Settles}
+use Rattle.ftp_control.proofs.Leading.{fails_here, fails_then, leads_on, leads_then, settled_leads}
+
+-- where none was given into room, none was owed
+pub none_owed : (n room : ℕ) (owed : List ℕ) → n ≡ 0 → 0 < room → (0 < room → 0 < length owed → 0 < n) → owed ≡ []
+none_owed n room [] none some gave = refl
+none_owed n room (octet ∷ octets) none some gave = absurd (let least = gave some (omega arith) in omega (arith, least, none))
+
+module _ {side : Side} where
+  -- ---- results
+
+  pub goes_err : {T : Type 0} (a b : Stand side) (r : Result T Failed) → IsErr r → Fails a b → Goes a b r
+  goes_err a b (Ok value) failed fails = absurd (let e : false ≡ true = failed in cc)
+  goes_err a b (Err e) failed fails = fails
+
+  pub flushes_err : {T : Type 0} (a b : Stand side) (r : Result T Failed) → IsErr r → Fails a b → Flushes a b r
+  flushes_err a b (Ok value) failed fails = absurd (let e : false ≡ true = failed in cc)
+  flushes_err a b (Err e) failed fails = fails
+
+  pub goes_then : {T : Type 0} (a b c : Stand side) (r : Result T Failed) → Leads a b → Goes b c r → Goes a c r
+  goes_then a b c (Ok value) first goes = leads_then a b c first goes
+  goes_then a b c (Err e) first fails = fails_then a b c first fails
+
+  pub goes_settled : {T : Type 0} (start a b : Stand side) (r : Result T Failed) → Settles start a → Goes a b r → Goes start b r
+  goes_settled start a b r settles goes = goes_then start a b r (settled_leads start a settles) goes
+
+  -- a part that calls the end alone and then gives up, or not
+  pub goes_either : {T : Type 0} (a b : Stand side) (r : Result T Failed) → Leads a b → Goes a b r
+  goes_either a b (Ok value) leads = leads
+  goes_either a b (Err e) leads = fails_here a b leads
+
+  -- ---- reads
+
+  -- octets are read
+  pub reads_next : (start old new : Stand side) (octets : List ℕ) → Settles start old → old.unheard ≡ [] → Consumes old.left new.left octets
+      → new.unheard ≡ octets → new.written ≡ old.written → new.owner ≡ old.owner → Leads start new
+  reads_next start old new octets settles heard read unheard written owner =
+      let mid = settles.mid in
+      let owes = settles.owes in
+      leads_on (Read octets) start mid new settles.leads (record {
+        owes = subst (λ s. side.OwesNone mid.owner s) (sym owner) owes.0;
+        heard = ap (λ s. s.unheard) (sym owes.1) ∙ heard;
+        read = subst (λ l. Consumes l new.left octets) (ap (λ s. s.left) owes.1) read;
+        unheard = unheard;
+        written = written ∙ ap (λ s. s.written) owes.1;
+      })
+
+  -- none was left
+  pub ends_here : (start old new : Stand side) → Settles start old → old.unheard ≡ [] → Consumes old.left new.left [] → IsAtEnd new.left
+      → new.unheard ≡ [] → new.written ≡ old.written → side.IsCut old.owner new.owner → Leads start new
+  ends_here start old new settles heard read last unheard written cut =
+      let mid = settles.mid in
+      let owes = settles.owes in
+      leads_on Ended start mid new settles.leads (record {
+        asked = old.owner;
+        owes = owes.0;
+        heard = ap (λ s. s.unheard) (sym owes.1) ∙ heard;
+        read = subst (λ l. Consumes l new.left []) (ap (λ s. s.left) owes.1) read;
+        last = last;
+        cut = cut;
+        unheard = unheard;
+        written = written ∙ ap (λ s. s.written) owes.1;
+      })
+
+  -- a read failed
+  pub read_fails : (start old new : Stand side) → Settles start old → Keeps old.left new.left → new.unheard ≡ old.unheard → new.written ≡ old.written
+      → new.owner ≡ old.owner → Fails start new
+  read_fails start old new settles left unheard written owner = record {
+    mid = old;
+    leads = settled_leads start old settles;
+    octets = [];
+    breaks = record {
+      gives = inl (refl, owner);
+      left = left;
+      unheard = unheard;
+      wrote = subst (λ w. AppendsFront old.written w []) (sym written) (AppendsFront-none old.written []);
+    };
+  }
+
+  -- a write failed
+  pub write_fails : (start old new : Stand side) (octets : List ℕ) → Leads start old → side.Gives octets old.owner new.owner → AppendsFront old.written new.written octets
+      → new.left ≡ old.left → new.unheard ≡ old.unheard → Fails start new
+  write_fails start old new octets leads gives wrote left unheard = record {
+    mid = old;
+    leads = leads;
+    octets = octets;
+    breaks = record {
+      gives = inr gives;
+      left = subst (λ l. Keeps old.left l) (sym left) (Keeps-refl old.left);
+      unheard = unheard;
+      wrote = wrote;
+    };
+  }

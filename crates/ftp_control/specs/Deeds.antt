@@ -1,0 +1,104 @@
+-- What is done with an end beside its control connection, one deed after another (RFC 959, section 2.3).
+use Rattle.std.specs.Prelude.{◌≡◌, ℕ, List, [], ◌∷◌, ◌++◌, Option}
+use Rattle.std.specs.Io.KnownBytes.{Appends, Consumes, IsAtEnd}
+use Rattle.ftp_control.specs.Side.{Side}
+
+-- an end beside its control connection: what is left to be read of it, what was read and is not heard yet, and what was written
+-- to it, where a reader or a writer tells that
+pub record Stand (side : Side) : Type 0 where
+  pub owner : side.End
+  pub left : Option (List ℕ)
+  pub unheard : List ℕ
+  pub written : Option (List ℕ)
+
+-- what is done
+pub data Deed (side : Side) : Type 0 where
+  Heard : (octets : List ℕ) → Deed side
+  Said : (octets : List ℕ) → Deed side
+  Read : (octets : List ℕ) → Deed side
+  Ended : Deed side
+  Other : (call : side.Call) → Deed side
+
+module _ {side : Side} where
+  -- the end alone is another
+  abbrev pub with_owner : side.End → Stand side → Stand side
+  with_owner owner stand = record stand { owner = owner }
+
+  -- a call that moves no control octets leaves the control connection as it was
+  abbrev pub Calls : side.Call → (old new : Stand side) → Type 0
+  Calls call old new = side.Called call old.owner new.owner × (new ≡ with_owner new.owner old)
+
+  -- it hears the first octets of those that were read
+  pub record HearsNext (octets : List ℕ) (old new : Stand side) : Type 0 where
+    pub hears : side.Hears octets old.unheard old.owner new.owner
+    pub next : old.unheard ≡ octets ++ new.unheard
+    pub left : new.left ≡ old.left
+    pub written : new.written ≡ old.written
+
+  -- octets that it gives are written
+  pub record Says (octets : List ℕ) (old new : Stand side) : Type 0 where
+    pub gives : side.Gives octets old.owner new.owner
+    pub wrote : Appends old.written new.written octets
+    pub left : new.left ≡ old.left
+    pub unheard : new.unheard ≡ old.unheard
+
+  -- it is asked what it owes, and that is nothing
+  abbrev pub OwesNothing : (old new : Stand side) → Type 0
+  OwesNothing old new = side.OwesNone old.owner new.owner × (new ≡ with_owner new.owner old)
+
+  -- where it owes nothing and all octets were heard, the next ones are read
+  pub record ReadsNext (octets : List ℕ) (old new : Stand side) : Type 0 where
+    pub owes : side.OwesNone old.owner new.owner
+    pub heard : old.unheard ≡ []
+    pub read : Consumes old.left new.left octets
+    pub unheard : new.unheard ≡ octets
+    pub written : new.written ≡ old.written
+
+  -- where it owes nothing and all octets were heard, none is left: it is told that the control connection ended
+  pub record EndsHere (old new : Stand side) : Type 0 where
+    pub asked : side.End
+    pub owes : side.OwesNone old.owner asked
+    pub heard : old.unheard ≡ []
+    pub read : Consumes old.left new.left []
+    pub last : IsAtEnd new.left
+    pub cut : side.IsCut asked new.owner
+    pub unheard : new.unheard ≡ []
+    pub written : new.written ≡ old.written
+
+  abbrev pub Done : Deed side → (old new : Stand side) → Type 0
+  Done (Heard octets) old new = HearsNext octets old new
+  Done (Said octets) old new = Says octets old new
+  Done (Read octets) old new = ReadsNext octets old new
+  Done Ended old new = EndsHere old new
+  Done (Other call) old new = Calls call old new
+
+  -- deeds, the last one first, and where they led
+  abbrev pub Led : List (Deed side) → (start now : Stand side) → Type 0
+  Led [] start now = now ≡ start
+  Led (deed ∷ before) start now = (mid : Stand side) × Led before start mid × Done deed mid now
+
+  -- the control octets that were heard in a deed, said, and read
+  abbrev pub heard_by : Deed side → List ℕ
+  heard_by (Heard octets) = octets
+  heard_by other = []
+
+  abbrev pub said_by : Deed side → List ℕ
+  said_by (Said octets) = octets
+  said_by other = []
+
+  abbrev pub read_by : Deed side → List ℕ
+  read_by (Read octets) = octets
+  read_by other = []
+
+  -- in deeds
+  abbrev pub heard_in : List (Deed side) → List ℕ
+  heard_in [] = []
+  heard_in (deed ∷ before) = heard_in before ++ heard_by deed
+
+  abbrev pub said_in : List (Deed side) → List ℕ
+  said_in [] = []
+  said_in (deed ∷ before) = said_in before ++ said_by deed
+
+  abbrev pub read_in : List (Deed side) → List ℕ
+  read_in [] = []
+  read_in (deed ∷ before) = read_in before ++ read_by deed

@@ -1,0 +1,74 @@
+-- What a drive of an end beside its control connection did, whole or until a read or a write failed.
+use Rattle.std.specs.Prelude.{◌≡◌, ◌⊎◌, ℕ, List, [], ◌++◌, Option}
+use Rattle.std.specs.declared.result.Result.{Result}
+use Rattle.std.specs.declared.result.Result.TheVariants.{Ok, Err}
+use Rattle.std.specs.Io.KnownBytes.{Appends, Consumes, Keeps}
+use Rattle.ftp_control.specs.Beginning.{AppendsFront}
+use Rattle.ftp_control.specs.Deeds.{Deed, Led, OwesNothing, Stand, heard_in, read_in, said_in}
+use Rattle.ftp_control.specs.Side.{Side}
+use Rattle.ftp_control.specs.declared.pieces.Failed.{Failed}
+
+module _ {side : Side} where
+  -- deeds led from here to there
+  pub record Leads (start now : Stand side) : Type 0 where
+    pub deeds : List (Deed side)
+    pub led : Led deeds start now
+
+  -- to where the end owes nothing
+  pub record Settles (start now : Stand side) : Type 0 where
+    pub mid : Stand side
+    pub leads : Leads start mid
+    pub owes : OwesNothing mid now
+
+  -- the drive breaks off: no more was read, and of these octets, which the end gave last, a beginning was written
+  pub record Breaks (octets : List ℕ) (old new : Stand side) : Type 0 where
+    pub gives : ((octets ≡ []) × (new.owner ≡ old.owner)) ⊎ side.Gives octets old.owner new.owner
+    pub left : Keeps old.left new.left
+    pub unheard : new.unheard ≡ old.unheard
+    pub wrote : AppendsFront old.written new.written octets
+
+  -- deeds, and then it breaks off
+  pub record Fails (start now : Stand side) : Type 0 where
+    pub mid : Stand side
+    pub leads : Leads start mid
+    pub octets : List ℕ
+    pub breaks : Breaks octets mid now
+
+  -- ---- what the parts of a drive say
+
+  -- a part of a drive leads on, or fails
+  abbrev pub Goes : {T : Type 0} → (old new : Stand side) → Result T Failed → Type 0
+  Goes old new (Ok value) = Leads old new
+  Goes old new (Err failed) = Fails old new
+
+  -- the same of a part that is begun where the end owes nothing, from wherever that was led to
+  abbrev pub GoesSettled : {T : Type 0} → (old new : Stand side) → Result T Failed → Type 0
+  GoesSettled old new result = (start : Stand side) → Settles start old → Goes start new result
+
+  -- all that is owed is written, or that fails
+  abbrev pub Flushes : {T : Type 0} → (old new : Stand side) → Result T Failed → Type 0
+  Flushes old new (Ok value) = Settles old new
+  Flushes old new (Err failed) = Fails old new
+
+  -- ---- what deeds come to
+
+  -- all that the end said was written, and it heard all that was read but for what is not heard yet
+  pub record Sums (deeds : List (Deed side)) (start now : Stand side) : Type 0 where
+    pub led : Led deeds start now
+    pub read : Consumes start.left now.left (read_in deeds)
+    pub heard : start.unheard ++ read_in deeds ≡ heard_in deeds ++ now.unheard
+    pub wrote : Appends start.written now.written (said_in deeds)
+
+  -- the same where a read or a write failed: a beginning of what it said last was written
+  pub record Cuts (deeds : List (Deed side)) (last : List ℕ) (start now : Stand side) : Type 0 where
+    pub mid : Stand side
+    pub led : Led deeds start mid
+    pub breaks : Breaks last mid now
+    pub read : Consumes start.left now.left (read_in deeds)
+    pub heard : start.unheard ++ read_in deeds ≡ heard_in deeds ++ now.unheard
+    pub wrote : AppendsFront start.written now.written (said_in deeds ++ last)
+
+-- calls that leave the control connection alone, however it stands
+abbrev pub Quietly : (side : Side) → (old new : side.End) → Type 0
+Quietly side old new = (left : Option (List ℕ)) (unheard : List ℕ) (written : Option (List ℕ))
+    → Leads {side = side} (record { owner = old; left = left; unheard = unheard; written = written }) (record { owner = new; left = left; unheard = unheard; written = written })

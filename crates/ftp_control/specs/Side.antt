@@ -1,0 +1,19 @@
+-- Either end of a session, as what stands between it and its connections sees it: what its calls do (RFC 959, section 2.3).
+use Rattle.std.specs.Prelude.{ℕ, List, []}
+
+pub record Side : Type 1 where
+  -- what it holds
+  pub End : Type 0
+  -- its calls that move no control octets, with their values, and what each of them does
+  pub Call : Type 0
+  pub Called : Call → (old new : End) → Type 0
+  -- of the control octets that were read and are not heard yet, it hears the first ones
+  pub Hears : (octets unheard : List ℕ) → (old new : End) → Type 0
+  -- it gives octets of what it owes
+  pub Gives : (octets : List ℕ) → (old new : End) → Type 0
+  -- it is asked what it owes, and that is nothing
+  pub OwesNone : (old new : End) → Type 0
+  -- which is to give none
+  pub gives_none : (old new : End) → OwesNone old new → Gives [] old new
+  -- it is told that the control connection ended
+  pub IsCut : (old new : End) → Type 0
