@@ -3,6 +3,8 @@
 
 mod between;
 mod lane;
+mod room;
 
 pub use between::{Control, Link, Mark, Queue};
 pub use lane::{Lane, ROOM};
+pub use room::{Room, keep};

@@ -6,12 +6,12 @@ ghost use Rattle.ftp_server_model.specs.Calls.{clocked};
 ghost use Rattle.ftp_pair_world.specs.Events.{Happens, Next, Upload, begun_at, lends_none};
 ghost use Rattle.ftp_pair_parts.specs.Shown.{shown, Calmly, HasRoom, Steps, is_unlinked};
 
-use crate::counts::{both_stay, keep, stays};
+use crate::counts::{both_stay, stays};
 use crate::parts::Parts;
 use ftp_client_model::Near;
 use ftp_facts::{Moment, Text};
 use ftp_operation::{How, Op};
-use ftp_pair_lanes::{Link, Mark};
+use ftp_pair_lanes::{Link, Mark, keep};
 use ftp_server_model::Far;
 use ftp_tree::Tree;
 use std::alloc::{AllocError, Allocator};

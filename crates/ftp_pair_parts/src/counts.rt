@@ -1,19 +1,8 @@
-// Items for which there is room, and counts.
-ghost use Rattle.std.specs.Prelude.{◌≡◌, ◌+◌, ◌<◌, ◌++◌, vec_len, vec_capacity, true, [], ◌∷◌};
+// Counts that have not moved, and one that goes on.
+ghost use Rattle.std.specs.Prelude.{◌≡◌, ◌+◌, true};
 ghost use Rattle.ftp_pair_world.specs.World.{counted};
 
 use ftp_server_model::Counts;
-use std::alloc::Allocator;
-
-/// Adds an item, for which there is room.
-pub(crate) fn keep<A: Allocator, T: Drop>(items: &mut Vec<T, A>, item: T)
-    requires { vec_len items.old < vec_capacity items.old }
-    ensures { items.new.items ≡ items.old.items ++ item ∷ [] }
-{
-    if items.push(item).is_err() {
-        unreachable!()
-    }
-}
 
 /// Whether all was calm, and a count has not moved.
 pub(crate) fn stays(calm: bool, old: u64, new: u64) -> bool

@@ -7,11 +7,11 @@ ghost use Rattle.ftp_pair_world.specs.Events.{Happens, Open, Break, Refuse, brok
 ghost use Rattle.ftp_pair_world.specs.World.{gone, marked_last, with_mark};
 ghost use Rattle.ftp_pair_parts.specs.Shown.{shown, Calmly, HasRoom, Steps, link_of, mark_of};
 
-use crate::counts::{both_stay, keep, stays};
+use crate::counts::{both_stay, stays};
 use crate::parts::Parts;
 use ftp_client_model::Near;
 use ftp_ends::Wants;
-use ftp_pair_lanes::{Link, Mark};
+use ftp_pair_lanes::{Link, Mark, keep};
 use ftp_server_model::Far;
 use ftp_tree::Tree;
 use std::alloc::{AllocError, Allocator};

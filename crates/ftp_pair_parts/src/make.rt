@@ -1,50 +1,15 @@
 // How a world begins.
-ghost use Rattle.std.specs.Prelude.{◌≡◌, ◌<◌, [], IfOk, IfErr, true, vec_len, vec_capacity};
+ghost use Rattle.std.specs.Prelude.{◌≡◌, IfOk, IfErr, true};
 ghost use Rattle.ftp_pair_world.specs.World.{world};
 ghost use Rattle.ftp_pair_parts.specs.Shown.{shown, HasRoom};
 
 use crate::parts::Parts;
 use ftp_client_model::Near;
-use ftp_operation::Answer;
-use ftp_pair_lanes::{Control, Lane, Link};
+use ftp_pair_lanes::{Control, Link, Room};
 use ftp_server_model::Far;
 use ftp_tree::Tree;
-use std::alloc::{AllocError, Allocator};
+use std::alloc::Allocator;
 use std::marker::PhantomData;
-
-/// What a world has room for from the start: octets of each queue, those that are lent, and a report.
-#[derive(Drop)]
-struct Room<A: Allocator> {
-    control_to_server: Lane<A>,
-    control_to_client: Lane<A>,
-    data_to_server: Lane<A>,
-    data_to_client: Lane<A>,
-    taken: Lane<A>,
-    reports: Vec<Answer<A>, A>,
-}
-
-impl<A: Allocator + Copy> Room<A> {
-    fn new(alloc: A) -> Result<Room<A>, AllocError>
-        ensures to_server { IfOk result (λ room. room.control_to_server.octets.items ≡ []) }
-        ensures to_client { IfOk result (λ room. room.control_to_client.octets.items ≡ []) }
-        ensures up { IfOk result (λ room. room.data_to_server.octets.items ≡ []) }
-        ensures down { IfOk result (λ room. room.data_to_client.octets.items ≡ []) }
-        ensures lent { IfOk result (λ room. room.taken.octets.items ≡ []) }
-        ensures none { IfOk result (λ room. room.reports.items ≡ []) }
-        ensures report { IfOk result (λ room. vec_len room.reports < vec_capacity room.reports) }
-    {
-        let mut reports = Vec::new(alloc);
-        reports.reserve(1)?;
-        Ok(Room {
-            control_to_server: Lane::new(alloc)?,
-            control_to_client: Lane::new(alloc)?,
-            data_to_server: Lane::new(alloc)?,
-            data_to_client: Lane::new(alloc)?,
-            taken: Lane::new(alloc)?,
-            reports,
-        })
-    }
-}
 
 impl<A: Allocator + Copy, T: Tree<A>, N: Near<A>, F: Far<A, T>> Parts<A, T, N, F> {
     /// Two ends as they begin, with room for 4,096 octets in each queue and of those that are lent, and for a report. Refused that, it hands both back.

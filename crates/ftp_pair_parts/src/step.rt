@@ -5,10 +5,10 @@ ghost use Rattle.ftp_pair_world.specs.Serving.{after_event, collected};
 ghost use Rattle.ftp_pair_parts.specs.Happening.{event_of};
 ghost use Rattle.ftp_pair_parts.specs.Shown.{shown, Calmly, HasRoom, Steps};
 
-use crate::counts::keep;
 use crate::event::Event;
 use crate::parts::Parts;
 use ftp_client_model::Near;
+use ftp_pair_lanes::keep;
 use ftp_server_model::Far;
 use ftp_tree::Tree;
 use std::alloc::{AllocError, Allocator};
