@@ -1,0 +1,2 @@
+-- Lemmas: reports, one after another.
+pub mod Reporting

@@ -1,0 +1,2 @@
+-- How a program ends that reports answers.
+pub mod Status

@@ -1,0 +1,47 @@
+// A script, read whole.
+use ftp_tool_script::{Script, ScriptFault, script_of};
+use std::alloc::Allocator;
+use std::fmt::{Display, Formatter};
+use std::io::{Error, ErrorKind, Read};
+use std::{fmt, io};
+
+/// Why there is no script.
+#[derive(Debug, Drop)]
+pub enum NoScript {
+    /// The number of the first line that fits no form, counted from 1.
+    Line(usize),
+    /// A read failed, or memory was refused.
+    Failed(Error),
+}
+
+impl Display for NoScript {
+    fn fmt<W: fmt::Write>(&self, f: &mut Formatter<W>) -> fmt::Result {
+        match self {
+            NoScript::Line(number) => write!(f, "line {number} fits no form"),
+            NoScript::Failed(error) => write!(f, "{error}"),
+        }
+    }
+}
+
+/// The script that a reader gives, which is read to its end.
+pub fn read_script<A: Allocator + Copy, R: Read>(
+    alloc: A,
+    reader: &mut R,
+) -> Result<Script<A>, NoScript> {
+    let text = match text_of(alloc, reader) {
+        Ok(text) => text,
+        Err(error) => return Err(NoScript::Failed(error)),
+    };
+    match script_of(alloc, text.as_slice()) {
+        Ok(script) => Ok(script),
+        Err(ScriptFault::Line(number)) => Err(NoScript::Line(number)),
+        Err(ScriptFault::Memory) => Err(NoScript::Failed(Error::from(ErrorKind::OutOfMemory))),
+    }
+}
+
+/// All that a reader gives.
+fn text_of<A: Allocator, R: Read>(alloc: A, reader: &mut R) -> io::Result<Vec<u8, A>> {
+    let mut text = Vec::new(alloc);
+    let _count = reader.read_to_end(&mut text)?;
+    Ok(text)
+}
