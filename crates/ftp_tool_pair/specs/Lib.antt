@@ -1,0 +1,2 @@
+-- What is written where a script is played.
+pub mod Played

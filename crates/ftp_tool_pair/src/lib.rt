@@ -1,0 +1,12 @@
+//! The program `pair`: a script of operations between a client and a server in one world over memory (RFC 959).
+#![tactic(auto)]
+
+mod making;
+mod orders;
+mod playing;
+mod rounds;
+mod transcript;
+
+pub use making::beginning_of;
+pub use playing::{PairSettings, play};
+pub use transcript::Transcript;

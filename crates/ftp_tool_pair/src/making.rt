@@ -1,0 +1,72 @@
+// What a script begins with: a new tree, and who may log in.
+use ftp_endpoint::Host;
+use ftp_facts::Text;
+use ftp_operation::{Account, Login};
+use ftp_pair_ends::Beginning;
+use ftp_path::{Path, is_path_text};
+use ftp_tree::{MemTree, Tree};
+use std::alloc::{AllocError, Allocator};
+use std::io;
+use std::io::{Error, ErrorKind};
+
+/// The host of both ends.
+const HERE: Host = Host::V4([127, 0, 0, 1]);
+
+/// A login at a new tree, where `guest` and `anonymous` may log in; with `roots` each at a root of its own, which is made.
+pub fn beginning_of<A: Allocator + Copy>(
+    alloc: A,
+    login: Login<A>,
+    roots: bool,
+) -> io::Result<Beginning<A, MemTree<A>>> {
+    let mut tree = MemTree::new(alloc);
+    let mut guest = Path::root(alloc);
+    let mut anonymous = Path::root(alloc);
+    if roots {
+        guest = made(alloc, &mut tree, b"/guest")?;
+        anonymous = made(alloc, &mut tree, b"/pub")?;
+    }
+    let list = list_of(alloc, guest, anonymous)?;
+    match Beginning::new(alloc, login, list, tree, HERE, HERE) {
+        Ok(of) => Ok(of),
+        Err(_) => Err(Error::new(ErrorKind::Other, "nothing begins so")),
+    }
+}
+
+/// Makes a directory of the root.
+fn made<A: Allocator + Copy>(
+    alloc: A,
+    tree: &mut MemTree<A>,
+    text: &[u8],
+) -> Result<Path<A>, AllocError> {
+    let root = Path::root(alloc);
+    if !is_path_text(text) {
+        return Err(AllocError);
+    }
+    let Ok(path) = root.resolve(alloc, text) else {
+        return Err(AllocError);
+    };
+    match tree.make_dir(&root, &path) {
+        Ok(()) => Ok(path),
+        Err(_) => Err(AllocError),
+    }
+}
+
+/// `guest` with the password `secret`, and `anonymous` without one, at these roots (own choice).
+fn list_of<A: Allocator + Copy>(
+    alloc: A,
+    guest: Path<A>,
+    anonymous: Path<A>,
+) -> Result<Vec<Account<Text<A>, Path<A>>, A>, AllocError> {
+    let mut list = Vec::new(alloc);
+    list.push(Account {
+        user: Text::copy_of(alloc, b"guest")?,
+        pass: Some(Text::copy_of(alloc, b"secret")?),
+        root: guest,
+    })?;
+    list.push(Account {
+        user: Text::copy_of(alloc, b"anonymous")?,
+        pass: None,
+        root: anonymous,
+    })?;
+    Ok(list)
+}

@@ -1,0 +1,142 @@
+// A script between a reader and a writer.
+ghost use Rattle.std.specs.Prelude.{◌≡◌, ◌⊎◌, true, IfOk, OnOk};
+ghost use Rattle.ftp_pair.specs.Session.{Reached};
+ghost use Rattle.ftp_tool_status.specs.declared.status.Status.TheVariants.{BadWords, Failed};
+ghost use Rattle.ftp_tool_pair.specs.Played.{Plays, Reports, Tells};
+
+use crate::making::beginning_of;
+use crate::orders::obey;
+use crate::transcript::Transcript;
+use ftp_client_model::Near;
+use ftp_client_transfer::OperationTransfer;
+use ftp_facts::Text;
+use ftp_pair::World;
+use ftp_pair_ends::{Beginning, world_of};
+use ftp_server_model::Far;
+use ftp_server_transfer::TreeTransfer;
+use ftp_tool_reports::{NoScript, read_script, write_reports};
+use ftp_tool_script::{Order, Script};
+use ftp_tool_status::Status;
+use ftp_tree::{MemTree, Tree};
+use std::alloc::Allocator;
+use std::io;
+use std::io::{Read, Write};
+
+/// How a script is played.
+#[derive(Clone, Copy, Debug, PartialEq, Eq)]
+pub struct PairSettings {
+    /// The most octets that go over a queue in one round; 0: all.
+    pub piece: u32,
+    /// The lines of the control connection are written before the reports.
+    pub transcript: bool,
+    /// `guest` is at `/guest` and `anonymous` at `/pub`, and else both are at the root.
+    pub roots: bool,
+}
+
+/// Plays the script that a reader gives, and writes the report of each order; gives the exit status.
+///
+/// The ends are `ftp_client` and `ftp_server` over a new tree in memory, where `guest` with the password `secret` and `anonymous` without one may log
+/// in; what lies between them is the world of `ftp_pair`. The first order has the first second of the year 2000, each other the next one. `Done`: each
+/// order was answered as wanted. `Refused`: an order was refused or failed. `BadWords`: a line of the script fits no form, and nothing was done.
+/// `Failed`: a read or a write failed, or memory was refused outside of the ends. `faults` is told of the last two.
+pub fn play<A, R, W, F>(
+    alloc: A,
+    settings: PairSettings,
+    reader: &mut R,
+    writer: &mut W,
+    faults: &mut F,
+) -> Status
+where
+    A: Allocator + Copy,
+    R: Read,
+    W: Write,
+    F: Write,
+    ensures { Tells A (W.contents writer.old) (W.contents writer.new) result }
+{
+    let script = match read_script(alloc, reader) {
+        Ok(script) => script,
+        Err(fault) => return no_script(alloc, fault, faults),
+    };
+    match play_script(alloc, settings, script, writer) {
+        Ok(status) => status,
+        Err(error) => failed(alloc, error, faults),
+    }
+}
+
+/// Tells why there is no script.
+fn no_script<A: Allocator, F: Write>(alloc: A, fault: NoScript, faults: &mut F) -> Status
+    ensures { (result ≡ BadWords) ⊎ (result ≡ Failed) }
+{
+    match fault {
+        NoScript::Line(number) => {
+            if let Ok(text) = format!(in alloc; "error: line {number} fits no form\n") {
+                let _told = faults.write_all(text.as_bytes());
+            }
+            Status::BadWords
+        }
+        NoScript::Failed(error) => failed(alloc, error, faults),
+    }
+}
+
+/// Tells what failed.
+fn failed<A: Allocator, F: Write>(alloc: A, error: io::Error, faults: &mut F) -> Status
+    ensures { result ≡ Failed }
+{
+    if let Ok(text) = format!(in alloc; "error: {error}\n") {
+        let _told = faults.write_all(text.as_bytes());
+    }
+    Status::Failed
+}
+
+/// Plays a script between a client and a server that begin for it.
+fn play_script<A: Allocator + Copy, W: Write>(
+    alloc: A,
+    settings: PairSettings,
+    script: Script<A>,
+    writer: &mut W,
+) -> io::Result<Status>
+    ensures { IfOk result (λ status. Plays A (W.contents writer.old) (W.contents writer.new) status) }
+{
+    let Script { login, orders } = script;
+    let of = beginning_of(alloc, login, settings.roots)?;
+    play_from(alloc, settings, of, orders, writer)
+}
+
+/// Plays orders from a beginning.
+#[tactic(auto, using(crate::proofs::Reporting::played))]
+fn play_from<A: Allocator + Copy, W: Write>(
+    alloc: A,
+    settings: PairSettings,
+    of: Beginning<A, MemTree<A>>,
+    orders: Vec<Order<Text<A>>, A>,
+    writer: &mut W,
+) -> io::Result<Status>
+    ensures { IfOk result (λ status. Plays A (W.contents writer.old) (W.contents writer.new) status) }
+{
+    let mut world = world_of::<A, MemTree<A>, OperationTransfer<A>, TreeTransfer<A>>(alloc, of)?;
+    play_in(alloc, settings, &mut world, orders, writer)
+}
+
+/// Plays orders in a world: the transcript, where it is wanted, and then the reports.
+fn play_in<A, T, N, S, W>(
+    alloc: A,
+    settings: PairSettings,
+    world: &mut World<A, T, N, S>,
+    orders: Vec<Order<Text<A>>, A>,
+    writer: &mut W,
+) -> io::Result<Status>
+where
+    A: Allocator + Copy,
+    T: Tree<A>,
+    N: Near<A>,
+    S: Far<A, T>,
+    W: Write,
+    ensures reports { IfOk result (λ status. Reports A world.new.world.reports (W.contents writer.old) (W.contents writer.new) status) }
+    ensures reached { OnOk result (world.new.calm ≡ true → ∥ Reached world.new.world ∥₁) }
+{
+    let mut transcript = Transcript::new(alloc, settings.transcript);
+    obey(world, settings.piece, orders, &mut transcript)?;
+    let _calm = world.is_calm();
+    writer.write_all(transcript.lines())?;
+    write_reports(alloc, world.reports(), writer)
+}

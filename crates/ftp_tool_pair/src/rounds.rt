@@ -1,0 +1,105 @@
+// Rounds of a world.
+use crate::transcript::Transcript;
+use ftp_client_model::Near;
+use ftp_control::TURNS;
+use ftp_pair::{Event, Queue, World};
+use ftp_server_model::Far;
+use ftp_tree::Tree;
+use std::alloc::{AllocError, Allocator};
+
+/// The most octets of one delivery.
+const DELIVERY: usize = 4096;
+
+/// One round: octets of the control connection to the server and to the client, data to the server and to the client, at most so many of each
+/// (0: all), and then openings and ends; says whether anything moved.
+pub(crate) fn round<A, T, N, S>(
+    world: &mut World<A, T, N, S>,
+    piece: u32,
+    transcript: &mut Transcript<A>,
+) -> Result<bool, AllocError>
+where
+    A: Allocator + Copy,
+    T: Tree<A>,
+    N: Near<A>,
+    S: Far<A, T>,
+{
+    let asked = flow(world, Queue::ControlToServer, piece, transcript)?;
+    let answered = flow(world, Queue::ControlToClient, piece, transcript)?;
+    let up = flow(world, Queue::DataToServer, piece, transcript)?;
+    let down = flow(world, Queue::DataToClient, piece, transcript)?;
+    let opened = world.step(Event::Open)?;
+    let ended = end(world)?;
+    Ok(asked || answered || up || down || opened || ended)
+}
+
+/// The receivers of queues are told of their ends, each where it is possible; says whether one was.
+fn end<A, T, N, S>(world: &mut World<A, T, N, S>) -> Result<bool, AllocError>
+where
+    A: Allocator + Copy,
+    T: Tree<A>,
+    N: Near<A>,
+    S: Far<A, T>,
+{
+    let left = world.step(Event::End(Queue::ControlToServer))?;
+    let parted = world.step(Event::End(Queue::ControlToClient))?;
+    let up = world.step(Event::End(Queue::DataToServer))?;
+    let down = world.step(Event::End(Queue::DataToClient))?;
+    Ok(left || parted || up || down)
+}
+
+/// Octets go over a queue, at most so many (0: all); says whether any moved.
+fn flow<A, T, N, S>(
+    world: &mut World<A, T, N, S>,
+    queue: Queue,
+    piece: u32,
+    transcript: &mut Transcript<A>,
+) -> Result<bool, AllocError>
+where
+    A: Allocator + Copy,
+    T: Tree<A>,
+    N: Near<A>,
+    S: Far<A, T>,
+{
+    let mut left = most_of(piece);
+    let mut moved = false;
+    for _ in 0..TURNS {
+        let Some(taken) = deliver(world, queue, left.min(DELIVERY), transcript)? else {
+            return Ok(moved);
+        };
+        moved = true;
+        left = left.saturating_sub(taken);
+        if taken == 0 || left == 0 {
+            return Ok(true);
+        }
+    }
+    Ok(moved)
+}
+
+/// How many octets go at most.
+fn most_of(piece: u32) -> usize {
+    match piece {
+        0 => usize::MAX,
+        count => count as usize,
+    }
+}
+
+/// One delivery: how many octets were taken, or none where none was possible.
+fn deliver<A, T, N, S>(
+    world: &mut World<A, T, N, S>,
+    queue: Queue,
+    count: usize,
+    transcript: &mut Transcript<A>,
+) -> Result<Option<usize>, AllocError>
+where
+    A: Allocator + Copy,
+    T: Tree<A>,
+    N: Near<A>,
+    S: Far<A, T>,
+{
+    if !world.step(Event::Deliver(queue, count))? {
+        return Ok(None);
+    }
+    let taken = world.taken();
+    transcript.take(queue, taken)?;
+    Ok(Some(taken.len()))
+}
