@@ -2,6 +2,7 @@
 use crate::fetching::{GET, LS, PUT};
 use crate::help;
 use crate::looping::LOOP;
+use crate::pairing::PAIR;
 use crate::running::RUN;
 use crate::serving::SERVE;
 use crate::task::Task;
@@ -10,8 +11,8 @@ use clap::{ArgMatches, Command};
 use ftp_tool_files::{Direction, Representation, number_of, representation_of};
 use std::alloc::{AllocError, Global};
 
-/// The subcommands between the standard streams, and the one that has both ends.
-const ALONE: &[Subcommand<'static>] = &[DIALOGUE, FACTS, FRAME, LOOP];
+/// The subcommands between the standard streams, and those that have both ends.
+const ALONE: &[Subcommand<'static>] = &[DIALOGUE, FACTS, FRAME, LOOP, PAIR];
 
 /// The subcommands of a server or a client over a network.
 const OVER_NETWORKS: &[Subcommand<'static>] = &[SERVE, RUN, GET, PUT, LS];

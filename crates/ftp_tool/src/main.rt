@@ -5,6 +5,7 @@ mod command_line;
 mod fetching;
 mod help;
 mod looping;
+mod pairing;
 mod running;
 mod serving;
 mod task;
@@ -78,6 +79,7 @@ where
     match words.subcommand() {
         Some(("serve", words)) => serve(rt, words),
         Some(("loop", _)) => Ok(ftp_tool_loop::play(rt)?.number()),
+        Some(("pair", words)) => play_pair(rt, words, faults),
         Some(("run", words)) => run_script(rt, words),
         Some((name, words)) if fetching::is_one(name) => {
             fetch(rt, name, words, faults.is_terminal())
@@ -100,6 +102,25 @@ where
             &mut std::io::writer(rt),
             faults,
         )),
+        None => bad_words(rt),
+    }
+}
+
+/// Does what `pair` asks for.
+fn play_pair<R, F>(rt: &R, words: &ArgMatches<'_>, faults: &mut F) -> Result<u8>
+where
+    R: Input + Print + Eprint + AllocGlobal,
+    F: Write,
+{
+    match pairing::settings_of(words) {
+        Some(settings) => Ok(ftp_tool_pair::play(
+            rt.alloc(),
+            settings,
+            &mut rt.reader(),
+            &mut std::io::writer(rt),
+            faults,
+        )
+        .number()),
         None => bad_words(rt),
     }
 }
