@@ -24,15 +24,18 @@ told_agrees : (from : State) (begun : List Order) (marks : List (List Mark)) (cu
     → Told from begun marks cutoff reports now → table ≡ now.table → Agrees from begun marks cutoff reports table
 told_agrees from begun marks cutoff reports now table t is = record { items = t.items; hold = t.hold; map_is = inl (is ∙ ap (λ s. s.table) t.now_is) }
 
+-- a table that is the same either way is the same
 either_same : {t other : Table} → (t ≡ other) ⊎ (t ≡ other) → t ≡ other
 either_same (inl is) = is
 either_same (inr is) = is
 
+-- with no operation under way the map of the server is that of the state now
 free_table : (from : State) (begun : List Order) (w : World) → (f : IsFree from begun w) → w.far.session.table ≡ f.now.table
 free_table from begun w f =
     ap (λ s. s.table) (seen (AtFree f.now) w f.stands).session
     ∙ either_same (free_set f.now f.stands.way f.stands.base.near f.stands.base.far f.stands.here).table
 
+-- under an operation the map of the server is that of the state before it or behind it
 under_table : (read : Reading) (from : State) (begun : List Order) (w : World) → (u : IsUnder read from begun w)
     → (w.far.session.table ≡ u.now.table) ⊎ (w.far.session.table ≡ (answer u.now u.op u.moment).1.table)
 under_table read from begun w u = by_place (operation_on read u.now u.op (answer u.now u.op u.moment) u.stands.way u.stands.base.near u.stands.base.far u.stands.here)
@@ -49,6 +52,7 @@ under_table read from begun w u = by_place (operation_on read u.now u.op (answer
     ]
     by_place (inr ends) = inr (ap (λ s. s.table) like.session ∙ ends.1.stands.sees.table)
 
+-- a world under an operation agrees
 under_agrees : (read : Reading) (from : State) (begun : List Order) (w : World) → (u : IsUnder read from begun w) → Agrees from begun w.marks None w.reports w.far.session.table
 under_agrees read from begun w u =
     subst (λ b. Agrees from b w.marks None w.reports w.far.session.table) (sym u.begun_is)
@@ -71,6 +75,7 @@ under_agrees read from begun w u =
       ];
     }
 
+-- a world that follows what was begun agrees with it
 pub follows_agrees : (read : Reading) (from : State) (begun : List Order) (w : World) → Follows read from begun w → WorldAgrees from begun w
 follows_agrees read from begun w h = by_phase h.phase
   where
@@ -90,6 +95,7 @@ follows_agrees read from begun w h = by_phase h.phase
 marked_item : Op (List ℕ) → ℕ → List Mark → Item
 marked_item op moment own = record { moment = moment; first = record { op = op; outcome = Whole; marks = own }; more = [] }
 
+-- a world with a download under way agrees
 fetching_agrees : (read : Reading) (from : State) (begun : List Order) (w : World) → (on : IsFetchingOn read from begun w) → Agrees from begun w.marks None w.reports w.far.session.table
 unfolding marked_item
 fetching_agrees read from begun w on =
@@ -111,6 +117,7 @@ fetching_agrees read from begun w on =
       map_is = inr (fewer, p.table ∙ ap (λ s. s.table) (f.told.now_is ∙ sym (before_more from f.told.items item refl)));
     }))
 
+-- a world that has told a refused REST agrees, though its server is not told yet that the link is closed
 trailing_agrees : (read : Reading) (reads : IsReading read) (from : State) (begun : List Order) (w : World) → (t : IsTrailing from begun w) → Agrees from begun w.marks None w.reports w.far.session.table
 trailing_agrees read reads from begun w t =
     let told : Told from begun (closed_at read reads from begun w t).marks None (closed_at read reads from begun w t).reports t.now =
@@ -119,6 +126,7 @@ trailing_agrees read reads from begun w t =
     (told_agrees from begun (closed_at read reads from begun w t).marks None (closed_at read reads from begun w t).reports t.now (closed_at read reads from begun w t).far.session.table told
     t.stands.here.steady.table)
 
+-- a world that runs what was begun agrees with it
 pub runs_agree : (read : Reading) (reads : IsReading read) (from : State) (begun : List Order) (w : World) → Runs read from begun w → WorldAgrees from begun w
 runs_agree read reads from begun w (inl h) = follows_agrees read from begun w h
 runs_agree read reads from begun w (inr (inl on)) =

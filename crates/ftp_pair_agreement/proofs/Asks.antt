@@ -13,6 +13,7 @@ pub record IsAskOf (op : Op (List ℕ)) : Type 0 where
   pub good : IsAsk ask
   pub op_is : op ≡ ask.op
 
+-- an operation that fetches and can be sent is what some good ask asks for
 pub ask_of : (op : Op (List ℕ)) → IsFetch op → can_be_sent op ≡ true → IsAskOf op
 ask_of (Ops.Get text how) fetches can = record { ask = download_ask None text how; good = download_is_ask None text how can; op_is = refl }
 ask_of (Ops.GetFrom text at how) fetches can =

@@ -39,6 +39,7 @@ use Rattle.ftp_pair_dialogues.specs.Stage.{Answering, row_octets, AreWritten}
 use Rattle.ftp_pair_agreement.specs.Follows.{Follows}
 use Rattle.ftp_pair_agreement.proofs.Keeps.{row_anew}
 
+-- what follows if a truth value is true, and also if it is false, holds
 by_bool : {P : Type 0} (b : Bool) → (b ≡ true → P) → (b ≡ false → P) → P
 by_bool true one other = one refl
 by_bool false one other = other refl
@@ -55,6 +56,7 @@ no_open name (account ∷ accounts) none =
     let rest : list_any (has_user name) accounts ≡ false = ap (λ b. b || list_any (has_user name) accounts) (sym e) ∙ none in
     ap (λ b. cond (b && is_none account.pass) (Some account) (find (is_open name) accounts)) e ∙ no_open name accounts rest)
 
+-- if no two accounts have one user name, the account that needs no password for a name is the one that any password opens
 same_account : (name pass : List ℕ) (accounts : Accounts) (found : Account) → are_distinct accounts ≡ true → find (is_open name) accounts ≡ Some found
     → find (knows name pass) accounts ≡ Some found
 same_account name pass [] found distinct is = absurd (cc)
@@ -78,10 +80,12 @@ same_account name pass (account ∷ accounts) found distinct is =
         let nobody : list_any (has_user name) accounts ≡ false = ap (λ u. list_any (has_user u) accounts) (sym named) ∙ not_true (list_any (has_user account.user) accounts) apart in
         absurd (let f : None ≡ Some found = sym (no_open name accounts nobody) ∙ (sym (λ i. cond (e i && is_none (some i)) (Some account) (find (is_open name) accounts)) ∙ is) in cc)
 
+-- accounts that are not refused have no two of one user name
 distinct_of : (accounts : Accounts) → accounts_refusal accounts ≡ None → are_distinct accounts ≡ true
 distinct_of accounts none = by_bool (are_distinct accounts) (λ e. e) (λ e.
     absurd (let f : Some SameUser ≡ None = sym (ap (λ b. if not b then Some SameUser else (if not (are_apart accounts) then Some NestedRoots else None)) e) ∙ none in cc))
 
+-- if the accounts are not refused, the root that USER alone opens is the root of a login with any password
 opens_as : (accounts : Accounts) (name pass : List ℕ) (root : Names) → accounts_refusal accounts ≡ None → open_root accounts name ≡ Some root → login_root accounts name pass ≡ Some root
 unfolding login_root
 opens_as accounts name pass root none is = by_found (find (is_open name) accounts) refl
@@ -94,12 +98,14 @@ opens_as accounts name pass root none is = by_found (find (is_open name) account
 
 -- ---- names and passwords
 
+-- a user of the type is a name that a command can carry
 a_name : (user : List ℕ) → IsTrue (is_user user) → IsName user
 a_name user is =
     let both = and_parts (nat_le 1 (length user) && nat_le (length user) 255) (list_all is_login_octet user) is in
     let within = and_parts (nat_le 1 (length user)) (nat_le (length user) 255) both.0 in
     (leb-true 1 (length user) within.0, (leb-true (length user) 255 within.1, both.1))
 
+-- a password of the type is one that a command can carry
 a_password : (pass : List ℕ) → IsTrue (is_password pass) → IsPassword pass
 a_password pass is =
     let both = and_parts (nat_le (length pass) 255) (list_all is_login_octet pass) is in
@@ -107,10 +113,12 @@ a_password pass is =
 
 -- ---- the state at the start
 
+-- the direct run starts with the table it is given, with or without a root
 start_table : (table : Table) (root : Option Names) → (direct_start table root).table ≡ table
 start_table table None = refl
 start_table table (Some root) = refl
 
+-- a file among sound entries has a moment no later than the last second
 early_entry : (path : Names) (rows : List (Names × Node)) (octets : List ℕ) (moment : ℕ) → list_all is_sound_entry rows ≡ true → find_entry path_cmp path rows ≡ Some (File octets moment)
     → moment ≤ last_second
 early_entry path [] octets moment all is = absurd (cc)
@@ -144,12 +152,14 @@ short_entry path (row ∷ rows) octets moment is =
     by_node Dir e = absurd (cc)
     by_node (File other at) e = let same : other ≡ octets = cc in ap length same
 
+-- a file of a table whose octets are within the limit is within it
 short_file : (table : Table) (path : Names) (octets : List ℕ) (moment : ℕ) → octets_in table ≤ total_limit → node_at table path ≡ Some (File octets moment) → length octets ≤ total_limit
 unfolding octets_in
 short_file table path octets moment few is =
     let short = short_entry path (fin.entries table) octets moment (get-node table path ∙ is) in
     omega (arith, short, few)
 
+-- a path that has an entry among sound entries is a path of names
 named_entry : (path : Names) (rows : List (Names × Node)) → list_all is_sound_entry rows ≡ true → IsSome (find_entry path_cmp path rows) → list_all is_name path ≡ true
 named_entry path [] all some = absurd (cc)
 named_entry path (row ∷ rows) all some =
@@ -158,10 +168,12 @@ named_entry path (row ∷ rows) all some =
     (λ e. ap (list_all is_name) (same path row.0 e) ∙ (and_parts (list_all is_name row.0) (is_sound_node row.1) both.0).0)
     (λ e. named_entry path rows both.1 (sym (ap (λ b. is_some (cond b (Some row.1) (find_entry path_cmp path rows))) e) ∙ some))
 
+-- the root is a path
 root_is_path : is_path [] ≡ true
 unfolding fits text_of
 root_is_path = refl
 
+-- the direct run starts in a sound state from a tree of sound entries whose visible octets are within the limit
 sound_start : (table : Table) (root : Option Names) → IsTree table → list_all is_sound_entry (fin.entries table) ≡ true → octets_in (part (direct_start table root)) ≤ total_limit
     → IsSound (direct_start table root)
 sound_start table None tree all few = record {
@@ -194,6 +206,7 @@ sound_start table (Some root) tree all few = record {
 
 -- ---- the hosts
 
+-- related hosts are both of IPv6 or both not
 one_family : (one other : Host) → AreRelated one other → is_v6 one ≡ is_v6 other
 one_family (V4 octets) (V4 others) related = refl
 one_family (V4 octets) (V6 others) related = absurd related
@@ -202,6 +215,7 @@ one_family (V6 octets) (V6 others) related = refl
 
 -- ---- the world at the start
 
+-- the world of a fair beginning follows the direct run with no operation begun
 pub begins_follow : (read : Reading) (b : Beginning) → IsFair b → Follows read (state_of b) [] (world_of b)
 begins_follow read b fair = record {
   unlinked = record { link = refl; to_server = refl; to_client = refl };

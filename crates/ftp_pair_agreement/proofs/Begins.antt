@@ -38,6 +38,7 @@ use Rattle.ftp_pair_agreement.proofs.Still.{seen, IsStill, after_reports, no_oct
 abbrev pub at_moment : ℕ → Far → Far
 at_moment moment f = record f { footing = record f.footing { moment = moment } }
 
+-- at another moment of the server the login is at the same place
 access_at : (place : Place) (state : State) (moment : ℕ) (n : Near) (f : Far) → IsAccessOf place state n f → IsAccessOf place state n (at_moment moment f)
 access_at Greets state moment n f is = is
 access_at AsksUser state moment n f is = is
@@ -49,6 +50,7 @@ access_at (Answers admitted to_pass) state moment n f is = is
 abbrev pub with_job : Job → Near → Near
 with_job job n = record n { job = job; run = None }
 
+-- whatever the client has to do behind it, the login is at the same place
 access_job : (place : Place) (state : State) (job : Job) (n : Near) (f : Far) → IsAccessOf place state n f → IsAccessOf place state (with_job job n) f
 access_job Greets state job n f is = is
 access_job AsksUser state job n f is = is
@@ -56,6 +58,7 @@ access_job WantsPass state job n f is = is
 access_job AsksPass state job n f is = is
 access_job (Answers admitted to_pass) state job n f is = is
 
+-- what is on its way at a place of the login is the same whatever the client has to do behind it
 same_way : (place : Place) (job : Job) (n : Near) → way_of place n ≡ way_of place (with_job job n)
 same_way Greets job n = refl
 same_way AsksUser job n = refl
@@ -63,6 +66,7 @@ same_way WantsPass job n = refl
 same_way AsksPass job n = refl
 same_way (Answers admitted to_pass) job n = refl
 
+-- the login goes on with another job of the client and at another moment of the server
 logging_with : (state : State) (way : Way) (job : Job) (moment : ℕ) (n : Near) (f : Far) → Logging state way n f → Logging state way (with_job job n) (at_moment moment f)
 logging_with state way job moment n f l = record {
   place = l.place;
@@ -85,6 +89,7 @@ logging_with state way job moment n f l = record {
   };
 }
 
+-- both ends stand at another moment of the server as they did
 stands_at_moment : (state : State) (moment : ℕ) (n : Near) (f : Far) → Stands state n f → Stands state n (at_moment moment f)
 stands_at_moment state moment n f s = record {
   meets = record { peer = s.meets.peer; here = s.meets.here; typed = s.meets.typed; own = s.meets.own; family = s.meets.family; all_ways = s.meets.all_ways };
@@ -96,6 +101,7 @@ stands_at_moment state moment n f s = record {
 
 -- ---- what the client makes of it
 
+-- a client that is in the login lets the operation wait
 started_waits : (place : Place) (op : Op (List ℕ)) (v : Near) → started_by (standing_of place) op v ≡ record v { job = Waiting op }
 started_waits Greets op v = refl
 started_waits AsksUser op v = refl
@@ -104,17 +110,20 @@ started_waits AsksPass op v = refl
 started_waits (Answers admitted true) op v = refl
 started_waits (Answers admitted false) op v = refl
 
+-- an operation that can be sent, begun in the login, waits, and the client has no run
 starts_waits : (place : Place) (op : Op (List ℕ)) (v : Near) → can_be_sent op ≡ true → v.standing ≡ standing_of place → near.starts op v ≡ with_job (Waiting op) v
 unfolding near.starts
 starts_waits place op v can is =
     ap (λ (b : Bool). if b then started_by v.standing op (record v { run = None }) else unsendable_by v.standing v) can
     ∙ ap (λ s. started_by s op (record v { run = None })) is ∙ started_waits place op (record v { run = None })
 
+-- a client that has entered and is at rest begins an operation that can be sent at once
 starts_begins : (op : Op (List ℕ)) (n : Near) → can_be_sent op ≡ true → near.starts op (calm (resting n)) ≡ begins op (record (calm (resting n)) { job = Idle })
 unfolding near.starts
 starts_begins op n can =
     ap (λ (b : Bool). if b then started_by Standings.Entered op (calm (resting n)) else unsendable_by Standings.Entered (calm (resting n))) can
 
+-- a client that has not failed answers BadOperation to an operation that can't be sent
 unsendable_is : (s : Standing) (v : Near) → is_sound s ≡ true → unsendable_by s v ≡ done_with BadOperation v
 unsendable_is Standings.Greeting v sound = refl
 unsendable_is Standings.User v sound = refl
@@ -122,6 +131,7 @@ unsendable_is Standings.Pass v sound = refl
 unsendable_is Standings.Entered v sound = refl
 unsendable_is (Standings.Failed failure) v sound = absurd (cc)
 
+-- an operation that can't be sent, begun at a client that has not failed, is answered BadOperation at once
 starts_not : (op : Op (List ℕ)) (v : Near) → can_be_sent op ≡ false → is_sound v.standing ≡ true → near.starts op v ≡ with_job (Answered BadOperation) v
 unfolding near.starts
 starts_not op v cannot sound =
@@ -157,10 +167,12 @@ lined : (b : World) (line : Option (List ℕ))
 lined b None = refl
 lined b (Some text) = refl
 
+-- a line that is owed as a whole, or no line, fits a cut with nothing held and nothing moving
 fits_line : (line : Option (List ℕ)) → IsAlone line [] → Fits (behind line []) (record { held = []; moving = []; owed = line_octets line })
 fits_line None fine = (tt, (refl, refl))
 fits_line (Some text) fine = (fine.0, subst (λ l. Flows (written_line text) [] l []) (append-nil (written_line text)) (anew (written_line text) [] (line_is_some text)))
 
+-- the direct run answers BadOperation to an operation that can't be sent, and leaves the state as it was
 pub answer_not : (op : Op (List ℕ)) (moment : ℕ) (now : State) → can_be_sent op ≡ false → answer now op moment ≡ (BadOperation, now)
 unfolding answer
 answer_not op moment now cannot = ap (λ (b : Bool). if b then chosen (first_refusal now op) now (done now op moment) else (BadOperation, now)) cannot
@@ -168,6 +180,7 @@ answer_not op moment now cannot = ap (λ (b : Bool). if b then chosen (first_ref
 module _ (read : Reading) (reads : IsReading read) (from : State) (begun : List Order) (op : Op (List ℕ)) (moment : ℕ) where
   -- ---- one that can be sent
 
+  -- begun while the login is under way, it waits, and the world stands on the way to the goal
   begins_login : (now : State) (Along Goal : Near → Far → Type 0) (w : World) → can_be_sent op ≡ true → (s : StandsAt (AtFree now) w) → Logging now s.way s.base.near s.base.far
       → StandsAt (IsOnWay read now op Along Goal) (operation_begins op moment w)
   begins_login now Along Goal w can s logging =
@@ -184,6 +197,7 @@ module _ (read : Reading) (reads : IsReading read) (from : State) (begun : List 
         here = inl (logging_with now s.way (Waiting op) moment s.base.near s.base.far logging, refl);
       }
 
+  -- begun at rest, where it leads to the goal, it owes its first line if it has one, and the world stands on the way to the goal
   begins_rest : (now : State) (Along Goal : Near → Far → Type 0) (w : World) → ((n : Near) (f : Far) → Stands now n f → LeadsBy read Along Goal op n f) → can_be_sent op ≡ true → (s : StandsAt (AtFree now) w) → s.way ≡ rest → s.base.near ≡ resting s.base.near → Stands now s.base.near s.base.far
       → StandsAt (IsOnWay read now op Along Goal) (operation_begins op moment w)
   unfolding far.clocked
@@ -205,11 +219,13 @@ module _ (read : Reading) (reads : IsReading read) (from : State) (begun : List 
         here = inr (on.left, on.leads);
       }
 
+  -- begun where no operation is under way, in the login or at rest, it stands on the way to the goal
   pub begins_stands : (now : State) (Along Goal : Near → Far → Type 0) (w : World) → ((n : Near) (f : Far) → Stands now n f → LeadsBy read Along Goal op n f) → can_be_sent op ≡ true
       → (s : StandsAt (AtFree now) w) → AtFree now s.way s.base.near s.base.far → StandsAt (IsOnWay read now op Along Goal) (operation_begins op moment w)
   begins_stands now Along Goal w leads can s (inl (logging, idle)) = begins_login now Along Goal w can s logging
   begins_stands now Along Goal w leads can s (inr (way, entered, stands)) = begins_rest now Along Goal w leads can s way entered stands
 
+  -- a free world follows the operations with this one behind them, if it can be sent and has no transfer
   begins_sent : (w : World) → can_be_sent op ≡ true → IsUnlinked w → IsLinked w → (f : IsFree from begun w) → HasNoTransfer op → Follows read from (begun ++ Single op moment ∷ []) (after_event (operation_begins op moment w))
   begins_sent w can unlinked linked f alone = follows_after read from (begun ++ Single op moment ∷ []) (operation_begins op moment w) (record {
     unlinked = record { link = unlinked.link; to_server = unlinked.to_server; to_client = unlinked.to_client };
@@ -235,6 +251,7 @@ module _ (read : Reading) (reads : IsReading read) (from : State) (begun : List 
 
   -- ---- one that can't be sent
 
+  -- where no operation is under way, none is at another moment of the server
   free_clocked : (now : State) (way : Way) (n : Near) (f : Far) → AtFree now way n f → AtFree now way n (at_moment moment f)
   free_clocked now way n f (inl (logging, idle)) =
       let to : Near → Type 0 = λ v. Logging now way v (at_moment moment f) in
@@ -246,20 +263,24 @@ module _ (read : Reading) (reads : IsReading read) (from : State) (begun : List 
   abbrev left_by : World → World
   left_by w = record w { far = at_moment moment w.far; marks = w.marks ++ [] ∷ []; reports = w.reports ++ BadOperation ∷ [] }
 
+  -- the world of a stage and a cut with another moment, marks and reports is that of a base with them
   clocked_at : (marks : List (List Mark)) (reports : List Said) (b : World) (way : Way) (c : Cut)
       → record (world_at b way c) { far = at_moment moment (world_at b way c).far; marks = marks; reports = reports }
       ≡ world_at (record b { far = at_moment moment b.far; marks = marks; reports = reports }) way c
   clocked_at marks reports b (Asking text) c = refl
   clocked_at marks reports b (Answering rows) c = refl
 
+  -- the clock changes nothing but the moment of a server that waits for nothing
   clocked_is : (f : Far) → f.waiting ≡ None → far.clocked moment f ≡ at_moment moment f
   unfolding far.clocked
   clocked_is f none = ap (λ waiting. waited waiting (at_moment moment f)) none
 
+  -- where no operation is under way, the client has no run
   run_none : (now : State) (way : Way) (n : Near) (f : Far) → AtFree now way n f → n.run ≡ None
   run_none now way n f (inl (logging, idle)) = logging.logs.run
   run_none now way n f (inr (is, entered, stands)) = ap (λ v. v.run) entered
 
+  -- behind one that can't be sent a free world has the new moment, an empty row of marks and the report BadOperation, and no more
   refused_is : (w : World) → can_be_sent op ≡ false → IsFree from begun w → after_event (operation_begins op moment w) ≡ left_by w
   refused_is w cannot f =
       let s = f.stands in
@@ -305,12 +326,14 @@ module _ (read : Reading) (reads : IsReading read) (from : State) (begun : List 
         phase = inl (record { control = linked.control; cutoff = linked.cutoff }, inl free);
       })
 
+  -- a free world follows the operations with this one behind them, if it can't be sent
   begins_refused : (w : World) → can_be_sent op ≡ false → IsUnlinked w → IsLinked w → IsFree from begun w → Follows read from (begun ++ Single op moment ∷ []) (after_event (operation_begins op moment w))
   begins_refused w cannot unlinked linked f =
       let told = told_whole from begun w.marks w.reports f.now op moment f.told in
       refused_so (Single op moment) w cannot unlinked linked f
       (subst (λ done. Told from (begun ++ Single op moment ∷ []) (w.marks ++ [] ∷ []) None (w.reports ++ done.0 ∷ []) done.1) (answer_not op moment f.now cannot) told)
 
+  -- a free world follows the operations with this one behind them, if it has no transfer or can't be sent
   pub begins_free : (w : World) → IsUnlinked w → IsLinked w → IsFree from begun w → (can_be_sent op ≡ true → HasNoTransfer op) → Follows read from (begun ++ Single op moment ∷ []) (after_event (operation_begins op moment w))
   begins_free w unlinked linked f alone = by_sent (can_be_sent op) refl
     where

@@ -16,6 +16,7 @@ pub record EndsWithin (xs ys zs ws : List ℕ) : Type 0 where
   pub within : zs ≡ xs ++ octet ∷ more
   pub left : ys ≡ (octet ∷ more) ++ ws
 
+-- where one list is cut twice, one first part reaches over the other or ends within it
 pub cuts : (xs ys zs ws : List ℕ) → xs ++ ys ≡ zs ++ ws → Reaches xs ys zs ws ⊎ EndsWithin xs ys zs ws
 cuts xs ys [] ws e = inl (record { more = xs; over = refl; left = e })
 cuts [] ys (z ∷ zs) ws e = inr (record { octet = z; more = zs; within = refl; left = e })
@@ -27,6 +28,7 @@ cuts (x ∷ xs) ys (z ∷ zs) ws e =
       | inr r ↦ inr (record { octet = r.octet; more = r.more; within = λ i. sym same i ∷ r.within i; left = r.left })
     ]
 
+-- two lists that are empty together are each empty
 pub both_empty : (xs ys : List ℕ) → xs ++ ys ≡ [] → (xs ≡ []) × (ys ≡ [])
 both_empty [] ys e = (refl, e)
 both_empty (x ∷ xs) ys e = absurd (cc)
@@ -40,6 +42,7 @@ pub record IsAll (unit held xs ys others : List ℕ) : Type 0 where
   pub whole : held ++ last ≡ unit
   pub left : more ++ ys ≡ others
 
+-- octets of a unit are heard, and the unit is still on its way, or all of it is heard
 pub hears_some : (unit held xs ys others : List ℕ) → Flows unit held (xs ++ ys) others → Flows unit (held ++ xs) ys others ⊎ IsAll unit held xs ys others
 hears_some unit held xs ys others f = elim (cuts xs ys (f.octet ∷ f.more) others f.is) [
   | inl r ↦ inr (record { last = f.octet ∷ f.more; more = r.more; heard = r.over; whole = f.whole; left = r.left })

@@ -16,15 +16,18 @@ use Rattle.ftp_pair_agreement.proofs.Phases.{HasFollowed, turns_free, turns_unde
 
 -- ---- a predicate on both ends
 
+-- a predicate on both ends that has its turns leads from each of its bases to such a base again
 pub ends_go : (read : Reading) (At : Way → Near → Far → Type 0) → Turns read At → Goes read (of_ends At) (of_ends At)
 ends_go read At turns = record { held = λ way b here. here; asked = λ text b here. turns.asked text b.near b.far here; told = λ reply more b here. turns.told reply more b.near b.far here }
 
 -- ---- what is lent is of no matter
 
+-- the world of a stage and a cut with other octets lent is that of a base with them
 pub taken_at : (b : World) (way : Way) (c : Cut) (octets : List ℕ) → record (world_at b way c) { taken = octets } ≡ world_at (record b { taken = octets }) way c
 taken_at b (Asking text) c octets = refl
 taken_at b (Answering rows) c octets = refl
 
+-- a world stands as it did whatever octets are lent
 stands_taken : (At : Way → Near → Far → Type 0) (octets : List ℕ) (w : World) → StandsAt At w → StandsAt At (record w { taken = octets })
 stands_taken At octets w s =
     let lends : World → World = λ u. record u { taken = octets } in
@@ -49,13 +52,16 @@ pub record IsMove (w new : World) : Type 0 where
   pub to_server : new.data_to_server ≡ w.data_to_server
   pub to_client : new.data_to_client ≡ w.data_to_client
 
+-- behind a movement the orders have the items and reports that they had
 told_moved : (from : State) (begun : List Order) (w new : World) (now : State) → IsMove w new → Told from begun w.marks None w.reports now → Told from begun new.marks None new.reports now
 told_moved from begun w new now move t =
     subst (λ marks. Told from begun marks None new.reports now) (sym move.marks) (subst (λ reports. Told from begun w.marks None reports now) (sym move.reports) t)
 
+-- behind a movement they have them too with marks that are not yet all those of the world
 reports_moved : (from : State) (done : List Order) (marks : List (List Mark)) (w new : World) (now : State) → IsMove w new → Told from done marks None w.reports now → Told from done marks None new.reports now
 reports_moved from done marks w new now move t = subst (λ reports. Told from done marks None reports now) (sym move.reports) t
 
+-- a movement that lets the ends stand where they stood, and what is lost be lost, keeps what has followed
 pub moves_follow : (read : Reading) (from : State) (begun : List Order) (w new : World) → IsReading read → IsMove w new
     → ((At : Way → Near → Far → Type 0) → Turns read At → StandsAt At w → StandsAt At new) → (IsLost from begun w → IsLost from begun new)
     → HasFollowed read from begun w → HasFollowed read from begun new
@@ -102,6 +108,7 @@ module _ (read : Reading) (reads : IsReading read) (from : State) (begun : List 
   abbrev Holds : World → Type 0
   Holds w = HasFollowed read from begun w
 
+  -- what has followed holds whatever octets are lent
   holds_taken : (octets : List ℕ) (w : World) → Holds w → Holds (record w { taken = octets })
   holds_taken octets w h =
       moves_follow read from begun w (record w { taken = octets }) reads
@@ -110,6 +117,7 @@ module _ (read : Reading) (reads : IsReading read) (from : State) (begun : List 
       (λ l. record { now = l.now; cutoff = l.cutoff; cut_is = l.cut_is; early = l.early; told = l.told; near = l.near; far = l.far; table = l.table; control = l.control; to_server = l.to_server; to_client = l.to_client })
       h
 
+  -- an output call of the client keeps what has followed
   pulled_server : (n : ℕ) (w : World) → Holds w → Holds (pulled ControlToServer w n)
   pulled_server n w h =
       moves_follow read from begun w (pulled ControlToServer w n) reads
@@ -118,6 +126,7 @@ module _ (read : Reading) (reads : IsReading read) (from : State) (begun : List 
       (λ l. subst (IsLost from begun) (sym (no_pull_to_server n w l.near.owed)) l)
       h
 
+  -- an output call of the server keeps what has followed
   pulled_client : (n : ℕ) (w : World) → Holds w → Holds (pulled ControlToClient w n)
   pulled_client n w h =
       moves_follow read from begun w (pulled ControlToClient w n) reads
@@ -126,6 +135,7 @@ module _ (read : Reading) (reads : IsReading read) (from : State) (begun : List 
       (λ l. subst (IsLost from begun) (sym (no_pull_to_client n w l.far.owed l.far.waiting)) l)
       h
 
+  -- octets that the server takes keep what has followed
   pushed_server : (n : ℕ) (w : World) → Holds w → Holds (pushed read ControlToServer n w)
   pushed_server n w h =
       moves_follow read from begun w (pushed read ControlToServer n w) reads
@@ -134,6 +144,7 @@ module _ (read : Reading) (reads : IsReading read) (from : State) (begun : List 
       (λ l. subst (IsLost from begun) (sym (no_push_to_server read n w l.to_server)) l)
       h
 
+  -- octets that the client takes keep what has followed
   pushed_client : (n : ℕ) (w : World) → Holds w → Holds (pushed read ControlToClient n w)
   pushed_client n w h =
       moves_follow read from begun w (pushed read ControlToClient n w) reads
@@ -142,14 +153,17 @@ module _ (read : Reading) (reads : IsReading read) (from : State) (begun : List 
       (λ l. subst (IsLost from begun) (sym (no_push_to_client read n w l.to_client)) l)
       h
 
+  -- output calls of the client, one after the other, keep what has followed
   filled_server : (counts : List ℕ) (w : World) → Holds w → Holds (filled ControlToServer w counts)
   filled_server [] w h = h
   filled_server (count ∷ counts) w h = filled_server counts (pulled ControlToServer w count) (pulled_server count w h)
 
+  -- output calls of the server, one after the other, keep what has followed
   filled_client : (counts : List ℕ) (w : World) → Holds w → Holds (filled ControlToClient w counts)
   filled_client [] w h = h
   filled_client (count ∷ counts) w h = filled_client counts (pulled ControlToClient w count) (pulled_client count w h)
 
+  -- a delivery to the server, of none or of some octets, leads to a world that follows
   pub delivers_server : (none : Bool) (count : ℕ) (w new : World) → Holds w → DeliversBy none read ControlToServer count w new → Follows read from begun new
   delivers_server true count w new h m =
       subst (Follows read from begun) (sym m.is) (follows_after read from begun _ (pulled_server m.gave w h))
@@ -158,6 +172,7 @@ module _ (read : Reading) (reads : IsReading read) (from : State) (begun : List 
       let lent = holds_taken (take d.taken (filled ControlToServer w d.counts).control_to_server) (filled ControlToServer w d.counts) full in
       subst (Follows read from begun) (sym d.is) (follows_after read from begun _ (pushed_server d.taken _ lent))
 
+  -- a delivery to the client, of none or of some octets, leads to a world that follows
   pub delivers_client : (none : Bool) (count : ℕ) (w new : World) → Holds w → DeliversBy none read ControlToClient count w new → Follows read from begun new
   delivers_client true count w new h m =
       subst (Follows read from begun) (sym m.is) (follows_after read from begun _ (pulled_client m.gave w h))
@@ -166,5 +181,6 @@ module _ (read : Reading) (reads : IsReading read) (from : State) (begun : List 
       let lent = holds_taken (take d.taken (filled ControlToClient w d.counts).control_to_client) (filled ControlToClient w d.counts) full in
       subst (Follows read from begun) (sym d.is) (follows_after read from begun _ (pushed_client d.taken _ lent))
 
+  -- what has followed holds with no octets lent
   pub holds_lent : (w : World) → Holds w → Holds (record w { taken = [] })
   holds_lent w h = holds_taken [] w h

@@ -42,10 +42,12 @@ use Rattle.ftp_pair_dialogues.proofs.Fetching.{download_plan, download_row}
 
 -- ---- what can be sent
 
+-- the text of a download that can be sent is the text of a path
 fetch_text : (offset : Option ℕ) (text : List ℕ) (how : How) → can_be_sent (fetch offset text how) ≡ true → IsPathText text
 fetch_text None text how can = can
 fetch_text (Some at) text how can = (and_parts (is_path_text text) (is_number at) can).0
 
+-- the offset of a download that can be sent is less than 10 ^ 18
 fetch_few : (offset : Option ℕ) (text : List ℕ) (how : How) → can_be_sent (fetch offset text how) ≡ true → (at : ℕ) → offset ≡ Some at → at < 10 ^ 18
 fetch_few offset text how can at is = ltb-true at (10 ^ 18) (and_parts (is_path_text text) (is_number at) (subst (λ o. can_be_sent (fetch o text how) ≡ true) is can)).1
 
@@ -54,6 +56,7 @@ fetch_few offset text how can at is = ltb-true at (10 ^ 18) (and_parts (is_path_
 abbrev joined : Kind → Structure → Mode → Representation
 joined kind structure mode = record { kind = kind; structure = structure; mode = mode }
 
+-- of all kinds, structures and modes only image files in blocks have markers
 only_marked : (kind : Kind) (structure : Structure) (mode : Mode) → has_markers (joined kind structure mode) ≡ true → joined kind structure mode ≡ image_blocks
 only_marked Kinds.Image Structures.File Modes.Block is = refl
 only_marked Kinds.Image Structures.File Modes.Stream is = absurd (cc)
@@ -64,13 +67,16 @@ only_marked Kinds.Ascii Structures.File Modes.Stream is = absurd (cc)
 only_marked Kinds.Ascii Structures.Record Modes.Block is = absurd (cc)
 only_marked Kinds.Ascii Structures.Record Modes.Stream is = absurd (cc)
 
+-- a representation with markers is that of image files in blocks
 marked_is : (r : Representation) → has_markers r ≡ true → r ≡ image_blocks
 marked_is r is = only_marked r.kind r.structure r.mode is
 
+-- a refusal, or else none, is that refusal
 or_none : (one : Option Refusal) → option_or one None ≡ one
 or_none None = refl
 or_none (Some why) = refl
 
+-- what is written is the marked text where there are markers, and the wire of the settings where there are none
 written_is : (b : Bool) (settings : Representation) (start : ℕ) (octets : List ℕ)
     → written b settings start octets ≡ (if b then marked_text start octets else written_wire settings.mode (form_of settings) octets)
 written_is true settings start octets = refl
@@ -78,6 +84,7 @@ written_is false settings start octets = refl
 
 -- ---- files are short
 
+-- a file of a sound state has no more octets than the limit of all
 short-file : (state : State) (path : Names) → IsSound state → length (octets_or_none (part state) path) ≤ total_limit
 unfolding octets_at
 short-file state path sound = by_node (node_at (part state) path) refl
@@ -100,6 +107,7 @@ module _ (state : State) (offset : Option ℕ) (text : List ℕ) (how : How) whe
 
   -- ---- refusals
 
+  -- where REST is not refused, the direct run refuses the download for the reason of RETR
   refusal_is : IsPlacedAt how.representation offset → refusal state op ≡ why_not state offset text how
   refusal_is placed = by_offset offset placed
     where
@@ -107,6 +115,7 @@ module _ (state : State) (offset : Option ℕ) (text : List ℕ) (how : How) whe
       by_offset None placed = sym (or_none _)
       by_offset (Some at) placed = ap (λ o. or_refused o (refused_from state text how at)) placed
 
+  -- the direct run answers with the octets asked for, and leaves the state as it was
   done_is : (moment : ℕ) → done state op moment ≡ (Octets content, state)
   done_is moment = by_offset offset
     where
@@ -116,10 +125,12 @@ module _ (state : State) (offset : Option ℕ) (text : List ℕ) (how : How) whe
 
   -- ---- the place in the file
 
+  -- a place, or 0 if there is none, is within the file, if each place that is found is
   within_by : (found : Option ℕ) → ((at : ℕ) → found ≡ Some at → at ≤ length (file_of state text)) → unwrap_or found 0 ≤ length (file_of state text)
   within_by None within = omega arith
   within_by (Some at) within = within at refl
 
+  -- the place where the download begins is within the file
   place_within : place ≤ length (file_of state text)
   place_within = by_offset offset
     where
@@ -128,6 +139,7 @@ module _ (state : State) (offset : Option ℕ) (text : List ℕ) (how : How) whe
       by_offset (Some at) =
           within_by (place_at state (named state text) how at) (λ place is. (led how.representation.kind (file_of state text) at place is).within)
 
+  -- in a sound state the place and the number of octets asked for are together less than 2 ^ 64
   few_octets : IsSound state → place + length content < 2 ^ 64
   few_octets sound =
       let short = short-file state (named state text) sound in
@@ -136,6 +148,7 @@ module _ (state : State) (offset : Option ℕ) (text : List ℕ) (how : How) whe
 
   -- ---- the whole text
 
+  -- in a sound state the text of the link gives the octets asked for, with markers and without
   wire_by : IsSound state → (b : Bool) → has_markers how.representation ≡ b
       → GivesFile how.representation (if b then marked_text place content else written_wire how.representation.mode (form_of how.representation) content) content
   wire_by sound true is =
@@ -143,13 +156,16 @@ module _ (state : State) (offset : Option ℕ) (text : List ℕ) (how : How) whe
       subst Gives (sym (marked_is how.representation is)) (marked_wire_gives_file place content (few_octets sound))
   wire_by sound false is = wire_gives_file how.representation content
 
+  -- in a sound state the octets of the link give what is asked for
   wire_gives : IsSound state → GivesFile how.representation (fetched_wire state offset text how) content
   wire_gives sound = wire_by sound (has_markers how.representation) refl
 
+  -- the answer of a download whose octets have come is these octets, with an offset and without
   octets_answer : (offset : Option ℕ) (octets : List ℕ) → content_answer (fetch offset text how) octets ≡ Some (Octets octets)
   octets_answer None octets = refl
   octets_answer (Some at) octets = refl
 
+  -- behind all the octets of the link, a clean end and a 226 the client answers with what is asked for
   judged_so : (mark : Option ℕ) → IsSound state
       → judged Endings.Clean Aborts.Unsent 226 op (Receiving (decoder_of how.representation (fetched_wire state offset text how)) mark) ≡ Some (Octets content)
   judged_so mark sound =
@@ -168,6 +184,7 @@ module _ (state : State) (offset : Option ℕ) (text : List ℕ) (how : How) whe
       let short : length (take found (file_of state text)) ≡ min found (length (file_of state text)) = length-take found (file_of state text) in
       omega (arith, long, short, lies.within)
 
+  -- with markers a download that is not refused begins at its offset, or at 0 if it has none
   start_is : (offset : Option ℕ) → why_not state offset text how ≡ None → has_markers how.representation ≡ true → unwrap_or (place_in_file state offset text how) 0 ≡ unwrap_or offset 0
   start_is None none marked = refl
   start_is (Some at) none marked = by_place (place_at state (named state text) how at) refl
@@ -186,11 +203,13 @@ module _ (state : State) (offset : Option ℕ) (text : List ℕ) (how : How) whe
   text_by none true is = ap (λ start. marked_text start content) (sym (start_is offset none is))
   text_by none false is = refl
 
+  -- what is written of a download that is not refused, from its offset on, is the octets of the link
   text_is : why_not state offset text how ≡ None → written (has_markers how.representation) how.representation (unwrap_or offset 0) content ≡ fetched_wire state offset text how
   text_is none = text_by none (has_markers how.representation) refl
 
   -- ---- the download that the world knows
 
+  -- the octets of the link are the text of the download that the world knows, if it is not refused
   sent_so : why_not state offset text how ≡ None → IsKnownText (download_ask offset text how) state
   sent_so none = by_offset offset (text_is none)
     where
@@ -200,6 +219,7 @@ module _ (state : State) (offset : Option ℕ) (text : List ℕ) (how : How) whe
       by_offset None is = record { start = 0; octets = content_from state None text how; down = refl; text = is }
       by_offset (Some at) is = record { start = at; octets = content_from state (Some at) text how; down = refl; text = is }
 
+  -- a download has no upload
   no_upload : upload_of state op ≡ None
   no_upload = by_offset offset
     where
@@ -207,10 +227,12 @@ module _ (state : State) (offset : Option ℕ) (text : List ℕ) (how : How) whe
       by_offset None = refl
       by_offset (Some at) = refl
 
+-- an offset that has no meaning in the representation is the reason for which the direct run refuses the download
 unplaced_is : (state : State) (offset : Option ℕ) (text : List ℕ) (how : How) (at : ℕ) (why : Refusal) → offset ≡ Some at
     → offset_refusal at (how_in_force how.representation) ≡ Some why → refusal state (fetch offset text how) ≡ Some why
 unplaced_is state offset text how at why is some = ap (λ o. refusal state (fetch o text how)) is ∙ ap (λ o. or_refused o (refused_from state text how at)) some
 
+-- of a download that can be sent the client reads the answer of the direct run out of the whole octets
 download_answer : (offset : Option ℕ) (text : List ℕ) (how : How) → can_be_sent (fetch offset text how) ≡ true → HasAnswer (download_ask offset text how)
 download_answer offset text how can = record {
   can = can;

@@ -34,6 +34,7 @@ pub record HasNoData (w : World) : Type 0 where
   pub far_gives : far.to_give w.far ≡ []
   pub asks : is_asked_for w ≡ false
 
+-- a data connection on which no transfer is under way has nothing to give
 pub given_none : (connection : ServerLink Transfer) → is_aside connection ≡ true → far.given_by connection ≡ []
 given_none FarData.Free aside = refl
 given_none FarData.Passive aside = refl
@@ -43,6 +44,7 @@ given_none (FarData.Asked asked) aside = refl
 given_none (FarData.Opening transfer way) aside = refl
 given_none (FarData.Transferring transfer) aside = absurd (cc)
 
+-- what is joined with false is false
 pub and_false : (b : Bool) → (b && false) ≡ false
 and_false true = refl
 and_false false = refl
@@ -51,6 +53,7 @@ and_false false = refl
 nothing_wanted : (wants : Wants) → is_wanted Want.Nothing wants ≡ false
 nothing_wanted wants = refl
 
+-- in a world where neither end wants anything there is no data to give and no link to ask for
 pub still_data : (w : World) → IsStill w → HasNoData w
 still_data w s = record {
   near_gives = rw (s.near.closing, s.near.connection) refl;
@@ -58,6 +61,7 @@ still_data w s = record {
   asks = ap (λ q. is_gone w.link && is_wanted q (far.wants w.far)) (near_wants w.near s.near) ∙ and_false (is_gone w.link);
 }
 
+-- and neither is there where the control connection has ended
 lost_data : (from : State) (begun : List Order) (w : World) → IsLost from begun w → HasNoData w
 unfolding near.wants
 lost_data from begun w l = record {
@@ -69,6 +73,7 @@ lost_data from begun w l = record {
     leaves : near.wants w.near ≡ Want.CloseAll
     leaves = rw (l.near.closing, l.near.standing) refl
 
+-- in a world with an operation under way neither end wants anything
 pub under_still : (read : Reading) (from : State) (begun : List Order) (w : World) → IsUnder read from begun w → IsStill w
 under_still read from begun w u = by_place (operation_on read u.now u.op (answer u.now u.op u.moment) u.stands.way u.stands.base.near u.stands.base.far u.stands.here)
   where
@@ -80,6 +85,7 @@ under_still read from begun w u = by_place (operation_on read u.now u.op (answer
     by_place (inl moving) = still_as u.stands.base w like moving.set.near moving.set.far
     by_place (inr ends) = still_as u.stands.base w like (told_waits (answer u.now u.op u.moment).0 u.stands.base.near ends.1.near) ends.1.stands.far
 
+-- in a world that follows the operations begun there is no data to give and no link to ask for
 pub no_data : (read : Reading) (from : State) (begun : List Order) (w : World) → Follows read from begun w → HasNoData w
 no_data read from begun w h = by_phase h.phase
   where
@@ -100,17 +106,21 @@ under_busy read from begun w u = by_place (operation_on read u.now u.op (answer 
     by_place (inl moving) = ap is_busy_job like.job ∙ moving.busy
     by_place (inr ends) = ap is_busy_job (like.job ∙ ap (λ v. v.job) ends.1.near)
 
+-- with nothing due and nothing in the queue no octet can move
 pub both_false : (due queue : List ℕ) (a b c : Bool) → due ≡ [] → queue ≡ [] → ((has_octets due && a) || (b && has_octets queue && c)) ≡ false
 both_false due queue a b c none empty =
     ap (λ l. (has_octets l && a) || (b && has_octets queue && c)) none ∙ ap (λ l. b && has_octets l && c) empty ∙ ap (λ (d : Bool). d && c) (and_false b)
 
+-- what is false does not hold
 pub never : (b : Bool) → b ≡ false → IsTrue b → ⊥
 never b is holds = let e : true ≡ false = sym holds ∙ is in cc
 
+-- in each phase the client has not left the control connection
 not_left_near : (read : Reading) (from : State) (begun : List Order) (w : World) → Phase read from begun w → is_left_by_near w.control ≡ false
 not_left_near read from begun w (inl (l, open_phase)) = ap is_left_by_near l.control
 not_left_near read from begun w (inr l) = ap is_left_by_near l.control
 
+-- in each phase the server has not left the control connection
 not_left_far : (read : Reading) (from : State) (begun : List Order) (w : World) → Phase read from begun w → is_left_by_far w.control ≡ false
 not_left_far read from begun w (inl (l, open_phase)) = ap is_left_by_far l.control
 not_left_far read from begun w (inr l) = ap is_left_by_far l.control
@@ -129,12 +139,15 @@ module _ (read : Reading) (reads : IsReading read) (from : State) where
   lent : (begun : List Order) (w : World) → Holds begun w → HasFollowed read from begun (record w { taken = [] })
   lent begun w h = holds_lent read reads from begun w (record { unlinked = h.unlinked; phase = h.phase })
 
+  -- a world that follows the operations begun still does when what the event before took is not lent any more
   pub lent_again : (begun : List Order) (w : World) → Holds begun w → Holds begun (record w { taken = [] })
   lent_again begun w h = let l = lent begun w h in record { unlinked = l.unlinked; untold = h.untold; phase = l.phase }
 
+  -- a world that follows the operations begun follows them with none added
   same : (begun : List Order) (w : World) → Holds begun w → Holds (begun ++ []) w
   same begun w h = subst (λ l. Holds l w) (sym (append-nil begun)) h
 
+  -- a world that follows the operations begun still does behind the end of the control connection
   ends_follows : (begun : List Order) (w new : World) → Holds begun w → Happens read EndControl w true new → Holds begun new
   ends_follows begun w new h e =
       let u : World = record w { taken = [] } in
@@ -146,6 +159,7 @@ module _ (read : Reading) (reads : IsReading read) (from : State) where
       by_phase u unlinked untold can (inl (l, inr under)) = parts_from_under read from begun u unlinked untold under
       by_phase u unlinked untold can (inr l) = absurd (never _ (ap (λ c. not (is_parted c)) l.control) can)
 
+  -- a world that follows the operations begun still does behind each event that begins nothing
   pub happens : (begun : List Order) (event : Event) (w new : World) → IsNoBeginning event → Holds begun w → Happens read event w true new → Holds (begun ++ begun_by event true) new
   happens begun (Deliver ControlToServer count) w new plain h e = same begun new (delivers_server read reads from begun _ count _ new (lent begun w h) e.1)
   happens begun (Deliver ControlToClient count) w new plain h e = same begun new (delivers_client read reads from begun _ count _ new (lent begun w h) e.1)

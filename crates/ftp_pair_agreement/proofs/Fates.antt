@@ -31,6 +31,7 @@ use Rattle.ftp_pair_agreement.specs.Stages.{Fared}
 abbrev pub cut_said : Ask → List ℕ → Said
 cut_said ask came = BrokenOff (decoder_of ask.settings came).content (mark_in (no_octets ask.settings) None came)
 
+-- behind a break, a 226 and a 426 alike are judged as broken off with what came
 pub judged_cut : (ask : Ask) → IsAsk ask → (code : ℕ) (came : List ℕ) → (code ≡ 226) ⊎ (code ≡ 426)
     → judged Endings.Broken Aborts.Unsent code ask.op (Receiving (decoder_of ask.settings came) (mark_in (no_octets ask.settings) None came)) ≡ Some (cut_said ask came)
 judged_cut ask good code came either = elim either [
@@ -54,6 +55,7 @@ module _ (state : State) (ask : Ask) (good : IsAsk ask) where
   pub whole_fares : (own : List Mark) (said : Said) → ((moment : ℕ) → answer state op moment ≡ (said, state)) → Fared state ask own said
   whole_fares own said is = record { outcome = Whole; can_be = tt; allowed = λ index. tt; did_so = is }
 
+  -- an operation that the direct run refuses fares as refused, with the code of that refusal
   pub refused_fares : (own : List Mark) (why : Refusal) → state.known ≡ true → refusal state op ≡ Some why → Fared state ask own (Refused (code_of why))
   refused_fares own why known is = whole_fares own (Refused (code_of why)) (λ moment. sym (answer_known state op moment (Some why) good.answer.can known is))
 
@@ -61,10 +63,12 @@ module _ (state : State) (ask : Ask) (good : IsAsk ask) where
   pub unknown_fares : (own : List Mark) → state.known ≡ false → Fared state ask own (Refused 530)
   unknown_fares own unknown = whole_fares own (Refused 530) (λ moment. sym (answer_unknown state op moment good.answer.can unknown))
 
+  -- an operation that the direct run does not refuse fares with what is said of it whole
   pub said_fares : (own : List Mark) → state.known ≡ true → refusal state op ≡ None → Fared state ask own (ask.said state)
   said_fares own known none =
       whole_fares own (ask.said state) (λ moment. sym (answer_known state op moment None good.answer.can known none) ∙ good.answer.done_so state moment)
 
+  -- when all octets came, the end was clean and the reply is 226, it is judged as what is said of it whole
   pub judged_whole : (came : List ℕ) (mark : Option ℕ) → IsSound state → state.known ≡ true → ask.why state ≡ None → came ≡ ask.wire state
       → judged Endings.Clean Aborts.Unsent 226 op (Receiving (decoder_of ask.settings came) mark) ≡ Some (ask.said state)
   judged_whole came mark sound known none is =
@@ -72,6 +76,7 @@ module _ (state : State) (ask : Ask) (good : IsAsk ask) where
 
   -- ---- cut
 
+  -- an operation that is not refused can be cut at each front of its octets
   can_be_cut : (came : List ℕ) → state.known ≡ true → refusal state op ≡ None → ask.why state ≡ None → IsFront came (ask.wire state) → CanBeCut state op came
   can_be_cut came known none taken front =
       let t = good.answer.sent_so state taken in
@@ -82,9 +87,11 @@ module _ (state : State) (ask : Ask) (good : IsAsk ask) where
             (subst (λ down. IsCutOf None down state came) (sym t.down) whole),
       )
 
+  -- a list of one mark contains it
   among_one : (own : List Mark) (mark : Mark) → own ≡ mark ∷ [] → Contains own mark
   among_one own mark is = subst (λ l. Contains l mark) (sym is) (0, omega arith, refl)
 
+  -- an operation cut behind what came says that it broke off there, and leaves the state as it was
   cut_is : (came : List ℕ) (moment : ℕ) → ask.why state ≡ None → did (Cut came) state op moment ≡ (cut_said ask came, state)
   cut_is came moment taken =
       let t = good.answer.sent_so state taken in
@@ -94,6 +101,7 @@ module _ (state : State) (ask : Ask) (good : IsAsk ask) where
       settled : settled_content ask.settings.mode (form_of ask.settings) came ≡ (decoder_of ask.settings came).content
       settled = sym (what_is_settled ask.settings came)
 
+  -- an operation cut at a front of its octets, with the mark of a break there and no other, fares as broken off
   pub cut_fares : (own : List Mark) (came : List ℕ) → state.known ≡ true → refusal state op ≡ None → ask.why state ≡ None → IsFront came (ask.wire state)
       → own ≡ Broken (counted (length came)) ∷ [] → Fared state ask own (cut_said ask came)
   cut_fares own came known none taken front marked = record {
@@ -105,10 +113,12 @@ module _ (state : State) (ask : Ask) (good : IsAsk ask) where
 
   -- ---- not opened
 
+  -- an operation whose one mark is a refused link fares as not opened
   pub refused_link_fares : (own : List Mark) → own ≡ RefusedLink ∷ [] → Fared state ask own NotOpened
   refused_link_fares own marked =
       record { outcome = Unopened; can_be = ap is_some good.plan.how_is; allowed = λ index. (tt, inl (among_one own RefusedLink marked)); did_so = λ moment. refl }
 
+  -- an operation whose one mark is a break before any octet fares as not opened
   pub broken_link_fares : (own : List Mark) → own ≡ Broken 0 ∷ [] → Fared state ask own NotOpened
   broken_link_fares own marked =
       record { outcome = Unopened; can_be = ap is_some good.plan.how_is; allowed = λ index. (tt, inr (among_one own (Broken 0) marked)); did_so = λ moment. refl }

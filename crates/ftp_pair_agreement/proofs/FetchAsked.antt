@@ -56,19 +56,23 @@ module _ (read : Reading) (reads : IsReading read) (state : State) (ask : Ask) (
   abbrev op : Op (List ℕ)
   op = ask.op
 
+  -- an offset that is asked for has no more than 18 digits
   few : (at : ℕ) → ask.offset ≡ Some at → at < 10 ^ 18
   few at is = good.row.few at is
 
   -- ---- the server
 
+  -- each reply with a set text is a written one
   fixed : (s : Session) (text : FixedReply) → IsWritten (fixed_reply text).code (fixed_reply text).lines
   fixed s text = replies_are_written s (Kinds.Fixed text) (fixed_reply text) tt refl
 
+  -- before the transfer the data connection of the server is not busy
   idle_at : (early : Early) (here : Host) (f : Far) → f.session.connection ≡ early_far here early → is_connection_busy f.session.connection ≡ false
   idle_at (Dialled true) here f is = ap is_connection_busy is
   idle_at (Dialled false) here f is = ap is_connection_busy is
   idle_at (Ported port) here f is = ap is_connection_busy is
 
+  -- REST: the server grants the offset or denies it
   rest_turn : (at : ℕ) (early : Early) (b : World) → Stands (Restarts at Sent early) (Asking (line_of (Commands.Rest at))) b
       → (t : FarTurn read b.far (line_of (Commands.Rest at))) × At (Answering t.replies) (record b { far = t.far })
   rest_turn at early b h = by_why (offset_refusal at (how_in_force ask.settings)) refl
@@ -338,6 +342,7 @@ module _ (read : Reading) (reads : IsReading read) (state : State) (ask : Ask) (
   abbrev port_line : Near → ℕ → List ℕ
   port_line n port = line_of (port_command (is_extended n op) (at_port n.here port))
 
+  -- PORT: the server takes the port where the account is logged in, and denies it where it is not
   port_turn : (port : ℕ) (connection : FarConnection Transfer) (pending : Pending Names) (b : World) → Stands (PortSaid port connection pending) (Asking (port_line b.near port)) b
       → (t : FarTurn read b.far (port_line b.near port)) × At (Answering t.replies) (record b { far = t.far })
   port_turn port connection pending b h = by_known state.known refl

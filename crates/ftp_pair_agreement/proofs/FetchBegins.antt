@@ -18,6 +18,7 @@ use Rattle.ftp_pair_agreement.proofs.Begins.{begins_stands}
 use Rattle.ftp_pair_agreement.proofs.FetchRuns.{fetch_after}
 use Rattle.ftp_pair_agreement.proofs.FetchTurns.{arrives}
 
+-- a download or listing begins in a free world without a data link, and the list runs on with it
 pub begins_fetch : (read : Reading) (reads : IsReading read) (from : State) (begun : List Order) (ask : Ask) (moment : ℕ) → IsAsk ask
     → (w : World) → IsUnlinked w → IsLinked w → IsFree from begun w → Runs read from (begun ++ Single ask.op moment ∷ []) (after_event (operation_begins ask.op moment w))
 begins_fetch read reads from begun ask moment good w unlinked linked f =

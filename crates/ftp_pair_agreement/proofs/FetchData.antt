@@ -36,10 +36,12 @@ use Rattle.ftp_pair_agreement.proofs.FetchLink.{Leads, hearing, near_acts, fits_
 
 -- ---- what the client has made of octets, and of one more
 
+-- what is decoded of octets and one more is what was decoded of them, with that octet taken in
 decoded-more : (d : Decoder) (xs : List ℕ) (x : ℕ) → decoded d (xs ++ x ∷ []) ≡ decoded_octet (decoded d xs) x
 decoded-more d [] x = refl
 decoded-more d (y ∷ xs) x = decoded-more (decoded_octet d y) xs x
 
+-- the last mark in octets and one more is the last mark in them, with what that octet says taken in
 mark-more : (d : Decoder) (mark : Option ℕ) (xs : List ℕ) (x : ℕ) → mark_in d mark (xs ++ x ∷ []) ≡ last_mark (mark_in d mark xs) (octet_says (decoded d xs) x)
 mark-more d mark [] x = refl
 mark-more d mark (y ∷ xs) x = mark-more (decoded_octet d y) (last_mark mark (octet_says d y)) xs x
@@ -52,6 +54,7 @@ module _ (op : Op (List ℕ)) (all : count_of op ≡ None) (settings : Represent
   abbrev made_of : Heard → Decoder → Option ℕ → Near
   made_of heard d mark = busy (Transferring op (record { replied = replied_of heard; abort = Aborts.Unsent; flow = Receiving d mark })) NearData.Open n
 
+  -- a client that receives takes an octet into what it has decoded and into the last mark, whatever replies it has heard
   octet_made : (heard : Heard) (came : List ℕ) (octet : ℕ) → Leads (λ v. near.receives_octet v octet) (receiving heard came)
       (made_of heard (decoded_octet (decoder_of settings came) octet) (last_mark (mark_in (no_octets settings) None came) (octet_says (decoder_of settings came) octet)))
   octet_made heard came octet ear gathered owed =
@@ -71,11 +74,13 @@ module _ (op : Op (List ℕ)) (all : count_of op ≡ None) (settings : Represent
       by_heard OneReply P none one both = one
       by_heard BothReplies P none one both = both
 
+  -- a client that receives an octet holds it behind those that came, whatever replies it has heard
   octet_comes : (heard : Heard) (came : List ℕ) (octet : ℕ) → Leads (λ v. near.receives_octet v octet) (receiving heard came) (receiving heard (came ++ octet ∷ []))
   octet_comes heard came octet ear gathered owed =
       octet_made heard came octet ear gathered owed
       ∙ (λ i. hearing ear gathered owed (made_of heard (sym (decoded-more (no_octets settings) came octet) i) (sym (mark-more (no_octets settings) None came octet) i)))
 
+  -- a client that receives octets holds them all behind those that came, whatever replies it has heard
   octets_come : (heard : Heard) (came octets : List ℕ) → Leads (λ v. near.receives v octets) (receiving heard came) (receiving heard (came ++ octets))
   octets_come heard came [] ear gathered owed = ap (λ l. hearing ear gathered owed (receiving heard l)) (sym (append-nil came))
   octets_come heard came (octet ∷ octets) ear gathered owed =
@@ -91,6 +96,7 @@ flows other = false
 
 -- ---- what the server gives
 
+-- what a transfer of octets is to give is these octets, listed or not
 pub given_of : (listed : Bool) (octets : List ℕ) → far.given_by (FarData.Transferring (giving_of listed octets)) ≡ octets
 given_of false octets = refl
 given_of true octets = refl
@@ -100,9 +106,11 @@ module _ (listed : Bool) (n : ℕ) (octet : ℕ) (more : List ℕ) (f : Far) (ow
   abbrev giving_far : Far
   giving_far = record (still f) { owed = owed }
 
+  -- the server has all the octets of the transfer to give
   to_give_is : far.to_give giving_far ≡ octet ∷ more
   to_give_is = ap (λ s. far.to_give (record (still (far_linked s f)) { owed = owed })) is ∙ given_of listed (octet ∷ more)
 
+  -- a server that gives octets goes on as its transfer does with what is left of them
   gives_by : (l : List ℕ) → drop n (octet ∷ more) ≡ l
       → far.gives_data n giving_far
       ≡ later (given_out (FarData.Transferring (giving_of listed l)) (record (still (far_linked (linked (FarData.Transferring (giving_of listed l)) false Pendings.Nothing f.session) f)) { owed = owed }))
@@ -118,10 +126,12 @@ module _ (listed : Bool) (n : ℕ) (octet : ℕ) (more : List ℕ) (f : Far) (ow
       by_kind false = refl
       by_kind true = refl
 
+  -- where octets are left, the server goes on with the transfer of these and owes no reply more
   gives_some : (next : ℕ) (later_on : List ℕ) → drop n (octet ∷ more) ≡ next ∷ later_on
       → far.gives_data n giving_far ≡ record (still (far_linked (linked (FarData.Transferring (giving_of listed (next ∷ later_on))) false Pendings.Nothing f.session) f)) { owed = owed }
   gives_some next later_on left = gives_by (next ∷ later_on) left ∙ ap later (giving_on listed next later_on _)
 
+  -- where no octets are left, the server is to close its side of the link and owes the reply that the transfer is complete
   gives_all : drop n (octet ∷ more) ≡ []
       → far.gives_data n giving_far ≡ record (still (far_linked (linked FarData.Free true Pendings.Nothing f.session) f)) { owed = owed ++ reply_octets (fixed_reply Texts.Complete) }
   gives_all left = gives_by [] left ∙ ap later (given_all listed _)
@@ -132,12 +142,14 @@ no_pull n w none same =
     let queue : w.data_to_client ++ take n (far.to_give w.far) ≡ w.data_to_client = ap (λ l. w.data_to_client ++ take n l) none ∙ ap (λ l. w.data_to_client ++ l) (take-nil n) ∙ append-nil w.data_to_client in
     λ i. record w { data_to_client = queue i; far = same i }
 
+-- a server whose link is free gives no octets and stays as it is
 free_gives : (closing : Bool) (n : ℕ) (f : Far) (owed : List ℕ) → f.session ≡ linked FarData.Free closing Pendings.Nothing f.session
     → far.gives_data n (record (still f) { owed = owed }) ≡ record (still f) { owed = owed }
 unfolding far.gives_data
 free_gives true n f owed is = ap (λ s. far.gives_data n (record (still (far_linked s f)) { owed = owed })) is ∙ ap (λ s. record (still (far_linked s f)) { owed = owed }) (sym is)
 free_gives false n f owed is = ap (λ s. far.gives_data n (record (still (far_linked s f)) { owed = owed })) is ∙ ap (λ s. record (still (far_linked s f)) { owed = owed }) (sym is)
 
+-- a server whose link is free has no octets to give
 free_owes : (closing : Bool) (f : Far) (owed : List ℕ) → f.session ≡ linked FarData.Free closing Pendings.Nothing f.session → far.to_give (record (still f) { owed = owed }) ≡ []
 free_owes true f owed is = ap (λ s. far.to_give (record (still (far_linked s f)) { owed = owed })) is
 free_owes false f owed is = ap (λ s. far.to_give (record (still (far_linked s f)) { owed = owed })) is
@@ -148,6 +160,7 @@ comes_on n came queue rest wire is =
     append_assoc came (take n queue) (drop n queue ++ rest)
     ∙ ap (λ l. came ++ l) (sym (append_assoc (take n queue) (drop n queue) rest) ∙ ap (λ l. l ++ rest) (take-append-drop n queue)) ∙ is
 
+-- octets that are the last on their way come, and together they are the wire still
 comes_all : (n : ℕ) (came queue wire : List ℕ) → came ++ queue ≡ wire → (came ++ take n queue) ++ drop n queue ≡ wire
 comes_all n came queue wire is = append_assoc came (take n queue) (drop n queue) ∙ ap (λ l. came ++ l) (take-append-drop n queue) ∙ is
 
@@ -171,6 +184,7 @@ module _ (read : Reading) (state : State) (ask : Ask) (plan : HasPlan ask) (own 
     pub flows : flows course ≡ true
     pub holds : Stands (carry course came queue) way b
 
+  -- a world on this base, with this way and cut, where the stage holds and octets flow, is one where octets are given or taken
   placed : (w b : World) (way : Way) (c : Cut) (course : Course) (came queue : List ℕ) → flows course ≡ true → w ≡ world_at b way c → Fits way c → Stands (carry course came queue) way b
       → PlacedAt AtFlow w
   placed w b way c course came queue flowing is fits h =
@@ -181,6 +195,7 @@ module _ (read : Reading) (state : State) (ask : Ask) (plan : HasPlan ask) (own 
   abbrev Pulls : ℕ → List Reply → World → Cut → Type 0
   Pulls n rows b c = PlacedAt AtFlow (pulled DataToClient (world_at b (Answering rows) c) n)
 
+  -- a server that is giving gives octets, and goes on giving or has given all
   giving_pulls : (n : ℕ) (begun : Bool) (octet : ℕ) (more came queue : List ℕ) (b : World) (c : Cut) → Fits (Answering (replies_in (Giving begun octet more))) c
       → Stands (carry (Giving begun octet more) came queue) (Answering (replies_in (Giving begun octet more))) b → Pulls n (replies_in (Giving begun octet more)) b c
   giving_pulls n begun octet more came queue b c fits h = by_left (drop n (octet ∷ more)) refl
@@ -232,6 +247,7 @@ module _ (read : Reading) (state : State) (ask : Ask) (plan : HasPlan ask) (own 
             fine = (h.fine.0, ap (λ l. came ++ l) (sym (append-nil given)) ∙ goes_on n came queue (octet ∷ more) [] _ left h.fine.1);
           })
 
+  -- where the server has given all octets, no more are given and the stage stays
   given_pulls : (n : ℕ) (heard : Heard) (left : Bool) (came queue : List ℕ) (b : World) (c : Cut) → Fits (Answering (replies_in (Given heard left))) c
       → Stands (carry (Given heard left) came queue) (Answering (replies_in (Given heard left))) b → Pulls n (replies_in (Given heard left)) b c
   given_pulls n heard true came queue b c fits h =
@@ -246,6 +262,7 @@ module _ (read : Reading) (state : State) (ask : Ask) (plan : HasPlan ask) (own 
   abbrev Pushes : ℕ → List Reply → World → Cut → Type 0
   Pushes n rows b c = PlacedAt AtFlow (pushed read DataToClient n (world_at b (Answering rows) c))
 
+  -- the count of octets that came goes on by those that are taken from the queue
   counts_on : (n count : ℕ) (came queue : List ℕ) → n ≤ length queue → count ≡ counted (length came) → counted (count + n) ≡ counted (length (came ++ take n queue))
   counts_on n count came queue few is =
       let long : length (came ++ take n queue) ≡ length came + length (take n queue) = length-append came (take n queue) in
@@ -274,6 +291,7 @@ module _ (read : Reading) (state : State) (ask : Ask) (plan : HasPlan ask) (own 
         data_to_client = drop n (queue_is i);
       }) fits holds
 
+  -- while the server is giving, octets of the queue that come to the client lead the course on
   giving_pushes : (n : ℕ) (begun : Bool) (octet : ℕ) (more came queue : List ℕ) (b : World) (c : Cut) → n ≤ length queue → Fits (Answering (replies_in (Giving begun octet more))) c
       → Stands (carry (Giving begun octet more) came queue) (Answering (replies_in (Giving begun octet more))) b → Pushes n (replies_in (Giving begun octet more)) b c
   giving_pushes n begun octet more came queue b c few fits h =
@@ -291,6 +309,7 @@ module _ (read : Reading) (state : State) (ask : Ask) (plan : HasPlan ask) (own 
         fine = (h.fine.0, comes_on n came queue (octet ∷ more) _ h.fine.1);
       })
 
+  -- where the server has given all octets, those of the queue that come to the client lead the course on
   given_pushes : (n : ℕ) (heard : Heard) (left : Bool) (came queue : List ℕ) (b : World) (c : Cut) → n ≤ length queue → Fits (Answering (replies_in (Given heard left))) c
       → Stands (carry (Given heard left) came queue) (Answering (replies_in (Given heard left))) b → Pushes n (replies_in (Given heard left)) b c
   given_pushes n heard true came queue b c few fits h =
@@ -324,6 +343,7 @@ module _ (read : Reading) (state : State) (ask : Ask) (plan : HasPlan ask) (own 
 
   -- ---- in a world
 
+  -- where octets are given or taken, that is still so when the server gives more
   pub flow_pulls : (n : ℕ) (w : World) → PlacedAt AtFlow w → PlacedAt AtFlow (pulled DataToClient w n)
   flow_pulls n w s = subst (λ u. PlacedAt AtFlow (pulled DataToClient u n)) (sym s.is) (by_course s.here.course s.here.came s.here.queue s.here.flows s.here.holds)
     where
@@ -341,6 +361,7 @@ module _ (read : Reading) (state : State) (ask : Ask) (plan : HasPlan ask) (own 
       by_course (Refusing why gap) came queue flowing h = absurd (cc)
       by_course Unopened came queue flowing h = absurd (cc)
 
+  -- the octets on their way to the client are those of the queue
   queue_of : (w : World) → (s : PlacedAt AtFlow w) → w.data_to_client ≡ s.here.queue
   queue_of w s = ap (λ u. u.data_to_client) s.is ∙ by_way s.way s.cut ∙ s.here.holds.to_client
     where
@@ -348,6 +369,7 @@ module _ (read : Reading) (state : State) (ask : Ask) (plan : HasPlan ask) (own 
       by_way (Asking line) c = refl
       by_way (Answering rows) c = refl
 
+  -- where octets are given or taken, that is still so when the client takes some of those on their way
   pub flow_pushes : (n : ℕ) (w : World) → n ≤ length w.data_to_client → PlacedAt AtFlow w → PlacedAt AtFlow (pushed read DataToClient n w)
   flow_pushes n w few s =
       subst (λ u. PlacedAt AtFlow (pushed read DataToClient n u)) (sym s.is)
@@ -367,6 +389,7 @@ module _ (read : Reading) (state : State) (ask : Ask) (plan : HasPlan ask) (own 
       by_course (Refusing why gap) came queue flowing h few = absurd (cc)
       by_course Unopened came queue flowing h few = absurd (cc)
 
+  -- a world where octets are given or taken is at a stage of what is asked for
   pub flow_is : (w : World) → PlacedAt AtFlow w → PlacedAt (λ way b. AtFetch state ask read own way b) w
   flow_is w s = record {
     base = s.base;

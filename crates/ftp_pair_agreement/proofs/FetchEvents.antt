@@ -32,6 +32,7 @@ use Rattle.ftp_pair_agreement.proofs.FetchLink.{Leads, FarLeads, near_acts, far_
 
 -- ---- a world of a stage as its base with other ends
 
+-- the base with the ends and the control queues of the world at a way and a cut
 with_ends : (b : World) (way : Way) (c : Cut) → World
 with_ends b way c = record b {
   near = (world_at b way c).near;
@@ -40,6 +41,7 @@ with_ends b way c = record b {
   control_to_client = (world_at b way c).control_to_client;
 }
 
+-- the world at a way and a cut differs from its base only by its ends and its control queues
 as_ends : (b : World) (way : Way) (c : Cut) → world_at b way c ≡ with_ends b way c
 unfolding with_ends
 as_ends b (Asking text) c = refl
@@ -52,6 +54,7 @@ behind_break n f b =
 
 -- ---- a break
 
+-- a break of the open link leads the world to the base behind the break, of the same way and cut
 opened_breaks : (b : World) (way : Way) (c : Cut) (n : Near) (f : Far) → Fits way c → b.link ≡ Opened → Leads near.data_fault b.near n → FarLeads far.data_fault b.far f
     → link_breaks (world_at b way c) ≡ world_at (behind_break n f b) way c
 unfolding with_ends
@@ -61,6 +64,7 @@ opened_breaks b way c n f fits is leads serves =
     ∙ both_act b (behind_break n f b) way c (near.data_fault (world_at b way c).near) (far.data_fault (world_at b way c).far)
     (near_acts near.data_fault b (behind_break n f b) way c fits leads) (far_acts far.data_fault b (behind_break n f b) way c serves)
 
+-- a break of the link that the server has closed leads to the base behind the break, with the server as it was
 left_breaks : (b : World) (way : Way) (c : Cut) (n : Near) → Fits way c → b.link ≡ ClosedByFar → Leads near.data_fault b.near n
     → link_breaks (world_at b way c) ≡ world_at (behind_break n b.far b) way c
 unfolding with_ends
@@ -80,6 +84,7 @@ giving_break b rows more c n f fits is leads serves =
 
 -- ---- the end
 
+-- a client that is told the end leads the world to a base without a link, of the same way and cut
 left_ends : (b : World) (way : Way) (c : Cut) (n : Near) → Fits way c → Leads near.data_end b.near n
     → told DataToClient (world_at b way c) ≡ world_at (record b { near = n; link = Gone; data_to_server = []; data_to_client = [] }) way c
 unfolding with_ends
@@ -107,15 +112,18 @@ module _ (read : Reading) (state : State) (ask : Ask)
   placed : (own : List Mark) (w b : World) (way : Way) (c : Cut) (stage : Stage) → w ≡ world_at b way c → Fits way c → Stands own stage way b → PlacedAt (At own) w
   placed own w b way c stage is fits h = record { base = b; way = way; cut = c; is = is; fits = fits; here = inr (stage, h) }
 
+  -- behind no marks one more is the only one
   marked_so : (mark : Mark) → own ≡ [] → own ++ mark ∷ [] ≡ mark ∷ []
   marked_so mark is = ap (λ l. l ++ mark ∷ []) is
 
+  -- behind no marks that of a break is the only one, and it counts the octets that came
   broken_so : (b : World) (came : List ℕ) → own ≡ [] → b.came ≡ counted (length came) → own ++ Broken b.came ∷ [] ≡ Broken (counted (length came)) ∷ []
   broken_so b came is count = marked_so (Broken b.came) is ∙ ap (λ n. Broken n ∷ []) count
 
   abbrev Breaks : Way → World → Cut → Type 0
   Breaks way b c = PlacedAt (At (own ++ Broken b.came ∷ [])) (link_breaks (world_at b way c))
 
+  -- a break of the dialled link while REST is sent or answered leads to the same stage with the link broken
   rest_broken : (at : ℕ) (restart : Restart) (way : Way) (b : World) (c : Cut) → Fits way c → Stands own (Restarts at restart (Dialled true)) way b → Breaks way b c
   rest_broken at restart way b c fits h =
       let n : Near = near_at (Restarts at restart (Dialled false)) b.near in
@@ -144,6 +152,7 @@ module _ (read : Reading) (state : State) (ask : Ask)
       by_restart Granted = refl
       by_restart (Denied why) = refl
 
+  -- a break of the dialled link while the own command is on its way leads to the same stage with the link broken
   retr_broken : (way : Way) (b : World) (c : Cut) → Fits way c → Stands own (Retrieves (Dialled true)) way b → Breaks way b c
   retr_broken way b c fits h =
       let n : Near = near_at (Retrieves (Dialled false)) b.near in
@@ -168,6 +177,7 @@ module _ (read : Reading) (state : State) (ask : Ask)
   abbrev carry : Course → (came queue : List ℕ) → Stage
   carry course came queue = Carries (record { course = course; came = came; queue = queue })
 
+  -- a break while the server gives octets leads to the stage of a severed link, where it owes a 426 more
   giving_broken : (begun : Bool) (octet : ℕ) (more came queue : List ℕ) (b : World) (c : Cut) → Fits (Answering (replies_in (Giving begun octet more))) c
       → Stands own (carry (Giving begun octet more) came queue) (Answering (replies_in (Giving begun octet more))) b → Breaks (Answering (replies_in (Giving begun octet more))) b c
   giving_broken begun octet more came queue b c fits h =
@@ -218,6 +228,7 @@ module _ (read : Reading) (state : State) (ask : Ask)
         fine = (h.fine.0, ((queue, h.fine.1), refl));
       })
 
+  -- a break behind both replies leads to the stage of the answer that tells what was cut
   given_all_broken : (came queue : List ℕ) (way : Way) (b : World) (c : Cut) → Fits way c → Stands own (carry (Given BothReplies true) came queue) way b → Breaks way b c
   given_all_broken came queue way b c fits h =
       let n : Near = near_at (Answers (cut_said ask came) no_link) b.near in
@@ -239,6 +250,7 @@ module _ (read : Reading) (state : State) (ask : Ask)
         fine = (cut_fares state ask good (own ++ Broken b.came ∷ []) came h.ready.1 h.fine.0.1 h.fine.0.0 (queue, h.fine.1) marked, refl);
       })
 
+  -- a break of the closed link under a refusal leads to the refusal with the link lost by a break
   refusing_broken : (why : Refusal) (came queue : List ℕ) (way : Way) (b : World) (c : Cut) → Fits way c → Stands own (carry (Refusing why Closed) came queue) way b → Breaks way b c
   refusing_broken why came queue way b c fits h =
       let n : Near = near_at (carry (Refusing why (Lost false)) came []) b.near in
@@ -262,6 +274,7 @@ module _ (read : Reading) (state : State) (ask : Ask)
   no_link_stands : (link : Link) → link ≡ Gone → is_gone link ≡ false → ⊥
   no_link_stands link is some = let e : true ≡ false = sym (ap is_gone is) ∙ some in cc
 
+  -- a break at any course of the octets leads to a stage, if the course does not pass and a link stands
   carry_breaks : (course : Course) (came queue : List ℕ) (way : Way) (b : World) (c : Cut) → Fits way c → Stands own (carry course came queue) way b
       → is_passing (carry course came queue) ≡ false → is_gone b.link ≡ false → Breaks way b c
   carry_breaks (Giving begun octet more) came queue way b c fits h stays some =
@@ -278,6 +291,7 @@ module _ (read : Reading) (state : State) (ask : Ask)
   carry_breaks (Refusing why (Lost clean)) came queue way b c fits h stays some = absurd (no_link_stands b.link h.link some)
   carry_breaks Unopened came queue way b c fits h stays some = absurd (no_link_stands b.link h.link some)
 
+  -- a break at any stage leads to a stage with its mark, if the stage does not pass and a link stands
   pub stage_breaks : (stage : Stage) (way : Way) (b : World) (c : Cut) → Fits way c → Stands own stage way b → is_passing stage ≡ false → is_gone b.link ≡ false → Breaks way b c
   stage_breaks (PortAsked closing) way b c fits h stays some = absurd (cc)
   stage_breaks (PortTold port) way b c fits h stays some = absurd (no_link_stands b.link h.link some)
@@ -303,9 +317,11 @@ module _ (read : Reading) (state : State) (ask : Ask)
   abbrev EndsAt : Way → World → Cut → Type 0
   EndsAt way b c = PlacedAt (At own) (told DataToClient (world_at b way c))
 
+  -- with an empty queue what came is the whole text
   all_came : (came queue wire : List ℕ) → queue ≡ [] → came ++ queue ≡ wire → came ≡ wire
   all_came came queue wire empty is = sym (append-nil came) ∙ ap (λ q. came ++ q) (sym empty) ∙ is
 
+  -- the end behind the last octet, with a reply still to come, leads to the stage of a link that ended clean
   given_ended : (begun : Bool) (came queue : List ℕ) (way : Way) (b : World) (c : Cut) → Fits way c
       → Stands own (carry (Given (heard_by begun) true) came queue) way b → way ≡ Answering (replies_in (Ended begun true)) → queue ≡ [] → EndsAt way b c
   given_ended begun came queue way b c fits h same empty =
@@ -326,6 +342,7 @@ module _ (read : Reading) (state : State) (ask : Ask)
         fine = (h.fine.0, all_came came queue _ empty h.fine.1, refl);
       })
 
+  -- the end behind the last octet and both replies leads to the stage of the answer
   given_all_ended : (came queue : List ℕ) (way : Way) (b : World) (c : Cut) → Fits way c → Stands own (carry (Given BothReplies true) came queue) way b → queue ≡ [] → EndsAt way b c
   given_all_ended came queue way b c fits h empty =
       let said : Said = ask.said state in
@@ -348,6 +365,7 @@ module _ (read : Reading) (state : State) (ask : Ask)
         fine = (said_fares state ask good own h.ready.1 h.fine.0.1, refl);
       })
 
+  -- the end of the closed link under a refusal leads to the refusal with the link lost by a clean end
   refusing_ended : (why : Refusal) (came queue : List ℕ) (way : Way) (b : World) (c : Cut) → Fits way c → Stands own (carry (Refusing why Closed) came queue) way b → EndsAt way b c
   refusing_ended why came queue way b c fits h =
       let n : Near = near_at (carry (Refusing why (Lost true)) came []) b.near in
@@ -367,9 +385,11 @@ module _ (read : Reading) (state : State) (ask : Ask)
         fine = (h.fine.0, (h.fine.1.0, refl));
       })
 
+  -- a link equal to one that the server has not closed is not closed by the server
   not_left : (link : Link) (other : Link) → link ≡ other → is_closed_by_far other ≡ false → is_closed_by_far link ≡ true → ⊥
   not_left link other is none some = let e : true ≡ false = sym some ∙ ap is_closed_by_far is ∙ none in cc
 
+  -- the end of the link that the server has closed leads each stage that does not pass to a stage, if no octets are left
   pub stage_ends : (stage : Stage) (way : Way) (b : World) (c : Cut) → Fits way c → Stands own stage way b → is_closed_by_far b.link ≡ true → is_passing stage ≡ false → b.data_to_client ≡ []
       → EndsAt way b c
   stage_ends (PortAsked closing) way b c fits h left stays empty = absurd (cc)

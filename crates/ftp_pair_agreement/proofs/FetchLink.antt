@@ -57,10 +57,12 @@ row_acts call n next (reply ∷ more) held incoming fine flow leads =
     let front = fronts_are_alike reply.code reply.lines held flow.more flow.octet fine.0 flow.whole in
     ap call (front.is (calm n) (record { ear = refl; gathered = refl })) ∙ leads front.ear front.gathered [] ∙ sym (front.is (calm next) (record { ear = refl; gathered = refl }))
 
+-- a call that leads the client of a base to that of another does so in the worlds at any way and cut that fits
 pub near_acts : (call : Near → Near) (b to : World) (way : Way) (c : Cut) → Fits way c → Leads call b.near to.near → call (world_at b way c).near ≡ (world_at to way c).near
 near_acts call b to (Asking text) c fits leads = leads quiet Between c.owed
 near_acts call b to (Answering rows) c fits leads = row_acts call b.near to.near rows c.held (coming c) fits.0 fits.1 leads
 
+-- a call that leads the server of a base to that of another does so in the worlds at any way and cut
 pub far_acts : (call : Far → Far) (b to : World) (way : Way) (c : Cut) → FarLeads call b.far to.far → call (world_at b way c).far ≡ (world_at to way c).far
 far_acts call b to (Asking text) c leads = leads (after (ear line_limit) quiet c.held) []
 far_acts call b to (Answering rows) c leads = leads quiet c.owed
@@ -73,10 +75,12 @@ both_act b to (Answering rows) c n f one other = λ i. record to { near = one i;
 
 -- ---- one reply more is owed
 
+-- the octets of a row and one reply more are those of the row, and then those of the reply
 row_octets-more : (rows : List Reply) (reply : Reply) → row_octets (rows ++ reply ∷ []) ≡ row_octets rows ++ reply_octets reply
 row_octets-more [] reply = append-nil (reply_octets reply)
 row_octets-more (one ∷ rows) reply = ap (λ l. reply_octets one ++ l) (row_octets-more rows reply) ∙ sym (append_assoc (reply_octets one) (row_octets rows) (reply_octets reply))
 
+-- a row that flows does so with one reply more, whose octets come behind the others
 pub row_more : (rows : List Reply) (reply : Reply) (held incoming : List ℕ) → IsWritten reply.code reply.lines → FlowsRow rows held incoming
     → FlowsRow (rows ++ reply ∷ []) held (incoming ++ reply_octets reply)
 row_more [] reply held incoming fine flow =
@@ -91,10 +95,12 @@ row_more (one ∷ rows) reply held incoming fine flow = record {
       ∙ ap (λ l. (flow.octet ∷ flow.more) ++ l) (sym (row_octets-more rows reply));
 }
 
+-- a row of written replies is so with one written reply more
 pub written_more : (rows : List Reply) (reply : Reply) → AreWritten rows → IsWritten reply.code reply.lines → AreWritten (rows ++ reply ∷ [])
 written_more [] reply fine one = (one, tt)
 written_more (first ∷ rows) reply fine one = (fine.0, written_more rows reply fine.1 one)
 
+-- a cut that fits a row of replies fits it with one reply more, whose octets are owed
 pub fits_more : (rows : List Reply) (reply : Reply) (c : Cut) → IsWritten reply.code reply.lines → Fits (Answering rows) c
     → Fits (Answering (rows ++ reply ∷ [])) (record c { owed = c.owed ++ reply_octets reply })
 fits_more rows reply c fine fits = (
@@ -104,6 +110,7 @@ fits_more rows reply c fine fits = (
 
 -- ---- the client's calls
 
+-- the link breaks at a client that has sent REST: it is over, and broken
 pub rest_breaks : (op : Op (List ℕ)) (n : Near)
     → Leads near.data_fault (busy (Doing op Steps.Restart) NearData.Open n) (busy (Doing op Steps.Restart) (NearData.Over Endings.Broken) n)
 unfolding near.data_fault
@@ -113,11 +120,13 @@ module _ (op : Op (List ℕ)) (settings : Representation) (came : List ℕ) (n :
   abbrev open_at : Bool → Near
   open_at begun = busy (fetching op (replied_of (heard_by begun)) settings came) NearData.Open n
 
+  -- the link ends at a client that has not heard the last reply: it is over, and clean
   pub near_ends : (begun : Bool) → Leads near.data_end (open_at begun) (busy (fetching op (replied_of (heard_by begun)) settings came) (NearData.Over Endings.Clean) n)
   unfolding near.data_end
   near_ends true ear gathered owed = refl
   near_ends false ear gathered owed = refl
 
+  -- the link breaks at a client that has not heard the last reply: it is over, and broken
   pub near_breaks : (begun : Bool) → Leads near.data_fault (open_at begun) (busy (fetching op (replied_of (heard_by begun)) settings came) (NearData.Over Endings.Broken) n)
   unfolding near.data_fault
   near_breaks true ear gathered owed = refl
@@ -131,6 +140,7 @@ module _ (op : Op (List ℕ)) (settings : Representation) (came : List ℕ) (n :
   near_ends_all said is ear gathered owed =
       ap (λ o. finishes_read o (hearing ear gathered owed (busy (fetching op (Replies.Final 226) settings came) (NearData.Over Endings.Clean) n))) is
 
+  -- where the last reply was heard and the link breaks, the answer is told
   pub near_breaks_all : (said : Said)
       → judged Endings.Broken Aborts.Unsent 226 op (Receiving (decoder_of settings came) (mark_in (no_octets settings) None came)) ≡ Some said
       → Leads near.data_fault (busy (fetching op (Replies.Final 226) settings came) NearData.Open n) (leaving said false n)
@@ -144,11 +154,13 @@ module _ (op : Op (List ℕ)) (settings : Representation) (came : List ℕ) (n :
 abbrev pub far_linked : Session → Far → Far
 far_linked s f = record f { session = s }
 
+-- an open link that is not in use breaks at the server: it is free, and nothing more is owed
 pub ready_breaks : (f : Far) (pending : Pending Names) → f.session ≡ linked FarData.Ready false pending f.session
     → FarLeads far.data_fault f (far_linked (linked FarData.Free false pending f.session) f)
 unfolding far.data_fault
 ready_breaks f pending is ear owed = ap (λ s. far.data_fault (listening ear owed (far_linked s f))) is
 
+-- the link breaks at a server that is giving octets: it is free, and the reply that it broke is owed
 pub giving_breaks : (listed : Bool) (f : Far) (pending : Pending Names) (octet : ℕ) (more : List ℕ)
     → f.session ≡ linked (FarData.Transferring (giving_of listed (octet ∷ more))) false pending f.session
     → (ear : Ear) (owed : List ℕ)

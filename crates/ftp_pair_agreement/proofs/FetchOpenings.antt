@@ -55,6 +55,7 @@ module _ (read : Reading) (state : State) (ask : Ask) (good : IsAsk ask) (sound 
   placed : (own : List Mark) (w b : World) (way : Way) (c : Cut) (stage : Stage) → w ≡ world_at b way c → Fits way c → Stands own stage way b → PlacedAt (At own) w
   placed own w b way c stage is fits h = record { base = b; way = way; cut = c; is = is; fits = fits; here = inr (stage, h) }
 
+  -- a mark is the only one where there was none before it
   marked_so : (mark : Mark) → own ≡ [] → own ++ mark ∷ [] ≡ mark ∷ []
   marked_so mark is = ap (λ l. l ++ mark ∷ []) is
 
@@ -68,42 +69,52 @@ module _ (read : Reading) (state : State) (ask : Ask) (good : IsAsk ask) (sound 
     opened_near : Near
     opened_near = busy (opened_job ask.offset ask) NearData.Open b.near
 
+    -- the client, told that the link is open, owes the command that follows the opening
     opens_near : near.data_opened b.far.footing.here (calm b.near) ≡ record (calm opened_near) { owed = written_line (line_of (opened_command ask.offset ask)) }
     unfolding near.data_opened opened_near
     opens_near = ap (λ v. near.data_opened b.far.footing.here (calm v)) h.near ∙ opening_sent ask good.plan Steps.Connect NearData.Open b.near
 
+    -- the server once the link is open
     opened_far : Far
     opened_far = far_linked (linked FarData.Ready false Pendings.Nothing b.far.session) b.far
 
+    -- the client's host is the server's peer
     peer_is : same_host b.near.here b.far.footing.peer ≡ true
     peer_is = ap (λ host. same_host host b.far.footing.peer) h.steady.here ∙ own_host b.far.footing.peer
 
+    -- the server, told who opened its port, has the link
     opens_far : far.data_opened b.near.here (still b.far) ≡ still opened_far
     unfolding far.data_opened opened_far
     opens_far =
         ap (λ s. far.data_opened b.near.here (still (far_linked s b.far))) h.session
         ∙ ap (λ mine. later (completed (far.opens FarData.Passive mine (still (far_linked (linked FarData.Passive false Pendings.Nothing b.far.session) b.far))))) peer_is
 
+    -- both ends once the link is open
     opened_base : World
     opened_base = record b { near = opened_near; far = opened_far; link = Opened; came = 0 }
 
+    -- the opened link leaves a world with that command on its way
     opened_is : link_opens w ≡ world_at opened_base (Asking (line_of (opened_command ask.offset ask))) (record { held = []; moving = []; owed = written_line (line_of (opened_command ask.offset ask)) })
     unfolding opened_base
     opened_is =
         ap link_opens is
         ∙ (λ i. record opened_base { near = opens_near i; far = opens_far i; control_to_server = []; control_to_client = [] })
 
+    -- the client, told that its link was refused, reports it as not opened
     refused_near : near.data_refused (calm b.near) ≡ calm (leaving NotOpened false b.near)
     unfolding near.data_refused
     refused_near = ap (λ v. near.data_refused (calm v)) h.near
 
+    -- the client wants to connect
     connects : is_connecting (near.wants (calm b.near)) ≡ true
     unfolding near.wants
     connects = ap (λ v. is_connecting (near.wants (calm v))) h.near
 
+    -- both ends once the link was refused to the client
     refused_base : World
     refused_base = record b { near = leaving NotOpened false b.near; marks = marked_last Refused b.marks }
 
+    -- a refused link leaves a world that reports it, with nothing on its way
     refused_is : link_refused w ≡ world_at refused_base rest no_cut
     unfolding refused_base
     refused_is =
@@ -111,6 +122,7 @@ module _ (read : Reading) (state : State) (ask : Ask) (good : IsAsk ask) (sound 
         ∙ ap (λ (q : Bool). with_mark Refused (refused_by q (world_at b rest no_cut))) connects
         ∙ ap (λ v. record (world_at b rest no_cut) { near = v; marks = marked_last Refused b.marks }) refused_near
 
+    -- a refused link is placed, with the mark of a refusal
     pub refused_placed : PlacedAt (At (own ++ Refused ∷ [])) (link_refused w)
     unfolding refused_base
     refused_placed = placed (own ++ Refused ∷ []) (link_refused w) refused_base rest no_cut (Answers NotOpened port_aside) refused_is (tt, (refl, refl)) (record {
@@ -127,6 +139,7 @@ module _ (read : Reading) (state : State) (ask : Ask) (good : IsAsk ask) (sound 
       fine = (refused_link_fares state ask good (own ++ Refused ∷ []) (marked_so Refused h.marked), refl);
     })
 
+    -- the command that follows the opening is a line
     opened_line : IsLine (line_of (opened_command ask.offset ask))
     opened_line = by_offset ask.offset refl
       where
@@ -134,12 +147,14 @@ module _ (read : Reading) (state : State) (ask : Ask) (good : IsAsk ask) (sound 
         by_offset None e = carried ask.command good.row.typed good.row.stated
         by_offset (Some at) e = carried (Commands.Rest at) tt (good.row.few at e)
 
+    -- at a stage that stands with that command on its way the opened link is placed
     opened_at : (stage : Stage) → Stands own stage (Asking (line_of (opened_command ask.offset ask))) opened_base → PlacedAt (At own) (link_opens w)
     opened_at stage holds =
         let line : List ℕ = written_line (line_of (opened_command ask.offset ask)) in
         placed own (link_opens w) opened_base (Asking (line_of (opened_command ask.offset ask))) (record { held = []; moving = []; owed = line }) stage opened_is
         (opened_line, subst (λ l. FlowsOf line [] l []) (append-nil line) (anew line [] (line_is_some (line_of (opened_command ask.offset ask))))) holds
 
+    -- an opened link is placed at the stage of its next command
     pub opened_placed : PlacedAt (At own) (link_opens w)
     unfolding opened_base opened_near opened_far
     opened_placed = by_offset ask.offset refl
@@ -191,6 +206,7 @@ module _ (read : Reading) (state : State) (ask : Ask) (good : IsAsk ask) (sound 
     giving_so : List ℕ → Far
     giving_so octets = far_linked (linked (FarData.Transferring (giving_of ask.listed octets)) false Pendings.Nothing b.far.session) b.far
 
+    -- the server, told that its connection came, begins to give octets after its 150
     accepts_far : (octets : List ℕ) → ask.wire state ≡ octets
         → far.data_opened b.near.here (still b.far) ≡ later (given_out (FarData.Transferring (giving_of ask.listed octets)) (still (giving_so octets)))
     unfolding far.data_opened giving_so
@@ -198,9 +214,11 @@ module _ (read : Reading) (state : State) (ask : Ask) (good : IsAsk ask) (sound 
         ap (λ s. far.data_opened b.near.here (still (far_linked s b.far))) h.session
         ∙ ap (λ l. later (given_out (FarData.Transferring (giving_of ask.listed l)) (still (giving_so l)))) wire
 
+    -- both ends once the connection of the server came, with this server
     accepted_base : Far → World
     accepted_base f = record b { near = busy (fetching op Replies.Begun ask.settings []) NearData.Open b.near; far = f; link = Opened; came = 0 }
 
+    -- where an octet is to be given, the link that came is placed at the stage of giving
     accepts_some : (octet : ℕ) (more : List ℕ) → ask.wire state ≡ octet ∷ more → PlacedAt (At own) (link_opens w)
     unfolding accepted_base giving_so
     accepts_some octet more wire =
@@ -222,6 +240,7 @@ module _ (read : Reading) (state : State) (ask : Ask) (good : IsAsk ask) (sound 
           fine = (h.fine, sym wire);
         })
 
+    -- where none is to be given, the link that came is placed at the stage after the close
     accepts_none : ask.wire state ≡ [] → PlacedAt (At own) (link_opens w)
     unfolding accepted_base giving_so
     accepts_none wire =
@@ -247,6 +266,7 @@ module _ (read : Reading) (state : State) (ask : Ask) (good : IsAsk ask) (sound 
           fine = (h.fine, sym wire);
         })
 
+    -- a link that came after the 150 is placed
     pub accepted_placed : PlacedAt (At own) (link_opens w)
     accepted_placed = by_wire (ask.wire state) refl
       where
@@ -254,20 +274,25 @@ module _ (read : Reading) (state : State) (ask : Ask) (good : IsAsk ask) (sound 
         by_wire [] wire = accepts_none wire
         by_wire (octet ∷ more) wire = accepts_some octet more wire
 
+    -- the client does not want to connect: it waits at its port
     accepting : is_connecting (near.wants (calm b.near)) ≡ false
     unfolding near.wants
     accepting = ap (λ v. is_connecting (near.wants (calm v))) h.near
 
+    -- the server once its connection was refused
     unaccepted_far : Far
     unaccepted_far = far_linked (linked FarData.Free false Pendings.Nothing b.far.session) b.far
 
+    -- the server, told that its connection was refused, owes 425
     refused_far : far.data_refused (still b.far) ≡ record (still unaccepted_far) { owed = reply_octets (fixed_reply Texts.NoConnection) }
     unfolding far.data_refused unaccepted_far
     refused_far = ap (λ s. far.data_refused (still (far_linked s b.far))) h.session
 
+    -- both ends once the connection of the server was refused
     unaccepted_base : World
     unaccepted_base = record b { far = unaccepted_far; marks = marked_last Refused b.marks }
 
+    -- a connection that was refused after the 150 is placed, with the mark of a refusal
     pub unaccepted_placed : PlacedAt (At (own ++ Refused ∷ [])) (link_refused w)
     unfolding unaccepted_base unaccepted_far
     unaccepted_placed =

@@ -45,6 +45,7 @@ parting job near_closes far_closes w = record (lost_world job far_closes w) { ne
 abbrev with_link : Link → List ℕ → World → World
 with_link link queue w = record w { link = link; data_to_server = []; data_to_client = queue }
 
+-- the control connection ends at a sound client: both ends have failed, and each is to close what stands of its link
 parts_is : (w : World) → is_sound w.near.standing ≡ true
     → ends_control w ≡ parting (failed_job LostSaid w.near.job) (w.near.closing || stands w.near.connection) (session_cut w.far.session).closing w
 unfolding near.control_end far.control_end
@@ -61,6 +62,7 @@ Clears link queue near_closes far_closes = ⊥
 abbrev pub lost_link : World → World
 lost_link w = record (with_link Gone [] (lost_world Idle false w)) { reports = w.reports ++ LostSaid ∷ [] }
 
+-- where what is served leaves no link, the operation is then reported as lost and the link is gone
 clears : (link : Link) (queue : List ℕ) (near_closes far_closes : Bool) (w : World) → Clears link queue near_closes far_closes
     → after_event (parting (Answered LostSaid) near_closes far_closes (with_link link queue w)) ≡ lost_link w
 unfolding near.wants far.data_closed
@@ -76,6 +78,7 @@ clears ClosedByFar queue true false w is = refl
 clears ClosedByFar queue false far_closes w is = absurd is
 clears ClosedByNear queue near_closes far_closes w is = absurd is
 
+-- the control connection ends while the client is busy with a job that is lost: the loss is reported and the link is gone
 parts_with : (w : World) (job : Job) (connection : NearConnection) → w.near ≡ busy job connection w.near → failed_job LostSaid job ≡ Answered LostSaid
     → (far : FarConnection Transfer) (pending : Pending Names) → w.far.session ≡ linked far false pending w.far.session → (link : Link) (queue : List ℕ) → w.link ≡ link → w.data_to_server ≡ []
     → w.data_to_client ≡ queue → Clears link queue (stands connection) (is_standing far) → after_event (ends_control w) ≡ lost_link w
@@ -93,6 +96,7 @@ parts_with w job connection near_is fails far pending far_is link queue link_is 
 lost_item : Op (List ℕ) → ℕ → List Mark → Item
 lost_item op moment own = record { moment = moment; first = record { op = op; outcome = LostOff Nothing; marks = own }; more = [] }
 
+-- what is told goes on with an operation that is lost at the cutoff and has at most one mark
 told_lost : (from : State) (done : List Order) (marks : List (List Mark)) (cutoff : ℕ) (reports : List Said) (now : State) (ask : Ask) (plan : HasPlan ask) (moment : ℕ) (own : List Mark)
     → Told from done marks (Some cutoff) reports now → suc (length done) ≡ cutoff → length own ≤ 1
     → Told from (done ++ Single ask.op moment ∷ []) (marks ++ own ∷ []) (Some cutoff) (reports ++ LostSaid ∷ []) now
@@ -113,6 +117,7 @@ told_lost from done marks cutoff reports now ask plan moment own t last few =
     }
 
 module _ (read : Reading) (from : State) (begun : List Order) (w : World) (on : IsFetchingOn read from begun w) where
+  -- what is asked for is under way in this world
   f : IsFetching read from begun w
   f = on.fetching
 
@@ -122,9 +127,11 @@ module _ (read : Reading) (from : State) (begun : List Order) (w : World) (on : 
   abbrev s : PlacedAt At w
   s = on.fetching.stands
 
+  -- what both ends are at the base they are in the world
   seen : IsSeen s.base w
   seen = seen_placed At w s
 
+  -- the job of the client is told as lost
   fails : failed_job LostSaid w.near.job ≡ Answered LostSaid
   fails =
       busy_lost w.near.job (lasting_busy read on.fetching.now on.fetching.ask on.fetching.is_ask.plan on.fetching.own w s on.lasts)
@@ -139,6 +146,7 @@ module _ (read : Reading) (from : State) (begun : List Order) (w : World) (on : 
     to_server : w.data_to_server ≡ s.base.data_to_server
     to_client : w.data_to_client ≡ s.base.data_to_client
 
+  -- the link and what is on its way over it are those of the base
   same : Same
   same =
       let way = by_way s.way s.cut in
@@ -149,6 +157,7 @@ module _ (read : Reading) (from : State) (begun : List Order) (w : World) (on : 
       by_way (Asking line) c = (refl, refl, refl)
       by_way (Answering rows) c = (refl, refl, refl)
 
+  -- at a stage where client, server and link stand so, the control connection ends: the loss is reported and the link is gone
   parts_as : (stage : Stage) → Stood stage → (job : Job) (connection : NearConnection) → s.base.near ≡ busy job connection s.base.near → failed_job LostSaid job ≡ Answered LostSaid
       → (far : FarConnection Transfer) (pending : Pending Names) → s.base.far.session ≡ linked far false pending s.base.far.session → (link : Link) (queue : List ℕ) → s.base.link ≡ link
       → s.base.data_to_client ≡ queue → Clears link queue (stands connection) (is_standing far) → after_event (ends_control w) ≡ lost_link w
@@ -162,18 +171,22 @@ module _ (read : Reading) (from : State) (begun : List Order) (w : World) (on : 
     pub table : w.far.session.table ≡ on.fetching.now.table
     pub few : length on.fetching.own ≤ 1
 
+  -- at each stage the server has the table of the state
   table_of : (stage : Stage) → Stood stage → w.far.session.table ≡ on.fetching.now.table
   table_of stage h = ap (λ s. s.table) seen.session ∙ h.steady.table
 
+  -- no marks are at most one
   none_few : on.fetching.own ≡ [] → length on.fetching.own ≤ 1
   none_few is = subst (λ l. length l ≤ 1) (sym is) (omega arith)
 
+  -- one mark is at most one
   one_few : (mark : Mark) → on.fetching.own ≡ mark ∷ [] → length on.fetching.own ≤ 1
   one_few mark is = subst (λ l. length l ≤ 1) (sym is) (omega arith)
 
   abbrev carry : Course → (came queue : List ℕ) → Stage
   carry course came queue = Carries (record { course = course; came = came; queue = queue })
 
+  -- at each course that lasts both ends part, with the table of the state and at most one mark
   carry_parts : (course : Course) (came queue : List ℕ) → Stood (carry course came queue) → Stages.is_passing (carry course came queue) ≡ false → Parts
   carry_parts (Giving started octet more) came queue h lasts =
       record { after = parts_as _ h _ _ h.near refl _ _ h.session _ _ h.link h.to_client tt; table = table_of _ h; few = none_few h.marked }
@@ -196,6 +209,7 @@ module _ (read : Reading) (from : State) (begun : List Order) (w : World) (on : 
   carry_parts Unopened came queue h lasts =
       record { after = parts_as _ h _ _ h.near refl _ _ h.session _ _ h.link h.to_client h.fine.1; table = table_of _ h; few = one_few _ h.marked }
 
+  -- while the login, the settings or the command for a port is under way both ends part, with the table of the state and no mark
   leads_parts : Stages.Leads on.fetching.now on.fetching.ask read on.fetching.own s.way s.base → Parts
   leads_parts l =
       let still = leads_still read on.fetching.now on.fetching.ask on.fetching.is_ask.plan on.fetching.own s.base w s.way seen l in
@@ -211,6 +225,7 @@ module _ (read : Reading) (from : State) (begun : List Order) (w : World) (on : 
       either (inl is) = is
       either (inr is) = is
 
+  -- at each stage that lasts both ends part, with the table of the state and at most one mark
   pub parts : Parts
   parts = by_here s.here on.lasts
     where
@@ -237,6 +252,7 @@ module _ (read : Reading) (from : State) (begun : List Order) (w : World) (on : 
       by_here (inr (Carries c, h)) lasts = carry_parts c.course c.came c.queue h lasts
       by_here (inr (Answers said leaves, h)) lasts = absurd (cc)
 
+  -- the control connection ends while what is asked for is under way, and the world follows with its operation lost
   pub fetch_parts : Follows read from begun (after_event (ends_control w))
   fetch_parts =
       let g : IsFetching read from begun w = on.fetching in
@@ -273,10 +289,12 @@ module _ (read : Reading) (reads : IsReading read) (from : State) (begun : List 
   abbrev lost_there : World
   lost_there = record (with_link Gone [] (lost_world Idle false there)) { reports = there.reports }
 
+  -- behind a refused REST, with its link closed, the control connection ends and nothing more is reported
   parts_there : after_event (ends_control there) ≡ lost_there
   unfolding near.control_end far.control_end near.wants far.data_closed
   parts_there = refl
 
+  -- the control connection ends behind a refused REST, and the world follows
   pub trailing_parts : Follows read from begun (after_event (ends_control w))
   trailing_parts =
       let told : Told from begun there.marks None there.reports t.now =

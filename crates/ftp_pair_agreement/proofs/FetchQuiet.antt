@@ -38,6 +38,7 @@ module _ (read : Reading) (from : State) (begun : List Order) (w : World) (on : 
   abbrev s : PlacedAt At w
   s = on.fetching.stands
 
+  -- both ends are in the world what they are in its base
   seen : IsSeen s.base w
   seen = seen_placed At w s
 
@@ -48,15 +49,18 @@ module _ (read : Reading) (from : State) (begun : List Order) (w : World) (on : 
   moves : (stage : Stage) → Stood stage → is_sound s.base.near.standing ≡ true → s.way ≢ rest → ⊥
   moves stage h sound some = quiet_at s.base s.way s.cut s.fits sound (ap (λ s. s.life) h.session) some (subst IsStill s.is still)
 
+  -- a way on which a line is asked is not at rest
   line_some : (line : List ℕ) → s.way ≡ Asking line → s.way ≢ rest
   line_some line is e = no_asking line [] (sym is ∙ e)
 
+  -- a way on which a reply is answered is not at rest
   rows_some : (reply : Reply) (more : List Reply) → s.way ≡ Answering (reply ∷ more) → s.way ≢ rest
   rows_some reply more is e = no_reply reply more (sym is ∙ e)
 
   abbrev carry : Course → (came queue : List ℕ) → Stage
   carry course came queue = Carries (record { course = course; came = came; queue = queue })
 
+  -- the link of the world is the one of its stage
   link_is : (stage : Stage) → Stood stage → w.link ≡ Stages.link_at f.now f.ask stage
   link_is stage h = ap (λ u. u.link) s.is ∙ by_way s.way s.cut ∙ h.link
     where
@@ -64,6 +68,7 @@ module _ (read : Reading) (from : State) (begun : List Order) (w : World) (on : 
       by_way (Asking line) c = refl
       by_way (Answering rows) c = refl
 
+  -- what is on its way to the client is the queue of the stage
   queue_is : (stage : Stage) → Stood stage → w.data_to_client ≡ Stages.queue_at f.now f.ask stage
   queue_is stage h = ap (λ u. u.data_to_client) s.is ∙ by_way s.way s.cut ∙ h.to_client
     where
@@ -125,6 +130,7 @@ module _ (read : Reading) (from : State) (begun : List Order) (w : World) (on : 
       let connects : far.wants w.far ≡ Want.Connect (at_port s.base.near.here port) = ap (λ s. far.wants (record w.far { session = s })) (far_form s.base w seen _ false _ h.session) in
       never (is_gone w.link && is_wanted (near.wants w.near) (far.wants w.far)) (λ i. is_gone (link_is _ h i) && is_wanted (accepts i) (connects i)) still.opened
 
+  -- while the transfer runs and its stage is not passing, the world is not still
   carry_moves : (course : Course) (came queue : List ℕ) → Stood (carry course came queue) → Stages.is_passing (carry course came queue) ≡ false → ⊥
   carry_moves (Giving false octet more) came queue h lasts = moves _ h (ap (λ v. is_sound v.standing) h.near) (rows_some _ _ h.way_is)
   carry_moves (Giving true octet more) came queue h lasts = giving_moves octet more came queue h
@@ -141,6 +147,7 @@ module _ (read : Reading) (from : State) (begun : List Order) (w : World) (on : 
   carry_moves (Refusing why (Lost clean)) came queue h lasts = moves _ h (ap (λ v. is_sound v.standing) h.near) (rows_some _ _ h.way_is)
   carry_moves Unopened came queue h lasts = moves _ h (ap (λ v. is_sound v.standing) h.near) (rows_some _ _ h.way_is)
 
+  -- at every stage that lasts the world is not still
   here_moves : (here : At s.way s.base) → IsLasting f.now f.ask read f.own s.way s.base here → ⊥
   here_moves (inl l) lasts =
       let m = moves_on read f.now f.ask f.is_ask.plan f.own s.way s.base.near s.base.far l.on l.some in
@@ -164,9 +171,11 @@ module _ (read : Reading) (from : State) (begun : List Order) (w : World) (on : 
   here_moves (inr (Carries c, h)) lasts = carry_moves c.course c.came c.queue h lasts
   here_moves (inr (Answers said leaves, h)) lasts = absurd (cc)
 
+  -- while what was asked for is under way between two events the world is not still
   pub fetch_moves : ⊥
   fetch_moves = here_moves s.here on.lasts
 
+-- in a world of a list of plain events that is still, all that was begun is answered
 pub runs_answered : (read : Reading) → IsReading read → (from : State) (begun : List Order) (w : World) → Runs read from begun w → IsStill w → IsAnswered begun w
 runs_answered read reads from begun w (inl h) still = follows_answered read from begun w h still
 runs_answered read reads from begun w (inr (inl on)) still = absurd (fetch_moves read from begun w on still)

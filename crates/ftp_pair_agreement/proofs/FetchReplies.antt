@@ -32,6 +32,7 @@ abbrev pub rows_in : Way → List Reply
 rows_in (Asking text) = []
 rows_in (Answering replies) = replies
 
+-- equal ways of replies have the same replies
 same_rows : {rows others : List Reply} → Answering rows ≡ Answering others → rows ≡ others
 same_rows e = ap rows_in e
 
@@ -43,9 +44,11 @@ at_first P reply first more others e holds =
     let two : more ≡ others = cc in
     subst (λ r. P r more) (sym one) (subst (λ l. P first l) (sym two) holds)
 
+-- a list without marks has at most one
 pub none_more : (own : List Mark) → own ≡ [] → length own ≤ 1
 none_more own is = subst (λ l. length l ≤ 1) (sym is) (omega arith)
 
+-- a list of one mark has at most one
 pub one_more : (own : List Mark) (mark : Mark) → own ≡ mark ∷ [] → length own ≤ 1
 one_more own mark is = subst (λ l. length l ≤ 1) (sym is) (omega arith)
 
@@ -137,6 +140,7 @@ module _ (read : Reading) (state : State) (ask : Ask) (good : IsAsk ask) (sound 
     ),
   )
 
+  -- the first reply of a course is heard, and what was asked for goes on along another course or is told
   pub carry_heard : (course : Course) (came queue : List ℕ) (way : Way) (b : World) (reply : Reply) (more : List Reply) → Stands (carry course came queue) way b
       → Answering (reply ∷ more) ≡ Answering (replies_in course) → Hears b reply more
   carry_heard (Giving false octet later) came queue way b reply more h e =

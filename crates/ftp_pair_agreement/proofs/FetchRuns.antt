@@ -57,11 +57,13 @@ module _ (read : Reading) (reads : IsReading read) (from : State) (begun : List 
     stands = stands;
   }
 
+  -- a download or listing is still under way where nothing was marked, reported or left and its stage still stands
   fetching_moved : (w new : World) (f : Fetching w) → IsKept w new → PlacedAt (At w f) new → Fetching new
   fetching_moved w new f kept stands = fetching_marked w new f f.own (kept.marks ∙ f.marks_are) kept.reports kept.control kept.cutoff stands
 
   -- ---- what is served behind an event
 
+  -- where the world behind an event is served to a lasting stage, the list runs on there
   served_on : (w : World) (f : Fetching w) → Served read f.now f.ask f.is_ask.plan f.own w (after_event w) → Runs read from begun (after_event w)
   unfolding fetching_moved fetching_marked
   served_on w f s = inr (inl (record {
@@ -69,10 +71,12 @@ module _ (read : Reading) (reads : IsReading read) (from : State) (begun : List 
     lasts = s.lasts;
   }))
 
+  -- a stage that lasts has nothing to be served, so the list runs on behind the event
   lasts_on : (w : World) (f : Fetching w) → IsLasting f.now f.ask read f.own f.stands.way f.stands.base f.stands.here → Runs read from begun (after_event w)
   lasts_on w f lasts =
       subst (Runs read from begun) (sym (lasting_stays read f.now f.ask f.is_ask.plan f.own w f.stands lasts)) (inr (inl (record { fetching = f; lasts = lasts })))
 
+  -- while a download or listing is under way, the list runs on once what is due behind an event is served
   pub fetch_after : (w : World) → Fetching w → Runs read from begun (after_event w)
   fetch_after w f = by_here f.stands.here refl
     where
@@ -117,9 +121,11 @@ module _ (read : Reading) (reads : IsReading read) (from : State) (begun : List 
   abbrev Serves : (w : World) → Fetching w → Way → World → Type 0
   Serves w f way b = AtServed f.now f.ask read f.own way b
 
+  -- from a served stage each next turn of the client or the server leads to a stage of the same download or listing
   goes_of : (w : World) (f : Fetching w) → Goes read (Serves w f) (At w f)
   goes_of w f = fetch_goes read reads f.now f.ask f.is_ask f.sound f.own
 
+  -- a world keeps its own marks, reports, control connection and cutoff
   no_change : (w : World) → IsKept w w
   no_change w = record { marks = refl; reports = refl; control = refl; cutoff = refl }
 
@@ -128,6 +134,7 @@ module _ (read : Reading) (reads : IsReading read) (from : State) (begun : List 
     placed : PlacedAt (Serves w f) new
     kept : IsKept w new
 
+  -- a world whose octets of the control connection have moved still has the download or listing under way
   serving_is : (w : World) (f : Fetching w) (u : World) → Serving w f u → Fetching u
   serving_is w f u m =
       let s = m.placed in
@@ -151,10 +158,12 @@ module _ (read : Reading) (reads : IsReading read) (from : State) (begun : List 
   served_of (Carries carry) lasts = refl
   served_of (Answers said leaves) lasts = refl
 
+  -- where it stands outlasts an event, so nothing is served before the client is told more
   served_here : (w : World) (f : Fetching w) (way : Way) (b : World) (here : At w f way b) → IsLasting f.now f.ask read f.own way b here → IsServed f.now f.ask read f.own way b here
   served_here w f way b (inl l) lasts = tt
   served_here w f way b (inr (stage, h)) lasts = served_of stage lasts
 
+  -- between two events the world itself is one from which octets of the control connection may move
   serving_first : (w : World) (on : IsFetchingOn read from begun w) → Serving w on.fetching w
   serving_first w on =
       let s = on.fetching.stands in
@@ -163,33 +172,39 @@ module _ (read : Reading) (reads : IsReading read) (from : State) (begun : List 
         kept = no_change w;
       }
 
+  -- the client gives octets of its commands, and the world is still served
   pulled_server : (n : ℕ) (w : World) (f : Fetching w) (u : World) → Serving w f u → Serving w f (pulled ControlToServer u n)
   pulled_server n w f u m = record {
     placed = pulls_to_server read (Serves w f) (At w f) (goes_of w f) n u m.placed;
     kept = record { marks = m.kept.marks; reports = m.kept.reports; control = m.kept.control; cutoff = m.kept.cutoff };
   }
 
+  -- the server gives octets of its replies, and the world is still served
   pulled_client : (n : ℕ) (w : World) (f : Fetching w) (u : World) → Serving w f u → Serving w f (pulled ControlToClient u n)
   pulled_client n w f u m = record {
     placed = pulls_to_client read (Serves w f) (At w f) (goes_of w f) n u m.placed;
     kept = record { marks = m.kept.marks; reports = m.kept.reports; control = m.kept.control; cutoff = m.kept.cutoff };
   }
 
+  -- the server takes octets of a command, and the download or listing is still under way
   pushed_server : (n : ℕ) (w : World) (f : Fetching w) (u : World) → Serving w f u → Fetching (pushed read ControlToServer n u)
   pushed_server n w f u m =
       fetching_moved w (pushed read ControlToServer n u) f (record { marks = m.kept.marks; reports = m.kept.reports; control = m.kept.control; cutoff = m.kept.cutoff })
       (pushes_to_server read (Serves w f) (At w f) (goes_of w f) n u m.placed)
 
+  -- the client takes octets of a reply, and the download or listing is still under way
   pushed_client : (n : ℕ) (w : World) (f : Fetching w) (u : World) → Serving w f u → Fetching (pushed read ControlToClient n u)
   pushed_client n w f u m = serving_is w f (pushed read ControlToClient n u) (record {
     placed = pushes_to_client read (Serves w f) (At w f) (goes_of w f) n u m.placed;
     kept = record { marks = m.kept.marks; reports = m.kept.reports; control = m.kept.control; cutoff = m.kept.cutoff };
   })
 
+  -- the client gives octets call after call, and the world is still served
   filled_server : (counts : List ℕ) (w : World) (f : Fetching w) (u : World) → Serving w f u → Serving w f (filled ControlToServer u counts)
   filled_server [] w f u m = m
   filled_server (count ∷ counts) w f u m = filled_server counts w f (pulled ControlToServer u count) (pulled_server count w f u m)
 
+  -- the server gives octets call after call, and the world is still served
   filled_client : (counts : List ℕ) (w : World) (f : Fetching w) (u : World) → Serving w f u → Serving w f (filled ControlToClient u counts)
   filled_client [] w f u m = m
   filled_client (count ∷ counts) w f u m = filled_client counts w f (pulled ControlToClient u count) (pulled_client count w f u m)
@@ -211,10 +226,12 @@ module _ (read : Reading) (reads : IsReading read) (from : State) (begun : List 
     fine = h.fine;
   }
 
+  -- how far it is stays the same with other octets lent
   here_taken : (w : World) (f : Fetching w) (octets : List ℕ) (way : Way) (b : World) → At w f way b → At w f way (record b { taken = octets })
   here_taken w f octets way b (inl l) = inl (record { on = l.on; some = l.some; link = l.link; to_server = l.to_server; to_client = l.to_client; marked = l.marked })
   here_taken w f octets way b (inr (stage, h)) = inr (stage, holds_taken w f octets stage way b h)
 
+  -- a download or listing is under way also with other octets lent
   pub fetching_taken : (octets : List ℕ) (w : World) → Fetching w → Fetching (record w { taken = octets })
   fetching_taken octets w f =
       let lends : World → World = λ u. record u { taken = octets } in
@@ -228,22 +245,26 @@ module _ (read : Reading) (reads : IsReading read) (from : State) (begun : List 
         here = here_taken w f octets f.stands.way f.stands.base f.stands.here;
       })
 
+  -- what outlasts an event outlasts it with other octets lent
   lasts_taken : (octets : List ℕ) (w : World) (f : Fetching w) (here : At w f f.stands.way f.stands.base) → IsLasting f.now f.ask read f.own f.stands.way f.stands.base here
       → IsLasting f.now f.ask read f.own f.stands.way (record f.stands.base { taken = octets }) (here_taken w f octets f.stands.way f.stands.base here)
   unfolding here_taken
   lasts_taken octets w f (inl l) lasts = lasts
   lasts_taken octets w f (inr (stage, h)) lasts = lasts
 
+  -- between two events a download or listing is under way also with other octets lent
   pub fetching_on_taken : (octets : List ℕ) (w : World) → IsFetchingOn read from begun w → IsFetchingOn read from begun (record w { taken = octets })
   unfolding fetching_taken fetching_moved fetching_marked
   fetching_on_taken octets w f = record { fetching = fetching_taken octets w f.fetching; lasts = lasts_taken octets w f.fetching f.fetching.stands.here f.lasts }
 
+  -- what is served is served with other octets lent
   served_taken : (octets : List ℕ) (w : World) (f : Fetching w) (way : Way) (b : World) (here : At w f way b) → IsServed f.now f.ask read f.own way b here
       → IsServed f.now f.ask read f.own way (record b { taken = octets }) (here_taken w f octets way b here)
   unfolding here_taken
   served_taken octets w f way b (inl l) served = served
   served_taken octets w f way b (inr (stage, h)) served = served
 
+  -- a world whose octets of the control connection have moved is one also with other octets lent
   serving_taken : (octets : List ℕ) (w : World) (f : Fetching w) (u : World) → Serving w f u → Serving w f (record u { taken = octets })
   serving_taken octets w f u m =
       let lends : World → World = λ v. record v { taken = octets } in
@@ -260,6 +281,7 @@ module _ (read : Reading) (reads : IsReading read) (from : State) (begun : List 
         kept = record { marks = m.kept.marks; reports = m.kept.reports; control = m.kept.control; cutoff = m.kept.cutoff };
       }
 
+  -- a delivery of command octets to the server, given only or also taken, keeps the list running
   pub fetch_delivers_server : (none : Bool) (count : ℕ) (w new : World) → IsFetchingOn read from begun w → DeliversBy none read ControlToServer count w new → Runs read from begun new
   fetch_delivers_server true count w new on m =
       let f = on.fetching in
@@ -270,6 +292,7 @@ module _ (read : Reading) (reads : IsReading read) (from : State) (begun : List 
       let lent = serving_taken (take d.taken (filled ControlToServer w d.counts).control_to_server) w f (filled ControlToServer w d.counts) full in
       subst (Runs read from begun) (sym d.is) (fetch_after _ (pushed_server d.taken w f _ lent))
 
+  -- a delivery of reply octets to the client, given only or also taken, keeps the list running
   pub fetch_delivers_client : (none : Bool) (count : ℕ) (w new : World) → IsFetchingOn read from begun w → DeliversBy none read ControlToClient count w new → Runs read from begun new
   fetch_delivers_client true count w new on m =
       let f = on.fetching in
@@ -290,16 +313,19 @@ module _ (read : Reading) (reads : IsReading read) (from : State) (begun : List 
     flowing : Flowing w f new
     kept : IsKept w new
 
+  -- the server gives octets of the file to the link, and they still flow
   moved_pulls : (n : ℕ) (w : World) (f : Fetching w) (u : World) → Moved w f u → Moved w f (pulled DataToClient u n)
   moved_pulls n w f u m = record {
     flowing = flow_pulls read f.now f.ask f.is_ask.plan f.own n u m.flowing;
     kept = record { marks = m.kept.marks; reports = m.kept.reports; control = m.kept.control; cutoff = m.kept.cutoff };
   }
 
+  -- the server gives octets to the link call after call, and they still flow
   moved_filled : (counts : List ℕ) (w : World) (f : Fetching w) (u : World) → Moved w f u → Moved w f (filled DataToClient u counts)
   moved_filled [] w f u m = m
   moved_filled (count ∷ counts) w f u m = moved_filled counts w f (pulled DataToClient u count) (moved_pulls count w f u m)
 
+  -- octets of the link flow also with other octets lent
   moved_taken : (octets : List ℕ) (w : World) (f : Fetching w) (u : World) → Moved w f u → Moved w f (record u { taken = octets })
   moved_taken octets w f u m =
       let lends : World → World = λ v. record v { taken = octets } in
@@ -322,15 +348,18 @@ module _ (read : Reading) (reads : IsReading read) (from : State) (begun : List 
         kept = record { marks = m.kept.marks; reports = m.kept.reports; control = m.kept.control; cutoff = m.kept.cutoff };
       }
 
+  -- the client takes octets of those that are on the link, and they still flow
   moved_pushes : (n : ℕ) (w : World) (f : Fetching w) (u : World) → n ≤ length u.data_to_client → Moved w f u → Moved w f (pushed read DataToClient n u)
   moved_pushes n w f u few m = record {
     flowing = flow_pushes read f.now f.ask f.is_ask.plan f.own n u few m.flowing;
     kept = record { marks = m.kept.marks; reports = m.kept.reports; control = m.kept.control; cutoff = m.kept.cutoff };
   }
 
+  -- a world whose octets of the link have moved still has the download or listing under way
   moved_is : (w : World) (f : Fetching w) (u : World) → Moved w f u → Fetching u
   moved_is w f u m = fetching_moved w u f m.kept (flow_is read f.now f.ask f.is_ask.plan f.own u m.flowing)
 
+  -- a delivery of octets of the link to the client keeps the list running while they flow
   pub fetch_delivers_data : (none : Bool) (count : ℕ) (w new : World) (f : Fetching w) → Flowing w f w → DeliversBy none read DataToClient count w new → Runs read from begun new
   fetch_delivers_data true count w new f flowing m =
       subst (Runs read from begun) (sym m.is) (fetch_after _ (moved_is w f _ (moved_pulls m.gave w f w (record { flowing = flowing; kept = no_change w }))))
@@ -342,6 +371,7 @@ module _ (read : Reading) (reads : IsReading read) (from : State) (begun : List 
 
   -- ---- the link
 
+  -- the base that it stands on has the link of the world
   base_link : (w : World) (f : Fetching w) → f.stands.base.link ≡ w.link
   base_link w f = sym (ap (λ u. u.link) f.stands.is ∙ by_way f.stands.way f.stands.cut)
     where
@@ -349,6 +379,7 @@ module _ (read : Reading) (reads : IsReading read) (from : State) (begun : List 
       by_way (Asking line) c = refl
       by_way (Answering rows) c = refl
 
+  -- the base that it stands on counts as many octets come over the link as the world
   base_came : (w : World) (f : Fetching w) → f.stands.base.came ≡ w.came
   base_came w f = sym (ap (λ u. u.came) f.stands.is ∙ by_way f.stands.way f.stands.cut)
     where
@@ -356,6 +387,7 @@ module _ (read : Reading) (reads : IsReading read) (from : State) (begun : List 
       by_way (Asking line) c = refl
       by_way (Answering rows) c = refl
 
+  -- the base that it stands on has the octets that are on the link to the client in the world
   base_queue : (w : World) (f : Fetching w) → f.stands.base.data_to_client ≡ w.data_to_client
   base_queue w f = sym (ap (λ u. u.data_to_client) f.stands.is ∙ by_way f.stands.way f.stands.cut)
     where
@@ -370,12 +402,14 @@ module _ (read : Reading) (reads : IsReading read) (from : State) (begun : List 
     control : new.control ≡ w.control
     cutoff : new.cutoff ≡ w.cutoff
 
+  -- however the link stands, a break adds its mark and keeps reports, control connection and cutoff
   breaks_by : (w : World) (link : Link) → IsBreak w (with_mark (Broken w.came) (gone (broken_by link w)))
   breaks_by w Gone = record { marks = refl; reports = refl; control = refl; cutoff = refl }
   breaks_by w Opened = record { marks = refl; reports = refl; control = refl; cutoff = refl }
   breaks_by w ClosedByNear = record { marks = refl; reports = refl; control = refl; cutoff = refl }
   breaks_by w ClosedByFar = record { marks = refl; reports = refl; control = refl; cutoff = refl }
 
+  -- a link that stands breaks, and the list runs on
   pub fetch_breaks : (w : World) → IsFetchingOn read from begun w → is_gone w.link ≡ false → Runs read from begun (after_event (link_breaks w))
   fetch_breaks w on some = by_here f.stands.here on.lasts
     where
@@ -399,6 +433,7 @@ module _ (read : Reading) (reads : IsReading read) (from : State) (begun : List 
           fetch_after (link_breaks w) (fetching_marked w (link_breaks w) f own marked left.reports left.control left.cutoff
           (subst (λ u. PlacedAt (λ way b. AtFetch f.now f.ask read own way b) (link_breaks u)) (sym f.stands.is) breaks))
 
+  -- the server has closed the link and it is empty, the client is told, and the list runs on
   pub fetch_ends : (w : World) → IsFetchingOn read from begun w → is_closed_by_far w.link ≡ true → w.data_to_client ≡ [] → Runs read from begun (after_event (told DataToClient w))
   fetch_ends w on left empty = by_here f.stands.here on.lasts
     where
@@ -420,10 +455,12 @@ module _ (read : Reading) (reads : IsReading read) (from : State) (begun : List 
     control : new.control ≡ w.control
     cutoff : new.cutoff ≡ w.cutoff
 
+  -- whichever end connects, a refusal adds its mark and keeps reports, control connection and cutoff
   refuses_by : (w : World) (connects : Bool) → IsRefusal w (with_mark Refused (refused_by connects w))
   refuses_by w true = record { marks = refl; reports = refl; control = refl; cutoff = refl }
   refuses_by w false = record { marks = refl; reports = refl; control = refl; cutoff = refl }
 
+  -- a link that is asked for opens, and the list runs on
   pub fetch_opens : (w : World) → IsFetchingOn read from begun w → is_asked_for w ≡ true → Runs read from begun (after_event (link_opens w))
   fetch_opens w on asks = by_dial (dials_or_none read f.now f.ask f.is_ask.plan f.own w f.stands on.lasts)
     where
@@ -442,6 +479,7 @@ module _ (read : Reading) (reads : IsReading read) (from : State) (begun : List 
           (accepted_placed read f.now f.ask f.is_ask f.sound f.own port w f.stands.base f.stands.way f.stands.cut is h))
       by_dial (inr (inr none)) = absurd (let e : true ≡ false = sym asks ∙ none in cc)
 
+  -- a link that is asked for is refused, and the list runs on
   pub fetch_refuses : (w : World) → IsFetchingOn read from begun w → is_asked_for w ≡ true → Runs read from begun (after_event (link_refused w))
   fetch_refuses w on asks = by_dial (dials_or_none read f.now f.ask f.is_ask.plan f.own w f.stands on.lasts)
     where

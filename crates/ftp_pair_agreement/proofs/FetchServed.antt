@@ -43,6 +43,7 @@ use Rattle.ftp_pair_agreement.proofs.Still.{IsSeen, seen_placed, AreSet, IsStill
 
 -- ---- both ends of a world as those of its base
 
+-- a client whose base is busy with a job and a connection is itself busy with them
 pub near_form : (b w : World) → IsSeen b w → (job : Job) (connection : NearConnection) → b.near ≡ busy job connection b.near → w.near ≡ busy job connection w.near
 near_form b w seen job connection is = λ i. record w.near {
   standing = (seen.standing ∙ ap (λ v. v.standing) is) i;
@@ -52,6 +53,7 @@ near_form b w seen job connection is = λ i. record w.near {
   closing = (seen.closing ∙ ap (λ v. v.closing) is) i;
 }
 
+-- a server whose base has this connection, closing or not, and this pending has them itself
 pub far_form : (b w : World) → IsSeen b w → (connection : FarConnection Transfer) (closing : Bool) (pending : Pending Names) → b.far.session ≡ linked connection closing pending b.far.session
     → w.far.session ≡ linked connection closing pending w.far.session
 far_form b w seen connection closing pending is = seen.session ∙ is ∙ ap (linked connection closing pending) (sym seen.session)
@@ -62,6 +64,7 @@ pub record Rests (w : World) : Type 0 where
   pub far : far_served w ≡ w
   pub none : report_of w.near ≡ None
 
+-- a world where nothing is served and nothing is reported stays behind an event
 after_rests : (w : World) → Rests w → after_event w ≡ w
 after_rests w r =
     ap (λ u. collected (far_served (far_served (far_served (near_served (near_served u)))))) r.near
@@ -75,6 +78,7 @@ near_rests w job connection is rests =
     let put : Near → World = λ v. record w { near = v } in
     ap near_served (ap put is) ∙ rests ∙ ap put (sym is)
 
+-- a server with this connection, closing or not, and this pending wants nothing, if in this form it wants nothing
 far_rests : (w : World) (connection : FarConnection Transfer) (closing : Bool) (pending : Pending Names) → w.far.session ≡ linked connection closing pending w.far.session
     → far_served (record w { far = far_linked (linked connection closing pending w.far.session) w.far }) ≡ record w { far = far_linked (linked connection closing pending w.far.session) w.far }
     → far_served w ≡ w
@@ -124,6 +128,7 @@ module _ (read : Reading) (state : State) (ask : Ask) (plan : HasPlan ask) (own 
     none = ap report_of_job (seen.job ∙ ap (λ v. v.job) near_is) ∙ none;
   }
 
+  -- on a course that is not passing nothing is served and nothing is reported
   carry_rests : (course : Course) (came queue : List ℕ) (b w : World) (way : Way) → IsSeen b w → Stands (Carries (record { course = course; came = came; queue = queue })) way b
       → is_passing (Carries (record { course = course; came = came; queue = queue })) ≡ false → Rests w
   unfolding near.wants
@@ -145,6 +150,7 @@ module _ (read : Reading) (state : State) (ask : Ask) (plan : HasPlan ask) (own 
   carry_rests Unopened came queue b w way seen h stays =
       rests_as b w (Carries (record { course = Unopened; came = came; queue = queue })) way seen h _ _ h.near refl (λ w. refl) _ _ h.session (λ w. refl)
 
+  -- at a stage that is not passing nothing is served and nothing is reported
   pub stage_rests : (stage : Stage) (b w : World) (way : Way) → IsSeen b w → Stands stage way b → is_passing stage ≡ false → Rests w
   unfolding near.wants
   stage_rests (PortAsked closing) b w way seen h stays = absurd (cc)
@@ -173,6 +179,7 @@ module _ (read : Reading) (state : State) (ask : Ask) (plan : HasPlan ask) (own 
   abbrev Goal : Near → Far → Type 0
   Goal n f = Opens state ask n f
 
+  -- before the stages, where something is on the way, both ends are set and the client has nothing to report
   pub moves_on : (way : Way) (n : Near) (f : Far) → IsOnWay read state op (Passes state.table state.table) Goal way n f → way ≢ rest
       → AreSet state.table state.table n f × (report_of_job n.job ≡ None)
   moves_on way n f (inl (logging, waiting)) some = (logging_set state state.table logging.place n f logging.logs, ap report_of_job waiting)
@@ -182,11 +189,13 @@ module _ (read : Reading) (state : State) (ask : Ask) (plan : HasPlan ask) (own 
   moves_on (Answering (reply ∷ more)) n f (inr (suc left, leads)) some = (record { near = leads.0.near; far = leads.0.far; table = leads.0.table }, leads.0.untold)
   moves_on (Asking line) n f (inr (suc left, leads)) some = (record { near = leads.0.near; far = leads.0.far; table = leads.0.table }, leads.0.untold)
 
+  -- a world on its way to the stages is still, and its client has nothing to report
   pub leads_still : (b w : World) (way : Way) → IsSeen b w → Stages.Leads state ask read own way b → IsStill w × (report_of w.near ≡ None)
   leads_still b w way seen l =
       let m = moves_on way b.near b.far l.on l.some in
       (still_as b w seen m.0.near m.0.far, ap report_of_job seen.job ∙ m.1)
 
+  -- a world at a place that lasts stays behind an event
   pub lasting_stays : (w : World) → (s : PlacedAt At w) → IsLasting state ask read own s.way s.base s.here → after_event w ≡ w
   lasting_stays w s lasts = by_here s.here lasts
     where
@@ -194,6 +203,7 @@ module _ (read : Reading) (state : State) (ask : Ask) (plan : HasPlan ask) (own 
       by_here (inl l) lasts = let still = leads_still s.base w s.way (seen_placed At w s) l in after_as_is w still.0 still.1
       by_here (inr (stage, h)) lasts = after_rests w (stage_rests stage s.base w s.way (seen_placed At w s) h lasts)
 
+  -- at a place that lasts the client has nothing to report
   pub lasting_untold : (w : World) → (s : PlacedAt At w) → IsLasting state ask read own s.way s.base s.here → report_of w.near ≡ None
   lasting_untold w s lasts = by_here s.here lasts
     where
@@ -203,6 +213,7 @@ module _ (read : Reading) (state : State) (ask : Ask) (plan : HasPlan ask) (own 
 
   -- ---- a port is told
 
+  -- the reply that tells a port can be written; where it is not the extended one, the host is of version 4
   port_reply_written : (s : Session) (extended : Bool) (host : Host) (port : ℕ) → (extended ≡ false → IsV4 host) → IsTypedHost host → port < 65536
       → IsWritten (port_reply extended host port).code (port_reply extended host port).lines
   port_reply_written s true host port v4 typed small = replies_are_written s (Kinds.Extended port) (port_reply true host port) small refl
@@ -225,6 +236,7 @@ module _ (read : Reading) (state : State) (ask : Ask) (plan : HasPlan ask) (own 
     listens = next_listen b.listens;
   }
 
+  -- a server that is asked for a port is told the next one and owes the reply with it
   port_served : (extended closing : Bool) (b : World) → after_event (asked_world extended closing b) ≡ told_world extended b
   unfolding near.wants far.listening far.data_closed
   port_served true true b = refl
@@ -232,10 +244,12 @@ module _ (read : Reading) (state : State) (ask : Ask) (plan : HasPlan ask) (own 
   port_served false true b = refl
   port_served false false b = refl
 
+  -- a host that is not of version 6 is of version 4
   is_v4 : (host : Host) → is_v6 host ≡ false → IsV4 host
   is_v4 (V4 octets) is = tt
   is_v4 (V6 octets) is = absurd (cc)
 
+  -- the second of two is false where their or is false
   neither : (one other : Bool) → (one || other) ≡ false → other ≡ false
   neither true other is = absurd (cc)
   neither false other is = is
@@ -249,6 +263,7 @@ module _ (read : Reading) (state : State) (ask : Ask) (plan : HasPlan ask) (own 
     pub control : new.control ≡ w.control
     pub cutoff : new.cutoff ≡ w.cutoff
 
+  -- where the server is asked for a port it is told one and owes the reply with it, and that stage lasts
   pub port_asked_serves : (closing : Bool) (w : World) (b : World) (way : Way) → w ≡ world_at b rest no_octets → Stands (PortAsked closing) way b → Served w (after_event w)
   port_asked_serves closing w b way is h =
       let extended : Bool = is_extended b.near op in
@@ -316,6 +331,7 @@ module _ (read : Reading) (state : State) (ask : Ask) (plan : HasPlan ask) (own 
     listens = next_listen b.listens;
   }
 
+  -- a client that wants a port is told the next one and owes the line with it
   wanted_served : (connection : FarConnection Transfer) → is_aside connection ≡ true → (pending : Pending Names) (b : World)
       → after_event (wanted_world connection pending b) ≡ said_world connection pending b
   unfolding near.wants near.listening
@@ -327,6 +343,7 @@ module _ (read : Reading) (state : State) (ask : Ask) (plan : HasPlan ask) (own 
   wanted_served (FarData.Opening transfer way) aside pending b = absurd (cc)
   wanted_served (FarData.Transferring transfer) aside pending b = absurd (cc)
 
+  -- where the client wants a port it is told one and owes the line with it, and that stage lasts
   pub port_wanted_serves : (connection : FarConnection Transfer) (pending : Pending Names) (w : World) (b : World) (way : Way) → w ≡ world_at b rest no_octets
       → Stands (PortWanted connection pending) way b → Served w (after_event w)
   port_wanted_serves connection pending w b way is h =
@@ -381,19 +398,23 @@ module _ (read : Reading) (state : State) (ask : Ask) (plan : HasPlan ask) (own 
   abbrev port_base : ℕ → World → World
   port_base port b = record b { far = far_linked (linked (FarData.Active (at_port b.near.here port)) false Pendings.Nothing b.far.session) b.far; link = Gone }
 
+  -- the world where the server has the client's port, and is to close the one that it listened at
   port_world : (port : ℕ) (b : World) (rows : List Reply) (c : Cut) → World
   port_world port b rows c = record (world_at b (Answering rows) c) {
     far = record (still (far_linked (linked (FarData.Active (at_port b.near.here port)) true Pendings.Nothing b.far.session) b.far)) { owed = c.owed };
     link = Gone;
   }
 
+  -- served once, the server has closed the port that it listened at
   port_closes : (port : ℕ) (b : World) (rows : List Reply) (c : Cut) → far_served (port_world port b rows c) ≡ world_at (port_base port b) (Answering rows) c
   unfolding port_world far.data_closed
   port_closes port b rows c = refl
 
+  -- a server that has closed that port wants nothing more
   port_stays : (port : ℕ) (b : World) (rows : List Reply) (c : Cut) → far_served (world_at (port_base port b) (Answering rows) c) ≡ world_at (port_base port b) (Answering rows) c
   port_stays port b rows c = refl
 
+  -- where the server has taken the client's port it closes the one that it listened at, and that stage lasts
   pub port_taken_closes : (port : ℕ) (w : World) → (s : PlacedAt At w) → Stands (PortTaken port true) s.way s.base → Served w (after_event w)
   unfolding near.wants port_world
   port_taken_closes port w s h =
@@ -451,19 +472,23 @@ module _ (read : Reading) (state : State) (ask : Ask) (plan : HasPlan ask) (own 
   abbrev closed_base : World → World
   closed_base b = record b { far = far_linked (linked FarData.Free false Pendings.Nothing b.far.session) b.far; link = ClosedByFar }
 
+  -- the world where the server has no transfer left, and is to close the link
   parting_world : (b : World) (rows : List Reply) (c : Cut) → World
   parting_world b rows c = record (world_at b (Answering rows) c) {
     far = record (still (far_linked (linked FarData.Free true Pendings.Nothing b.far.session) b.far)) { owed = c.owed };
     link = Opened;
   }
 
+  -- served once, the server has closed the link
   parting_serves : (b : World) (rows : List Reply) (c : Cut) → far_served (parting_world b rows c) ≡ world_at (closed_base b) (Answering rows) c
   unfolding parting_world far.data_closed
   parting_serves b rows c = refl
 
+  -- a server that has closed the link wants nothing more
   closed_stays : (b : World) (rows : List Reply) (c : Cut) → far_served (world_at (closed_base b) (Answering rows) c) ≡ world_at (closed_base b) (Answering rows) c
   closed_stays b rows c = refl
 
+  -- where nothing but the link is to be closed, the world behind an event is the same with the link closed by the server
   pub link_closes : (w b : World) (rows : List Reply) (c : Cut) → w ≡ world_at b (Answering rows) c → near_served w ≡ w → report_of w.near ≡ None
       → b.far.session ≡ linked FarData.Free true Pendings.Nothing b.far.session → b.link ≡ Opened → after_event w ≡ world_at (closed_base b) (Answering rows) c
   unfolding parting_world
@@ -503,6 +528,7 @@ module _ (read : Reading) (state : State) (ask : Ask) (plan : HasPlan ask) (own 
         cutoff = ap (λ u. u.cutoff) new_is ∙ sym (ap (λ u. u.cutoff) is);
       }
 
+  -- where all octets are given and the link is still to be closed the server closes it, and that stage lasts
   pub given_closes : (heard : Heard) (came queue : List ℕ) (w : World) → (s : PlacedAt At w) → Stands (carry (Given heard false) came queue) s.way s.base → Served w (after_event w)
   unfolding near.wants
   given_closes heard came queue w s h =
@@ -523,6 +549,7 @@ module _ (read : Reading) (state : State) (ask : Ask) (plan : HasPlan ask) (own 
         fine = h.fine;
       })
 
+  -- where the server has refused and the link is still to be closed it closes the link, and that stage lasts
   pub refusing_closes : (why : Refusal) (came queue : List ℕ) (w : World) → (s : PlacedAt At w) → Stands (carry (Refusing why Unclosed) came queue) s.way s.base → Served w (after_event w)
   unfolding near.wants
   refusing_closes why came queue w s h =

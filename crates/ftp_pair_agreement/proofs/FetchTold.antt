@@ -34,12 +34,15 @@ use Rattle.ftp_pair_agreement.proofs.Still.{rest_placed, no_octets}
 
 -- ---- one operation more has its report
 
+-- the item of one attempt: an operation, the moment it was begun at, how it came out, and the marks of its links
 pub fared_item : Op (List ℕ) → ℕ → Outcome → List Mark → Item
 fared_item op moment outcome own = record { moment = moment; first = record { op = op; outcome = outcome; marks = own }; more = [] }
 
+-- what has a plan may use one link, so one mark at most is within what it may use
 pub few_links : (ask : Ask) → HasPlan ask → (own : List Mark) → length own ≤ 1 → length own ≤ links_of ask.op
 few_links ask plan own few = subst (λ how. length own ≤ (if is_some how then 1 else 0)) (sym plan.how_is) few
 
+-- a fetch whose answer fits how it came out holds as an item of one attempt
 pub fared_holds : (now : State) (ask : Ask) (plan : HasPlan ask) (moment index : ℕ) (own : List Mark) (said : Said) (f : Fared now ask own said) → length own ≤ 1
     → ItemHolds now (Single ask.op moment) own None index (fared_item ask.op moment f.outcome own)
 unfolding fared_item
@@ -49,6 +52,7 @@ fared_holds now ask plan moment index own said f few = record {
   marked = append-nil own;
 }
 
+-- where all before were told, and a fetch has fared with its answer, all are told with it and its report
 pub told_fared : (from : State) (done : List Order) (marks : List (List Mark)) (reports : List Said) (now : State) (ask : Ask) (plan : HasPlan ask) (moment : ℕ) (own : List Mark) (said : Said)
     → Told from done marks None reports now → Fared now ask own said → length own ≤ 1
     → Told from (done ++ Single ask.op moment ∷ []) (marks ++ own ∷ []) None (reports ++ said ∷ []) now
@@ -67,6 +71,7 @@ told_fared from done marks reports now ask plan moment own said t fares few =
 
 -- ---- both ends behind it
 
+-- ends that are steady stand, where the server is at no transfer and is not closing
 steady_stands : (now : State) (n : Near) (f : Far) → IsSteady now (kept n f) → is_aside f.session.connection ≡ true → (connection : FarConnection Transfer) (pending : Pending Names)
     → f.session ≡ linked connection false pending f.session → Stands now n f
 steady_stands now n f steady aside connection pending session = record {
@@ -97,6 +102,7 @@ taken_base said connection pending link b = record b {
   reports = b.reports ++ said ∷ [];
 }
 
+-- where the server is at no transfer when the answer is told, the report is taken, and there is no link
 aside_served : (said : Said) (closes : Bool) (connection : FarConnection Transfer) → is_aside connection ≡ true → (pending : Pending Names) (b : World)
     → after_event (told_at said (Aside closes connection pending) b) ≡ world_at (taken_base said connection pending Gone b) rest no_octets
 unfolding near.wants
@@ -111,14 +117,17 @@ aside_served said closes (FarData.Asked asked) aside pending b = absurd (cc)
 aside_served said closes (FarData.Opening transfer way) aside pending b = absurd (cc)
 aside_served said closes (FarData.Transferring transfer) aside pending b = absurd (cc)
 
+-- where the link is still open at the client, it is closed there and the report is taken; the server has yet to hear that end
 open_served : (said : Said) (b : World) → after_event (told_at said LinkOpen b) ≡ world_at (taken_base said FarData.Ready Pendings.Nothing ClosedByNear b) rest no_octets
 unfolding near.wants
 open_served said b = refl
 
+-- where the server has left the link already, the report is taken and the link is gone
 left_served : (said : Said) (b : World) → after_event (told_at said LinkLeft b) ≡ world_at (taken_base said FarData.Free Pendings.Nothing Gone b) rest no_octets
 unfolding near.wants
 left_served said b = refl
 
+-- where both ends have the link to close yet, they close it, the report is taken, and the link is gone
 parting_served : (said : Said) (b : World) → after_event (told_at said LinkParting b) ≡ world_at (taken_base said FarData.Free Pendings.Nothing Gone b) rest no_octets
 unfolding near.wants far.data_closed
 parting_served said b = refl
@@ -130,9 +139,11 @@ module _ (read : Reading) (from : State) (begun : List Order) (w : World) (f : I
   abbrev Stood : Leaving → Type 0
   Stood leaves = Holds f.now f.ask f.own (Answers said leaves) f.stands.way b
 
+  -- at an answer nothing is on its way on the control connection
   is_rest : (leaves : Leaving) → Stood leaves → w ≡ world_at b rest no_octets
   is_rest leaves h = rest_placed _ w f.stands h.way_is
 
+  -- at an answer the world is the one where it was told
   is_told : (leaves : Leaving) → Stood leaves → w ≡ told_at said leaves b
   is_told leaves h =
       is_rest leaves h
@@ -144,6 +155,7 @@ module _ (read : Reading) (from : State) (begun : List Order) (w : World) (f : I
         data_to_client = h.to_client i;
       })
 
+  -- with the answer as its report, all that was begun is told
   told_now : Fared f.now f.ask f.own said → length f.own ≤ 1 → Told from begun w.marks None (w.reports ++ said ∷ []) f.now
   told_now fares few =
       let t = told_fared from f.done f.marks w.reports f.now f.ask f.is_ask.plan f.moment f.own said f.told fares few in
@@ -179,6 +191,7 @@ module _ (read : Reading) (from : State) (begun : List Order) (w : World) (f : I
         );
       }
 
+  -- behind an answer its report is taken, and what was begun runs on: all is told, or a closed link trails
   pub answers_served : (leaves : Leaving) → Stood leaves → Runs read from begun (after_event w)
   answers_served (Aside closes connection pending) h =
       inl (subst (Follows read from begun) (sym (ap after_event (is_told (Aside closes connection pending) h) ∙ aside_served said closes connection h.fine.1 pending b))
@@ -226,6 +239,7 @@ module _ (read : Reading) (from : State) (begun : List Order) (w : World) (f : I
 
 -- ---- the server is told that the client has closed a link that it had for no transfer
 
+-- a mark that is added to the last of the marks is put behind those of the last operation
 pub marks_last : (mark : Mark) (marks : List (List Mark)) (own : List Mark) → marked_last mark (marks ++ own ∷ []) ≡ marks ++ (own ++ mark ∷ []) ∷ []
 marks_last mark [] own = refl
 marks_last mark (one ∷ []) own = refl
@@ -235,6 +249,7 @@ module _ (read : Reading) (reads : IsReading read) (from : State) (begun : List 
   abbrev pub at : World
   at = t.stands.base
 
+  -- while a closed link trails nothing is on its way on the control connection
   pub trails_rest : w ≡ world_at at rest no_octets
   trails_rest = rest_placed _ w t.stands t.stands.here.way_is
 
@@ -248,6 +263,7 @@ module _ (read : Reading) (reads : IsReading read) (from : State) (begun : List 
     data_to_client = [];
   }
 
+  -- the world of a closed link that trails is the one where it was closed
   pub closed_is : w ≡ closed_at
   closed_is =
       trails_rest
@@ -270,14 +286,17 @@ module _ (read : Reading) (reads : IsReading read) (from : State) (begun : List 
     marks = marks;
   }
 
+  -- where the server is told of the end of that link, the link is gone, and the marks are as they were
   ended : told DataToServer closed_at ≡ world_at (behind_at at.marks) rest no_octets
   unfolding far.data_end
   ended = refl
 
+  -- where that link breaks, it is gone, and the break is marked
   broke : link_breaks closed_at ≡ world_at (behind_at (marked_last (Broken at.came) at.marks)) rest no_octets
   unfolding far.data_fault
   broke = refl
 
+  -- with one mark or none for it, the last operation is told as well
   pub reported : (own : List Mark) → length own ≤ 1 → Told from begun (t.marks ++ own ∷ []) None at.reports t.now
   reported own few =
       let told_now = told_fared from t.done t.marks t.reports t.now t.ask t.plan t.moment own t.said t.told (t.fares own) few in
@@ -285,9 +304,11 @@ module _ (read : Reading) (reads : IsReading read) (from : State) (begun : List 
       (subst (λ reports. Told from (t.done ++ Single t.ask.op t.moment ∷ []) (t.marks ++ own ∷ []) None reports t.now)
       (sym t.reports_are ∙ ap (λ u. u.reports) trails_rest) told_now)
 
+  -- while its link trails there are no marks for the last operation yet
   pub marks_at : at.marks ≡ t.marks ++ [] ∷ []
   marks_at = sym (ap (λ u. u.marks) trails_rest) ∙ t.marks_are
 
+  -- behind the closed link, with marks that are told, what was begun follows as before
   freed_with : (marks : List (List Mark)) → Told from begun marks None at.reports t.now → Follows read from begun (after_event (world_at (behind_at marks) rest no_octets))
   freed_with marks told_is =
       let new : World = world_at (behind_at marks) rest no_octets in
@@ -311,11 +332,13 @@ module _ (read : Reading) (reads : IsReading read) (from : State) (begun : List 
         );
       })
 
+  -- where the server is told of the end of the link that trails, what was begun follows
   pub trailing_ends : Follows read from begun (after_event (told DataToServer w))
   trailing_ends =
       subst (λ u. Follows read from begun (after_event u)) (sym (ap (told DataToServer) closed_is ∙ ended))
       (freed_with at.marks (subst (λ marks. Told from begun marks None at.reports t.now) (sym marks_at) (reported [] (omega arith))))
 
+  -- where the link that trails breaks, what was begun follows
   pub trailing_breaks : Follows read from begun (after_event (link_breaks w))
   trailing_breaks =
       subst (λ u. Follows read from begun (after_event u)) (sym (ap link_breaks closed_is ∙ broke))

@@ -60,6 +60,7 @@ module _ (read : Reading) (reads : IsReading read) (state : State) (ask : Ask) (
   abbrev Along : Near → Far → Type 0
   Along n f = Passes state.table state.table n f
 
+  -- at the goal of the opening, with no link, empty queues and no marks, the world is served at a stage
   opens : (b : World) → b.link ≡ Gone → b.data_to_server ≡ [] → b.data_to_client ≡ [] → own ≡ [] → Goal b.near b.far → Served (Answering []) b
   opens b link to_server to_client none (inl goal) = (
     inr (
@@ -119,6 +120,7 @@ module _ (read : Reading) (reads : IsReading read) (state : State) (ask : Ask) (
     refl,
   )
 
+  -- on the way to the opening and at its goal, with no link, empty queues and no marks, the world is served
   pub arrives : (way : Way) (b : World) → b.link ≡ Gone → b.data_to_server ≡ [] → b.data_to_client ≡ [] → own ≡ []
       → IsOnWay read state op Along Goal way b.near b.far → Served way b
   arrives way b link to_server to_client none (inl (logging, waiting)) = (
@@ -144,9 +146,11 @@ module _ (read : Reading) (reads : IsReading read) (state : State) (ask : Ask) (
   abbrev Hears : World → Reply → List Reply → Type 0
   Hears b reply more = (t : NearTurn b.near reply more) × Served (behind t.line more) (record b { near = t.near })
 
+  -- the client's peer in a steady session is a typed host
   typed_peer : (b : World) → IsSteady state (kept b.near b.far) → IsTypedHost b.near.peer
   typed_peer b steady = subst IsTypedHost (sym steady.peer) steady.typed
 
+  -- the reply that tells the port is heard, and the client dials that port
   port_heard : (port : ℕ) (way : Way) (b : World) → Stands (PortTold port) way b → Hears b (port_reply (is_extended b.near op) b.near.peer port) []
   port_heard port way b h = (
     record {
@@ -177,6 +181,7 @@ module _ (read : Reading) (reads : IsReading read) (state : State) (ask : Ask) (
     ),
   )
 
+  -- the reply that grants REST is heard, and the client sends the own command
   rest_heard : (at : ℕ) (early : Early) (way : Way) (b : World) → Stands (Restarts at Granted early) way b → Hears b (rest_reply at) []
   rest_heard at early way b h = (
     record {
@@ -207,6 +212,7 @@ module _ (read : Reading) (reads : IsReading read) (state : State) (ask : Ask) (
     ),
   )
 
+  -- the reply that denies REST is heard, and the client has its answer, the refusal
   rest_refused : (at : ℕ) (why : Refusal) (early : Early) (way : Way) (b : World) → Stands (Restarts at (Denied why) early) way b → Hears b (fixed_reply (refusal_text why)) []
   rest_refused at why (Dialled true) way b h = (
     record {
@@ -423,6 +429,7 @@ module _ (read : Reading) (reads : IsReading read) (state : State) (ask : Ask) (
 
   -- ---- every reply
 
+  -- at each stage that is served the first reply is heard, and the world is served behind it
   told_at : (stage : Stage) (reply : Reply) (more : List Reply) (b : World) → Stands stage (Answering (reply ∷ more)) b → is_served stage ≡ true → Hears b reply more
   told_at (PortAsked closing) reply more b h served = absurd (no_reply reply more h.way_is)
   told_at (PortTold port) reply more b h served =
@@ -461,6 +468,7 @@ module _ (read : Reading) (reads : IsReading read) (state : State) (ask : Ask) (
 
   -- ---- all turns
 
+  -- each turn of either end leads what is asked for on, and behind a reply the world is served
   pub fetch_goes : Goes read Served At
   fetch_goes = record { held = λ way b here. here.0; asked = asked; told = told }
     where

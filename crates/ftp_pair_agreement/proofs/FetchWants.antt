@@ -120,6 +120,7 @@ module _ (read : Reading) (state : State) (ask : Ask) (plan : HasPlan ask) (own 
   accepts_none w port job near_is pending far_is =
       (λ i. is_gone w.link && is_wanted (near.wants (near_is i)) (far.wants (record w.far { session = far_is i }))) ∙ and_false (is_gone w.link)
 
+  -- at a stage that lasts the client dials, or waits at a port for the server whose reply it has heard, or no link is asked for
   pub dials_or_none : (w : World) → (s : PlacedAt At w) → IsLasting state ask read own s.way s.base s.here
       → ((port : ℕ) × Stands (Dials port) s.way s.base) ⊎ (((port : ℕ) × Stands (Awaits port true) s.way s.base) ⊎ (is_asked_for w ≡ false))
   unfolding near.wants
@@ -164,6 +165,7 @@ module _ (read : Reading) (state : State) (ask : Ask) (plan : HasPlan ask) (own 
 
   -- ---- the client is under way, and gives no octets
 
+  -- at a stage that lasts the client is busy
   pub lasting_busy : (w : World) → (s : PlacedAt At w) → IsLasting state ask read own s.way s.base s.here → is_busy_job w.near.job ≡ true
   lasting_busy w s lasts = by_here s.here lasts
     where
@@ -204,6 +206,7 @@ module _ (read : Reading) (state : State) (ask : Ask) (plan : HasPlan ask) (own 
     pub queue : w.data_to_server ≡ []
     pub closed : is_closed_by_near w.link ≡ false
 
+  -- at a stage that lasts the client gives no octets, and has not closed the link
   pub gives_none : (w : World) → (s : PlacedAt At w) → IsLasting state ask read own s.way s.base s.here → GivesNone w
   gives_none w s lasts = by_here s.here lasts
     where

@@ -8,6 +8,7 @@ use Rattle.ftp_pair_world.specs.World.{Mark}
 
 -- ---- the state behind items
 
+-- the state behind items and one more is what the last of them makes of the state behind the others
 pub state_more : (from : State) (items : List Item) (item : Item) → state_after from (items ++ item ∷ []) ≡ (item_did (state_after from items) item).1
 state_more from [] item = refl
 state_more from (first ∷ items) item = state_more (item_did from first).1 items item
@@ -72,6 +73,7 @@ marks_of_each (report ∷ reports) from index (first ∷ done) (mark ∷ marks) 
 
 -- ---- the control connection ends behind all of them
 
+-- an outcome that is allowed while the control connection lasts is allowed where it ends behind the operation
 allows_cut : (outcome : Outcome) (marks : List Mark) (index cutoff : ℕ) → index < cutoff → Allows outcome marks None index → Allows outcome marks (Some cutoff) index
 allows_cut Whole marks index cutoff early allows = early
 allows_cut (Cut wire) marks index cutoff early allows = (early, allows.1)
@@ -81,6 +83,7 @@ allows_cut (Lost Nothing) marks index cutoff early (inr behind) = absurd behind
 allows_cut (Lost All) marks index cutoff early allows = absurd allows
 allows_cut (Lost (Front wire)) marks index cutoff early allows = absurd allows.0
 
+-- attempts that hold while the control connection lasts hold where it ends behind them
 run_cut : (moment : ℕ) (state : State) (index cutoff : ℕ) (attempts : List Attempt) → index < cutoff → RunHolds moment state None index attempts → RunHolds moment state (Some cutoff) index attempts
 run_cut moment state index cutoff [] early hold = tt
 run_cut moment state index cutoff (attempt ∷ attempts) early hold = (
@@ -88,11 +91,13 @@ run_cut moment state index cutoff (attempt ∷ attempts) early hold = (
   run_cut moment (attempt_did moment state attempt).1 index cutoff attempts early hold.1,
 )
 
+-- an item that holds while the control connection lasts holds where it ends behind the item
 item_cut : (state : State) (order : Order) (marks : List Mark) (index cutoff : ℕ) (item : Item) → index < cutoff → ItemHolds state order marks None index item
     → ItemHolds state order marks (Some cutoff) index item
 item_cut state order marks index cutoff item early hold =
     record { is_of = hold.is_of; holds = run_cut item.moment state index cutoff (item.first ∷ item.more) early hold.holds; marked = hold.marked }
 
+-- items that all have their report and hold while the control connection lasts hold where it ends behind all of them
 pub all_cut : (reports : List Said) (from : State) (index cutoff : ℕ) (done : List Order) (marks : List (List Mark)) (items : List Item)
     → length reports ≡ length done → index + length done ≤ cutoff → ItemsHold from index done marks None reports items → ItemsHold from index done marks (Some cutoff) reports items
 all_cut [] from index cutoff [] [] [] all early hold = tt

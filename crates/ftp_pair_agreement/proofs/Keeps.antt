@@ -27,6 +27,7 @@ use Rattle.ftp_pair_agreement.proofs.Chunks.{both_empty, IsAll, hears_some}
 abbrev pub IsSome : List ℕ → Type 0
 IsSome l = (octet : ℕ) × (more : List ℕ) × (l ≡ octet ∷ more)
 
+-- a line as it is sent has an octet
 pub line_is_some : (text : List ℕ) → IsSome (written_line text)
 line_is_some text = ended (flat_map written_octet text)
   where
@@ -34,9 +35,11 @@ line_is_some text = ended (flat_map written_octet text)
     ended [] = (13, 10 ∷ [], refl)
     ended (x ∷ l) = (x, l ++ 13 ∷ 10 ∷ [], refl)
 
+-- octets with others behind them are some if the first are
 more_is_some : (l more : List ℕ) → IsSome l → IsSome (l ++ more)
 more_is_some l more some = (some.0, some.1 ++ more, ap (λ k. k ++ more) some.2)
 
+-- a reply that can be written has an octet
 reply_is_some : (reply : Reply) → IsWritten reply.code reply.lines → IsSome (reply_octets reply)
 reply_is_some reply is = by_lines reply.code reply.lines is.some
   where
@@ -49,30 +52,35 @@ reply_is_some reply is = by_lines reply.code reply.lines is.some
 pub anew : (unit others : List ℕ) → IsSome unit → Flows unit [] (unit ++ others) others
 anew unit others some = record { octet = some.0; more = some.1; whole = sym some.2; is = ap (λ l. l ++ others) some.2 }
 
+-- of a row of replies that can be written nothing is held, and all of it is to come
 pub row_anew : (rows : List Reply) → AreWritten rows → FlowsRow rows [] (row_octets rows)
 row_anew [] fine = (refl, refl)
 row_anew (reply ∷ more) fine = anew (reply_octets reply) (row_octets more) (reply_is_some reply fine.0)
 
 -- ---- octets that move
 
+-- what is to come stays the same where owed octets move into the queue
 moved_coming : (n : ℕ) (c : Cut) → (c.moving ++ take n c.owed) ++ drop n c.owed ≡ coming c
 moved_coming n c = append_assoc c.moving (take n c.owed) (drop n c.owed) ∙ ap (λ l. c.moving ++ l) (take-append-drop n c.owed)
 
 abbrev moves : ℕ → Cut → Cut
 moves n c = record c { moving = c.moving ++ take n c.owed; owed = drop n c.owed }
 
+-- a cut that fits a way still fits it when owed octets have moved
 moves_fit : (n : ℕ) (way : Way) (c : Cut) → Fits way c → Fits way (moves n c)
 moves_fit n (Asking text) c fits = (fits.0, subst (λ l. Flows (written_line text) c.held l []) (sym (moved_coming n c)) fits.1)
 moves_fit n (Answering rows) c fits = (fits.0, subst (FlowsRow rows c.held) (sym (moved_coming n c)) fits.1)
 
 -- ---- where nothing is owed nothing moves, and out of an empty queue nothing is heard
 
+-- where the client owes nothing, nothing moves to the server
 pub no_pull_to_server : (n : ℕ) (w : World) → w.near.owed ≡ [] → pulled ControlToServer w n ≡ w
 no_pull_to_server n w e =
     let first : w.control_to_server ++ take n w.near.owed ≡ w.control_to_server = ap (λ l. w.control_to_server ++ take n l) e ∙ ap (λ l. w.control_to_server ++ l) (take-nil n) ∙ append-nil w.control_to_server in
     let second : drop n w.near.owed ≡ w.near.owed = ap (drop n) e ∙ drop-nil n ∙ sym e in
     λ i. record w { control_to_server = first i; near = record w.near { owed = second i } }
 
+-- where the server owes nothing and no command waits, nothing moves to the client
 pub no_pull_to_client : (n : ℕ) (w : World) → w.far.owed ≡ [] → w.far.waiting ≡ None → pulled ControlToClient w n ≡ w
 unfolding gives_control
 no_pull_to_client n w e none =
@@ -83,6 +91,7 @@ no_pull_to_client n w e none =
     let far : gives_control n w.far ≡ w.far = idle ∙ ap (λ l. record w.far { owed = l }) second in
     λ i. record w { control_to_client = first i; far = far i }
 
+-- where no octet is on its way to the server, it hears nothing
 pub no_push_to_server : (read : Reading) (n : ℕ) (w : World) → w.control_to_server ≡ [] → pushed read ControlToServer n w ≡ w
 no_push_to_server read n w e =
     let taken : take n w.control_to_server ≡ [] = ap (take n) e ∙ take-nil n in
@@ -90,6 +99,7 @@ no_push_to_server read n w e =
     let far : hears read w.far (take n w.control_to_server) ≡ w.far = ap (hears read w.far) taken in
     λ i. record w { far = far i; control_to_server = left i }
 
+-- where no octet is on its way to the client, it hears nothing
 pub no_push_to_client : (read : Reading) (n : ℕ) (w : World) → w.control_to_client ≡ [] → pushed read ControlToClient n w ≡ w
 no_push_to_client read n w e =
     let taken : take n w.control_to_client ≡ [] = ap (take n) e ∙ take-nil n in
@@ -105,6 +115,7 @@ near_owes n [] c fine flow = ap (λ held. (near.hears (calm n) held).owed) flow.
 near_owes n (reply ∷ more) c fine flow =
     ap (λ v. v.owed) ((replies.reply_is_heard reply.code reply.lines (calm n) fine.0 (record { ear = refl; gathered = refl })).cut c.held flow.more flow.octet flow.whole).is
 
+-- a server that has heard a line but for some of its end does nothing of it yet
 far_held : (read : Reading) (f : Far) (text held more : List ℕ) (octet : ℕ) → IsLine text → held ++ octet ∷ more ≡ written_line text
     → hears read (still f) held ≡ only_heard (still f) held
 far_held read f text held more octet is whole = (commands.line_is_heard read text (still f) is refl).cut held more octet whole
@@ -119,6 +130,7 @@ module _ (read : Reading) (At After : Way → World → Type 0) (goes : Goes rea
 
   -- ---- octets that move
 
+  -- a world of a way and a cut that fit stays placed where octets move from the client to the queue to the server
   pulls_to_server_at : (n : ℕ) (b : World) (way : Way) (c : Cut) → Fits way c → At way b → Keeps (pulled ControlToServer (world_at b way c) n)
   pulls_to_server_at n b (Asking text) c fits here =
       record { base = b; way = Asking text; cut = moves n c; is = refl; fits = moves_fit n (Asking text) c fits; here = here }
@@ -131,9 +143,11 @@ module _ (read : Reading) (At After : Way → World → Type 0) (goes : Goes rea
     here = here;
   }
 
+  -- so does every placed world
   pub pulls_to_server : (n : ℕ) (w : World) → Keeps w → Keeps (pulled ControlToServer w n)
   pulls_to_server n w s = subst (λ u. Keeps (pulled ControlToServer u n)) (sym s.is) (pulls_to_server_at n s.base s.way s.cut s.fits s.here)
 
+  -- a world of a way and a cut that fit stays placed where octets move from the server to the queue to the client
   pulls_to_client_at : (n : ℕ) (b : World) (way : Way) (c : Cut) → Fits way c → At way b → Keeps (pulled ControlToClient (world_at b way c) n)
   unfolding gives_control
   pulls_to_client_at n b (Asking text) c fits here =
@@ -141,6 +155,7 @@ module _ (read : Reading) (At After : Way → World → Type 0) (goes : Goes rea
   pulls_to_client_at n b (Answering rows) c fits here =
       record { base = b; way = Answering rows; cut = moves n c; is = refl; fits = moves_fit n (Answering rows) c fits; here = here }
 
+  -- so does every placed world
   pub pulls_to_client : (n : ℕ) (w : World) → Keeps w → Keeps (pulled ControlToClient w n)
   pulls_to_client n w s = subst (λ u. Keeps (pulled ControlToClient u n)) (sym s.is) (pulls_to_client_at n s.base s.way s.cut s.fits s.here)
 
@@ -173,6 +188,7 @@ module _ (read : Reading) (At After : Way → World → Type 0) (goes : Goes rea
   pushed_coming : (n : ℕ) (c : Cut) → coming c ≡ take n c.moving ++ (drop n c.moving ++ c.owed)
   pushed_coming n c = ap (λ l. l ++ c.owed) (sym (take-append-drop n c.moving)) ∙ append_assoc (take n c.moving) (drop n c.moving) c.owed
 
+  -- a world of a way and a cut that fit is placed as behind a turn of the server when the server has heard octets
   pushes_to_server_at : (n : ℕ) (b : World) (way : Way) (c : Cut) → Fits way c → At way b → Leaves (pushed read ControlToServer n (world_at b way c))
   pushes_to_server_at n b (Asking text) c fits here =
       elim (hears_some (written_line text) c.held (take n c.moving) (drop n c.moving ++ c.owed) [] (subst (λ l. Flows (written_line text) c.held l []) (pushed_coming n c) fits.1)) [
@@ -192,6 +208,7 @@ module _ (read : Reading) (At After : Way → World → Type 0) (goes : Goes rea
   pushes_to_server_at n b (Answering rows) c fits here =
       record { base = b; way = Answering rows; cut = c; is = no_push_to_server read n (world_at b (Answering rows) c) refl; fits = fits; here = goes.held (Answering rows) b here }
 
+  -- so is every placed world when the server has heard octets
   pub pushes_to_server : (n : ℕ) (w : World) → Keeps w → Leaves (pushed read ControlToServer n w)
   pushes_to_server n w s = subst (λ u. Leaves (pushed read ControlToServer n u)) (sym s.is) (pushes_to_server_at n s.base s.way s.cut s.fits s.here)
 
@@ -206,6 +223,7 @@ module _ (read : Reading) (At After : Way → World → Type 0) (goes : Goes rea
     control_to_client = ys;
   }
 
+  -- a world whose client has heard octets of a row of replies stays placed
   row_heard : (rows : List Reply) (b : World) (held xs ys owed : List ℕ) → AreWritten rows → FlowsRow rows held (xs ++ (ys ++ owed)) → At (Answering rows) b
       → Keeps (hearing b held xs ys owed)
   row_heard [] b held xs ys owed fine flow here =
@@ -277,11 +295,13 @@ module _ (read : Reading) (At After : Way → World → Type 0) (goes : Goes rea
                 here = subst (λ l. At (behind l more) (record b { near = t.near })) some next.1;
               }
 
+  -- a world of a way and a cut that fit stays placed when the client has heard octets
   pushes_to_client_at : (n : ℕ) (b : World) (way : Way) (c : Cut) → Fits way c → At way b → Keeps (pushed read ControlToClient n (world_at b way c))
   pushes_to_client_at n b (Asking text) c fits here =
       record { base = b; way = Asking text; cut = c; is = no_push_to_client read n (world_at b (Asking text) c) refl; fits = fits; here = here }
   pushes_to_client_at n b (Answering rows) c fits here =
       row_heard rows b c.held (take n c.moving) (drop n c.moving) c.owed fits.0 (subst (FlowsRow rows c.held) (pushed_coming n c) fits.1) here
 
+  -- so does every placed world when the client has heard octets
   pub pushes_to_client : (n : ℕ) (w : World) → Keeps w → Keeps (pushed read ControlToClient n w)
   pushes_to_client n w s = subst (λ u. Keeps (pushed read ControlToClient n u)) (sym s.is) (pushes_to_client_at n s.base s.way s.cut s.fits s.here)

@@ -52,6 +52,7 @@ lost_near job n = record n {
 abbrev pub cut_far : Bool → Far → Far
 cut_far closing f = record f { session = record (session_cut f.session) { closing = closing }; waiting = None; owed = [] }
 
+-- a sound client that loses its control connection is silent and without a data connection, and its job has failed
 pub near_fails : (s : Standing) (n : Near) → is_sound s ≡ true
     → fails_by s Failures.Lost n ≡ record (silent (dropped n)) { standing = Standings.Failed Failures.Lost; job = failed_job Lost n.job; run = None }
 near_fails Standings.Greeting n sound = refl
@@ -60,6 +61,7 @@ near_fails Standings.Pass n sound = refl
 near_fails Standings.Entered n sound = refl
 near_fails (Standings.Failed failure) n sound = absurd (cc)
 
+-- a client that waits and hears the end of its control connection has failed, and so has its job
 near_ends : (n : Near) → NearWaits n → near.control_end n ≡ lost_near (failed_job Lost n.job) n
 unfolding near.control_end
 near_ends n waits =
@@ -77,16 +79,19 @@ lost_world job closing w = record w {
   cutoff = Some (length w.marks);
 }
 
+-- the end of the control connection makes of a still world one that is lost
 ends_is : (w : World) → IsStill w → ends_control w ≡ lost_world (failed_job Lost w.near.job) (session_cut w.far.session).closing w
 unfolding far.control_end
 ends_is w waits = ap (λ v. record (lost_world (failed_job Lost w.near.job) (session_cut w.far.session).closing w) { near = v }) (near_ends w.near waits.near)
 
 -- ---- what the world does for them
 
+-- in a lost world the client wants nothing
 near_left : (job : Job) (closing : Bool) (w : World) → near_served (lost_world job closing w) ≡ lost_world job closing w
 unfolding near.wants
 near_left job closing w = refl
 
+-- in a lost world without a link the server has its port closed, if one is to be, and wants nothing else
 far_left : (job : Job) (closing : Bool) (w : World) → w.link ≡ Gone → far_served (lost_world job closing w) ≡ lost_world job false w
 unfolding far.data_closed
 far_left job true w gone =
@@ -100,6 +105,7 @@ far_left job true w gone =
     })) gone
 far_left job false w gone = refl
 
+-- all that is served in a lost world without a link is the closing of a port
 lost_is_served : (job : Job) (closing : Bool) (w : World) → w.link ≡ Gone → served (lost_world job closing w) ≡ lost_world job false w
 lost_is_served job closing w gone =
     ap (λ u. far_served (far_served (far_served (near_served (near_served u))))) (near_left job closing w)
@@ -108,18 +114,20 @@ lost_is_served job closing w gone =
     ∙ ap (λ u. far_served (far_served u)) (far_left job closing w gone)
     ∙ ap far_served (far_left job false w gone) ∙ far_left job false w gone
 
--- an operation that is under way is reported as lost
+-- with no operation under way the control connection ends in a lost world that reports nothing more
 after_idle : (w : World) → IsStill w → w.link ≡ Gone → w.near.job ≡ Idle → after_event (ends_control w) ≡ lost_world Idle false w
 after_idle w waits gone idle =
     ap after_event (ends_is w waits ∙ ap (λ job. lost_world (failed_job Lost job) (session_cut w.far.session).closing w) idle)
     ∙ ap collected (lost_is_served Idle (session_cut w.far.session).closing w gone)
 
+-- with an operation under way the control connection ends in a lost world that reports it as lost
 pub after_busy : (w : World) → IsStill w → w.link ≡ Gone → failed_job Lost w.near.job ≡ Answered Lost
     → after_event (ends_control w) ≡ record (lost_world Idle false w) { reports = w.reports ++ Lost ∷ [] }
 after_busy w waits gone lost =
     ap after_event (ends_is w waits ∙ ap (λ job. lost_world job (session_cut w.far.session).closing w) lost)
     ∙ ap collected (lost_is_served (Answered Lost) (session_cut w.far.session).closing w gone)
 
+-- a job under way that has nothing to report yet fails as lost
 pub busy_lost : (job : Job) → is_busy_job job ≡ true → report_of_job job ≡ None → failed_job Lost job ≡ Answered Lost
 busy_lost Idle busy untold = absurd (cc)
 busy_lost (Waiting op) busy untold = refl
@@ -133,11 +141,13 @@ busy_lost (Answered said) busy untold = absurd (cc)
 abbrev pub lost_item : Part → Op (List ℕ) → ℕ → Item
 lost_item part op moment = record { moment = moment; first = record { op = op; outcome = LostOff part; marks = [] }; more = [] }
 
+-- the item of an operation that is lost, without marks, holds if that part of it can be lost and is allowed
 lost_holds : (part : Part) (now : State) (op : Op (List ℕ)) (moment cutoff index : ℕ) → CanBeLost part now op → AllowsPart part [] (Some cutoff) index
     → ItemHolds now (Single op moment) [] (Some cutoff) index (lost_item part op moment)
 lost_holds part now op moment cutoff index can allowed =
     record { is_of = (refl, refl, refl); holds = (record { can_be = can; allowed = allowed; few = omega arith }, tt); marked = refl }
 
+-- behind what is told, one more order that is lost is told as well, if that part of it can be lost and is allowed
 told_lost : (from : State) (done : List Order) (marks : List (List Mark)) (cutoff : ℕ) (reports : List Said) (now : State) (part : Part) (op : Op (List ℕ)) (moment : ℕ)
     → Told from done marks (Some cutoff) reports now → CanBeLost part now op → AllowsPart part [] (Some cutoff) (length done)
     → Told from (done ++ Single op moment ∷ []) (marks ++ [] ∷ []) (Some cutoff) (reports ++ Lost ∷ []) (lost_state part now op moment)
@@ -160,18 +170,22 @@ told_cut from done marks cutoff reports now early t = record {
   now_is = t.now_is;
 }
 
+-- where each order is told there are as many lists of marks as orders
 pub marks_are_all : (from : State) (done : List Order) (marks : List (List Mark)) (cutoff : Option ℕ) (reports : List Said) (now : State) → Told from done marks cutoff reports now
     → length marks ≡ length done
 marks_are_all from done marks cutoff reports now t = marks_of_each reports from 0 done marks cutoff t.items t.all t.hold
 
 -- ---- the end, by what is under way
 
+-- a client that has lost its control connection and has no operation is a lost one
 pub near_lost : (n : Near) → NearLost (lost_near Idle n)
 near_lost n = record { standing = refl; job = refl; connection = refl; closing = refl; owed = refl }
 
+-- a server that hears nothing more and has no port to close is a lost one
 pub far_lost : (f : Far) → FarLost (cut_far false f)
 far_lost f = record { life = refl; closing = refl; connection = refl; waiting = refl; owed = refl }
 
+-- a world with no operation under way is lost once the control connection has ended
 parts_free : (from : State) (begun : List Order) (w : World) → IsFree from begun w → IsLost from begun (lost_world Idle false w)
 parts_free from begun w f =
     let many : length w.marks ≡ length begun = marks_are_all from begun w.marks None w.reports f.now f.told in
@@ -194,6 +208,7 @@ parts_free from begun w f =
     one_table (inl is) = is
     one_table (inr is) = is
 
+-- a world under an operation is lost, and reports so, with the map as this part of the operation leaves it
 parts_under : (read : Reading) (from : State) (begun : List Order) (w : World) (u : IsUnder read from begun w) (part : Part) → CanBeLost part u.now u.op
     → AllowsPart part [] (Some (length w.marks)) (length u.done) → w.far.session.table ≡ (lost_state part u.now u.op u.moment).table
     → IsLost from begun (record (lost_world Idle false w) { reports = w.reports ++ Lost ∷ [] })
@@ -219,15 +234,18 @@ parts_under read from begun w u part can allowed table =
     }
 
 module _ (read : Reading) (from : State) (begun : List Order) where
+  -- a lost world without a link follows what was begun
   follows_lost : (w : World) → IsUnlinked w → IsLost from begun w → Follows read from begun w
   follows_lost w unlinked lost = record { unlinked = unlinked; untold = ap report_of_job lost.near.job; phase = inr lost }
 
+  -- the control connection ends with no operation under way, and the world follows what was begun
   pub parts_from_free : (w : World) → IsUnlinked w → IsFree from begun w → Follows read from begun (after_event (ends_control w))
   parts_from_free w unlinked f =
       let idle : w.near.job ≡ Idle = (seen (AtFree f.now) w f.stands).job ∙ free_job f.now f.stands.way f.stands.base.near f.stands.base.far f.stands.here in
       subst (Follows read from begun) (sym (after_idle w (free_still from begun w f) unlinked.link idle))
       (follows_lost (lost_world Idle false w) (record { link = unlinked.link; to_server = unlinked.to_server; to_client = unlinked.to_client }) (parts_free from begun w f))
 
+  -- the control connection ends under an operation, and the world follows what was begun
   pub parts_from_under : (w : World) → IsUnlinked w → report_of w.near ≡ None → (u : IsUnder read from begun w) → Follows read from begun (after_event (ends_control w))
   parts_from_under w unlinked untold u = by_place (operation_on read u.now u.op (answer u.now u.op u.moment) u.stands.way u.stands.base.near u.stands.base.far u.stands.here)
     where
@@ -256,6 +274,7 @@ module _ (read : Reading) (from : State) (begun : List Order) where
 
 -- ---- behind the end
 
+-- a client that has lost its control connection answers each operation with that at once
 starts_lost : (op : Op (List ℕ)) (n : Near) → n.standing ≡ Standings.Failed Failures.Lost → near.starts op n ≡ with_job (Answered Lost) n
 unfolding near.starts
 starts_lost op n is = by_sent (can_be_sent op)
@@ -269,6 +288,7 @@ module _ (read : Reading) (from : State) (begun : List Order) (op : Op (List ℕ
   abbrev begun_lost : World → World
   begun_lost w = record w { far = at_moment moment w.far; near = with_job (Answered Lost) w.near; marks = w.marks ++ [] ∷ [] }
 
+  -- in a lost world an operation begins as one that is lost at once
   begun_lost_is : (w : World) → IsLost from begun w → operation_begins op moment w ≡ begun_lost w
   unfolding far.clocked
   begun_lost_is w l =
@@ -276,6 +296,7 @@ module _ (read : Reading) (from : State) (begun : List Order) (op : Op (List ℕ
       let near : near.starts op w.near ≡ with_job (Answered Lost) w.near = starts_lost op w.near l.near.standing in
       λ i. record w { far = far i; near = near i; marks = w.marks ++ [] ∷ [] }
 
+  -- a lost world with one more order, reported as lost, is still lost
   behind_lost : (order : Order) (w : World) → (l : IsLost from begun w) → Told from (begun ++ order ∷ []) (w.marks ++ [] ∷ []) (Some l.cutoff) (w.reports ++ Lost ∷ []) l.now
       → IsLost from (begun ++ order ∷ []) (record (begun_lost w) { near = with_job Idle w.near; reports = w.reports ++ Lost ∷ [] })
   behind_lost order w l told =
@@ -312,5 +333,6 @@ module _ (read : Reading) (from : State) (begun : List Order) (op : Op (List ℕ
       busy_served : (u : World) → IsLost from begun w → served (begun_lost w) ≡ begun_lost w
       busy_served u l = lost_is_still (begun_lost w) l.near.standing l.near.closing l.far.life l.far.closing l.control
 
+  -- an operation begun in a lost world is lost, and the world follows what was begun with it
   pub begins_lost : (w : World) → IsUnlinked w → IsLost from begun w → Follows read from (begun ++ Single op moment ∷ []) (after_event (operation_begins op moment w))
   begins_lost w unlinked l = lost_so (Single op moment) w unlinked l (told_lost from begun w.marks l.cutoff w.reports l.now Nothing op moment l.told tt (inr l.early))

@@ -34,16 +34,20 @@ use Rattle.ftp_pair_agreement.proofs.Still.{seen, IsStill, IsMoving, no_octets, 
 abbrev pub whole_item : Op (List ℕ) → ℕ → Item
 whole_item op moment = record { moment = moment; first = record { op = op; outcome = Whole; marks = [] }; more = [] }
 
+-- an operation that is done whole, without marks, holds as an item in each state
 pub whole_holds : (now : State) (op : Op (List ℕ)) (moment index : ℕ) → ItemHolds now (Single op moment) [] None index (whole_item op moment)
 whole_holds now op moment index =
     record { is_of = (refl, refl, refl); holds = (record { can_be = tt; allowed = tt; few = omega arith }, tt); marked = refl }
 
+-- a list with one more at its end is longer by one
 pub length-more : {X : Type 0} (xs : List X) (x : X) → length (xs ++ x ∷ []) ≡ suc (length xs)
 length-more xs x = omega (arith, length-append xs (x ∷ []))
 
+-- two lists of one length are of one length with one more at the end of each
 pub both_longer : {X Y : Type 0} (xs : List X) (ys : List Y) (x : X) (y : Y) → length xs ≡ length ys → length (xs ++ x ∷ []) ≡ length (ys ++ y ∷ [])
 both_longer xs ys x y same = length-more xs x ∙ ap suc same ∙ sym (length-more ys y)
 
+-- what is told of the orders done is told of one operation more, with its answer and the state behind it
 pub told_whole : (from : State) (done : List Order) (marks : List (List Mark)) (reports : List Said) (now : State) (op : Op (List ℕ)) (moment : ℕ)
     → Told from done marks None reports now
     → Told from (done ++ Single op moment ∷ []) (marks ++ [] ∷ []) None (reports ++ (answer now op moment).0 ∷ []) (answer now op moment).1
@@ -57,9 +61,11 @@ told_whole from done marks reports now op moment t = record {
 
 -- ---- turns
 
+-- with no operation under way each turn leads to where none is under way
 pub turns_free : (read : Reading) (now : State) → IsReading read → Turns read (AtFree now)
 turns_free read now reads = free_turns read now reads
 
+-- under an operation each turn leads to where it is under way or has ended
 pub turns_under : (read : Reading) (from : State) (begun : List Order) (w : World) → IsReading read → (u : IsUnder read from begun w) → Turns read (AtOperation read u.now u.op (answer u.now u.op u.moment))
 turns_under read from begun w reads u = operation-leads read u.now u.op u.moment reads u.alone u.sent u.sound
 
@@ -71,6 +77,7 @@ free_still from begun w f =
     let set = free_set f.now f.stands.way f.stands.base.near f.stands.base.far f.stands.here in
     still_as f.stands.base w (seen (AtFree f.now) w f.stands) set.near set.far
 
+-- a world with no operation under way has no report to take
 pub free_untold : (from : State) (begun : List Order) (w : World) → IsFree from begun w → report_of w.near ≡ None
 free_untold from begun w f =
     ap report_of_job ((seen (AtFree f.now) w f.stands).job ∙ free_job f.now f.stands.way f.stands.base.near f.stands.base.far f.stands.here)
@@ -79,6 +86,7 @@ free_untold from begun w f =
 abbrev reported : Said → World → World
 reported said w = record w { near = near.reports w.near; reports = w.reports ++ said ∷ [] }
 
+-- at rest, once the report is taken, the world is its base with an idle client and the new reports
 reported_at : (said : Said) (reports : List Said) (w b : World) → w ≡ world_at b rest no_octets → b.near ≡ told said b.near
     → record w { near = near.reports w.near; reports = reports } ≡ world_at (record b { near = record b.near { job = Idle }; reports = reports }) rest no_octets
 reported_at said reports w b is ends =
@@ -86,6 +94,7 @@ reported_at said reports w b is ends =
     let by_job : Job → World = λ j. record (world_at b rest no_octets) { near = reported_by j (calm b.near); reports = reports } in
     ap taken is ∙ ap by_job (ap (λ v. v.job) ends)
 
+-- ends at which an operation has ended are free in the next state once the client is idle
 rests_behind : (said : Said) (next : State) (n : Near) (f : Far) → Ends (said, next) n f → AtFree next rest (record n { job = Idle }) f
 rests_behind said next n f ends = inr (
   refl,
@@ -131,10 +140,12 @@ under_ends read from begun w u way ends =
 
 -- ---- the control connection has ended
 
+-- a client that lost its connection and is not closing wants to close all
 lost_near_wants : (n : Near) → n.standing ≡ Standings.Failed Failures.Lost → n.closing ≡ false → near.wants n ≡ Want.CloseAll
 unfolding near.wants
 lost_near_wants n standing closing = rw (closing, standing) refl
 
+-- a server whose session is cut and is not closing wants to close all
 lost_far_wants : (f : Far) → f.session.life ≡ Lives.Cut → f.session.closing ≡ false → far.wants f ≡ Want.CloseAll
 lost_far_wants f life closing = rw (closing, life) refl
 
@@ -148,9 +159,11 @@ lost_is_still w standing near_closing life far_closing control =
     ∙ ap (λ u. far_served (far_served (far_served (near_served u)))) n ∙ ap (λ u. far_served (far_served (far_served u))) n
     ∙ ap (λ u. far_served (far_served u)) f ∙ ap (λ u. far_served u) f ∙ f
 
+-- serving leaves a world whose control connection is lost as it is
 pub lost_served : (from : State) (begun : List Order) (w : World) → IsLost from begun w → served w ≡ w
 lost_served from begun w l = lost_is_still w l.near.standing l.near.closing l.far.life l.far.closing l.control
 
+-- a world whose control connection is lost is left as it is after an event
 pub lost_stays : (from : State) (begun : List Order) (w : World) → IsLost from begun w → after_event w ≡ w
 lost_stays from begun w l = ap collected (lost_served from begun w l) ∙ ap (λ o. collected_by o w) (ap report_of_job l.near.job)
 
@@ -161,9 +174,11 @@ pub record HasFollowed (read : Reading) (from : State) (begun : List Order) (w :
   pub unlinked : IsUnlinked w
   pub phase : Phase read from begun w
 
+-- a world with the control connection and the cutoff of a linked one is linked
 linked_on : (w new : World) → new.control ≡ w.control → new.cutoff ≡ w.cutoff → IsLinked w → IsLinked new
 linked_on w new control cutoff l = record { control = control ∙ l.control; cutoff = cutoff ∙ l.cutoff }
 
+-- a world that has followed what was begun follows it after the event, when the report is taken
 pub follows_after : (read : Reading) (from : State) (begun : List Order) (w : World) → HasFollowed read from begun w → Follows read from begun (after_event w)
 follows_after read from begun w h = by_phase h.phase
   where

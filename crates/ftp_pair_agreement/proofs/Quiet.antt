@@ -33,6 +33,7 @@ pub can_take_now : (a b c : Bool) → b ≡ true → c ≡ true → (a || (true 
 can_take_now true b c one other = refl
 can_take_now false b c one other = λ i. true && one i && other i
 
+-- nothing is both true and false
 pub never : (b : Bool) → b ≡ true → b ≡ false → ⊥
 never b is other = let e : true ≡ false = sym is ∙ other in cc
 
@@ -85,6 +86,7 @@ unblocked_at b (Answering rows) c fits waits free = (
 
 -- ---- so nothing is left open
 
+-- a world with an operation under way and no report to take is not still
 under_moves : (read : Reading) (from : State) (begun : List Order) (w : World) → IsUnder read from begun w → report_of w.near ≡ None → IsStill w → ⊥
 under_moves read from begun w u untold still = by_place (operation_on read u.now u.op (answer u.now u.op u.moment) u.stands.way u.stands.base.near u.stands.base.far u.stands.here)
   where
@@ -97,9 +99,11 @@ under_moves read from begun w u untold still = by_place (operation_on read u.now
         quiet_at u.stands.base u.stands.way u.stands.cut u.stands.fits moving.set.near.sound moving.set.far.life moving.some (subst IsStill u.stands.is still)
     by_place (inr ends) = let e : None ≡ Some (answer u.now u.op u.moment).0 = sym untold ∙ ap report_of_job (like.job ∙ ap (λ v. v.job) ends.1.near) in cc
 
+-- a client that is not busy can begin, if the link is gone and none is asked for
 begins_freely : (w : World) → is_busy_job w.near.job ≡ false → is_gone w.link ≡ true → is_asked_for w ≡ false → IsTrue (can_begin w)
 begins_freely w idle gone asks = λ i. not (idle i) && gone i && not (asks i)
 
+-- a world that follows what was begun and is still has answered all of it, and can begin more
 pub follows_answered : (read : Reading) (from : State) (begun : List Order) (w : World) → Follows read from begun w → IsStill w → IsAnswered begun w
 follows_answered read from begun w h still = by_phase h.phase
   where

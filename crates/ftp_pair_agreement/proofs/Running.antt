@@ -70,17 +70,21 @@ trailing_taken from begun octets w t =
       };
     }
 
+-- where three hold together, the first two hold
 three_parts : (a b c : Bool) → (a && b && c) ≡ true → (a ≡ true) × (b ≡ true)
 three_parts a b c is = let both = and_parts (a && b) c is in and_parts a b both.0
 
+-- what needs something false does not hold
 none_there : (b c : Bool) → (b && false && c) ≡ false
 none_there true c = refl
 none_there false c = refl
 
+-- a list that has no octets is empty
 no_octet : (l : List ℕ) → not (has_octets l) ≡ true → l ≡ []
 no_octet [] is = refl
 no_octet (octet ∷ l) is = absurd (cc)
 
+-- what is not true is false
 not_so : (b : Bool) → not b ≡ true → b ≡ false
 not_so false is = refl
 not_so true is = absurd (cc)
@@ -91,6 +95,7 @@ module _ (read : Reading) (reads : IsReading read) (from : State) where
 
   -- ---- a download is under way
 
+  -- while a fetch is under way, whatever happens that begins nothing keeps what was begun running
   on_happens : (begun : List Order) (event : Event) (w new : World) → IsNoBeginning event → IsFetchingOn read from begun w → Happens read event w true new → Holds begun new
   on_happens begun (Deliver ControlToServer count) w new plain on e = fetch_delivers_server read reads from begun _ count _ new (fetching_on_taken read reads from begun [] w on) e.1
   on_happens begun (Deliver ControlToClient count) w new plain on e = fetch_delivers_client read reads from begun _ count _ new (fetching_on_taken read reads from begun [] w on) e.1
@@ -129,6 +134,7 @@ module _ (read : Reading) (reads : IsReading read) (from : State) where
   -- ---- behind a refused REST
 
   module _ (begun : List Order) (w new : World) (t : IsTrailing from begun w) where
+    -- the world still trails behind once what was taken is forgotten
     later : IsTrailing from begun (record w { taken = [] })
     later = trailing_taken from begun [] w t
 
@@ -136,12 +142,14 @@ module _ (read : Reading) (reads : IsReading read) (from : State) where
     lets : (event : Event) → Happens read event w true new → IsTrue (can_happen event w)
     lets event e = e.0
 
+    -- no delivery is possible in a world that trails behind
     trails_deliver : (queue : Queue) (count : ℕ) → IsTrue (can_happen (Deliver queue count) w) → ⊥
     trails_deliver ControlToServer count can = never _ (none_there (not (count == 0)) _) (subst (λ u. IsTrue (can_happen (Deliver ControlToServer count) u)) (closed_is read reads from begun w t) can)
     trails_deliver ControlToClient count can = never _ (none_there (not (count == 0)) _) (subst (λ u. IsTrue (can_happen (Deliver ControlToClient count) u)) (closed_is read reads from begun w t) can)
     trails_deliver DataToServer count can = never _ (none_there (not (count == 0)) _) (subst (λ u. IsTrue (can_happen (Deliver DataToServer count) u)) (closed_is read reads from begun w t) can)
     trails_deliver DataToClient count can = never _ (none_there (not (count == 0)) _) (subst (λ u. IsTrue (can_happen (Deliver DataToClient count) u)) (closed_is read reads from begun w t) can)
 
+    -- each event but a beginning leads a world that trails behind to one that runs
     trails_happen : (event : Event) → IsNoBeginning event → Happens read event w true new → Holds begun new
     trails_happen (Deliver queue count) plain e = absurd (trails_deliver queue count e.0)
     trails_happen Open plain e = absurd (never _ (ap is_asked_for (closed_is read reads from begun w t)) e.0)
@@ -157,6 +165,7 @@ module _ (read : Reading) (reads : IsReading read) (from : State) where
 
   -- ---- every event
 
+  -- an event that begins nothing keeps what was begun running
   other_happens : (begun : List Order) (event : Event) (w new : World) → IsNoBeginning event → Holds begun w → Happens read event w true new → Holds begun new
   other_happens begun event w new plain (inl h) e = inl (subst (λ l. Follows read from l new) (append-nil begun) (subst (λ l. Follows read from (begun ++ l) new) (nothing_begun event plain) (happens read reads from begun event w new plain h e)))
     where
@@ -194,14 +203,17 @@ module _ (read : Reading) (reads : IsReading read) (from : State) where
   under_way : (begun : List Order) (u : World) → IsUnder read from begun u → IsTrue (can_begin u) → ⊥
   under_way begun u under can = never (can_begin u) (ap (λ (b : Bool). not b && is_gone u.link && not (is_asked_for u)) (under_busy read from begun u under)) can
 
+  -- nothing begins while a fetch is under way
   fetch_under_way : (begun : List Order) (w : World) → IsFetchingOn read from begun w → IsTrue (can_begin w) → ⊥
   fetch_under_way begun w on can =
       let f = on.fetching in
       never (can_begin w) (ap (λ (b : Bool). not b && is_gone w.link && not (is_asked_for w)) (lasting_busy read f.now f.ask f.is_ask.plan f.own w f.stands on.lasts)) can
 
+  -- nothing begins while a closed link trails
   trails_on : (begun : List Order) (w : World) → IsTrailing from begun w → IsTrue (can_begin w) → ⊥
   trails_on begun w t can = never (can_begin w) (ap can_begin (closed_is read reads from begun w t)) can
 
+  -- the next operation begins, and all that was begun runs with it
   next_runs : (begun : List Order) (op : Op (List ℕ)) (moment : ℕ) (w new : World) → IsPlain (Next op moment) → Holds begun w → Happens read (Next op moment) w true new
       → Holds (begun ++ Single op moment ∷ []) new
   next_runs begun op moment w new plain (inl h) e =
@@ -232,9 +244,11 @@ module _ (read : Reading) (reads : IsReading read) (from : State) where
   upload_runs begun upload moment w new plain (inr (inl on)) e = absurd (fetch_under_way begun w on e.0)
   upload_runs begun upload moment w new plain (inr (inr t)) e = absurd (trails_on begun w t e.0)
 
+  -- what was begun with nothing added is what was begun
   same : (begun : List Order) (w : World) → Holds begun w → Holds (begun ++ []) w
   same begun w h = subst (λ l. Holds l w) (sym (append-nil begun)) h
 
+  -- an event that happens keeps what was begun running, with what it begins
   runs_happen : (begun : List Order) (event : Event) (w new : World) → IsPlain event → Holds begun w → Happens read event w true new → Holds (begun ++ begun_by event true) new
   runs_happen begun (Deliver queue count) w new plain h e = same begun new (other_happens begun (Deliver queue count) w new tt h e)
   runs_happen begun Open w new plain h e = same begun new (other_happens begun Open w new tt h e)
@@ -245,6 +259,7 @@ module _ (read : Reading) (reads : IsReading read) (from : State) where
   runs_happen begun (Next op moment) w new plain h e = next_runs begun op moment w new plain h e
   runs_happen begun (Upload upload moment) w new plain h e = upload_runs begun upload moment w new plain h e
 
+  -- an event that is not possible begins nothing
   none_begun : (event : Event) → begun_by event false ≡ []
   none_begun (Deliver queue count) = refl
   none_begun Open = refl
@@ -255,6 +270,7 @@ module _ (read : Reading) (reads : IsReading read) (from : State) where
   none_begun (Next op moment) = refl
   none_begun (Upload upload moment) = refl
 
+  -- an event, possible or not, keeps what was begun running, with what it begins
   step : (begun : List Order) (event : Event) (possible : Bool) (w new : World) → IsPlain event → Holds begun w → Happens read event w possible new → Holds (begun ++ begun_by event possible) new
   step begun event true w new plain h e = runs_happen begun event w new plain h e
   step begun event false w new plain h e =

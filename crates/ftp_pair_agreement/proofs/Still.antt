@@ -25,10 +25,12 @@ use Rattle.ftp_pair_agreement.proofs.Chunks.{both_empty}
 
 -- ---- nothing is wanted
 
+-- a client that waits wants nothing
 pub near_wants : (n : Near) → NearWaits n → near.wants n ≡ Want.Nothing
 unfolding near.wants
 near_wants n w = rw (w.closing, w.sound, w.connection) refl
 
+-- where the server is at no transfer, serving what its link wants changes nothing
 pub far_unserved : (connection : ServerLink Transfer) (w : World) → is_aside connection ≡ true → far_served_by (far.wants_of connection) w ≡ w
 far_unserved FarData.Free w aside = refl
 far_unserved FarData.Passive w aside = refl
@@ -38,6 +40,7 @@ far_unserved (FarData.Asked asked) w aside = absurd (cc)
 far_unserved (FarData.Opening transfer way) w aside = absurd (cc)
 far_unserved (FarData.Transferring transfer) w aside = absurd (cc)
 
+-- a server that waits wants just what its link wants
 pub far_wants : (f : Far) → FarWaits f → far.wants f ≡ far.wants_of f.session.connection
 far_wants f w = rw (w.closing, w.life) refl
 
@@ -46,6 +49,7 @@ pub record IsStill (w : World) : Type 0 where
   pub near : NearWaits w.near
   pub far : FarWaits w.far
 
+-- where neither end wants anything, serving changes nothing
 pub served_as_is : (w : World) → IsStill w → served w ≡ w
 served_as_is w waits =
     let n : near_served w ≡ w = ap (λ q. near_served_by q w) (near_wants w.near waits.near) in
@@ -54,9 +58,11 @@ served_as_is w waits =
     ∙ ap (λ u. far_served (far_served (far_served (near_served u)))) n ∙ ap (λ u. far_served (far_served (far_served u))) n
     ∙ ap (λ u. far_served (far_served u)) f ∙ ap (λ u. far_served u) f ∙ f
 
+-- where neither end wants anything and there is no report, nothing is done after an event
 pub after_as_is : (w : World) → IsStill w → report_of w.near ≡ None → after_event w ≡ w
 after_as_is w waits none = ap collected (served_as_is w waits) ∙ ap (λ o. collected_by o w) none
 
+-- where neither end wants anything, and there is a report, it is taken and nothing else is done
 pub after_reports : (w : World) (answer : Said) → IsStill w → report_of w.near ≡ Some answer
     → after_event w ≡ record w { near = near.reports w.near; reports = w.reports ++ answer ∷ [] }
 after_reports w answer waits some = ap collected (served_as_is w waits) ∙ ap (λ o. collected_by o w) some
@@ -72,6 +78,7 @@ pub record IsLike (n v : Near) : Type 0 where
   pub closing : v.closing ≡ n.closing
   pub owed : v.owed ≡ []
 
+-- whatever a client has heard of the first reply of a row, it is as it was but for that, and owes nothing
 pub row_like : (n : Near) (rows : List Reply) (held incoming : List ℕ) → AreWritten rows → FlowsRow rows held incoming → IsLike n (near.hears (calm n) held)
 row_like n [] held incoming fine flow =
     subst (λ l. IsLike n (near.hears (calm n) l)) (sym flow.0) (record { standing = refl; job = refl; run = refl; connection = refl; closing = refl; owed = refl })
@@ -96,6 +103,7 @@ pub record IsSeen (b w : World) : Type 0 where
   pub session : w.far.session ≡ b.far.session
   pub waiting : w.far.waiting ≡ None
 
+-- in the world of a way and a cut that fit, both ends are what they are in its base
 pub seen_at : (b : World) (way : Way) (c : Cut) → Fits way c → IsSeen b (world_at b way c)
 seen_at b (Asking text) c fits =
     record { standing = refl; job = refl; run = refl; connection = refl; closing = refl; session = refl; waiting = refl }
@@ -103,12 +111,15 @@ seen_at b (Answering rows) c fits =
     let like = row_like b.near rows c.held (coming c) fits.0 fits.1 in
     record { standing = like.standing; job = like.job; run = like.run; connection = like.connection; closing = like.closing; session = refl; waiting = refl }
 
+-- in a world that is placed at some stage, both ends are what they are in its base
 pub seen_placed : (At : Way → World → Type 0) (w : World) → (s : PlacedAt At w) → IsSeen s.base w
 seen_placed At w s = subst (IsSeen s.base) (sym s.is) (seen_at s.base s.way s.cut s.fits)
 
+-- in a world whose ends stand at some stage, both ends are what they are in its base
 pub seen : (At : Way → Near → Far → Type 0) (w : World) → (s : StandsAt At w) → IsSeen s.base w
 seen At w s = seen_placed (of_ends At) w s
 
+-- where both ends are what they are in a base in which both wait, neither wants anything
 pub still_as : (b w : World) → IsSeen b w → NearWaits b.near → FarWaits b.far → IsStill w
 still_as b w seen near far = record {
   near = record { sound = ap is_sound seen.standing ∙ near.sound; connection = seen.connection ∙ near.connection; closing = seen.closing ∙ near.closing };
@@ -127,6 +138,7 @@ pub record AreSet (before after : Table) (n : Near) (f : Far) : Type 0 where
   pub far : FarWaits f
   pub table : (f.session.table ≡ before) ⊎ (f.session.table ≡ after)
 
+-- at each place of a login the client is sound
 sound_place : (place : Place) → is_sound (standing_of place) ≡ true
 sound_place Greets = refl
 sound_place AsksUser = refl
@@ -135,6 +147,7 @@ sound_place AsksPass = refl
 sound_place (Answers admitted true) = refl
 sound_place (Answers admitted false) = refl
 
+-- during a login neither end wants anything, and the map is that of the state
 pub logging_set : (state : State) (after : Table) (place : Place) (n : Near) (f : Far) → LogsIn state place n f → AreSet state.table after n f
 logging_set state after place n f logs = record {
   near = record { sound = ap is_sound logs.standing ∙ sound_place place; connection = logs.connection; closing = logs.closing };
@@ -142,20 +155,24 @@ logging_set state after place n f logs = record {
   table = inl logs.table;
 }
 
+-- a client that rests waits
 pub resting_waits : (n : Near) → n ≡ resting n → NearWaits n
 resting_waits n is =
     let waits : NearWaits (resting n) = record { sound = refl; connection = refl; closing = refl } in
     subst NearWaits (sym is) waits
 
+-- a client that has told its answer waits
 pub told_waits : (said : Said) (n : Near) → n ≡ told said n → NearWaits n
 told_waits said n is =
     let waits : NearWaits (told said n) = record { sound = refl; connection = refl; closing = refl } in
     subst NearWaits (sym is) waits
 
+-- where no operation is under way, neither end wants anything, and the map is that of the state
 pub free_set : (state : State) (way : Way) (n : Near) (f : Far) → AtFree state way n f → AreSet state.table state.table n f
 free_set state way n f (inl (logging, idle)) = logging_set state state.table logging.place n f logging.logs
 free_set state way n f (inr (is, entered, stands)) = record { near = resting_waits n entered; far = stands.far; table = inl stands.sees.table }
 
+-- where no operation is under way, the client has no job
 pub free_job : (state : State) (way : Way) (n : Near) (f : Far) → AtFree state way n f → n.job ≡ Idle
 free_job state way n f (inl (logging, idle)) = idle
 free_job state way n f (inr (is, entered, stands)) = ap (λ v. v.job) entered
@@ -172,6 +189,7 @@ abbrev pub is_some_way : Way → Bool
 is_some_way (Answering []) = false
 is_some_way way = true
 
+-- what leads to a result is under way with something on its way, or nothing is on its way and it is answered
 leads_on : (read : Reading) (before : Table) (result : Said × State) (left : ℕ) (way : Way) (n : Near) (f : Far)
     → Leads read (Passes before result.1.table) (Ends result) left way n f → IsMoving before result.1.table way n f ⊎ ((way ≡ rest) × Ends result n f)
 leads_on read before result zero (Answering []) n f leads = inr (refl, leads)
@@ -189,6 +207,7 @@ leads_on read before result (suc left) (Asking text) n f leads =
     no_line : Asking text ≡ rest → ⊥
     no_line e = let f : true ≡ false = ap is_some_way e in cc
 
+-- at each place of a login something is on its way
 pub way_some : (place : Place) (n : Near) (way : Way) → way ≡ way_of place n → way ≢ rest
 way_some place n way is e = let f : true ≡ false = sym (place_some place) ∙ ap is_some_way (sym is ∙ e) in cc
   where
@@ -199,6 +218,7 @@ way_some place n way is e = let f : true ≡ false = sym (place_some place) ∙ 
     place_some AsksPass = refl
     place_some (Answers admitted to_pass) = refl
 
+-- an operation is under way with something on its way, or nothing is on its way and it is answered
 pub operation_on : (read : Reading) (state : State) (op : Op (List ℕ)) (result : Said × State) (way : Way) (n : Near) (f : Far) → AtOperation read state op result way n f
     → IsMoving state.table result.1.table way n f ⊎ ((way ≡ rest) × Ends result n f)
 operation_on read state op result way n f (inl (logging, waiting)) = inl (record {
@@ -215,6 +235,7 @@ operation_on read state op result way n f (inr (left, leads)) = leads_on read st
 abbrev pub no_octets : Cut
 no_octets = record { held = []; moving = []; owed = [] }
 
+-- where a world is placed with nothing on its way, no octet is on its way in it either
 pub rest_placed : (At : Way → World → Type 0) (w : World) → (s : PlacedAt At w) → s.way ≡ rest → w ≡ world_at s.base rest no_octets
 rest_placed At w s way =
     let both : (w ≡ world_at s.base rest s.cut) × Fits rest s.cut = subst (λ v. (w ≡ world_at s.base v s.cut) × Fits v s.cut) way (s.is, s.fits) in
@@ -222,5 +243,6 @@ rest_placed At w s way =
     let empty : s.cut ≡ no_octets = λ i. record { held = both.1.1.0 i; moving = none.0 i; owed = none.1 i } in
     both.0 ∙ ap (world_at s.base rest) empty
 
+-- where the ends stand with nothing on its way, no octet is on its way in the world either
 pub rest_world : (At : Way → Near → Far → Type 0) (w : World) → (s : StandsAt At w) → s.way ≡ rest → w ≡ world_at s.base rest no_octets
 rest_world At w s way = rest_placed (of_ends At) w s way

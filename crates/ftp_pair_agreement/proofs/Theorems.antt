@@ -15,25 +15,30 @@ use Rattle.ftp_pair_agreement.proofs.Beginning.{begins_follow}
 use Rattle.ftp_pair_agreement.proofs.FetchQuiet.{runs_answered, runs_quiet}
 use Rattle.ftp_pair_agreement.proofs.Running.{runs_lead}
 
+-- the world to which plain events lead from a fair beginning runs with the operations begun
 plain_runs : (read : Reading) → IsReading read → (b : Beginning) → IsFair b → (events : List Event) (begun : List Order) (w : World)
     → Leads read (world_of b) events begun w → ArePlain events → Runs read (state_of b) begun w
 plain_runs read reads b fair events begun w leads plain =
     runs_lead read reads (state_of b) [] events begun (world_of b) w plain (inl (begins_follow read b fair)) leads
 
+-- after every list of plain events there is agreement
 pub plain-agrees : PlainAgrees
 plain-agrees read reads b fair events begun w timed leads plain =
     runs_agree read reads (state_of b) begun w (plain_runs read reads b fair events begun w leads plain)
 
+-- where nothing is in flight behind plain events, nothing is left open
 pub plain-is-answered : PlainIsAnswered
 plain-is-answered read reads b fair events begun w timed leads plain quiet =
     runs_answered read reads (state_of b) begun w (plain_runs read reads b fair events begun w leads plain) (quiet_is_still w quiet)
 
+-- where nothing moves behind plain events that takes no memory, nothing is in flight
 pub plain-still-is-quiet : PlainStillIsQuiet
 plain-still-is-quiet read reads b fair events begun w timed leads plain still =
     runs_quiet read reads (state_of b) begun w (plain_runs read reads b fair events begun w leads plain) still
 
 -- ---- the headline
 
+-- where nothing is in flight behind plain events without breaks, refusals, an end of control and uploads over breaks, it is the direct run
 pub plain-headline : PlainHeadline
 plain-headline read reads b fair events begun w timed leads plain honest single quiet =
     let clean = leads_clean read (world_of b) events begun w honest leads (record { marks = tt; cutoff = refl }) in

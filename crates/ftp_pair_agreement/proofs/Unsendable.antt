@@ -29,6 +29,7 @@ over_bad upload = by_size (is_size (first_try upload))
     by_size true = refl
     by_size false = refl
 
+-- nor does anything follow that try where it is Lost
 over_lost : (upload : OverBreaks) → next_in (run_of upload) (first_try upload) Lost ≡ None
 over_lost upload = by_size (is_size (first_try upload))
   where
@@ -43,6 +44,7 @@ same_start upload n cannot =
     ap (λ (b : Bool). if b then started_by n.standing (first_try upload) (record n { run = Some (run_of upload) }) else unsendable_by n.standing n) cannot
     ∙ sym (ap (λ (b : Bool). if b then started_by n.standing (first_try upload) (record n { run = None }) else unsendable_by n.standing n) cannot)
 
+-- and the world begins it as it begins that try
 same_begin : (upload : OverBreaks) (moment : ℕ) (w : World) → can_be_sent (first_try upload) ≡ false → upload_begins upload moment w ≡ operation_begins (first_try upload) moment w
 same_begin upload moment w cannot = ap (λ n. begun_at moment n w) (same_start upload w.near cannot)
 
@@ -85,11 +87,13 @@ module _ (read : Reading) (reads : IsReading read) (from : State) (begun : List 
         now_is = t.now_is ∙ sym (state_more from t.items item);
       }
 
+  -- a world in which all that was begun has its report follows an upload that cannot be sent, too
   pub upload_free : (w : World) → IsUnlinked w → IsLinked w → IsFree from begun w → Follows read from (begun ++ order ∷ []) (after_event (upload_begins upload moment w))
   upload_free w unlinked linked f =
       subst (λ u. Follows read from (begun ++ order ∷ []) (after_event u)) (sym (same_begin upload moment w cannot))
       (refused_so read reads from begun op moment order w cannot unlinked linked f (told_bad w.marks w.reports f.now f.told))
 
+  -- and so does one in which the control connection has ended
   pub upload_lost : (w : World) → IsUnlinked w → IsLost from begun w → Follows read from (begun ++ order ∷ []) (after_event (upload_begins upload moment w))
   upload_lost w unlinked l =
       subst (λ u. Follows read from (begun ++ order ∷ []) (after_event u)) (sym (same_begin upload moment w cannot))

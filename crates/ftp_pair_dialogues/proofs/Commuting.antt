@@ -4,6 +4,7 @@ use Rattle.ftp_client_model.specs.Calls.{data_end, data_fault}
 use Rattle.ftp_client_model.specs.Dialogue.{answered}
 use Rattle.ftp_pair_dialogues.specs.Downloads.{DownloadsCommute}
 
+-- the opening and the final reply commute with an octet of the link, with its end and with its break
 pub downloads-commute : DownloadsCommute
 unfolding answered data_end data_fault
 downloads-commute path offset how d mark n texts = (

@@ -42,6 +42,7 @@ pub record Exchange (command : Command (List ℕ)) (n next : Near) (line : Optio
   pub said : reply_said after kind ≡ Some reply
   pub heard : answered reply.code reply.lines (calm n) ≡ record (calm next) { owed = line_octets line }
 
+-- a command that is asked, acted on and answered takes two turns more than what leads on behind its reply
 pub exchange : (read : Reading) (Along Goal : Near → Far → Type 0) (k : ℕ) (command : Command (List ℕ)) (n next : Near) (line : Option (List ℕ)) (f : Far) (after : Session)
     → IsSent read command → FarWaits f → FarWaits (with_session after f) → Exchange command n next line f after
     → Along n f → Along n (with_session after f) → IsAlone line [] → Leads read Along Goal k (behind line []) next (with_session after f)
@@ -60,12 +61,14 @@ exchange read Along Goal k command n next line f after sent before later x here 
 
 -- ---- the client
 
+-- at a completion the client reports what the reply says of the operation and owes nothing
 pub near_told_is : (op : Op (List ℕ)) (n : Near) (code : ℕ) (texts : List Text) (said : Said) → verdict_of code ≡ Completion → answer_in op texts ≡ Some said
     → answered code texts (calm (doing op Steps.Last n)) ≡ record (calm (told said n)) { owed = [] }
 unfolding answered
 near_told_is op n code texts said verdict answer =
     ap (λ v. judged_reply v code texts (calm (doing op Steps.Last n))) verdict ∙ ap (λ o. finishes_read o (calm (doing op Steps.Last n))) answer
 
+-- at a negative reply that a step awaits the client reports a refusal with its code and owes nothing
 pub near_refused_is : (op : Op (List ℕ)) (step : Step) (n : Near) (code : ℕ) (texts : List Text) → verdict_of code ≡ Negative → awaits_reply step ≡ true
     → answered code texts (calm (doing op step n)) ≡ record (calm (told (Refused code) n)) { owed = [] }
 unfolding answered

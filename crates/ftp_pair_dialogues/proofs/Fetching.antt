@@ -68,6 +68,7 @@ use Rattle.ftp_pair_dialogues.proofs.Settings.{LeadsFrom, settings_lead}
 
 -- ---- a port is asked for
 
+-- ends that stand in a state are steady in it
 pub steady_at : (state : State) (n : Near) (f : Far) → Stands state n f → IsSteady state (kept n f)
 steady_at state n f stands = record {
   peer = stands.meets.peer;
@@ -88,10 +89,12 @@ steady_at state n f stands = record {
 abbrev asking : PassiveVerb → Far → Session
 asking asked f = record (forgotten (cleared f)) { connection = FarData.Asked asked }
 
+-- a host that is not of IPv6 is one of IPv4
 pub is_v4 : (host : Host) → is_v6 host ≡ false → IsV4 host
 is_v4 (V4 octets) is = tt
 is_v4 (V6 octets) is = absurd (cc)
 
+-- if one or the other is false, so is the other
 pub neither : (one other : Bool) → (one || other) ≡ false → other ≡ false
 neither true other is = absurd (cc)
 neither false other is = is
@@ -100,6 +103,7 @@ module _ (read : Reading) (reads : IsReading read) (state : State) (ask : Ask) (
   abbrev op : Op (List ℕ)
   op = ask.op
 
+  -- the server hears the command for a port, owes nothing yet, and its session is asked for a port
   asks_turn : (command : Command (List ℕ)) (asked : PassiveVerb) (f : Far) → IsSent read command → FarWaits f → decides command f ≡ (asking asked f, Kinds.Nothing)
       → FarTurn read f (line_of command)
   asks_turn command asked f sent waits decided = record {
@@ -109,6 +113,7 @@ module _ (read : Reading) (reads : IsReading read) (state : State) (ask : Ask) (
     fine = tt;
   }
 
+  -- a client that has asked for a port and a server that was so asked are at the opening
   is_asked : (extended : Bool) (n : Near) (f : Far) → is_extended n op ≡ extended → Stands state n f → n.settings ≡ ask.settings
       → Opens state ask (doing op Steps.Passive n) (with_session (asking (asked_of extended) f) f)
   is_asked extended n f is stands set = inl (record {
@@ -120,9 +125,11 @@ module _ (read : Reading) (reads : IsReading read) (state : State) (ask : Ask) (
     known = known;
   })
 
+  -- a client that asks for a port passes, with the table as it was
   along : (n : Near) (f : Far) → Stands state n f → Passes state.table state.table (doing op Steps.Passive n) f
   along n f stands = record { near = record { sound = refl; connection = refl; closing = refl }; far = stands.far; busy = refl; untold = refl; table = inl stands.sees.table }
 
+  -- from the passive step the ends lead to the opening, by EPSV or by PASV as the client chooses
   asks_by : (extended : Bool) (n : Near) (f : Far) → is_extended n op ≡ extended → Stands state n f → n.settings ≡ ask.settings
       → LeadsFrom read (Passes state.table state.table) (Opens state ask) op Steps.Passive n f
   unfolding asks_turn
@@ -156,6 +163,7 @@ module _ (read : Reading) (reads : IsReading read) (state : State) (ask : Ask) (
     );
   }
 
+  -- from the passive step the ends lead to the opening, once the settings are those asked for
   pub asks_port : (n : Near) (f : Far) → Stands state n f → n.settings ≡ ask.settings
       → LeadsFrom read (Passes state.table state.table) (Opens state ask) op Steps.Passive n f
   asks_port n f stands set = asks_by (is_extended n op) n f refl stands set
@@ -215,11 +223,13 @@ known_leads read state ask reads plan known n f stands =
 
 -- ---- the client: the port that the server told
 
+-- a host is the same host as itself
 pub own_host : (host : Host) → same_host host host ≡ true
 own_host (V4 octets) = nat_list_eq_equiv.refl octets
 own_host (V6 octets) = nat_list_eq_equiv.refl octets
 
 module _ (op : Op (List ℕ)) (port : ℕ) (n : Near) where
+  -- behind the reply that tells a port the client connects to that port of its peer, and owes nothing
   pub port_is_told : (extended : Bool) → is_extended n op ≡ extended → IsTypedHost n.peer → 1 ≤ port → port < 65536
       → answered (port_reply extended n.peer port).code (port_reply extended n.peer port).lines (calm (busy (Doing op Steps.Passive) NearData.Free n))
       ≡ record (calm (busy (Doing op Steps.Connect) (NearData.Connecting (record { host = n.peer; port = port })) n)) { owed = [] }
@@ -268,12 +278,14 @@ pub port_denied : (op : Op (List ℕ)) (port : ℕ) (texts : List ReplyText) (n 
 unfolding answered
 port_denied op port texts n = refl
 
+-- behind a 350 to REST the client owes the own command
 pub rest_granted : (ask : Ask) → HasPlan ask → (connection : NearConnection) (texts : List ReplyText) (n : Near)
     → answered 350 texts (calm (busy (Doing ask.op Steps.Restart) connection n))
     ≡ record (calm (busy (fetching ask.op Replies.Nothing ask.settings []) connection n)) { owed = written_line (line_of ask.command) }
 unfolding answered
 rest_granted ask plan connection texts n = own_sent ask plan (calm (busy (Doing ask.op Steps.Restart) connection n))
 
+-- behind a refusal of REST the client leaves as refused, and its link is to be closed if one stands
 pub rest_denied : (op : Op (List ℕ)) (why : Refusal) (connection : NearConnection) (texts : List ReplyText) (n : Near)
     → answered (reply_code (refusal_text why)) texts (calm (busy (Doing op Steps.Restart) connection n))
     ≡ record (calm (leaving (Refused (code_of why)) (stands connection) n)) { owed = [] }
@@ -285,12 +297,14 @@ rest_denied op why connection texts n =
 -- ---- the client: replies to the own command
 
 module _ (op : Op (List ℕ)) (settings : Representation) (came : List ℕ) (n : Near) where
+  -- a 150 that comes behind the end of the link begins the transfer, and nothing is owed
   pub begins_over : (ending : Ending) (texts : List ReplyText)
       → answered 150 texts (calm (busy (fetching op Replies.Nothing settings came) (NearData.Over ending) n))
       ≡ record (calm (busy (fetching op Replies.Begun settings came) (NearData.Over ending) n)) { owed = [] }
   unfolding answered
   begins_over ending texts = refl
 
+  -- a 226 that comes behind the end of the link finishes the transfer with what is judged of it
   pub ends_over : (ending : Ending) (code : ℕ) (said : Said) (texts : List ReplyText)
       → judged ending Aborts.Unsent 226 op (Receiving (decoder_of settings came) (mark_in (no_octets settings) None came)) ≡ Some said
       → answered 226 texts (calm (busy (fetching op Replies.Begun settings came) (NearData.Over ending) n)) ≡ record (calm (leaving said false n)) { owed = [] }
@@ -298,6 +312,7 @@ module _ (op : Op (List ℕ)) (settings : Representation) (came : List ℕ) (n :
   ends_over ending code said texts is =
       ap (λ o. finishes_read o (calm (busy (fetching op (Replies.Final 226) settings came) (NearData.Over ending) n))) is
 
+  -- a 426 that comes behind the break of the link finishes the transfer with what is judged of it
   pub breaks_over : (said : Said) (texts : List ReplyText)
       → judged Endings.Broken Aborts.Unsent 426 op (Receiving (decoder_of settings came) (mark_in (no_octets settings) None came)) ≡ Some said
       → answered 426 texts (calm (busy (fetching op Replies.Begun settings came) (NearData.Over Endings.Broken) n)) ≡ record (calm (leaving said false n)) { owed = [] }
@@ -310,6 +325,7 @@ module _ (op : Op (List ℕ)) (settings : Representation) (came : List ℕ) (n :
   as_it_stood said true = refl
   as_it_stood said false = refl
 
+  -- a refusal of the own command finishes as refused, and the link is to be closed if one stands
   pub denied : (why : Refusal) (connection : NearConnection) (texts : List ReplyText)
       → answered (reply_code (refusal_text why)) texts (calm (busy (fetching op Replies.Nothing settings came) connection n))
       ≡ record (calm (leaving (Refused (code_of why)) (stands connection) n)) { owed = [] }
@@ -323,6 +339,7 @@ module _ (op : Op (List ℕ)) (settings : Representation) (came : List ℕ) (n :
   denied Refusals.TooMuch connection texts = as_it_stood (Refused (code_of Refusals.TooMuch)) (stands connection)
   denied Refusals.BadName connection texts = as_it_stood (Refused (code_of Refusals.BadName)) (stands connection)
 
+  -- a 425 to the own command finishes as not opened, and the link is to be closed if one stands
   pub unopened : (connection : NearConnection) (texts : List ReplyText)
       → answered 425 texts (calm (busy (fetching op Replies.Nothing settings came) connection n)) ≡ record (calm (leaving Unopened (stands connection) n)) { owed = [] }
   unfolding answered
@@ -335,6 +352,7 @@ pub begins_awaited : (op : Op (List ℕ)) (settings : Representation) (came : Li
 unfolding answered
 begins_awaited op settings came port n texts = refl
 
+-- a 425 while the server is awaited at the port finishes as not opened, and the port is to be closed
 pub unaccepted : (op : Op (List ℕ)) (settings : Representation) (came : List ℕ) (port : ℕ) (n : Near) (texts : List ReplyText)
     → answered 425 texts (calm (busy (fetching op Replies.Begun settings came) (NearData.Accepting port) n)) ≡ record (calm (leaving Unopened true n)) { owed = [] }
 unfolding answered
@@ -351,6 +369,7 @@ begins_open op all settings came n texts =
     let v : Near = calm (busy (fetching op Replies.Begun settings came) NearData.Open n) in
     ap (λ count. answers_once_over (if has_settled count flow then sends_abort op transfer v else v)) all
 
+-- a 226 while the link is open is kept as the final reply, and the link stays open
 pub ends_open : (op : Op (List ℕ)) → count_of op ≡ None → (settings : Representation) (came : List ℕ) (n : Near) (texts : List ReplyText)
     → answered 226 texts (calm (busy (fetching op Replies.Begun settings came) NearData.Open n))
     ≡ record (calm (busy (fetching op (Replies.Final 226) settings came) NearData.Open n)) { owed = [] }
@@ -385,6 +404,7 @@ module _ (read : Reading) (reads : IsReading read) (state : State) (op : Op (Lis
   abbrev endpoint : Endpoint
   endpoint = record { host = n.here; port = port }
 
+  -- the server's act on EPRT and on PORT takes the client's endpoint, and says so
   port_acts : (extended : Bool) → act f.footing (port_command extended endpoint) f.session.pending (cleared f) ≡ (at_endpoint endpoint f, Kinds.Fixed Texts.EndpointTaken)
   port_acts true =
       ap (λ (b : Bool). if b then tells Texts.BadSequence (cleared f) else takes (is_taken f.footing.peer endpoint) endpoint (forgotten (cleared f))) steady.all_ways
@@ -393,6 +413,7 @@ module _ (read : Reading) (reads : IsReading read) (state : State) (op : Op (Lis
       ap (λ (b : Bool). if b then tells Texts.BadSequence (cleared f) else takes (is_taken f.footing.peer endpoint) endpoint (forgotten (cleared f))) steady.all_ways
       ∙ ap (λ b. takes b endpoint (forgotten (cleared f))) (endpoint_taken n.here f.footing.peer port steady.here high)
 
+  -- the command for the client's endpoint can be sent, as EPRT of any host and as PORT of one of IPv4
   port_sent : (extended : Bool) → (extended ≡ false → IsV4 n.here) → IsSent read (port_command extended endpoint)
   port_sent true v4 = record { reads = reads; typed = (steady.own, small); stated = omega (arith, high); other = refl }
   port_sent false v4 = record { reads = reads; typed = (steady.own, small); stated = v4 refl; other = refl }
@@ -404,9 +425,11 @@ module _ (read : Reading) (reads : IsReading read) (state : State) (op : Op (Lis
   abbrev pub own_port : Command (List ℕ)
   own_port = port_command (is_extended n op) endpoint
 
+  -- the client's own command for its endpoint can be sent
   pub port_is_sent : IsSent read own_port
   port_is_sent = port_sent (is_extended n op) own_v4
 
+  -- of a login that is known the server takes the endpoint, and owes the reply that says so
   pub taken_turn : state.known ≡ true
       → heard_line (read (line_of own_port)) (still f) ≡ record (still (with_session (at_endpoint endpoint f) f)) { owed = row_octets (fixed_reply Texts.EndpointTaken ∷ []) }
   taken_turn known =
@@ -414,6 +437,7 @@ module _ (read : Reading) (reads : IsReading read) (state : State) (op : Op (Lis
       far_turn_is read own_port f (at_endpoint endpoint f) (Kinds.Fixed Texts.EndpointTaken) (fixed_reply Texts.EndpointTaken)
       reads sent.typed sent.stated sent.other idle (decides_known own_port f (steady.access ∙ known) ∙ port_acts (is_extended n op)) refl refl
 
+  -- of a login that is not known the server takes no endpoint, and owes the reply that nobody is logged in
   pub refused_turn : state.known ≡ false
       → heard_line (read (line_of own_port)) (still f) ≡ record (still (with_session (cleared f) f)) { owed = row_octets (fixed_reply Texts.NotLoggedIn ∷ []) }
   refused_turn unknown =
@@ -440,6 +464,7 @@ pub giving_on : (listed : Bool) (octet : ℕ) (more : List ℕ) (v : Far) → gi
 giving_on false octet more v = refl
 giving_on true octet more v = refl
 
+-- behind the last octet the server replies that the transfer is complete, and its session forgets the link
 pub given_all : (listed : Bool) (v : Far) → given_out (FarData.Transferring (giving_of listed [])) v ≡ replied Texts.Complete (forgotten v.session) v
 given_all false v = refl
 given_all true v = refl
@@ -450,12 +475,14 @@ same_direct state n f steady known = λ i. record { table = steady.table i; root
 
 module _ (read : Reading) (reads : IsReading read) (state : State) (ask : Ask) (row : HasRow ask) (n : Near) (f : Far) (steady : IsSteady state (kept n f))
     (set : n.settings ≡ ask.settings) (known : state.known ≡ true) (idle : is_connection_busy f.session.connection ≡ false) where
+  -- what the server decides on a REST is whether its offset is refused under the settings in force
   rest_decided : (offset : ℕ) (why : Option Refusal) → offset_refusal offset (how_in_force ask.settings) ≡ why → decides (Commands.Rest offset) f ≡ rests why offset (cleared f)
   rest_decided offset why is =
       decides_known (Commands.Rest offset) f (steady.access ∙ known)
       ∙ ap (λ settings. rests (offset_refusal offset (how_in_force settings)) offset (cleared f)) (steady.settings ∙ set)
       ∙ ap (λ w. rests w offset (cleared f)) is
 
+  -- an offset that is not refused is pending at the server, which owes the reply that grants it
   pub granted_turn : (offset : ℕ) → offset < 10 ^ 18 → offset_refusal offset (how_in_force ask.settings) ≡ None
       → heard_line (read (line_of (Commands.Rest offset))) (still f)
       ≡ record (still (with_session (record (cleared f) { pending = Pendings.Restart offset }) f)) { owed = row_octets (rest_reply offset ∷ []) }
@@ -463,6 +490,7 @@ module _ (read : Reading) (reads : IsReading read) (state : State) (ask : Ask) (
       far_turn_is read (Commands.Rest offset) f (record (cleared f) { pending = Pendings.Restart offset }) (Kinds.Restarting offset) (rest_reply offset)
       reads tt few refl idle (rest_decided offset None none) idle refl
 
+  -- an offset that is refused is not pending at the server, which owes the reply of the refusal
   pub denied_turn : (offset : ℕ) (why : Refusal) → offset < 10 ^ 18 → offset_refusal offset (how_in_force ask.settings) ≡ Some why
       → heard_line (read (line_of (Commands.Rest offset))) (still f) ≡ record (still (with_session (cleared f) f)) { owed = row_octets (fixed_reply (refusal_text why) ∷ []) }
   denied_turn offset why few some =
@@ -472,6 +500,7 @@ module _ (read : Reading) (reads : IsReading read) (state : State) (ask : Ask) (
   -- ---- the server: the own command
 
   module _ (pending : f.session.pending ≡ offset_pending ask.offset) where
+    -- the own command is decided as its row of transfers says
     own_decided : (why : Option Refusal) → ask.why state ≡ why → decides ask.command f ≡ transfer_starts why (giving_of ask.listed (ask.wire state)) (cleared f)
     own_decided why is =
         decides_known ask.command f (steady.access ∙ known)
@@ -480,12 +509,14 @@ module _ (read : Reading) (reads : IsReading read) (state : State) (ask : Ask) (
         ∙ ap (λ s. transfer_starts (ask.why s) (giving_of ask.listed (ask.wire s)) (cleared f)) (same_direct state n f steady known)
         ∙ ap (λ w. transfer_starts w (giving_of ask.listed (ask.wire state)) (cleared f)) is
 
+    -- where the server refuses the own command, it owes that refusal
     pub refuses_turn : (why : Refusal) → ask.why state ≡ Some why
         → heard_line (read (line_of ask.command)) (still f) ≡ record (still (with_session (forgotten (cleared f)) f)) { owed = row_octets (fixed_reply (refusal_text why) ∷ []) }
     refuses_turn why is =
         far_turn_is read ask.command f (forgotten (cleared f)) (Kinds.Fixed (refusal_text why)) (fixed_reply (refusal_text why))
         reads row.typed row.stated row.other idle (own_decided (Some why) is) refl refl
 
+    -- where it refuses none but has no endpoint, it owes 425
     pub unopens_turn : ask.why state ≡ None → f.session.connection ≡ FarData.Free
         → heard_line (read (line_of ask.command)) (still f) ≡ record (still (with_session (cleared f) f)) { owed = row_octets (fixed_reply Texts.NoConnection ∷ []) }
     unopens_turn none free =
@@ -502,6 +533,7 @@ module _ (read : Reading) (reads : IsReading read) (state : State) (ask : Ask) (
         (own_decided None none ∙ ap (λ c. begin c (giving_of ask.listed (ask.wire state)) (cleared f)) active)
         ∙ ap (λ l. record (still (with_session (connecting ask.listed (ask.wire state) endpoint f) f)) { owed = l }) (sym (append-nil _))
 
+    -- with a link that is open the transfer begins
     begins_by : ask.why state ≡ None → f.session.connection ≡ FarData.Ready
         → heard_line (read (line_of ask.command)) (still f)
         ≡ given_out (FarData.Transferring (giving_of ask.listed (ask.wire state))) (turned (giving ask.listed (ask.wire state) f, Kinds.Fixed Texts.Opens) (still f))
@@ -509,6 +541,7 @@ module _ (read : Reading) (reads : IsReading read) (state : State) (ask : Ask) (
         far_hears read ask.command f (giving ask.listed (ask.wire state) f, Kinds.Fixed Texts.Opens) reads row.typed row.stated row.other idle
         (own_decided None none ∙ ap (λ c. begin c (giving_of ask.listed (ask.wire state)) (cleared f)) ready)
 
+    -- with a link that is open and an octet to give, it owes 150 and gives
     pub gives_turn : (octet : ℕ) (more : List ℕ) → ask.why state ≡ None → f.session.connection ≡ FarData.Ready → ask.wire state ≡ octet ∷ more
         → heard_line (read (line_of ask.command)) (still f) ≡ record (still (with_session (giving ask.listed (octet ∷ more) f) f)) { owed = row_octets (fixed_reply Texts.Opens ∷ []) }
     gives_turn octet more none ready some =
@@ -517,6 +550,7 @@ module _ (read : Reading) (reads : IsReading read) (state : State) (ask : Ask) (
         ∙ giving_on ask.listed octet more (turned (giving ask.listed (octet ∷ more) f, Kinds.Fixed Texts.Opens) (still f))
         ∙ ap (λ l. record (still (with_session (giving ask.listed (octet ∷ more) f) f)) { owed = l }) (sym (append-nil _))
 
+    -- with a link that is open and no octet to give, it owes 150 and 226
     pub gave_turn : ask.why state ≡ None → f.session.connection ≡ FarData.Ready → ask.wire state ≡ []
         → heard_line (read (line_of ask.command)) (still f)
         ≡ record (still (with_session (forgotten (giving ask.listed [] f)) f)) { owed = row_octets (fixed_reply Texts.Opens ∷ fixed_reply Texts.Complete ∷ []) }
@@ -534,10 +568,12 @@ place_is : (offset : Option ℕ) (text : List ℕ) (how : How) (s : Session) →
 place_is None text how s set = refl
 place_is (Some offset) text how s set = ap (λ settings. place_at (direct_of s) (resolved s.cwd text) (how_in_force settings) offset) set
 
+-- a download has a plan: settings, offset, own command and flow of its operation are those asked for
 pub download_plan : (offset : Option ℕ) (text : List ℕ) (how : How) → HasPlan (download_ask offset text how)
 download_plan None text how = record { how_is = refl; asks = refl; offset_is = refl; own = refl; flow = refl; all = refl }
 download_plan (Some at) text how = record { how_is = refl; asks = refl; offset_is = refl; own = refl; flow = refl; all = refl }
 
+-- the command of a download can be carried, and the server acts on it as the direct run does, if path and offset are good
 pub download_row : (offset : Option ℕ) (text : List ℕ) (how : How) → IsPathText text → ((at : ℕ) → offset ≡ Some at → at < 10 ^ 18) → HasRow (download_ask offset text how)
 download_row offset text how path few = record {
   typed = tt;

@@ -49,9 +49,11 @@ of_kind p none (octet ∷ text) all =
     let other : octet ≢ line_feed = λ e. absurd (let f : false ≡ true = sym none ∙ ap p (sym e) ∙ both.0 in cc) in
     All-cons (λ octet. is_feed octet ≡ false) octet text (ne_eqb octet line_feed other) (of_kind p none text both.1)
 
+-- two texts without LF make one without LF
 both_lack : (xs ys : List ℕ) → NoFeed xs → NoFeed ys → NoFeed (xs ++ ys)
 both_lack xs ys one other = All-append (λ octet. is_feed octet ≡ false) xs ys one other
 
+-- a text without LF has none behind another octet that is no LF
 one_more : (octet : ℕ) (text : List ℕ) → is_feed octet ≡ false → NoFeed text → NoFeed (octet ∷ text)
 one_more octet text one other = All-cons (λ octet. is_feed octet ≡ false) octet text one other
 
@@ -67,20 +69,24 @@ written text all = of_kind is_inner refl text all
 digit_lacks : (n : ℕ) → is_feed (48 + n) ≡ false
 digit_lacks n = ne_eqb (48 + n) line_feed (λ e. absurd (omega (arith, e)))
 
+-- two digits have no LF
 two_lack : (n : ℕ) → NoFeed (two_digits n)
 two_lack n =
     one_more (48 + n / 10) ((48 + n % 10) ∷ []) (digit_lacks (n / 10))
     (one_more (48 + n % 10) [] (digit_lacks (n % 10)) (All-nil (λ octet. is_feed octet ≡ false)))
 
+-- the digits of a date have no LF
 date_lacks : (year month day : ℕ) → NoFeed (date_digits year month day)
 date_lacks year month day =
     both_lack (four_digits year) (two_digits month ++ two_digits day) (both_lack (two_digits (year / 100)) (two_digits (year % 100)) (two_lack (year / 100)) (two_lack (year % 100)))
     (both_lack (two_digits month) (two_digits day) (two_lack month) (two_lack day))
 
+-- the digits of a time of day have no LF
 time_lacks : (hour minute second : ℕ) → NoFeed (time_digits hour minute second)
 time_lacks hour minute second =
     both_lack (two_digits hour) (two_digits minute ++ two_digits second) (two_lack hour) (both_lack (two_digits minute) (two_digits second) (two_lack minute) (two_lack second))
 
+-- the digits of a moment have no LF
 moment_lacks : (moment : ℕ) → NoFeed (moment_digits moment)
 moment_lacks moment = by_parts (year_and_place 10_000 1970 (moment / 86_400))
   where
@@ -92,9 +98,11 @@ moment_lacks moment = by_parts (year_and_place 10_000 1970 (moment / 86_400))
     by_parts : (day : ℕ × ℕ) → NoFeed (day_digits day ++ second_digits (moment % 86_400))
     by_parts day = by_day day.0 (month_and_place 11 day.0 1 day.1)
 
+-- digits in base ten and their value are a model of numerals
 own : IsNumeralModel (AllDigits 10) (digits_value 10)
 own = record { to = λ ds all. all; from = λ ds all. all; same = λ ds all. refl }
 
+-- a number below 2 ^ 64, written in decimal, has no LF
 decimal_lacks : (n : ℕ) → n < 2 ^ 64 → NoFeed (decimal n)
 decimal_lacks n small = of_kind is_ascii_digit refl (decimal n) (digits_all (decimal n) (digits_decimal own n small))
 
@@ -105,19 +113,23 @@ abbrev IsPlain : Option (List ℕ) → Type 0
 IsPlain None = Unit {0}
 IsPlain (Some text) = NoFeed text
 
+-- the text of a fact that is given, or of none, has no LF if its name and its value have none
 given_lacks : (name : List ℕ) (value : Option (List ℕ)) → NoFeed name → IsPlain value → NoFeed (facts_text (given name value))
 given_lacks name None one other = All-nil (λ octet. is_feed octet ≡ false)
 given_lacks name (Some value) one other =
     both_lack name (equals ∷ (value ++ semicolon ∷ [])) one
     (one_more equals (value ++ semicolon ∷ []) refl (both_lack value (semicolon ∷ []) other (one_more semicolon [] refl (All-nil (λ octet. is_feed octet ≡ false)))))
 
+-- the text of two lists of facts in a row is the text of the first and that of the second
 facts_text-append : (xs ys : List Fact) → facts_text (xs ++ ys) ≡ facts_text xs ++ facts_text ys
 facts_text-append [] ys = refl
 facts_text-append (x ∷ xs) ys = rw (facts_text-append xs ys) (sym (simp append_assoc))
 
+-- two lists of facts whose texts have no LF make one whose text has none
 joined_lack : (xs ys : List Fact) → NoFeed (facts_text xs) → NoFeed (facts_text ys) → NoFeed (facts_text (xs ++ ys))
 joined_lack xs ys one other = subst NoFeed (sym (facts_text-append xs ys)) (both_lack (facts_text xs) (facts_text ys) one other)
 
+-- the four facts, a space and a name have no LF if neither the values nor the name have one
 line_lacks : (kind size modify perm : Option (List ℕ)) (name : List ℕ) → IsPlain kind → IsPlain size → IsPlain modify → IsPlain perm → NoFeed name
     → NoFeed (facts_text (facts_of kind size modify perm) ++ space ∷ name)
 line_lacks kind size modify perm name one two three four five =
@@ -131,11 +143,13 @@ line_lacks kind size modify perm name one two three four five =
     (joined_lack (given (codes "Modify") modify) (given (codes "Perm") perm) f3 f4)))
     (one_more space name refl five)
 
+-- what may be done with a node is told without LF
 perm_lacks : (path : Names) (node : Node) → NoFeed (perm_of path node)
 perm_lacks path (File octets moment) = written (codes "adfrw") refl
 perm_lacks [] Dir = written (codes "celmp") refl
 perm_lacks (name ∷ names) Dir = written (codes "cdeflmp") refl
 
+-- the size of a file is told without LF, if it is told
 size_lacks : (count : ℕ) → IsPlain (option_map decimal (size_fact count))
 size_lacks count = by_number (is_number count) refl
   where
@@ -143,6 +157,7 @@ size_lacks count = by_number (is_number count) refl
     by_number true e = let small : count < 10 ^ 18 = ltb-true count (10 ^ 18) e in decimal_lacks count (omega (arith, small))
     by_number false e = tt
 
+-- the line of an entry has no LF if its name has none
 entry_lacks : (name : List ℕ) (path : Names) (node : Node) → NoFeed name → NoFeed (listed_line all_facts (listed name path node))
 entry_lacks name path (File octets moment) none =
     line_lacks (Some (codes "file")) (option_map decimal (size_fact (length octets))) (Some (moment_digits moment)) (Some (perm_of path (File octets moment))) name
@@ -157,17 +172,20 @@ abbrev AreLines : List (List ℕ) → Type 0
 AreLines [] = Unit {0}
 AreLines (line ∷ lines) = NoFeed line × AreLines lines
 
+-- a file of lines without LF, split at each LF, gives the lines and an empty one behind them
 split_file : (lines : List (List ℕ)) → AreLines lines → slice_split is_feed (lines_file lines) ≡ lines ++ [] ∷ []
 split_file [] none = refl
 split_file (line ∷ lines) none =
     ap (slice_split is_feed) (append_assoc line (line_feed ∷ []) (lines_file lines))
     ∙ slice_split_at is_feed line line_feed (lines_file lines) none.0 refl ∙ ap (λ l. line ∷ l) (split_file lines none.1)
 
+-- lines with an empty one behind them, but for an empty last one, are the lines
 but_last : (lines : List (List ℕ)) → but_empty_last (lines ++ [] ∷ []) ≡ lines
 but_last [] = refl
 but_last (line ∷ []) = refl
 but_last (line ∷ next ∷ lines) = ap (λ l. line ∷ l) (but_last (next ∷ lines))
 
+-- a file of lines without LF is read back as these lines
 lines_back : (lines : List (List ℕ)) → AreLines lines → lines_of (lines_file lines) ≡ lines
 lines_back lines none = ap but_empty_last (split_file lines none) ∙ but_last lines
 
@@ -181,6 +199,7 @@ named_all (name ∷ names) each =
     let rest = named_all names (λ other found. each other (suc found.0, (let w = found.1 in omega (arith, w)), found.2)) in
     λ i. first i && rest i
 
+-- in a sound state each of the children at a path has a valid name
 pub children_named : (state : State) (path : Names) → IsSound state → list_all is_name (children (part state) path) ≡ true
 children_named state path sound =
     named_all (children (part state) path) (λ name found.
@@ -188,6 +207,7 @@ children_named state path sound =
     let last = (and_parts (list_all is_name path) (list_all is_name (name ∷ [])) (sym (list_all-append is_name path (name ∷ [])) ∙ whole)).1 in
     (and_parts (is_name name) true last).0)
 
+-- a text of path octets has no LF
 text_lacks : (text : List ℕ) → list_all is_path_octet text ≡ true → NoFeed text
 text_lacks text all = of_kind is_path_octet refl text all
 
@@ -197,6 +217,7 @@ pub record IsText (text : List ℕ) : Type 0 where
   pub utf8 : is_utf8 text ≡ true
   pub octets : list_all is_path_octet text ≡ true
 
+-- a path text has an octet, is UTF-8 and is of path octets
 pub text_parts : (text : List ℕ) → IsPathText text → IsText text
 text_parts text is =
     let both = and_parts (nat_le 1 (length text) && nat_le (length text) text_limit) (is_utf8 text && list_all is_path_octet text) is in
@@ -216,6 +237,7 @@ abbrev AreRead : List Listed → Type 0
 AreRead [] = Unit {0}
 AreRead (entry ∷ entries) = IsRead entry × AreRead entries
 
+-- the entry of a node that is early, with a name, is said by its line
 listed_read : (name : List ℕ) (path : Names) (node : Node) → is_name name ≡ true → IsEarly node → IsRead (listed name path node)
 listed_read name path (File octets moment) named early = record {
   says = line-reads path (File octets moment) name (name-text name named) early;
@@ -228,10 +250,12 @@ listed_read name path Dir named early = record {
   shown = refl;
 }
 
+-- an entry at a path of a sound state is said by its line
 entry_read : (state : State) (path : Names) (name : List ℕ) → IsSound state → is_name name ≡ true → IsRead (entry_at (part state) path name)
 unfolding entry_at
 entry_read state path name sound named = listed_read name path (unwrap_or (node_at (part state) path) Dir) named (early-at state path sound)
 
+-- so are all the entries of names in a directory of a sound state
 entries_read : (state : State) (path : Names) → IsSound state → (names : List (List ℕ)) → list_all is_name names ≡ true → AreRead (filter_map (entry_in (part state) path) names)
 entries_read state path sound [] named = tt
 entries_read state path sound (name ∷ names) named =
@@ -243,20 +267,24 @@ entries_read state path sound (name ∷ names) named =
     by_fit true one rest = (one, rest)
     by_fit false one rest = rest
 
+-- entries that are said by their lines have lines without LF
 entry_lines_lack : (entries : List Listed) → AreRead entries → AreLines (map (listed_line all_facts) entries)
 entry_lines_lack [] read = tt
 entry_lines_lack (entry ∷ entries) read = (read.0.lacks, entry_lines_lack entries read.1)
 
+-- the lines of such entries are read as these entries
 entry_values : (entries : List Listed) → AreRead entries → all_values entry_value (map (listed_line all_facts) entries) ≡ Some entries
 entry_values [] read = refl
 entry_values (entry ∷ entries) read =
     ap (λ o. and_then o (λ value. option_map (λ values. value ∷ values) (all_values entry_value (map (listed_line all_facts) entries)))) read.0.says
     ∙ ap (option_map (λ values. entry ∷ values)) (entry_values entries read.1)
 
+-- each of such entries is shown, and none is left out
 all_shown : (entries : List Listed) → AreRead entries → filter is_shown entries ≡ entries
 all_shown [] read = refl
 all_shown (entry ∷ entries) read = ap (λ b. cond b (entry ∷ filter is_shown entries) (filter is_shown entries)) read.0.shown ∙ ap (λ l. entry ∷ l) (all_shown entries read.1)
 
+-- the listing of a directory of a sound state is read back as the entries in it
 pub entries-back : (state : State) (path : Names) → IsSound state
     → entries_value (lines_file (entry_lines all_facts (part state) path)) ≡ Some (entries_in (part state) path)
 unfolding entries_in
@@ -278,6 +306,7 @@ abbrev AreNamed : List (List ℕ) → Type 0
 AreNamed [] = Unit {0}
 AreNamed (line ∷ lines) = IsLine line × AreNamed lines
 
+-- a path text is a line that is a pathname
 text_line_is : (text : List ℕ) → IsText text → IsLine text
 text_line_is text is = record {
   listed = (λ i. le-leb 1 (length text) is.some i && (is.utf8 i && is.octets i));
@@ -289,6 +318,7 @@ abbrev pub IsGiven : List ℕ → Type 0
 IsGiven [] = Unit {0}
 IsGiven (c ∷ text) = IsText (c ∷ text)
 
+-- a slash in front of a path text makes a path text
 with_slash : (name : List ℕ) → IsText name → IsText (slash ∷ name)
 with_slash name is = record {
   some = omega arith;
@@ -296,6 +326,7 @@ with_slash name is = record {
   octets = is.octets;
 }
 
+-- a path text behind another, or behind none, is a path text
 joined : (text name : List ℕ) → IsGiven text → IsText name → IsText (text ++ name)
 joined [] name given is = is
 joined (c ∷ text) name given is = record {
@@ -304,6 +335,7 @@ joined (c ∷ text) name given is = record {
   octets = list_all-append is_path_octet (c ∷ text) name ∙ (λ i. given.octets i && is.octets i);
 }
 
+-- a name behind a text, with a slash between them where one is missing, is a line that is a pathname
 behind_is : (text name : List ℕ) → IsGiven text → IsText name → IsLine (behind text name)
 behind_is text name given is = by_end ((length text == 0) || ends_with nat_eq text (slash ∷ []))
   where
@@ -311,6 +343,7 @@ behind_is text name given is = by_end ((length text == 0) || ends_with nat_eq te
     by_end true = text_line_is (text ++ name) (joined text name given is)
     by_end false = text_line_is (text ++ slash ∷ name) (joined text (slash ∷ name) given (with_slash name is))
 
+-- the files of names in a directory are listed as lines that are pathnames
 files_named : (table : Table) (path : Names) (text : List ℕ) → IsGiven text → (names : List (List ℕ)) → list_all is_name names ≡ true → AreNamed (filter_map (file_in table path text) names)
 files_named table path text given [] named = tt
 files_named table path text given (name ∷ names) named =
@@ -323,10 +356,12 @@ files_named table path text given (name ∷ names) named =
     by_file true one rest = (one, rest)
     by_file false one rest = rest
 
+-- lines that are pathnames have no LF
 lines_named : (lines : List (List ℕ)) → AreNamed lines → AreLines lines
 lines_named [] named = tt
 lines_named (line ∷ lines) named = (named.0.lacks, lines_named lines named.1)
 
+-- lines that are pathnames are read as themselves
 name_values : (lines : List (List ℕ)) → AreNamed lines → all_values name_value lines ≡ Some lines
 name_values [] named = refl
 name_values (line ∷ lines) named =
@@ -347,6 +382,7 @@ names_named state path text sound given here = by_file (is_file (node_at (part s
         by_text [] given here = absurd (let f : true ≡ false = sym e ∙ here refl in cc)
         by_text (c ∷ text) given here = (text_line_is (c ∷ text) given, tt)
 
+-- names listed of a sound state are read back as themselves, if with no text given what stands at the path is no file
 pub names-back : (state : State) (path : Names) (text : List ℕ) → IsSound state → IsGiven text → (text ≡ [] → is_file (node_at (part state) path) ≡ false)
     → names_value (lines_file (name_lines (part state) path text)) ≡ Some (names_for (part state) path text)
 names-back state path text sound given here =

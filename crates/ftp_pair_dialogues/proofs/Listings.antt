@@ -36,6 +36,7 @@ same_text (c ∷ text) = refl
 
 -- ---- entries
 
+-- the server reads the command of a listing of entries that can be sent, and acts on it so
 list_row : (text : List ℕ) (how : How) → can_be_sent (Ops.List text how) ≡ true → HasRow (list_ask text how)
 list_row text how can = record {
   typed = tt;
@@ -47,6 +48,7 @@ list_row text how can = record {
       ∙ (λ i. transfer_starts (refusal (direct_of s) (Ops.List text how)) (Transfers.Listing (listing_wire (set i).mode (entry_lines (facts i) (seen s) (named_or_here (direct_of s) text)))) s);
 }
 
+-- a listing of entries that can be sent is refused or answered so, and the client reads that answer out of the octets
 list_answer : (text : List ℕ) (how : How) → can_be_sent (Ops.List text how) ≡ true → HasAnswer (list_ask text how)
 list_answer text how can = record {
   can = can;
@@ -78,12 +80,14 @@ list_is_ask text how can = record {
 no_option : (c : ℕ) (text : List ℕ) → not (is_option (c ∷ text)) ≡ true → (c == hyphen) ≡ false
 no_option c text is = ne_eqb c hyphen (λ e. absurd (let f : false ≡ true = ap (λ c. not (is_option (c ∷ text))) (sym e) ∙ is in cc))
 
+-- the text of a listing of names that can be sent is empty, or is sent and not taken for an option
 names_stated : (text : List ℕ) (how : How) → can_be_sent (Ops.Names text how) ≡ true → IfGiven IsListed (optional text)
 names_stated [] how can = tt
 names_stated (c ∷ text) how can =
     let both = and_parts (is_optional_text (c ∷ text)) (not (is_option (c ∷ text))) can in
     (is_sent c text both.0, no_option c text both.1)
 
+-- the server reads the command of a listing of names that can be sent, and acts on it so
 names_row : (text : List ℕ) (how : How) → can_be_sent (Ops.Names text how) ≡ true → HasRow (names_ask text how)
 names_row text how can = record {
   typed = tt;
@@ -95,6 +99,7 @@ names_row text how can = record {
       ∙ (λ i. transfer_starts (refusal (direct_of s) (Ops.Names text how)) (Transfers.Listing (listing_wire (set i).mode (name_lines (seen s) (named_or_here (direct_of s) text) text))) s);
 }
 
+-- the text of a listing of names that can be sent is empty, or one that a path may be
 names_given : (text : List ℕ) (how : How) → can_be_sent (Ops.Names text how) ≡ true → IsGiven text
 names_given [] how can = tt
 names_given (c ∷ text) how can = text_parts (c ∷ text) (is_sent c text (and_parts (is_optional_text (c ∷ text)) (not (is_option (c ∷ text))) can).0)
@@ -103,6 +108,7 @@ names_given (c ∷ text) how can = text_parts (c ∷ text) (is_sent c text (and_
 here_is_dir : (state : State) (text : List ℕ) → IsSound state → state.known ≡ true → text ≡ [] → is_file (node_at (part state) (named_or_here state text)) ≡ false
 here_is_dir state text sound known none = ap (λ text. is_file (node_at (part state) (named_or_here state text))) none ∙ ap is_file (sound.here known)
 
+-- a listing of names that can be sent is refused or answered so, and the client reads that answer out of the octets
 names_answer : (text : List ℕ) (how : How) → can_be_sent (Ops.Names text how) ≡ true → HasAnswer (names_ask text how)
 names_answer text how can = record {
   can = can;

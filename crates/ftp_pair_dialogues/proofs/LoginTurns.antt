@@ -42,6 +42,7 @@ abbrev is_asking : Way → Bool
 is_asking (Asking text) = true
 is_asking (Answering replies) = false
 
+-- a line on its way is not replies on their way
 pub no_asking : (text : List ℕ) (replies : List Reply) → Asking text ≡ Answering replies → ⊥
 no_asking text replies e = let f : true ≡ false = ap is_asking e in cc
 
@@ -49,6 +50,7 @@ abbrev has_reply : Way → Bool
 has_reply (Answering (reply ∷ replies)) = true
 has_reply way = false
 
+-- where a reply is on its way the way is not at rest
 pub no_reply : (reply : Reply) (more : List Reply) → Answering (reply ∷ more) ≡ rest → ⊥
 no_reply reply more e = let f : true ≡ false = ap has_reply e in cc
 
@@ -56,6 +58,7 @@ abbrev text_in : Way → List ℕ
 text_in (Asking text) = text
 text_in (Answering replies) = []
 
+-- equal ways of a line have the same text
 pub asked_text : {text other : List ℕ} → Asking text ≡ Asking other → text ≡ other
 asked_text e = ap text_in e
 
@@ -67,9 +70,11 @@ abbrev more_in : Way → List Reply
 more_in (Answering (reply ∷ replies)) = replies
 more_in way = []
 
+-- where one reply alone is on its way, the first is that one
 reply_of_way : {reply other : Reply} {more : List Reply} → Answering (reply ∷ more) ≡ Answering (other ∷ []) → reply ≡ other
 reply_of_way {reply} e = ap (first_in reply) e
 
+-- where one reply alone is on its way, no more are behind it
 rest_of : {reply other : Reply} {more : List Reply} → Answering (reply ∷ more) ≡ Answering (other ∷ []) → more ≡ []
 rest_of e = ap more_in e
 
@@ -81,6 +86,7 @@ record Admits (state : State) (root : Names) (s : Session) : Type 0 where
   is : logs_in root s ≡ tells (last_text admitted) (logs_in root s).0
   sees : Sees state (logs_in root s).0
 
+-- a login to a root that the state starts with ends as the direct run sees it, admitted or refused
 admits_as : (state : State) (root : Names) (s : Session) → s.table ≡ state.table → state ≡ direct_start state.table (Some root) → Admits state root s
 admits_as state root s table leads = by_directory (is_directory (node_at s.table root)) refl
   where
@@ -116,6 +122,7 @@ record IsLoginStep (old new : Session) : Type 0 where
   table : new.table ≡ old.table
   all_ways : new.only_extended ≡ old.only_extended
 
+-- a login to a root changes nothing of a session but who is logged in
 same_admits : (root : Names) (s : Session) → IsLoginStep s (logs_in root s).0
 same_admits root s = by_directory (is_directory (node_at s.table root)) refl
   where
@@ -123,6 +130,7 @@ same_admits root s = by_directory (is_directory (node_at s.table root)) refl
     by_directory true is = record { connection = refl; closing = refl; life = refl; settings = refl; facts = refl; table = refl; all_ways = refl }
     by_directory false is = record { connection = refl; closing = refl; life = refl; settings = refl; facts = refl; table = refl; all_ways = refl }
 
+-- a server that waits still does so with a session that differs in who is logged in alone
 far_steps : (f : Far) (new : Session) → IsLoginStep (cleared f) new → FarWaits f → FarWaits (with_session new f)
 far_steps f new same waits = record {
   aside = ap is_aside same.connection ∙ waits.aside;
@@ -244,6 +252,7 @@ stands_behind : (state : State) (admitted to_pass : Bool) (n next : Near) (f : F
     → Meets next f → Stands state next f
 stands_behind state admitted to_pass n next f logs same meets = record { meets = meets; far = logs.far; sees = logs.access; settings = logs.settings ∙ sym same; facts = logs.facts }
 
+-- a client that meets a server meets it at rest too
 meets_at_rest : (n : Near) (f : Far) → Meets n f → Meets (resting n) f
 meets_at_rest n f meets = record { peer = meets.peer; here = meets.here; typed = meets.typed; own = meets.own; family = meets.family; all_ways = meets.all_ways }
 
@@ -256,9 +265,11 @@ record NextPlace (state : State) (n : Near) (f : Far) (reply : Reply) : Type 0 w
   logging : Logging state (Asking line) near f
   job : near.job ≡ n.job
 
+-- a session with nothing pending any more differs from itself in nothing that the login keeps
 session_same : (f : Far) → IsLoginStep (cleared f) f.session
 session_same f = record { connection = refl; closing = refl; life = refl; settings = refl; facts = refl; table = refl; all_ways = refl }
 
+-- the greeting is heard, and the client sends the name of its user
 greeting_heard : (state : State) (n : Near) (f : Far) → LogsIn state Greets n f → NextPlace state n f (fixed_reply Texts.Ready)
 unfolding answered
 greeting_heard state n f logs = record {
@@ -274,6 +285,7 @@ greeting_heard state n f logs = record {
   job = refl;
 }
 
+-- the reply that wants a password is heard, and the client sends it
 password_heard : (state : State) (n : Near) (f : Far) → LogsIn state WantsPass n f → NextPlace state n f (fixed_reply Texts.PasswordNeeded)
 unfolding answered
 password_heard state n f logs = record {
@@ -307,6 +319,7 @@ pub record LoginEnds (state : State) (n : Near) (f : Far) (reply : Reply) : Type
   pub logs : LogsIn state (Answers admitted to_pass) n f
   pub is : answered reply.code reply.lines (calm n) ≡ enters_with n.job (record (calm n) { standing = Standings.Entered })
 
+-- a reply of the login stands alone on its way, and leads to the next place or ends the login
 told_at : (state : State) (place : Place) (reply : Reply) (more : List Reply) (n : Near) (f : Far) → Answering (reply ∷ more) ≡ way_of place n → LogsIn state place n f
     → (more ≡ []) × (NextPlace state n f reply ⊎ LoginEnds state n f reply)
 told_at state Greets reply more n f way logs =
@@ -328,6 +341,7 @@ entered_is n job connection closing run = λ i. record (calm n) { standing = Sta
 
 -- ---- no operation
 
+-- with no operation each line and each reply leads on, through the login to rest
 pub free_turns : (read : Reading) (state : State) → IsReading read → Turns read (AtFree state)
 free_turns read state reads = record { asked = asked_free; told = told_free }
   where
@@ -360,6 +374,7 @@ free_turns read state reads = record { asked = asked_free; told = told_free }
 
 -- ---- an operation
 
+-- with an operation each line and each reply leads on, if it does so from where the login ends
 pub operation_turns : (read : Reading) (state : State) (op : Op (List ℕ)) (Along Goal : Near → Far → Type 0) → IsReading read
     → ((n : Near) (f : Far) → Stands state n f → LeadsBy read Along Goal op n f) → Turns read (IsOnWay read state op Along Goal)
 operation_turns read state op Along Goal reads leads_on = record { asked = asked_op; told = told_op }

@@ -29,6 +29,7 @@ use Rattle.ftp_pair_dialogues.proofs.Paths.{quoted-reads}
 
 -- ---- what the direct run leaves of a session
 
+-- a session with the outcome of the direct run keeps its connection, life, settings and facts
 keeps_direct : (f : Far) (state : State) → Keeps f.session (as_direct state (cleared f))
 keeps_direct f state = record { connection = refl; closing = refl; life = refl; settings = refl; facts = refl; all_ways = refl }
 
@@ -37,6 +38,7 @@ record IsMove (old new : State) : Type 0 where
   known : new.known ≡ old.known
   root : new.root ≡ old.root
 
+-- a session with the outcome of the direct run sees the next state, if that is a move of the one it saw
 sees_direct : (state next : State) (f : Far) → Sees state f.session → IsMove state next → Sees next (as_direct next (cleared f))
 sees_direct state next f sees move =
     record { table = refl; known = sees.known ∙ sym move.known; root = λ known. sees.root (sym move.known ∙ known) ∙ sym move.root; cwd = refl }
@@ -51,6 +53,7 @@ moves_turn op s = (as_direct (done (direct_of s) op 0).1 s, Replies.Fixed Texts.
 abbrev IsDoneBy : Op (List ℕ) → Type 0
 IsDoneBy op = answer_in op (codes "Done" ∷ []) ≡ Some Done
 
+-- an operation that moves the state is accepted: the server leaves the next state, and the client answers Done
 moves_accepts : (op : Op (List ℕ)) (state next : State) (n : Near) (f : Far) → Stands state n f → state.known ≡ true
     → (done state op 0).1 ≡ next → IsMove state next → IsDoneBy op → Accepts op (Done, next) n f (moves_turn op (cleared f))
 moves_accepts op state next n f stands known is move done_is =
@@ -66,6 +69,7 @@ moves_accepts op state next n f stands known is move done_is =
       heard = near_told_is op n 250 (codes "Done" ∷ []) Done refl done_is;
     })
 
+-- a change of the current directory is one command that moves the state
 pub change_dir : (read : Reading) (text : List ℕ) → IsReading read → IsPathText text → IsSingle read (Ops.ChangeDir text) (moves_turn (Ops.ChangeDir text))
 change_dir read text reads is = record {
   sent = record { reads = reads; typed = tt; stated = is; other = refl };
@@ -78,6 +82,7 @@ change_dir read text reads is = record {
       moves_accepts (Ops.ChangeDir text) state (done state (Ops.ChangeDir text) 0).1 n f stands known refl (record { known = refl; root = refl }) refl;
 }
 
+-- a change to the parent directory is one command that moves the state
 pub up : (read : Reading) → IsReading read → IsSingle read Ops.Up (moves_turn Ops.Up)
 up read reads = record {
   sent = record { reads = reads; typed = tt; stated = tt; other = refl };
@@ -90,6 +95,7 @@ up read reads = record {
       moves_accepts Ops.Up state (done state Ops.Up 0).1 n f stands known refl (record { known = refl; root = refl }) refl;
 }
 
+-- the removal of a directory is one command that moves the state
 pub remove_dir : (read : Reading) (text : List ℕ) → IsReading read → IsPathText text → IsSingle read (Ops.RemoveDir text) (moves_turn (Ops.RemoveDir text))
 remove_dir read text reads is = record {
   sent = record { reads = reads; typed = tt; stated = is; other = refl };
@@ -102,6 +108,7 @@ remove_dir read text reads is = record {
       moves_accepts (Ops.RemoveDir text) state (done state (Ops.RemoveDir text) 0).1 n f stands known refl (record { known = refl; root = refl }) refl;
 }
 
+-- the removal of a file is one command that moves the state
 pub delete : (read : Reading) (text : List ℕ) → IsReading read → IsPathText text → IsSingle read (Ops.Delete text) (moves_turn (Ops.Delete text))
 delete read text reads is = record {
   sent = record { reads = reads; typed = tt; stated = is; other = refl };
@@ -116,6 +123,7 @@ delete read text reads is = record {
 
 -- ---- those that are answered by a path
 
+-- the question for the current directory is one command that is answered by its path and moves nothing
 pub here : (read : Reading) → IsReading read → IsSingle read Ops.Where (λ s. (s, Replies.Here))
 here read reads = record {
   sent = record { reads = reads; typed = tt; stated = tt; other = refl };
@@ -148,6 +156,7 @@ within-limits path why none = by_fit (fits path) refl
 abbrev pub makes_turn : List ℕ → Session → Turn
 makes_turn text s = (as_direct (done (direct_of s) (Ops.MakeDir text) 0).1 s, Replies.Made (path_of s text))
 
+-- a new directory is accepted: the server leaves the next state, and the client answers its path
 make_accepts : (text : List ℕ) (state : State) (n : Near) (f : Far) → Stands state n f → state.known ≡ true → IsPathText (text_of (named state text))
     → Accepts (Ops.MakeDir text) (done state (Ops.MakeDir text) 0) n f (makes_turn text (cleared f))
 make_accepts text state n f stands known told =
@@ -166,6 +175,7 @@ make_accepts text state n f stands known told =
           (ap (option_map Path) (quoted-reads (named state text) (codes "created") told));
     })
 
+-- a new directory is one command that is answered by its path
 pub make_dir : (read : Reading) (text : List ℕ) → IsReading read → IsPathText text → IsSingle read (Ops.MakeDir text) (makes_turn text)
 make_dir read text reads is = record {
   sent = record { reads = reads; typed = tt; stated = is; other = refl };

@@ -17,11 +17,13 @@ use Rattle.ftp_server_model.specs.Replies.{extended_text, passive_text}
 
 -- ---- numbers as they are written
 
+-- a number below 256, as it is written, says that octet
 written_octet : (n : ℕ) → n < 256 → SaysOctet (decimal n) n
 written_octet n small =
     let is = decimal_is_IsNumeral n (omega (arith, small)) in
     ((is.0, length-decimal-le 3 n (omega arith) (omega (arith, small)) (omega (arith, small)), omega (arith, is.1, small)), sym is.1)
 
+-- a number from 1 to 65535, as it is written, says that port
 written_port : (n : ℕ) → 1 ≤ n → n < 65536 → SaysPort (decimal n) n
 written_port n some small =
     let is = says_number n (omega (arith, small)) in
@@ -34,6 +36,7 @@ begins_one n d more none small =
     let Says : List ℕ → Type 0 = λ digits. SaysOctet digits n in
     (subst Says (sym (front_of (decimal n) d more is.0.0.1 none)) is, behind_of (decimal n) d more is.0.0.1 none)
 
+-- one number and the separator before a row of numbers make a row with one number more
 begins_more : (n m : ℕ) (next ns rest : List ℕ) → n < 256 → BeginsWith 44 next (m ∷ ns) rest → BeginsWith 44 (decimal n ++ 44 ∷ next) (n ∷ m ∷ ns) rest
 begins_more n m next ns rest small begins =
     let is = written_octet n small in
@@ -45,11 +48,13 @@ begins_more n m next ns rest small begins =
 abbrev at_port : Host → ℕ → Endpoint
 at_port host port = record { host = host; port = port }
 
+-- six lists with separators between them and more behind them are the same however they are grouped
 nested : (a b c d p q more : List ℕ)
     → ((a ++ (44 ∷ (b ++ (44 ∷ (c ++ (44 ∷ d)))))) ++ (44 ∷ (p ++ (44 ∷ q)))) ++ more
     ≡ a ++ (44 ∷ (b ++ (44 ∷ (c ++ (44 ∷ (d ++ (44 ∷ (p ++ (44 ∷ (q ++ more))))))))))
 nested a b c d p q more = simp append_assoc
 
+-- the six numbers of an IPv4 host and a port, as they are written before a closing parenthesis, begin with that endpoint
 six_begins : (octets : List ℕ) (port : ℕ) → IsTypedHost (V4 octets) → port < 65536
     → BeginsWithSix (six_text (at_port (V4 octets) port) ++ 41 ∷ []) (at_port (V4 octets) port) (41 ∷ [])
 six_begins [] port typed small = absurd (omega (arith, typed.0))
@@ -88,6 +93,7 @@ six_begins (a ∷ b ∷ c ∷ d ∷ []) port typed small =
 words_passed : (text : List ℕ) → six_behind false (codes "Entering Passive Mode (" ++ text) ≡ six_behind false text
 words_passed text = refl
 
+-- the endpoint of an IPv4 host and a port is read back from the text of a 227
 pub passive-reads : (host : Host) (port : ℕ) → IsV4 host → IsTypedHost host → port < 65536 → passive_value (passive_text (at_port host port)) ≡ Some (at_port host port)
 unfolding passive_value
 passive-reads (V6 octets) port v4 typed small = absurd v4
@@ -102,10 +108,12 @@ passive-reads (V4 octets) port v4 typed small =
 
 -- ---- the port of a 229
 
+-- the words before the parenthesis of a 229 change nothing of what is read
 words_before : (rest : List ℕ) → extended_value (codes "Entering Extended Passive Mode " ++ 40 ∷ 124 ∷ 124 ∷ 124 ∷ rest) ≡ extended_value (40 ∷ 124 ∷ 124 ∷ 124 ∷ rest)
 unfolding extended_value
 words_before rest = refl
 
+-- a port from 1 to 65535 is read back from the text of a 229
 pub extended-reads : (port : ℕ) → 1 ≤ port → port < 65536 → extended_value (extended_text port) ≡ Some port
 extended-reads port some small =
     let rest : List ℕ = decimal port ++ 124 ∷ 41 ∷ [] in

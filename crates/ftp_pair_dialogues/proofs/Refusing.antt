@@ -50,6 +50,7 @@ module _ (read : Reading) (ask : Ask) (reads : IsReading read) (plan : HasPlan a
   abbrev From : Step → Type 0
   From step = LeadsFrom read (Passes state.table state.table) (Opens state ask) op step n f
 
+  -- a command of typed and stated parts that is not ABOR can go to the server
   sent : (command : Command (List ℕ)) → IsTyped command → IsStated command → is_abor (Asks command) ≡ false → IsSent read command
   sent command typed stated other = record { reads = reads; typed = typed; stated = stated; other = other }
 
@@ -68,6 +69,7 @@ module _ (read : Reading) (ask : Ask) (reads : IsReading read) (plan : HasPlan a
         leads = leads_to read (Passes state.table state.table) (Ends (Refused 530, state)) (Opens state ask) (λ n f ends. inr (inr (unknown, ends))) on.left (behind on.line []) on.near f on.leads;
       }
 
+  -- where the server is to be asked for a port, EPSV or PASV is refused
   by_extended : (extended : Bool) → is_extended n op ≡ extended → From Steps.Passive
   by_extended true is =
       refused_so Steps.Passive (Commands.Epsv Passives.Any) tt tt refl refl refl refl
@@ -76,31 +78,37 @@ module _ (read : Reading) (ask : Ask) (reads : IsReading read) (plan : HasPlan a
       refused_so Steps.Passive Commands.Pasv tt tt refl refl refl refl
       (λ job. ap (λ extended. record (calm (doing op Steps.Passive n)) { owed = written_line (line_of (passive_command extended)) }) is)
 
+  -- where the client listens a port of its own is wanted, else the command for one of the server is refused
   by_active : (active : Bool) → From (if active then Steps.Listen else Steps.Passive)
   by_active true = wants_port read state ask n f stands (λ known. absurd (let e : false ≡ true = sym unknown ∙ known in cc))
   by_active false = by_extended (is_extended n op) refl
 
+  -- so the step that opens the link leads to a port that is wanted, or to 530
   by_opening : From (opening_of (how_of op) op)
   by_opening = subst From (opening_is ask plan) (by_active ask.how.active)
 
+  -- and where the mode is to be set before it, MODE is refused
   by_mode : (b : Bool) → From (if b then opening_of (how_of op) op else Steps.Mode)
   by_mode true = by_opening
   by_mode false =
       refused_so Steps.Mode (Commands.Mode settings.mode) tt tt refl refl refl refl
       (λ job. ap (λ asked. sends_if (set_command Steps.Mode asked) (calm (doing op Steps.Mode n))) plan.asks)
 
+  -- and where the structure is to be set before these, STRU is refused
   by_structure : (b : Bool) → From (if b then from_mode n.settings settings (opening_of (how_of op) op) else Steps.Structure)
   by_structure true = by_mode (same_mode n.settings.mode settings.mode)
   by_structure false =
       refused_so Steps.Structure (Commands.Stru settings.structure) tt tt refl refl refl refl
       (λ job. ap (λ asked. sends_if (set_command Steps.Structure asked) (calm (doing op Steps.Structure n))) plan.asks)
 
+  -- and where the kind is to be set before these, TYPE is refused
   by_kind : (b : Bool) → From (if b then from_structure n.settings settings (opening_of (how_of op) op) else Steps.Kind)
   by_kind true = by_structure (same_structure n.settings.structure settings.structure)
   by_kind false =
       refused_so Steps.Kind (Commands.Repr settings.kind) tt tt refl refl refl refl
       (λ job. ap (λ asked. sends_if (set_command Steps.Kind asked) (calm (doing op Steps.Kind n))) plan.asks)
 
+  -- what is asked for by a login that is not known leads to a port that is wanted, or to 530
   unknown_leads : LeadsBy read (Passes state.table state.table) (Opens state ask) ask.op n f
   unknown_leads = begins_with read state ask plan n f (by_kind (same_kind n.settings.kind settings.kind))
 

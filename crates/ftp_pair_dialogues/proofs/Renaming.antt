@@ -47,14 +47,17 @@ target_why state text new = refused_name (limited (named state new) (rename_refu
 abbrev pub direct_target_why : State → List ℕ → List ℕ → Option Refusal
 direct_target_why state text new = refused_name (limited (named state new) (target_refusal (part state) (named state text) (named state new)))
 
+-- no refusal by what stands there means no fault of the tree
 pub none_there : (why : Option TreeFault) → refused_there why ≡ None → why ≡ None
 none_there None none = refl
 none_there (Some fault) none = absurd (cc)
 
+-- no refusal by the new name means no fault of the tree
 pub none_name : (why : Option TreeFault) → refused_name why ≡ None → why ≡ None
 none_name None none = refl
 none_name (Some fault) none = absurd (cc)
 
+-- no fault with the limits of paths counted means no fault without them
 pub none_limited : (path : Names) (why : Option TreeFault) → limited path why ≡ None → why ≡ None
 none_limited path why none = by_fit (fits path) refl
   where
@@ -62,10 +65,12 @@ none_limited path why none = by_fit (fits path) refl
     by_fit true e = ap (λ (b : Bool). if b then why else Some Faults.TooBig) (sym e) ∙ none
     by_fit false e = absurd (let f : Some Faults.TooBig ≡ None = ap (λ (b : Bool). if b then why else Some Faults.TooBig) (sym e) ∙ none in cc)
 
+-- if neither of two faults is there, the first is not
 pub first_none : (one other : Option TreeFault) → or_else one other ≡ None → one ≡ None
 first_none None other none = refl
 first_none (Some fault) other none = absurd (cc)
 
+-- if RNFR is not refused, the tree has nothing against the old name
 pub source_none : (state : State) (text : List ℕ) → source_why state text ≡ None → source_refusal (part state) (named state text) ≡ None
 source_none state text none =
     first_none _ (busy_refusal state (named state text)) (none_limited (named state text) _ (none_there _ none))
@@ -76,6 +81,7 @@ unfolding rename_refusal
 same_target state text new none =
     ap (λ why. refused_name (limited (named state new) (or_else why (target_refusal (part state) (named state text) (named state new))))) (source_none state text none)
 
+-- the direct run refuses a rename by the reason of the old name, or else by its own reason of the new name
 pub direct_by_source : (state : State) (text new : List ℕ) (why : Option Refusal) → source_why state text ≡ why
     → refusal state (Ops.Rename text new) ≡ or_refused why (direct_target_why state text new)
 direct_by_source state text new why is = ap (λ w. or_refused w (direct_target_why state text new)) is
@@ -84,9 +90,11 @@ direct_by_source state text new why is = ap (λ w. or_refused w (direct_target_w
 
 module _ (read : Reading) (text new : List ℕ) (reads : IsReading read) (first : IsPathText text) (second : IsPathText new) (state : State) (n : Near) (f : Far)
     (stands : Stands state n f) where
+  -- RNFR with the old name can be sent, and the server acts on it at once
   sent_source : IsSent read (Commands.Rnfr text)
   sent_source = record { reads = reads; typed = tt; stated = first; other = refl }
 
+  -- RNTO with the new name can be sent, and the server acts on it at once
   sent_target : IsSent read (Commands.Rnto new)
   sent_target = record { reads = reads; typed = tt; stated = second; other = refl }
 
@@ -105,6 +113,7 @@ module _ (read : Reading) (text new : List ℕ) (reads : IsReading read) (first 
     leads = leads;
   }
 
+  -- a refused RNFR leads to an answer with the code of its reason and an unchanged state
   source_refused : (why : Refusal) → decides (Commands.Rnfr text) f ≡ (cleared f, Replies.Fixed (refusal_text why)) → To (Refused (code_of why), state)
   source_refused why decided =
       by_source (Refused (code_of why), state) 2
@@ -116,15 +125,19 @@ module _ (read : Reading) (text new : List ℕ) (reads : IsReading read) (first 
   abbrev noted : Session
   noted = record (cleared f) { pending = Pendings.Rename (path_of (cleared f) text) }
 
+  -- an RNFR that was taken keeps the connection, life, settings and facts of the session
   noted_keeps : Keeps f.session noted
   noted_keeps = record { connection = refl; closing = refl; life = refl; settings = refl; facts = refl; all_ways = refl }
 
+  -- with a login, what the direct run sees of the server's session is the state
   same_direct : state.known ≡ true → direct_of (cleared f) ≡ state
   same_direct known = direct_is state (cleared f) (sees_cleared state f stands.sees) known
 
+  -- a text leads to the same path at the server as in the direct run
   same_path : (l : List ℕ) → path_of (cleared f) l ≡ named state l
   same_path l = ap (λ cwd. resolved cwd l) stands.sees.cwd
 
+  -- with a login, the server refuses RNFR by its reason or notes the old name and asks for the new one
   source_decided : state.known ≡ true → (why : Option Refusal) → source_why state text ≡ why
       → decides (Commands.Rnfr text) f ≡ unless why (cleared f) (noted, Replies.Fixed Texts.NewName)
   source_decided known why is =
@@ -139,6 +152,7 @@ module _ (read : Reading) (text new : List ℕ) (reads : IsReading read) (first 
   abbrev renamed : Session
   renamed = as_direct (done state (Ops.Rename text new) 0).1 (cleared f)
 
+  -- with a login, the server behind an RNFR that was taken refuses RNTO by its reason or renames
   target_decided : state.known ≡ true → (why : Option Refusal) → target_why state text new ≡ why
       → decides (Commands.Rnto new) (with_session noted f) ≡ unless why (cleared f) (renamed, Replies.Fixed Texts.Done)
   target_decided known why is =
@@ -149,6 +163,7 @@ module _ (read : Reading) (text new : List ℕ) (reads : IsReading read) (first 
       (cleared f) (record (cleared f) { table = (changed state (moved (part state) (same_path text i) (same_path new i))).table; cwd = stands.sees.cwd i }, Replies.Fixed Texts.Done))
       ∙ ap (λ w. unless w (cleared f) (renamed, Replies.Fixed Texts.Done)) is
 
+  -- at the 350 the client goes on to its last step and owes RNTO
   new_name_is : answered 350 (codes "Ready for the new name" ∷ []) (calm (doing (Ops.Rename text new) Steps.Source n))
       ≡ record (calm (doing (Ops.Rename text new) Steps.Last n)) { owed = written_line (line_of (Commands.Rnto new)) }
   unfolding answered
@@ -178,12 +193,14 @@ module _ (read : Reading) (text new : List ℕ) (reads : IsReading read) (first 
       stands.settings stands.facts
       (record { peer = stands.meets.peer; here = stands.meets.here; typed = stands.meets.typed; own = stands.meets.own; family = stands.meets.family; all_ways = stands.meets.all_ways }) keeps sees x))
 
+  -- a taken RNFR and a refused RNTO lead to an answer with the code of the reason and an unchanged state
   target_refused : (why : Refusal) → state.known ≡ true → source_why state text ≡ None → target_why state text new ≡ Some why → To (Refused (code_of why), state)
   target_refused why known none is =
       by_target (Refused (code_of why), state) (cleared f) known none (record { connection = refl; closing = refl; life = refl; settings = refl; facts = refl; all_ways = refl })
       (sees_cleared state f stands.sees)
       (refused_exchange (Ops.Rename text new) Steps.Last (Commands.Rnto new) why n (with_session noted f) refl (target_decided known (Some why) is))
 
+  -- a taken RNFR and an RNTO without a reason lead to the rename that the direct run does
   target_done : state.known ≡ true → source_why state text ≡ None → target_why state text new ≡ None → To (done state (Ops.Rename text new) 0)
   target_done known none is =
       by_target (done state (Ops.Rename text new) 0) renamed known none (record { connection = refl; closing = refl; life = refl; settings = refl; facts = refl; all_ways = refl })
@@ -197,6 +214,7 @@ module _ (read : Reading) (text new : List ℕ) (reads : IsReading read) (first 
         heard = near_told_is (Ops.Rename text new) n 250 (codes "Done" ∷ []) Done refl refl;
       })
 
+  -- a rename that can be sent leads to the answer of the direct run
   pub rename_leads : (moment : ℕ) → can_be_sent (Ops.Rename text new) ≡ true → To (answer state (Ops.Rename text new) moment)
   rename_leads moment can = by_known state.known refl (source_why state text) refl (target_why state text new) refl
     where

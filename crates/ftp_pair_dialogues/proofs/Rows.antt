@@ -36,6 +36,7 @@ pub record Keeps (old new : Session) : Type 0 where
   pub facts : new.facts ≡ old.facts
   pub all_ways : new.only_extended ≡ old.only_extended
 
+-- a server that waits still waits with a session that keeps connection, closing and life
 pub waits_on : (f : Far) (new : Session) → Keeps f.session new → FarWaits f → FarWaits (with_session new f)
 waits_on f new keeps waits = record {
   aside = ap is_aside keeps.connection ∙ waits.aside;
@@ -43,9 +44,11 @@ waits_on f new keeps waits = record {
   life = keeps.life ∙ waits.life;
 }
 
+-- a session whose pending command is cleared keeps all that a turn leaves as it is
 pub keeps_cleared : (f : Far) → Keeps f.session (cleared f)
 keeps_cleared f = record { connection = refl; closing = refl; life = refl; settings = refl; facts = refl; all_ways = refl }
 
+-- a session with its pending command cleared still sees the state
 pub sees_cleared : (state : State) (f : Far) → Sees state f.session → Sees state (cleared f)
 sees_cleared state f s = record { table = s.table; known = s.known; root = s.root; cwd = s.cwd }
 
@@ -55,6 +58,7 @@ direct_is state s sees known = λ i. record { table = sees.table i; root = sees.
 
 -- ---- the last exchange of an operation
 
+-- an exchange that tells the result, at a server that keeps its session and sees the result's state, ends the operation in two turns
 pub last_exchange : (read : Reading) (before : Table) (op : Op (List ℕ)) (step : Step) (command : Command (List ℕ)) (result : Said × State) (n : Near) (f : Far) (after : Session)
     → IsSent read command → FarWaits f → (f.session.table ≡ before) → f.session.settings ≡ n.settings → f.session.facts ≡ all_facts → Meets n f
     → Keeps f.session after → Sees result.1 after → Exchange command (doing op step n) (told result.0 n) None f after
@@ -78,6 +82,7 @@ last_exchange read before op step command result n f after sent waits table sett
 
 -- ---- a refusal
 
+-- the reply of a refusal has the code of the refusal
 pub tells_code : (why : Refusal) → reply_code (refusal_text why) ≡ code_of why
 tells_code Refusals.LocalFault = refl
 tells_code Refusals.NoRoom = refl
@@ -88,6 +93,7 @@ tells_code Refusals.Unavailable = refl
 tells_code Refusals.TooMuch = refl
 tells_code Refusals.BadName = refl
 
+-- the reply of a refusal is a negative one
 pub is_negative : (why : Refusal) → verdict_of (reply_code (refusal_text why)) ≡ Negative
 is_negative Refusals.LocalFault = refl
 is_negative Refusals.NoRoom = refl
@@ -98,6 +104,7 @@ is_negative Refusals.Unavailable = refl
 is_negative Refusals.TooMuch = refl
 is_negative Refusals.BadName = refl
 
+-- a refused command is an exchange that tells the client the code of its refusal and clears what was pending
 pub refused_exchange : (op : Op (List ℕ)) (step : Step) (command : Command (List ℕ)) (why : Refusal) (n : Near) (f : Far) → awaits_reply step ≡ true
     → decides command f ≡ (cleared f, Replies.Fixed (refusal_text why)) → Exchange command (doing op step n) (told (Refused (code_of why)) n) None f (cleared f)
 refused_exchange op step command why n f awaits decided = record {
@@ -112,6 +119,7 @@ refused_exchange op step command why n f awaits decided = record {
 
 -- ---- the answer of the direct run
 
+-- with a login, an operation that can be sent is answered by its refusal, or done
 pub answer_known : (state : State) (op : Op (List ℕ)) (moment : ℕ) (why : Option Refusal) → can_be_sent op ≡ true → state.known ≡ true → refusal state op ≡ why
     → chosen why state (done state op moment) ≡ answer state op moment
 unfolding answer
@@ -120,6 +128,7 @@ answer_known state op moment why can known is = sym (
     ∙ ap (λ (b : Bool). chosen (if b then refusal state op else Some Refusals.NotLoggedIn) state (done state op moment)) known
     ∙ ap (λ w. chosen w state (done state op moment)) is)
 
+-- without a login, an operation that can be sent is answered with 530 and changes nothing
 pub answer_unknown : (state : State) (op : Op (List ℕ)) (moment : ℕ) → can_be_sent op ≡ true → state.known ≡ false
     → (Refused 530, state) ≡ answer state op moment
 unfolding answer

@@ -23,6 +23,7 @@ use Rattle.ftp_pair_dialogues.specs.Dialogue.{is_aside}
 
 -- ---- no data connection is under way
 
+-- a connection that is aside is not busy
 pub aside_idle : (connection : ServerLink Transfer) → is_aside connection ≡ true → is_connection_busy connection ≡ false
 aside_idle Data.Free aside = refl
 aside_idle Data.Passive aside = refl
@@ -32,6 +33,7 @@ aside_idle (Data.Asked asked) aside = absurd (cc)
 aside_idle (Data.Opening transfer way) aside = absurd (cc)
 aside_idle (Data.Transferring transfer) aside = absurd (cc)
 
+-- on a connection that is not busy no download or listing is over, and nothing changes
 not_out : (connection : ServerLink Transfer) (v : Far) → is_connection_busy connection ≡ false → given_out connection v ≡ v
 not_out Data.Free v idle = refl
 not_out Data.Passive v idle = refl
@@ -83,6 +85,7 @@ far_turned command f turn other idle is behind =
 pub said_row : (s : Session) (kind : ReplyKind Names) (reply : Reply) → reply_said s kind ≡ Some reply → said_octets s kind ≡ row_octets (reply ∷ [])
 said_row s kind reply said = ap octets_if_any said ∙ sym (append-nil (reply_octets reply))
 
+-- a command other than ABOR, with no busy data connection before or behind it, leads to its session, and the server owes its reply
 pub far_turn_is : (read : Reading) (command : Command (List ℕ)) (f : Far) (after : Session) (kind : ReplyKind Names) (reply : Reply)
     → IsReading read → IsTyped command → IsStated command → is_abor (Asks command) ≡ false → is_connection_busy f.session.connection ≡ false
     → decides command f ≡ (after, kind) → is_connection_busy after.connection ≡ false → reply_said after kind ≡ Some reply
@@ -93,11 +96,13 @@ far_turn_is read command f after kind reply reads typed stated other idle is beh
 
 -- ---- who is logged in
 
+-- where the client is logged in, a command is acted on
 pub decides_known : (command : Command (List ℕ)) (f : Far) → is_in f.session.access ≡ true
     → decides command f ≡ act f.footing command f.session.pending (cleared f)
 decides_known command f known =
     ap (λ (b : Bool). if b || is_free command then act f.footing command f.session.pending (cleared f) else tells Texts.NotLoggedIn (forgets command (cleared f))) known
 
+-- where it is not, a command that needs a login and is no transfer is answered that it is not logged in
 pub decides_unknown : (command : Command (List ℕ)) (f : Far) → is_in f.session.access ≡ false → is_free command ≡ false → is_transfer command ≡ false
     → decides command f ≡ (cleared f, Replies.Fixed Texts.NotLoggedIn)
 decides_unknown command f known free transfer =

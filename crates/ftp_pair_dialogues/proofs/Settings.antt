@@ -56,6 +56,7 @@ session_set settings s = record s { settings = settings }
 abbrev pub far_set : Representation → Far → Far
 far_set settings f = with_session (session_set settings (cleared f)) f
 
+-- the ends stand with other settings as they did, if both have the same
 stands_set : (state : State) (settings : Representation) (n : Near) (f : Far) → Stands state n f → Stands state (near_set settings n) (far_set settings f)
 stands_set state settings n f stands = record {
   meets = record { peer = stands.meets.peer; here = stands.meets.here; typed = stands.meets.typed; own = stands.meets.own; family = stands.meets.family; all_ways = stands.meets.all_ways };
@@ -70,6 +71,7 @@ module _ (read : Reading) (state : State) (after : Table) (Goal : Near → Far �
   abbrev Along : Near → Far → Type 0
   Along n f = Passes state.table after n f
 
+  -- the command of a setting that the server accepts leads to the goal, if the step behind it does with the new settings
   one_set : (step next : Step) (command : Command (List ℕ)) (text : FixedReply) (settings : Representation) (n : Near) (f : Far) → Stands state n f
       → IsSent read command → decides command f ≡ (session_set settings (cleared f), Replies.Fixed text)
       → ((job : Job) → placed op step (record (calm (resting n)) { job = job }) ≡ record (calm (doing op step n)) { owed = written_line (line_of command) })
@@ -103,6 +105,7 @@ module _ (read : Reading) (state : State) (after : Table) (Goal : Near → Far �
   -- what follows behind all settings
   module _ (wanted : Representation) (asks : asked_settings op ≡ Some wanted)
       (behind : (n : Near) (f : Far) → Stands state n f → n.settings ≡ wanted → LeadsFrom read Along Goal op (opening_of (how_of op) op) n f) where
+    -- a client whose server accepted these settings with this mode
     with_mode : Near → Representation
     with_mode n = record n.settings { mode = wanted.mode }
 
@@ -111,10 +114,12 @@ module _ (read : Reading) (state : State) (after : Table) (Goal : Near → Far �
         ≡ record (calm (doing op Steps.Kind n)) { owed = written_line (line_of (Commands.Repr wanted.kind)) }
     kind_placed n job = ap (λ asked. sends_if (set_command Steps.Kind asked) (calm (doing op Steps.Kind n))) asks
 
+    -- a client placed at STRU owes that command, or goes on where it is in force
     structure_placed : (n : Near) (job : Job) → placed op Steps.Structure (record (calm (resting n)) { job = job })
         ≡ record (calm (doing op Steps.Structure n)) { owed = written_line (line_of (Commands.Stru wanted.structure)) }
     structure_placed n job = ap (λ asked. sends_if (set_command Steps.Structure asked) (calm (doing op Steps.Structure n))) asks
 
+    -- a client placed at MODE owes that command, or goes on where it is in force
     mode_placed : (n : Near) (job : Job) → placed op Steps.Mode (record (calm (resting n)) { job = job })
         ≡ record (calm (doing op Steps.Mode n)) { owed = written_line (line_of (Commands.Mode wanted.mode)) }
     mode_placed n job = ap (λ asked. sends_if (set_command Steps.Mode asked) (calm (doing op Steps.Mode n))) asks
@@ -125,6 +130,7 @@ module _ (read : Reading) (state : State) (after : Table) (Goal : Near → Far �
     unfolding answered
     mode_heard n = ap (λ asked. goes_on op Steps.Mode (record (calm (doing op Steps.Mode n)) { settings = settings_behind Steps.Mode n.settings asked })) asks
 
+    -- 200 after STRU leads on to MODE
     structure_heard : (n : Near) → answered 200 (text_of Texts.StructureSet ∷ []) (calm (doing op Steps.Structure n))
         ≡ placed op (from_mode (record n.settings { structure = wanted.structure }) wanted (opening_of (how_of op) op))
         (record (calm (resting (near_set (record n.settings { structure = wanted.structure }) n))) { job = Doing op Steps.Structure })
@@ -133,6 +139,7 @@ module _ (read : Reading) (state : State) (after : Table) (Goal : Near → Far �
         ap (λ asked. placed op (step_by from_mode asked (settings_behind Steps.Structure n.settings asked) op)
         (record (calm (doing op Steps.Structure n)) { settings = settings_behind Steps.Structure n.settings asked })) asks
 
+    -- 200 after TYPE leads on to STRU
     kind_heard : (n : Near) → answered 200 (text_of Texts.TypeSet ∷ []) (calm (doing op Steps.Kind n))
         ≡ placed op (from_structure (record n.settings { kind = wanted.kind }) wanted (opening_of (how_of op) op))
         (record (calm (resting (near_set (record n.settings { kind = wanted.kind }) n))) { job = Doing op Steps.Kind })
@@ -147,18 +154,21 @@ module _ (read : Reading) (state : State) (after : Table) (Goal : Near → Far �
 
     -- ---- from MODE on
 
+    -- modes that are the same are equal
     mode_is : (one other : Mode) → same_mode one other ≡ true → one ≡ other
     mode_is Modes.Stream Modes.Stream e = refl
     mode_is Modes.Block Modes.Block e = refl
     mode_is Modes.Stream Modes.Block e = absurd (cc)
     mode_is Modes.Block Modes.Stream e = absurd (cc)
 
+    -- structures that are the same are equal
     structure_is : (one other : Structure) → same_structure one other ≡ true → one ≡ other
     structure_is Structures.File Structures.File e = refl
     structure_is Structures.Record Structures.Record e = refl
     structure_is Structures.File Structures.Record e = absurd (cc)
     structure_is Structures.Record Structures.File e = absurd (cc)
 
+    -- types that are the same are equal
     kind_is : (one other : Kind) → same_kind one other ≡ true → one ≡ other
     kind_is Kinds.Ascii Kinds.Ascii e = refl
     kind_is Kinds.Image Kinds.Image e = refl
@@ -168,6 +178,7 @@ module _ (read : Reading) (state : State) (after : Table) (Goal : Near → Far �
     abbrev From : Step → Near → Far → Type 0
     From step n f = LeadsFrom read Along Goal op step n f
 
+    -- where type and structure are in force, the rest of the settings leads on
     mode_leads : (n : Near) (f : Far) → Stands state n f → n.settings.kind ≡ wanted.kind → n.settings.structure ≡ wanted.structure
         → From (from_mode n.settings wanted (opening_of (how_of op) op)) n f
     mode_leads n f stands kind structure = by_same (same_mode n.settings.mode wanted.mode) refl
@@ -184,6 +195,7 @@ module _ (read : Reading) (state : State) (after : Table) (Goal : Near → Far �
             (behind (near_set (record n.settings { mode = wanted.mode }) n) (far_set (record n.settings { mode = wanted.mode }) f) (stands_set state (record n.settings { mode = wanted.mode }) n f stands)
             (λ i. record { kind = kind i; structure = structure i; mode = wanted.mode }))
 
+    -- where the type is in force, the rest of the settings leads on
     structure_leads : (n : Near) (f : Far) → Stands state n f → n.settings.kind ≡ wanted.kind
         → From (from_structure n.settings wanted (opening_of (how_of op) op)) n f
     structure_leads n f stands kind = by_same (same_structure n.settings.structure wanted.structure) refl
@@ -200,6 +212,7 @@ module _ (read : Reading) (state : State) (after : Table) (Goal : Near → Far �
             (structure_placed n) (structure_heard n)
             (mode_leads (near_set settings n) (far_set settings f) (stands_set state settings n f stands) kind refl)
 
+    -- the settings of an operation lead on from any that are in force
     pub settings_lead : (n : Near) (f : Far) → Stands state n f → From (from_kind n.settings wanted (opening_of (how_of op) op)) n f
     settings_lead n f stands = by_same (same_kind n.settings.kind wanted.kind) refl
       where

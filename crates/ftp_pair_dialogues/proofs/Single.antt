@@ -49,6 +49,7 @@ pub record IsSingle (read : Reading) (op : Op (List ℕ)) (accepted : Session �
       → Accepts op (done state op moment) n f (accepted (cleared f))
 
 module _ (read : Reading) (op : Op (List ℕ)) (accepted : Session → Turn) (single : IsSingle read op accepted) (state : State) (n : Near) (f : Far) (stands : Stands state n f) where
+  -- with a login, the server refuses the command by the reason of the direct run or accepts it
   decided_known : state.known ≡ true → (why : Option Refusal) → refusal state op ≡ why
       → decides (own_command op) f ≡ unless why (cleared f) (accepted (cleared f))
   decided_known known why is =
@@ -56,9 +57,11 @@ module _ (read : Reading) (op : Op (List ℕ)) (accepted : Session → Turn) (si
       ∙ ap (λ s. unless (refusal s op) (cleared f) (accepted (cleared f))) (direct_is state (cleared f) (sees_cleared state f stands.sees) known)
       ∙ ap (λ w. unless w (cleared f) (accepted (cleared f))) is
 
+  -- without a login, the server refuses the command as not logged in
   decided_unknown : state.known ≡ false → decides (own_command op) f ≡ (cleared f, Replies.Fixed (refusal_text Refusals.NotLoggedIn))
   decided_unknown unknown = decides_unknown (own_command op) f (stands.sees.known ∙ unknown) single.guarded single.no_transfer
 
+  -- the exchange of the one command that tells a result makes the operation lead to it
   by_exchange : (result : Said × State) (after : Session) → Keeps f.session after → Sees result.1 after
       → Exchange (own_command op) (doing op Steps.Last n) (told result.0 n) None f after → LeadsTo read state op result n f
   by_exchange result after keeps sees x = record {
@@ -70,16 +73,19 @@ module _ (read : Reading) (op : Op (List ℕ)) (accepted : Session → Turn) (si
     leads = last_exchange read state.table op Steps.Last (own_command op) result n f after single.sent stands.far stands.sees.table stands.settings stands.facts stands.meets keeps sees x;
   }
 
+  -- a refused command leads to the answer of its refusal
   refused_leads : (why : Refusal) → decides (own_command op) f ≡ (cleared f, Replies.Fixed (refusal_text why)) → LeadsTo read state op (chosen (Some why) state (done state op 0)) n f
   refused_leads why decided =
       by_exchange (chosen (Some why) state (done state op 0)) (cleared f) (keeps_cleared f) (sees_cleared state f stands.sees)
       (refused_exchange op Steps.Last (own_command op) why n f refl decided)
 
+  -- a command that is accepted leads to the result that the server does and says
   accepted_leads : (result : Said × State) → decides (own_command op) f ≡ accepted (cleared f) → Accepts op result n f (accepted (cleared f)) → LeadsTo read state op result n f
   accepted_leads result decided a =
       by_exchange result (accepted (cleared f)).0 a.keeps a.sees
       (record { kind = (accepted (cleared f)).1; reply = a.reply; decided = decided; within = a.within; said = a.said; heard = a.heard })
 
+  -- an operation of one command that can be sent leads, from a sound state, to the answer of the direct run
   pub single_leads : (moment : ℕ) → can_be_sent op ≡ true → IsSound state → LeadsTo read state op (answer state op moment) n f
   single_leads moment can sound = by_known state.known refl (refusal state op) refl
     where

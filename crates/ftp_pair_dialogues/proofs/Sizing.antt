@@ -57,21 +57,25 @@ use Rattle.ftp_pair_dialogues.proofs.Single.{Accepts, IsSingle}
 
 -- ---- numbers in replies
 
+-- decimal digits and their value are a model of numerals
 own : IsNumeralModel (AllDigits 10) (digits_value 10)
 own = record { to = λ ds all. all; from = λ ds all. all; same = λ ds all. refl }
 
+-- the digits of a number below 10 ^ 18 are read as that number
 pub decimal-reads : (n : ℕ) → n < 10 ^ 18 → number_value (decimal n) ≡ Some n
 decimal-reads n small =
     let fit : n < 2 ^ 64 = omega (arith, small) in
     says_number (decimal n) n
     (((decimal_nonempty n fit, digits_decimal own n fit), length-decimal-le 18 n (omega arith) (omega (arith, small)) fit), sym (digits_value-decimal own n fit))
 
+-- the digits of a moment that is not too late are read as that moment
 pub moment-reads : (moment : ℕ) → moment ≤ last_second → moment_value (moment_digits moment) ≡ Some moment
 moment-reads moment early =
     says_moment (moment_digits moment) moment (WritesMoment-says (moment_digits moment) moment (moment_digits-write moment early))
 
 -- ---- MDTM
 
+-- in a sound state no stamp of a path is too late to be told
 stamp-early : (state : State) (path : Names) → IsSound state → unwrap_or (stamp_at (part state) path) 0 ≤ last_second
 unfolding stamp_at
 stamp-early state path sound = by_node (node_at (part state) path) refl
@@ -81,6 +85,7 @@ stamp-early state path sound = by_node (node_at (part state) path) refl
     by_node (Some Dir) is = omega arith
     by_node (Some (File octets moment)) is = (sound.files path octets moment is).0
 
+-- a server that knows the login replies to MDTM with the stamp of the path, and the client hears it as the answer
 modified_accepts : (text : List ℕ) (state : State) (moment : ℕ) (n : Near) (f : Far) → IsSound state → Stands state n f → state.known ≡ true
     → Accepts (Ops.Modified text) (done state (Ops.Modified text) moment) n f (cleared f, Replies.Stamp (moment_digits (stamp_of (cleared f) text)))
 modified_accepts text state moment n f sound stands known =
@@ -98,6 +103,7 @@ modified_accepts text state moment n f sound stands known =
       heard = near_told_is (Ops.Modified text) n 213 (moment_digits stamp ∷ []) (Stamp stamp) refl (ap (option_map Stamp) (moment-reads stamp early));
     })
 
+-- MDTM is one command, with the stamp of its path as the reply
 pub modified : (read : Reading) (text : List ℕ) → IsReading read → IsPathText text
     → IsSingle read (Ops.Modified text) (λ s. (s, Replies.Stamp (moment_digits (stamp_of s text))))
 modified read text reads is = record {
@@ -116,6 +122,7 @@ modified read text reads is = record {
 abbrev size_settings : How → Representation
 size_settings how = record { kind = how.representation.kind; structure = Structures.File; mode = Modes.Stream }
 
+-- a count that is not refused is below 10 ^ 18
 number_short : (count : ℕ) → refused_number count ≡ None → count < 10 ^ 18
 number_short count none = by_number (is_number count) refl
   where
@@ -123,14 +130,17 @@ number_short count none = by_number (is_number count) refl
     by_number true e = ltb-true count (10 ^ 18) e
     by_number false e = absurd (let f : Some Refusals.Unavailable ≡ None = ap (λ (b : Bool). if b then None else Some Refusals.Unavailable) (sym e) ∙ none in cc)
 
+-- where neither of two refuses, the second does not
 second_none : (one other : Option Refusal) → option_or one other ≡ None → other ≡ None
 second_none None other none = none
 second_none (Some why) other none = absurd (cc)
 
 module _ (read : Reading) (text : List ℕ) (how : How) (reads : IsReading read) (is : IsPathText text) (state : State) (known : state.known ≡ true) where
+  -- SIZE of a path text can go to the server as a command other than ABOR
   sent : IsSent read (Commands.Size text)
   sent = record { reads = reads; typed = tt; stated = is; other = refl }
 
+  -- in the settings of SIZE the server refuses it for the reason that the state has, or replies with the size
   size_decided : (n : Near) (f : Far) → Stands state n f → n.settings ≡ size_settings how → (why : Option Refusal) → refusal state (Ops.Size text how) ≡ why
       → decides (Commands.Size text) f ≡ unless why (cleared f) (cleared f, Replies.Size (size_in how.representation.kind (file_of state text)))
   size_decided n f stands set why refused =
@@ -141,6 +151,7 @@ module _ (read : Reading) (text : List ℕ) (how : How) (reads : IsReading read)
       (direct_is state (cleared f) (sees_cleared state f stands.sees) known)
       ∙ ap (λ w. unless w (cleared f) (cleared f, Replies.Size (size_in how.representation.kind (file_of state text)))) refused
 
+  -- in its settings SIZE leads to the size, or to its refusal
   size_last : (result : Said × State) (n : Near) (f : Far) → Stands state n f → n.settings ≡ size_settings how → (why : Option Refusal) → refusal state (Ops.Size text how) ≡ why
       → result ≡ chosen why state (done state (Ops.Size text how) 0)
       → LeadsFrom read (Passes state.table result.1.table) (Ends result) (Ops.Size text how) Steps.Last n f
@@ -178,6 +189,7 @@ module _ (read : Reading) (text : List ℕ) (how : How) (reads : IsReading read)
             (refused_exchange (Ops.Size text how) Steps.Last (Commands.Size text) why n f refl (size_decided n f stands set (Some why) some));
       })
 
+  -- where the login is known, SIZE leads to its size or its refusal behind the settings that it needs
   pub size_known : (result : Said × State) (n : Near) (f : Far) → Stands state n f → result ≡ chosen (refusal state (Ops.Size text how)) state (done state (Ops.Size text how) 0)
       → LeadsTo read state (Ops.Size text how) result n f
   size_known result n f stands result_is =
@@ -188,6 +200,7 @@ module _ (read : Reading) (text : List ℕ) (how : How) (reads : IsReading read)
 -- ---- a login that is not known: the first command is refused
 
 module _ (read : Reading) (op : Op (List ℕ)) (reads : IsReading read) (state : State) (n : Near) (f : Far) (stands : Stands state n f) (unknown : state.known ≡ false) where
+  -- where the login is not known, a command that needs one leads to 530, and the state stays as it is
   pub refused_at : (step : Step) (command : Command (List ℕ)) → IsSent read command → is_free command ≡ false → is_transfer command ≡ false → awaits_reply step ≡ true
       → ((job : Job) → placed op step (record (calm (resting n)) { job = job }) ≡ record (calm (doing op step n)) { owed = written_line (line_of command) })
       → LeadsFrom read (Passes state.table state.table) (Ends (Refused 530, state)) op step n f
@@ -202,6 +215,7 @@ module _ (read : Reading) (op : Op (List ℕ)) (reads : IsReading read) (state :
         (refused_exchange op step command Refusals.NotLoggedIn n f awaits (decides_unknown command f (stands.sees.known ∙ unknown) free transfer));
   }
 
+-- where the login is not known, the first command for SIZE leads to 530, be it a setting or SIZE itself
 size_unknown : (read : Reading) (text : List ℕ) (how : How) (reads : IsReading read) (is : IsPathText text) (state : State) (n : Near) (f : Far) → Stands state n f → state.known ≡ false
     → LeadsFrom read (Passes state.table state.table) (Ends (Refused 530, state)) (Ops.Size text how) (first_step n.settings (Ops.Size text how)) n f
 size_unknown read text how reads is state n f stands unknown = by_kind (same_kind n.settings.kind how.representation.kind)
@@ -225,6 +239,7 @@ size_unknown read text how reads is state n f stands unknown = by_kind (same_kin
     by_kind false =
         refused_at read (Ops.Size text how) reads state n f stands unknown Steps.Kind (Commands.Repr how.representation.kind) (sent (Commands.Repr how.representation.kind) tt tt refl) refl refl refl (λ job. refl)
 
+-- SIZE that can be sent leads to its answer
 pub size_leads : (read : Reading) (text : List ℕ) (how : How) (moment : ℕ) → IsReading read → IsPathText text → (state : State) (n : Near) (f : Far) → Stands state n f
     → can_be_sent (Ops.Size text how) ≡ true → LeadsTo read state (Ops.Size text how) (answer state (Ops.Size text how) moment) n f
 size_leads read text how moment reads is state n f stands can = by_known state.known refl

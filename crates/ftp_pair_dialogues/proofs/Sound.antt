@@ -33,10 +33,12 @@ use Rattle.ftp_pair_dialogues.proofs.Renaming.{none_there, none_limited, none_na
 abbrev HasFineFiles : Table → Type 0
 HasFineFiles table = (path : Names) (octets : List ℕ) (moment : ℕ) → node_at table path ≡ Some (File octets moment) → IsFine octets moment
 
+-- what follows from each of both values of a boolean holds
 by_bool : {P : Type 0} (b : Bool) → (b ≡ true → P) → (b ≡ false → P) → P
 by_bool true one other = one refl
 by_bool false one other = other refl
 
+-- files that are fine are so when a directory is made
 files-made : (table : Table) (path : Names) → HasFineFiles table → HasFineFiles (made table path)
 unfolding made
 files-made table path have other octets moment is =
@@ -44,6 +46,7 @@ files-made table path have other octets moment is =
     (λ e. absurd (let f : Some Dir ≡ Some (File octets moment) = sym (at-insert table path Dir other ∙ ap (λ b. cond b (Some Dir) (node_at table other)) e) ∙ is in cc))
     (λ e. have other octets moment (sym (at-insert table path Dir other ∙ ap (λ b. cond b (Some Dir) (node_at table other)) e) ∙ is))
 
+-- files that are fine are so when what is at a path is removed
 files-removed : (table : Table) (path : Names) → HasFineFiles table → HasFineFiles (removed table path)
 unfolding removed
 files-removed table path have other octets moment is =
@@ -51,6 +54,7 @@ files-removed table path have other octets moment is =
     (λ e. absurd (let f : None ≡ Some (File octets moment) = sym (at-remove table path other ∙ ap (λ b. cond b None (node_at table other)) e) ∙ is in cc))
     (λ e. have other octets moment (sym (at-remove table path other ∙ ap (λ b. cond b None (node_at table other)) e) ∙ is))
 
+-- files that are fine are so when a renaming that is not refused moves what is at a path
 files-moved : (table : Table) (from to : Names) → IsTree table → rename_refusal table from to ≡ None → HasFineFiles table → HasFineFiles (moved table from to)
 files-moved table from to tree none have other octets moment is =
     let all = rename-moves table from to tree none in
@@ -68,6 +72,7 @@ files-moved table from to tree none have other octets moment is =
 abbrev HasNames : Table → Type 0
 HasNames table = (path : Names) → IsSome (node_at table path) → list_all is_name path ≡ true
 
+-- paths of names are so when a directory is made at a path of names
 names-made : (table : Table) (path : Names) → list_all is_name path ≡ true → HasNames table → HasNames (made table path)
 unfolding made
 names-made table path named have other some =
@@ -75,6 +80,7 @@ names-made table path named have other some =
     (λ e. ap (list_all is_name) (same other path e) ∙ named)
     (λ e. have other (ap is_some (sym (at-insert table path Dir other ∙ ap (λ b. cond b (Some Dir) (node_at table other)) e)) ∙ some))
 
+-- paths of names are so when what is at a path is removed
 names-removed : (table : Table) (path : Names) → HasNames table → HasNames (removed table path)
 unfolding removed
 names-removed table path have other some =
@@ -86,9 +92,11 @@ names-removed table path have other some =
 both-named : (front rest : Names) → list_all is_name front ≡ true → list_all is_name rest ≡ true → list_all is_name (front ++ rest) ≡ true
 both-named front rest one other = list_all-append is_name front rest ∙ (λ i. one i && other i)
 
+-- the rest of a path of names is names
 rest-named : (front rest : Names) → list_all is_name (front ++ rest) ≡ true → list_all is_name rest ≡ true
 rest-named front rest is = (and_parts (list_all is_name front) (list_all is_name rest) (sym (list_all-append is_name front rest) ∙ is)).1
 
+-- paths of names are so when a renaming that is not refused moves what is at a path to a path of names
 names-moved : (table : Table) (from to : Names) → IsTree table → rename_refusal table from to ≡ None → list_all is_name to ≡ true → HasNames table → HasNames (moved table from to)
 names-moved table from to tree none named have other some =
     let all = rename-moves table from to tree none in
@@ -105,6 +113,7 @@ names-moved table from to tree none named have other some =
 
 -- ---- where the current directory stands
 
+-- the current directory is a directory still when a directory is made
 here-made : (table : Table) (path cwd : Names) → node_at table cwd ≡ Some Dir → node_at (made table path) cwd ≡ Some Dir
 unfolding made
 here-made table path cwd here = at-insert table path Dir cwd ∙ ap (λ node. cond (eq_by_cmp path_cmp cwd path) (Some Dir) node) here ∙ either (eq_by_cmp path_cmp cwd path)
@@ -113,6 +122,7 @@ here-made table path cwd here = at-insert table path Dir cwd ∙ ap (λ node. co
     either true = refl
     either false = refl
 
+-- the current directory is a directory still when what is at another path is removed
 here-removed : (table : Table) (path cwd : Names) → node_at table cwd ≡ Some Dir → eq_by_cmp path_cmp cwd path ≡ false → node_at (removed table path) cwd ≡ Some Dir
 unfolding removed
 here-removed table path cwd here apart = at-remove table path cwd ∙ ap (λ b. cond b None (node_at table cwd)) apart ∙ here
@@ -125,12 +135,14 @@ within-self path = subst (λ other. is_within path other ≡ true) (append-nil p
 not-busy : (state : State) (path : Names) → busy_refusal state path ≡ None → is_within path state.cwd ≡ false
 not-busy state path none = by_bool (is_within path state.cwd) (λ e. absurd (let f : Some Faults.Busy ≡ None = sym (ap (λ b. if b then Some Faults.Busy else None) e) ∙ none in cc)) (λ e. e)
 
+-- where neither of two faults is there, the second is not
 second-none : (one other : Option TreeFault) → or_else one other ≡ None → other ≡ None
 second-none None other none = none
 second-none (Some fault) other none = absurd (cc)
 
 -- ---- a change of what the account sees
 
+-- a sound state is so with another tree for what the account sees, if files and names are fine and the current directory is there
 change-sound : (state : State) (new : Table) → IsSound state → IsTree new → HasFineFiles new → HasNames new → node_at new state.cwd ≡ Some Dir → IsSound (changed state new)
 change-sound state new sound tree have named here =
     let same : part (changed state new) ≡ new = (parts-put state.table state.root new).taken in
@@ -142,6 +154,7 @@ change-sound state new sound tree have named here =
       here = λ known. ap (λ table. node_at table state.cwd) same ∙ here;
     }
 
+-- a sound state is so with another current directory, if that is a path where a directory stands
 moves-sound : (state : State) (cwd : Names) → IsSound state → IsTrue (is_path cwd) → node_at (part state) cwd ≡ Some Dir → IsSound (record state { cwd = cwd })
 moves-sound state cwd sound is here = record { cwd = is; tree = sound.tree; files = sound.files; names = sound.names; here = λ known. here }
 
@@ -160,6 +173,7 @@ within-name path why none =
     (λ e. absurd (let f : Some Faults.TooBig ≡ None = sym (ap (λ b. if b then why else Some Faults.TooBig) e) ∙ none_name _ none in cc))
 
 module _ (state : State) (moment : ℕ) (sound : IsSound state) (known : state.known ≡ true) where
+  -- a path whose deletion is not refused is not the current directory
   no-file : (path : Names) → delete_refusal (part state) path ≡ None → eq_by_cmp path_cmp state.cwd path ≡ false
   unfolding delete_refusal
   no-file path can =
@@ -169,11 +183,13 @@ module _ (state : State) (moment : ℕ) (sound : IsSound state) (known : state.k
   abbrev Stays : Op (List ℕ) → Type 0
   Stays op = refusal state op ≡ None → IsSound (done state op moment).1
 
+  -- a sound state that goes to another directory is sound
   change-dir : (text : List ℕ) → IsPathText text → Stays (Ops.ChangeDir text)
   change-dir text is none =
       moves-sound state (named state text) sound (is_path-led state.cwd text sound.cwd is (within-limits (named state text) _ none))
       (is-dir (node_at (part state) (named state text)) (none_limited (named state text) _ (none_there _ none)))
 
+  -- a sound state that goes to the parent directory is sound
   up-sound : Stays Ops.Up
   up-sound none =
       moves-sound state (parent state.cwd) sound (is_path-parent state.cwd sound.cwd)
@@ -184,6 +200,7 @@ module _ (state : State) (moment : ℕ) (sound : IsSound state) (known : state.k
   named-names text is within =
       (and_parts (list_all is_name (named state text)) (fits (named state text)) (is_path-led state.cwd text sound.cwd is within)).0
 
+  -- a sound state where a directory is made is sound
   make-sound : (text : List ℕ) → IsPathText text → Stays (Ops.MakeDir text)
   make-sound text is none =
       let can : make_refusal (part state) (named state text) ≡ None = none_limited (named state text) _ (none_there _ none) in
@@ -192,6 +209,7 @@ module _ (state : State) (moment : ℕ) (sound : IsSound state) (known : state.k
       (names-made (part state) (named state text) (named-names text is (within-limits (named state text) _ none)) sound.names)
       (here-made (part state) (named state text) state.cwd (sound.here known))
 
+  -- a sound state where a directory is removed is sound
   remove-sound : (text : List ℕ) → Stays (Ops.RemoveDir text)
   remove-sound text none =
       let both = none_limited (named state text) _ (none_there _ none) in
@@ -201,6 +219,7 @@ module _ (state : State) (moment : ℕ) (sound : IsSound state) (known : state.k
       (files-removed (part state) (named state text) sound.files) (names-removed (part state) (named state text) sound.names)
       (here-removed (part state) (named state text) state.cwd (sound.here known) (apart (named state text) state.cwd (named state text) beside (within-self (named state text))))
 
+  -- a sound state where a file is deleted is sound
   delete-sound : (text : List ℕ) → Stays (Ops.Delete text)
   delete-sound text none =
       let can : delete_refusal (part state) (named state text) ≡ None = none_limited (named state text) _ (none_there _ none) in
@@ -208,6 +227,7 @@ module _ (state : State) (moment : ℕ) (sound : IsSound state) (known : state.k
       (files-removed (part state) (named state text) sound.files) (names-removed (part state) (named state text) sound.names)
       (here-removed (part state) (named state text) state.cwd (sound.here known) (no-file (named state text) can))
 
+  -- a sound state where something gets another name is sound
   rename-sound : (text new : List ℕ) → IsPathText new → Stays (Ops.Rename text new)
   rename-sound text new is none = by_source (source_why state text) refl
     where
@@ -231,6 +251,7 @@ module _ (state : State) (moment : ℕ) (sound : IsSound state) (known : state.k
           ((rename-moves (part state) from to (sound.tree known) can).stays state.cwd beside free ∙ sound.here known)
       by_source (Some why) source = absurd (let f : Some why ≡ None = sym (direct_by_source state text new (Some why) source) ∙ none in cc)
 
+  -- a sound state is so when an operation without a transfer that can be sent and is not refused is done
   done-sound : (op : Op (List ℕ)) → HasNoTransfer op → can_be_sent op ≡ true → Stays op
   done-sound Ops.Where alone can none = sound
   done-sound (Ops.ChangeDir text) alone can none = change-dir text can none
@@ -251,6 +272,7 @@ module _ (state : State) (moment : ℕ) (sound : IsSound state) (known : state.k
   done-sound (Ops.List text how) alone can none = absurd (cc)
   done-sound (Ops.Names text how) alone can none = absurd (cc)
 
+-- a sound state is so behind the answer to each operation without a transfer, refused or not
 pub each-stays-sound : EachStaysSound
 unfolding answer
 each-stays-sound state op moment alone can sound = by_known state.known refl (refusal state op) refl

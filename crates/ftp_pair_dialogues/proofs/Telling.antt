@@ -42,6 +42,7 @@ abbrev differs : ℕ → List ℕ → Bool
 differs c [] = true
 differs c (x ∷ xs) = not (eqb x c) && differs c xs
 
+-- octets that all differ from one lack it
 lacks_by : (c : ℕ) (xs : List ℕ) → differs c xs ≡ true → Lacks xs c
 lacks_by c [] e = All-nil (λ each. each ≢ c)
 lacks_by c (x ∷ xs) e =
@@ -52,14 +53,17 @@ lacks_by c (x ∷ xs) e =
     split x c true e = ((λ same. grind (arith, e)), refl)
     split x c false e = absurd (grind (arith, e))
 
+-- a text without a space and a semicolon is the value of a fact
 is_value : (text : List ℕ) → differs space text ≡ true → differs semicolon text ≡ true → ForSome (Some text) IsValue
 is_value text one other found e = let same : text ≡ found = cc in subst IsValue same (lacks_by space text one, lacks_by semicolon text other)
 
+-- the permissions of a node are the value of a fact
 perm_value : (path : Names) (node : Node) → ForSome (Some (perm_of path node)) IsValue
 perm_value path (File octets moment) = is_value (codes "adfrw") refl refl
 perm_value [] Dir = is_value (codes "celmp") refl refl
 perm_value (name ∷ names) Dir = is_value (codes "cdeflmp") refl refl
 
+-- the number of octets that a fact tells, if it tells one, is short
 size_short : (count : ℕ) → ForSome (size_fact count) IsShort
 size_short count = by_number (is_number count) refl
   where
@@ -74,6 +78,7 @@ abbrev pub IsEarly : Node → Type 0
 IsEarly Dir = Unit {0}
 IsEarly (File octets moment) = moment ≤ last_second
 
+-- the line of an entry with all facts is read back as that entry, if its file, where it is one, is early
 pub line-reads : (path : Names) (node : Node) (name : List ℕ) → IsPathText name → IsEarly node → entry_value (listed_line all_facts (listed name path node)) ≡ Some (listed name path node)
 line-reads path Dir name is early =
     let entry : Entry ℕ = record {
@@ -108,6 +113,7 @@ line-reads path (File octets moment) name is early =
 abbrev pub told_path : State → List ℕ → Names
 told_path state text = named_or_here state text
 
+-- in a sound state the node at a path is early
 pub early-at : (state : State) (path : Names) → IsSound state → IsEarly (unwrap_or (node_at (part state) path) Dir)
 early-at state path sound = by_node (node_at (part state) path) refl
   where
@@ -116,6 +122,7 @@ early-at state path sound = by_node (node_at (part state) path) refl
     by_node (Some Dir) is = tt
     by_node (Some (File octets moment)) is = (sound.files path octets moment is).0
 
+-- in a sound state the line of the entry at a path is read back as that entry
 entry-reads : (state : State) (path : Names) → IsSound state → IsPathText (text_of path)
     → entry_value (listed_line all_facts (entry_at (part state) path (text_of path))) ≡ Some (entry_at (part state) path (text_of path))
 unfolding entry_at
@@ -125,6 +132,7 @@ entry-reads state path sound is = line-reads path (unwrap_or (node_at (part stat
 abbrev pub tells_turn : List ℕ → Session → Turn
 tells_turn text s = (s, Replies.Entry (named_or_here (direct_of s) text))
 
+-- the server says the entry of the path to an MLST that is not refused, and the client answers with that of the direct run
 facts_accepts : (text : List ℕ) (state : State) (moment : ℕ) (n : Near) (f : Far) → IsSound state → Stands state n f → state.known ≡ true → IsPathText (text_of (told_path state text))
     → Accepts (Ops.Facts text) (done state (Ops.Facts text) moment) n f (tells_turn text (cleared f))
 facts_accepts text state moment n f sound stands known is =
@@ -146,6 +154,7 @@ facts_accepts text state moment n f sound stands known is =
 pub not_empty : (c : ℕ) (text : List ℕ) → (length (c ∷ text) == 0) ≡ false
 not_empty c text = ne_eqb (length (c ∷ text)) 0 (λ e. absurd (omega (arith, e)))
 
+-- the text of an MLST that can be sent is the text of a path, if it is not empty
 pub is_sent : (c : ℕ) (text : List ℕ) → can_be_sent (Ops.Facts (c ∷ text)) ≡ true → IsPathText (c ∷ text)
 is_sent c text can = ap (λ b. b || is_path_text (c ∷ text)) (sym (not_empty c text)) ∙ can
 
@@ -158,15 +167,18 @@ here-is-path (c ∷ text) state sound can none =
     subst (λ path. IsPathText (text_of path)) (sym same)
     (is_path-text (named state (c ∷ text)) (is_path-led state.cwd (c ∷ text) sound.cwd (is_sent c text can) within))
 
+-- the server tells the same for the text and for what is sent of it, which is nothing if it is empty
 facts_row : (text : List ℕ) (s : Session) → unless (refusal (direct_of s) (Ops.Facts (or_empty (optional text)))) s (s, Replies.Entry (named_or_here (direct_of s) (or_empty (optional text))))
     ≡ unless (refusal (direct_of s) (Ops.Facts text)) s (tells_turn text s)
 facts_row [] s = refl
 facts_row (c ∷ text) s = refl
 
+-- what an MLST that can be sent states, if anything, is the text of a path
 pub stated : (text : List ℕ) → can_be_sent (Ops.Facts text) ≡ true → IfGiven IsPathText (optional text)
 stated [] can = tt
 stated (c ∷ text) can = is_sent c text can
 
+-- an MLST that can be sent is one command, which the server decides and the client answers as the direct run does
 pub facts : (read : Reading) (text : List ℕ) → IsReading read → can_be_sent (Ops.Facts text) ≡ true → IsSingle read (Ops.Facts text) (tells_turn text)
 facts read text reads can = record {
   sent = record { reads = reads; typed = tt; stated = stated text can; other = refl };

@@ -13,6 +13,7 @@ use Rattle.ftp_pair_dialogues.proofs.Single.{single_leads}
 use Rattle.ftp_pair_dialogues.proofs.Sizing.{modified, size_leads}
 use Rattle.ftp_pair_dialogues.proofs.Telling.{facts}
 
+-- where both ends stand in a sound state, each operation without a transfer that can be sent leads to its answer
 pub each-leads : EachLeadsAsRun
 each-leads read state Ops.Where moment n f reads alone can sound stands = single_leads read Ops.Where _ (here read reads) state n f stands moment can sound
 each-leads read state (Ops.ChangeDir text) moment n f reads alone can sound stands = single_leads read (Ops.ChangeDir text) _ (change_dir read text reads can) state n f stands moment can sound
@@ -35,6 +36,7 @@ each-leads read state (Ops.Facts text) moment n f reads alone can sound stands =
 each-leads read state (Ops.List path how) moment n f reads alone can sound stands = absurd (cc)
 each-leads read state (Ops.Names path how) moment n f reads alone can sound stands = absurd (cc)
 
+-- so it does where it is begun in the login, or behind it
 pub operation-leads : OperationLeads
 operation-leads read state op moment reads alone can sound =
     operation_turns read state op (Passes state.table (answer state op moment).1.table) (Ends (answer state op moment)) reads (λ n f stands. each-leads read state op moment n f reads alone can sound stands)
