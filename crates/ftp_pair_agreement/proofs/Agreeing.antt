@@ -1,5 +1,5 @@
 -- What follows is agreement, and where nothing is in flight nothing is left open.
-use Rattle.std.proofs.Common.{◌≡◌, ◌⊎◌, inl, inr, ℕ, ◌+◌, ◌<◌, List, [], ◌∷◌, ◌++◌, length, Option, Some, None, refl, sym, ap, subst, ◌∙◌, append-nil, arith}
+use Rattle.std.proofs.Common.{◌≡◌, ◌⊎◌, inl, inr, ℕ, ◌+◌, ◌<◌, ◌≤◌, List, [], ◌∷◌, ◌++◌, length, Option, Some, None, refl, sym, ap, subst, ◌∙◌, append-nil, arith}
 use Rattle.ftp_direct.specs.Direct.{State, answer}
 use Rattle.ftp_operation.specs.Answer.{Said}
 use Rattle.ftp_tree.specs.Tree.{Table}
@@ -9,13 +9,18 @@ use Rattle.ftp_pair_world.specs.Agreement.{Order, Single, Item, state_after, Ite
 use Rattle.ftp_pair_world.specs.Outcome.{Whole}
 use Rattle.ftp_pair_world.specs.World.{World, Mark}
 use Rattle.ftp_pair_dialogues.specs.Dialogue.{Ends}
+use Rattle.ftp_pair_dialogues.specs.Fetches.{Ask}
 use Rattle.ftp_pair_dialogues.specs.Login.{AtFree, AtOperation}
 use Rattle.ftp_pair_dialogues.specs.Stage.{rest}
 use Rattle.ftp_pair_agreement.specs.Follows.{Told, IsFree, IsUnder, Phase, Follows}
-use Rattle.ftp_pair_agreement.specs.Runs.{IsFetchingOn, IsTrailing, Runs}
+use Rattle.ftp_pair_agreement.specs.Cut.{PlacedAt}
+use Rattle.ftp_pair_agreement.specs.PeekStages.{AtHalt}
+use Rattle.ftp_pair_agreement.specs.Runs.{IsAsked, IsFetchingOn, IsHaltingOn, IsTrailing, Runs}
+use Rattle.ftp_pair_agreement.specs.Stages.{AtFetch}
 use Rattle.ftp_pair_agreement.proofs.FetchParting.{parts}
 use Rattle.ftp_pair_agreement.proofs.FetchTold.{few_links, closed_is, closed_at, marks_at, reported}
 use Rattle.ftp_pair_agreement.proofs.Items.{state_more, before_more, one_more}
+use Rattle.ftp_pair_agreement.proofs.PeekParting.{halt_parts}
 use Rattle.ftp_pair_agreement.proofs.Phases.{whole_item, whole_holds, length-more}
 use Rattle.ftp_pair_agreement.proofs.Still.{IsSeen, seen, IsMoving, free_set, operation_on}
 
@@ -95,17 +100,16 @@ follows_agrees read from begun w h = by_phase h.phase
 marked_item : Op (List ℕ) → ℕ → List Mark → Item
 marked_item op moment own = record { moment = moment; first = record { op = op; outcome = Whole; marks = own }; more = [] }
 
--- a world with a download under way agrees
-fetching_agrees : (read : Reading) (from : State) (begun : List Order) (w : World) → (on : IsFetchingOn read from begun w) → Agrees from begun w.marks None w.reports w.far.session.table
+-- a world with what is asked for under way agrees, however that stands
+asked_agrees : (Stood : State → Ask → List Mark → World → Type 0) (from : State) (begun : List Order) (w : World) → (f : IsAsked Stood from begun w) → w.far.session.table ≡ f.now.table
+    → length f.own ≤ 1 → Agrees from begun w.marks None w.reports w.far.session.table
 unfolding marked_item
-fetching_agrees read from begun w on =
-    let f = on.fetching in
+asked_agrees Stood from begun w f table few =
     let op : Op (List ℕ) = f.ask.op in
     let item : Item = marked_item op f.moment f.own in
-    let p = parts read from begun w on in
     let holds : ItemHolds (state_after from f.told.items) (Single op f.moment) f.own None (length f.done) item = record {
       is_of = (refl, refl, refl);
-      holds = (record { can_be = tt; allowed = tt; few = few_links f.ask f.is_ask.plan f.own p.few }, tt);
+      holds = (record { can_be = tt; allowed = tt; few = few_links f.ask f.is_ask.plan f.own few }, tt);
       marked = append-nil f.own;
     } in
     let fewer : length w.reports < length (f.done ++ Single op f.moment ∷ []) = omega (arith, f.told.all, length-more f.done (Single op f.moment)) in
@@ -114,8 +118,17 @@ fetching_agrees read from begun w on =
       items = f.told.items ++ item ∷ [];
       hold = one_more w.reports from 0 (length f.done) f.done f.marks None f.told.items (Single op f.moment) f.own item f.told.all f.told.hold
           (let e : length f.done ≡ 0 + length f.done = omega arith in e) holds;
-      map_is = inr (fewer, p.table ∙ ap (λ s. s.table) (f.told.now_is ∙ sym (before_more from f.told.items item refl)));
+      map_is = inr (fewer, table ∙ ap (λ s. s.table) (f.told.now_is ∙ sym (before_more from f.told.items item refl)));
     }))
+
+-- a world with a download or a listing under way agrees
+fetching_agrees : (read : Reading) (from : State) (begun : List Order) (w : World) → (on : IsFetchingOn read from begun w) → Agrees from begun w.marks None w.reports w.far.session.table
+fetching_agrees read from begun w on =
+    let p = parts read from begun w on in asked_agrees (λ now ask own w. PlacedAt (λ way b. AtFetch now ask read own way b) w) from begun w on.fetching p.table p.few
+
+-- so does one with a Peek that has sent ABOR
+halting_agrees : (from : State) (begun : List Order) (w : World) → (on : IsHaltingOn from begun w) → Agrees from begun w.marks None w.reports w.far.session.table
+halting_agrees from begun w on = let p = halt_parts from begun w on in asked_agrees (λ now ask own w. AtHalt now ask own w) from begun w on.halting p.table p.few
 
 -- a world that has told a refused REST agrees, though its server is not told yet that the link is closed
 trailing_agrees : (read : Reading) (reads : IsReading read) (from : State) (begun : List Order) (w : World) → (t : IsTrailing from begun w) → Agrees from begun w.marks None w.reports w.far.session.table
@@ -131,5 +144,7 @@ pub runs_agree : (read : Reading) (reads : IsReading read) (from : State) (begun
 runs_agree read reads from begun w (inl h) = follows_agrees read from begun w h
 runs_agree read reads from begun w (inr (inl on)) =
     subst (λ cutoff. Agrees from begun w.marks cutoff w.reports w.far.session.table) (sym on.fetching.linked.cutoff) (fetching_agrees read from begun w on)
-runs_agree read reads from begun w (inr (inr t)) =
+runs_agree read reads from begun w (inr (inr (inr on))) =
+    subst (λ cutoff. Agrees from begun w.marks cutoff w.reports w.far.session.table) (sym on.halting.linked.cutoff) (halting_agrees from begun w on)
+runs_agree read reads from begun w (inr (inr (inl t))) =
     subst (λ cutoff. Agrees from begun w.marks cutoff w.reports w.far.session.table) (sym t.linked.cutoff) (trailing_agrees read reads from begun w t)

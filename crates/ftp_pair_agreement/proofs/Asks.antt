@@ -4,7 +4,9 @@ use Rattle.ftp_operation.specs.Operation.{can_be_sent}
 use Rattle.ftp_operation.specs.declared.op.Op.{Op}
 use Rattle.ftp_operation.specs.declared.op.Op.TheVariants as Ops
 use Rattle.ftp_pair_dialogues.specs.Fetches.{Ask, IsAsk, IsFetch, download_ask, list_ask, names_ask}
+use Rattle.ftp_pair_dialogues.specs.Peeks.{peek_ask}
 use Rattle.ftp_pair_agreement.proofs.Downloads.{download_is_ask}
+use Rattle.ftp_pair_agreement.proofs.PeekAsks.{peek_is_ask}
 use Rattle.ftp_pair_dialogues.proofs.Listings.{list_is_ask, names_is_ask}
 
 -- an operation as what it asks for
@@ -28,7 +30,7 @@ ask_of (Ops.Rename text new) fetches can = absurd fetches
 ask_of (Ops.Put text octets how) fetches can = absurd fetches
 ask_of (Ops.Append text octets how) fetches can = absurd fetches
 ask_of (Ops.PutFrom text at octets how) fetches can = absurd fetches
-ask_of (Ops.Peek text count how) fetches can = absurd fetches
+ask_of (Ops.Peek text count how) fetches can = record { ask = peek_ask text count how; good = peek_is_ask text count how can; op_is = refl }
 ask_of (Ops.Size text how) fetches can = absurd fetches
 ask_of (Ops.Modified text) fetches can = absurd fetches
 ask_of (Ops.Facts text) fetches can = absurd fetches

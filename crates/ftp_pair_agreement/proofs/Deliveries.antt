@@ -1,5 +1,6 @@
 -- A delivery over the control connection keeps what follows.
-use Rattle.std.proofs.Common.{◌≡◌, inl, inr, ℕ, Bool, true, false, List, [], ◌∷◌, take, None, refl, sym, ap, subst, ◌∙◌}
+use Rattle.std.proofs.Common.{◌≡◌, ◌⊎◌, inl, inr, ℕ, Bool, true, false, List, [], ◌∷◌, take, None, refl, sym, ap, subst, ◌∙◌}
+use Rattle.ftp_ends.specs.Reply.{Reply}
 use Rattle.ftp_direct.specs.Direct.{State, answer}
 use Rattle.ftp_client_model.specs.View.{View as Near}
 use Rattle.ftp_server_model.specs.Machine.{Reading, IsReading}
@@ -9,16 +10,29 @@ use Rattle.ftp_pair_world.specs.Events.{ControlToServer, ControlToClient, pulled
 use Rattle.ftp_pair_world.specs.World.{World, Mark}
 use Rattle.ftp_pair_dialogues.specs.Login.{AtFree, AtOperation}
 use Rattle.ftp_pair_dialogues.specs.Stage.{Way, Asking, Answering, Turns}
-use Rattle.ftp_pair_agreement.specs.Cut.{Cut, world_at, of_ends, StandsAt, Goes}
+use Rattle.ftp_pair_agreement.specs.Cut.{Crossed, Cut, world_at, of_ends, StandsAt, Goes}
 use Rattle.ftp_pair_agreement.specs.Follows.{Told, IsLost, IsLinked, Phase, Follows}
 use Rattle.ftp_pair_agreement.proofs.Keeps.{no_pull_to_server, no_pull_to_client, no_push_to_server, no_push_to_client, pulls_to_server, pulls_to_client, pushes_to_server, pushes_to_client}
 use Rattle.ftp_pair_agreement.proofs.Phases.{HasFollowed, turns_free, turns_under, follows_after}
 
 -- ---- a predicate on both ends
 
+-- no line crosses replies
+abbrev pub NoCross : List ℕ → List Reply → World → Type 0
+NoCross text replies b = ⊥
+
 -- a predicate on both ends that has its turns leads from each of its bases to such a base again
-pub ends_go : (read : Reading) (At : Way → Near → Far → Type 0) → Turns read At → Goes read (of_ends At) (of_ends At)
-ends_go read At turns = record { held = λ way b here. here; asked = λ text b here. turns.asked text b.near b.far here; told = λ reply more b here. turns.told reply more b.near b.far here }
+pub ends_go : (read : Reading) (At : Way → Near → Far → Type 0) → Turns read At → Goes read (of_ends At) (of_ends At) NoCross
+ends_go read At turns = record {
+  held = λ way b here. here;
+  asked = λ text b here. turns.asked text b.near b.far here;
+  told = λ reply more b here. inl (turns.told reply more b.near b.far here);
+}
+
+-- where no line crosses replies, a client that has heard octets stays placed
+not_crossed : (P : World → Type 0) (w : World) → P w ⊎ Crossed NoCross w → P w
+not_crossed P w (inl holds) = holds
+not_crossed P w (inr c) = absurd c.here
 
 -- ---- what is lent is of no matter
 
@@ -122,7 +136,7 @@ module _ (read : Reading) (reads : IsReading read) (from : State) (begun : List 
   pulled_server n w h =
       moves_follow read from begun w (pulled ControlToServer w n) reads
       (record { marks = refl; reports = refl; control = refl; cutoff = refl; link = refl; to_server = refl; to_client = refl })
-      (λ At turns s. pulls_to_server read (of_ends At) (of_ends At) (ends_go read At turns) n w s)
+      (λ At turns s. pulls_to_server read (of_ends At) (of_ends At) NoCross (ends_go read At turns) n w s)
       (λ l. subst (IsLost from begun) (sym (no_pull_to_server n w l.near.owed)) l)
       h
 
@@ -131,7 +145,7 @@ module _ (read : Reading) (reads : IsReading read) (from : State) (begun : List 
   pulled_client n w h =
       moves_follow read from begun w (pulled ControlToClient w n) reads
       (record { marks = refl; reports = refl; control = refl; cutoff = refl; link = refl; to_server = refl; to_client = refl })
-      (λ At turns s. pulls_to_client read (of_ends At) (of_ends At) (ends_go read At turns) n w s)
+      (λ At turns s. pulls_to_client read (of_ends At) (of_ends At) NoCross (ends_go read At turns) n w s)
       (λ l. subst (IsLost from begun) (sym (no_pull_to_client n w l.far.owed l.far.waiting)) l)
       h
 
@@ -140,7 +154,7 @@ module _ (read : Reading) (reads : IsReading read) (from : State) (begun : List 
   pushed_server n w h =
       moves_follow read from begun w (pushed read ControlToServer n w) reads
       (record { marks = refl; reports = refl; control = refl; cutoff = refl; link = refl; to_server = refl; to_client = refl })
-      (λ At turns s. pushes_to_server read (of_ends At) (of_ends At) (ends_go read At turns) n w s)
+      (λ At turns s. pushes_to_server read (of_ends At) (of_ends At) NoCross (ends_go read At turns) n w s)
       (λ l. subst (IsLost from begun) (sym (no_push_to_server read n w l.to_server)) l)
       h
 
@@ -149,7 +163,7 @@ module _ (read : Reading) (reads : IsReading read) (from : State) (begun : List 
   pushed_client n w h =
       moves_follow read from begun w (pushed read ControlToClient n w) reads
       (record { marks = refl; reports = refl; control = refl; cutoff = refl; link = refl; to_server = refl; to_client = refl })
-      (λ At turns s. pushes_to_client read (of_ends At) (of_ends At) (ends_go read At turns) n w s)
+      (λ At turns s. not_crossed (StandsAt At) (pushed read ControlToClient n w) (pushes_to_client read (of_ends At) (of_ends At) NoCross (ends_go read At turns) n w s))
       (λ l. subst (IsLost from begun) (sym (no_push_to_client read n w l.to_client)) l)
       h
 

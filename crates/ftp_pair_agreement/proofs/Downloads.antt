@@ -37,7 +37,7 @@ use Rattle.ftp_server_model.specs.Transfer.{misplaced}
 use Rattle.ftp_server_model.specs.View.{how_in_force}
 use Rattle.ftp_pair_world.specs.Outcome.{upload_of}
 use Rattle.ftp_pair_dialogues.specs.Dialogue.{IsSound}
-use Rattle.ftp_pair_dialogues.specs.Fetches.{HasAnswer, IsAsk, IsKnownText, IsPlacedAt, fetch, place_in_file, why_not, fetched_wire, content_from, download_ask}
+use Rattle.ftp_pair_dialogues.specs.Fetches.{HasAnswer, IsAsk, IsKnownText, IsPlacedAt, fetch, is_filled, place_in_file, why_not, fetched_wire, content_from, download_ask}
 use Rattle.ftp_pair_dialogues.proofs.Fetching.{download_plan, download_row}
 
 -- ---- what can be sent
@@ -68,11 +68,11 @@ only_marked Kinds.Ascii Structures.Record Modes.Block is = absurd (cc)
 only_marked Kinds.Ascii Structures.Record Modes.Stream is = absurd (cc)
 
 -- a representation with markers is that of image files in blocks
-marked_is : (r : Representation) → has_markers r ≡ true → r ≡ image_blocks
+pub marked_is : (r : Representation) → has_markers r ≡ true → r ≡ image_blocks
 marked_is r is = only_marked r.kind r.structure r.mode is
 
 -- a refusal, or else none, is that refusal
-or_none : (one : Option Refusal) → option_or one None ≡ one
+pub or_none : (one : Option Refusal) → option_or one None ≡ one
 or_none None = refl
 or_none (Some why) = refl
 
@@ -140,7 +140,7 @@ module _ (state : State) (offset : Option ℕ) (text : List ℕ) (how : How) whe
           within_by (place_at state (named state text) how at) (λ place is. (led how.representation.kind (file_of state text) at place is).within)
 
   -- in a sound state the place and the number of octets asked for are together less than 2 ^ 64
-  few_octets : IsSound state → place + length content < 2 ^ 64
+  pub few_octets : IsSound state → place + length content < 2 ^ 64
   few_octets sound =
       let short = short-file state (named state text) sound in
       let long : length content ≡ length (file_of state text) - place = length-drop place (file_of state text) in
@@ -157,7 +157,7 @@ module _ (state : State) (offset : Option ℕ) (text : List ℕ) (how : How) whe
   wire_by sound false is = wire_gives_file how.representation content
 
   -- in a sound state the octets of the link give what is asked for
-  wire_gives : IsSound state → GivesFile how.representation (fetched_wire state offset text how) content
+  pub wire_gives : IsSound state → GivesFile how.representation (fetched_wire state offset text how) content
   wire_gives sound = wire_by sound (has_markers how.representation) refl
 
   -- the answer of a download whose octets have come is these octets, with an offset and without
@@ -204,7 +204,7 @@ module _ (state : State) (offset : Option ℕ) (text : List ℕ) (how : How) whe
   text_by none false is = refl
 
   -- what is written of a download that is not refused, from its offset on, is the octets of the link
-  text_is : why_not state offset text how ≡ None → written (has_markers how.representation) how.representation (unwrap_or offset 0) content ≡ fetched_wire state offset text how
+  pub text_is : why_not state offset text how ≡ None → written (has_markers how.representation) how.representation (unwrap_or offset 0) content ≡ fetched_wire state offset text how
   text_is none = text_by none (has_markers how.representation) refl
 
   -- ---- the download that the world knows
@@ -232,6 +232,11 @@ unplaced_is : (state : State) (offset : Option ℕ) (text : List ℕ) (how : How
     → offset_refusal at (how_in_force how.representation) ≡ Some why → refusal state (fetch offset text how) ≡ Some why
 unplaced_is state offset text how at why is some = ap (λ o. refusal state (fetch o text how)) is ∙ ap (λ o. or_refused o (refused_from state text how at)) some
 
+-- a download of all octets is never said to have enough
+none_filled : {X : Type 0} (offset : Option ℕ) (text : List ℕ) (how : How) (came : List ℕ) → is_filled (fetch offset text how) how.representation came ≡ true → X
+none_filled None text how came enough = absurd (cc)
+none_filled (Some at) text how came enough = absurd (cc)
+
 -- of a download that can be sent the client reads the answer of the direct run out of the whole octets
 download_answer : (offset : Option ℕ) (text : List ℕ) (how : How) → can_be_sent (fetch offset text how) ≡ true → HasAnswer (download_ask offset text how)
 download_answer offset text how can = record {
@@ -240,6 +245,7 @@ download_answer offset text how can = record {
   unplaced = λ state at why is some. unplaced_is state offset text how at why is some;
   done_so = λ state moment. done_is state offset text how moment;
   whole = λ state mark sound known none. judged_so state offset text how mark sound;
+  filled = λ state came sound none front enough. none_filled offset text how came enough;
   no_upload = λ state. no_upload state offset text how;
   sent_so = λ state none. sent_so state offset text how none;
 }

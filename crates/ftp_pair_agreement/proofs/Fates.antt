@@ -1,5 +1,5 @@
 -- How what was asked for fares: refused, whole, cut or not opened, as its client tells it.
-use Rattle.std.proofs.Common.{◌≡◌, ◌⊎◌, inl, inr, ℕ, Bool, true, false, List, [], ◌∷◌, length, Option, Some, None, refl, sym, ap, subst, ◌∙◌, arith}
+use Rattle.std.proofs.Common.{◌≡◌, ◌⊎◌, inl, inr, ℕ, ◌<◌, Bool, true, false, List, [], ◌∷◌, length, Option, Some, None, refl, sym, ap, subst, ◌∙◌, arith, leb-false}
 use Rattle.std.specs.Prelude.{if◌then◌else◌}
 use Rattle.std.specs.List.{Contains}
 use Rattle.std.specs.Option.{is_some}
@@ -10,40 +10,27 @@ use Rattle.ftp_mode.specs.Laws.{settled_content}
 use Rattle.ftp_operation.specs.Answer.{Said, Refused, Unopened as NotOpened, Broken as BrokenOff}
 use Rattle.ftp_operation.specs.declared.op.Op.{Op}
 use Rattle.ftp_settings.specs.Representation.{form_of}
+use Rattle.ftp_settings.specs.declared.representation.Representation.{Representation}
 use Rattle.ftp_direct.specs.declared.refusal.Refusal.{Refusal}
 use Rattle.ftp_direct.specs.declared.refusal.Refusal.TheVariants as Refusals
 use Rattle.ftp_direct.specs.Direct.{State, answer, first_refusal, refusal}
 use Rattle.ftp_direct.specs.Refusal.{code_of}
 use Rattle.ftp_client_model.specs.Dialogue.{judged}
 use Rattle.ftp_client_model.specs.Plan.{count_of}
-use Rattle.ftp_client_model.specs.Octets.{broken_answer, content_answer, has_settled, settled_of}
-use Rattle.ftp_client_model.specs.View.{Flow, Receiving}
+use Rattle.ftp_client_model.specs.Octets.{content_answer, has_settled}
+use Rattle.ftp_client_model.specs.View.{Receiving}
 use Rattle.ftp_client_model.specs.declared.client.Abort.TheVariants as Aborts
 use Rattle.ftp_client_model.specs.declared.client.Ending.TheVariants as Endings
-use Rattle.ftp_pair_world.specs.Outcome.{Whole, Cut, Unopened, CanBeCut, IsCutOf, cut_by, did, download_of, fetched, mark_in}
+use Rattle.ftp_pair_world.specs.Outcome.{Whole, Cut, Unopened, CanBeCut, IsCutOf, IsShort, cut_by, did, download_of, fetched, mark_in}
 use Rattle.ftp_pair_world.specs.World.{Mark, Broken, Refused as RefusedLink, counted}
 use Rattle.ftp_pair_dialogues.specs.Dialogue.{IsSound}
-use Rattle.ftp_pair_dialogues.specs.Fetches.{Ask, IsAsk}
+use Rattle.ftp_pair_dialogues.specs.Fetches.{Ask, IsAsk, flow_after, is_filled}
 use Rattle.ftp_pair_dialogues.proofs.Rows.{answer_known, answer_unknown}
 use Rattle.ftp_pair_agreement.specs.Stages.{Fared}
 
 -- what the client tells of a text that was cut
 abbrev pub cut_said : Ask → List ℕ → Said
 cut_said ask came = BrokenOff (decoder_of ask.settings came).content (mark_in (no_octets ask.settings) None came)
-
--- behind a break, a 226 and a 426 alike are judged as broken off with what came
-pub judged_cut : (ask : Ask) → IsAsk ask → (code : ℕ) (came : List ℕ) → (code ≡ 226) ⊎ (code ≡ 426)
-    → judged Endings.Broken Aborts.Unsent code ask.op (Receiving (decoder_of ask.settings came) (mark_in (no_octets ask.settings) None came)) ≡ Some (cut_said ask came)
-judged_cut ask good code came either = elim either [
-  | inl is ↦ ap (λ code. judged Endings.Broken Aborts.Unsent code ask.op flow) is ∙ by_count
-  | inr is ↦ ap (λ code. judged Endings.Broken Aborts.Unsent code ask.op flow) is ∙ by_count
-]
-  where
-    flow : Flow
-    flow = Receiving (decoder_of ask.settings came) (mark_in (no_octets ask.settings) None came)
-
-    by_count : (if has_settled (count_of ask.op) flow then content_answer ask.op (settled_of flow) else Some (broken_answer flow)) ≡ Some (cut_said ask came)
-    by_count = ap (λ count. if has_settled count flow then content_answer ask.op (settled_of flow) else Some (broken_answer flow)) good.plan.all
 
 module _ (state : State) (ask : Ask) (good : IsAsk ask) where
   abbrev op : Op (List ℕ)
@@ -76,16 +63,41 @@ module _ (state : State) (ask : Ask) (good : IsAsk ask) where
 
   -- ---- cut
 
+  -- of a Peek that has not enough fewer octets are settled than it asks for
+  short_of : (count : Option ℕ) (octets : List ℕ) (settings : Representation) (came : List ℕ) → has_settled count (flow_after settings came) ≡ false
+      → (decoder_of settings came).content ≡ octets → IsShort count octets
+  short_of None octets settings came short is = tt
+  short_of (Some count) octets settings came short is = subst (λ l. length l < count) is (leb-false count (length (decoder_of settings came).content) short)
+
   -- an operation that is not refused can be cut at each front of its octets
-  can_be_cut : (came : List ℕ) → state.known ≡ true → refusal state op ≡ None → ask.why state ≡ None → IsFront came (ask.wire state) → CanBeCut state op came
-  can_be_cut came known none taken front =
+  can_be_cut : (came : List ℕ) → state.known ≡ true → refusal state op ≡ None → ask.why state ≡ None → IsFront came (ask.wire state) → is_filled op ask.settings came ≡ false
+      → CanBeCut state op came
+  can_be_cut came known none taken front short =
       let t = good.answer.sent_so state taken in
       let first : first_refusal state op ≡ None = ap (λ (b : Bool). if b then refusal state op else Some Refusals.NotLoggedIn) known ∙ none in
-      let whole : IsCutOf None (Some (fetched ask.settings t.start t.octets)) state came = (subst (IsFront came) (sym t.text) front, tt) in (
+      let whole : IsCutOf None (Some (record (fetched ask.settings t.start t.octets) { asked = count_of op })) state came =
+      (subst (IsFront came) (sym t.text) front, short_of (count_of op) _ ask.settings came short (what_is_settled ask.settings came)) in (
         (good.answer.can, inl first),
         subst (λ up. IsCutOf up (download_of state op) state came) (sym (good.answer.no_upload state))
             (subst (λ down. IsCutOf None down state came) (sym t.down) whole),
       )
+
+  -- what the client tells of a text that was cut; a Peek that has enough has its answer all the same
+  abbrev pub cut_told : List ℕ → Said
+  cut_told came = if is_filled op ask.settings came then ask.said state else cut_said ask came
+
+  -- behind a break, a 226 and a 426 alike are judged so
+  pub judged_cut : (code : ℕ) (came : List ℕ) → (code ≡ 226) ⊎ (code ≡ 426) → IsSound state → ask.why state ≡ None → IsFront came (ask.wire state)
+      → judged Endings.Broken Aborts.Unsent code op (flow_after ask.settings came) ≡ Some (cut_told came)
+  judged_cut code came either sound taken front = elim either [
+    | inl is ↦ ap (λ code. judged Endings.Broken Aborts.Unsent code op (flow_after ask.settings came)) is ∙ by_enough (is_filled op ask.settings came) refl
+    | inr is ↦ ap (λ code. judged Endings.Broken Aborts.Unsent code op (flow_after ask.settings came)) is ∙ by_enough (is_filled op ask.settings came) refl
+  ]
+    where
+      by_enough : (b : Bool) → is_filled op ask.settings came ≡ b
+          → (if b then content_answer op (decoder_of ask.settings came).content else Some (cut_said ask came)) ≡ Some (if b then ask.said state else cut_said ask came)
+      by_enough true enough = good.answer.filled state came sound taken front enough
+      by_enough false short = refl
 
   -- a list of one mark contains it
   among_one : (own : List Mark) (mark : Mark) → own ≡ mark ∷ [] → Contains own mark
@@ -101,15 +113,19 @@ module _ (state : State) (ask : Ask) (good : IsAsk ask) where
       settled : settled_content ask.settings.mode (form_of ask.settings) came ≡ (decoder_of ask.settings came).content
       settled = sym (what_is_settled ask.settings came)
 
-  -- an operation cut at a front of its octets, with the mark of a break there and no other, fares as broken off
+  -- an operation cut at a front of its octets, with the mark of a break there and no other, fares as broken off, or as whole where a Peek has enough
   pub cut_fares : (own : List Mark) (came : List ℕ) → state.known ≡ true → refusal state op ≡ None → ask.why state ≡ None → IsFront came (ask.wire state)
-      → own ≡ Broken (counted (length came)) ∷ [] → Fared state ask own (cut_said ask came)
-  cut_fares own came known none taken front marked = record {
-    outcome = Cut came;
-    can_be = can_be_cut came known none taken front;
-    allowed = λ index. (tt, among_one own (Broken (counted (length came))) marked);
-    did_so = λ moment. cut_is came moment taken;
-  }
+      → own ≡ Broken (counted (length came)) ∷ [] → Fared state ask own (cut_told came)
+  cut_fares own came known none taken front marked = by_enough (is_filled op ask.settings came) refl
+    where
+      by_enough : (b : Bool) → is_filled op ask.settings came ≡ b → Fared state ask own (if b then ask.said state else cut_said ask came)
+      by_enough true enough = said_fares own known none
+      by_enough false short = record {
+        outcome = Cut came;
+        can_be = can_be_cut came known none taken front short;
+        allowed = λ index. (tt, among_one own (Broken (counted (length came))) marked);
+        did_so = λ moment. cut_is came moment taken;
+      }
 
   -- ---- not opened
 

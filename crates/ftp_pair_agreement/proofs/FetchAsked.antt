@@ -25,13 +25,13 @@ use Rattle.ftp_server_model.specs.declared.session.Pending.TheVariants as Pendin
 use Rattle.ftp_server_model.proofs.RepliesWritten.{replies_are_written}
 use Rattle.ftp_pair_world.specs.World.{World, Mark}
 use Rattle.ftp_pair_dialogues.specs.Dialogue.{is_aside}
-use Rattle.ftp_pair_dialogues.specs.Fetches.{Ask, IsAsk, linked, rest_reply, offset_pending, Opens}
+use Rattle.ftp_pair_dialogues.specs.Fetches.{Ask, IsAsk, linked, rest_reply, offset_pending}
 use Rattle.ftp_pair_dialogues.specs.Stage.{Way, Asking, Answering, FarTurn}
 use Rattle.ftp_pair_dialogues.proofs.Exchanges.{with_session}
 use Rattle.ftp_pair_dialogues.proofs.Fetching.{at_endpoint, awaits_turn, connecting, refused_turn, taken_turn, granted_turn, denied_turn, refuses_turn, unopens_turn, gives_turn, gave_turn, giving}
 use Rattle.ftp_pair_dialogues.proofs.LoginTurns.{no_asking, asked_text}
 use Rattle.ftp_pair_dialogues.proofs.ServerTurns.{aside_idle, cleared}
-use Rattle.ftp_pair_agreement.specs.Stages.{Restart, Sent, Granted, Denied, NoReply, Unclosed, Lost, Giving, Given, Refusing, Unopened, Stage, PortAsked, PortTold, Dials, Restarts, Retrieves, Carries, Answers, Holds, AtFetch, Early, Dialled, Ported, at_port, early_far, PortWanted, PortSaid, PortTaken, PortDenied, Awaits, Unaccepted, Dismissed}
+use Rattle.ftp_pair_agreement.specs.Stages.{Sent, Granted, Denied, NoReply, Unclosed, Lost, Giving, Given, Refusing, Unopened, Stage, PortAsked, PortTold, Dials, Restarts, Retrieves, Carries, Answers, Holds, AtFetch, Early, Dialled, Ported, at_port, early_far, PortWanted, PortSaid, PortTaken, PortDenied, Awaits, Unaccepted, Dismissed}
 
 -- ---- sessions
 
@@ -226,7 +226,7 @@ module _ (read : Reading) (reads : IsReading read) (state : State) (ask : Ask) (
             came = h.came;
             marked = h.marked;
             way_is = refl;
-            fine = ((none, good.answer.refused state h.fine ∙ none), sym empty);
+            fine = ((none, good.answer.refused state h.fine ∙ none), sym empty, tt);
           },
         ),
       )
@@ -250,7 +250,7 @@ module _ (read : Reading) (reads : IsReading read) (state : State) (ask : Ask) (
             came = h.came;
             marked = h.marked;
             way_is = refl;
-            fine = ((none, good.answer.refused state h.fine ∙ none), sym some);
+            fine = ((none, good.answer.refused state h.fine ∙ none), sym some, tt);
           },
         ),
       )

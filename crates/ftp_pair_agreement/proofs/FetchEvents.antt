@@ -27,7 +27,7 @@ use Rattle.ftp_pair_dialogues.specs.Stage.{still, Way, Asking, Answering}
 use Rattle.ftp_pair_agreement.specs.Cut.{Cut, Fits, world_at, PlacedAt}
 use Rattle.ftp_pair_agreement.specs.Stages as Stages
 use Rattle.ftp_pair_agreement.specs.Stages.{Sent, Granted, Denied, NoReply, OneReply, BothReplies, heard_by, Unclosed, Closed, Lost, Course, Giving, Given, Ended, Severed, Refusing, Unopened, replies_in, Restart, no_link, Stage, PortAsked, PortTold, Dials, Restarts, Retrieves, Carries, Answers, is_passing, Holds, AtFetch, Dialled, Ported, PortWanted, PortSaid, PortTaken, PortDenied, Awaits, Unaccepted, Dismissed}
-use Rattle.ftp_pair_agreement.proofs.Fates.{said_fares, judged_whole, judged_cut, cut_said, cut_fares}
+use Rattle.ftp_pair_agreement.proofs.Fates.{said_fares, judged_whole, judged_cut, cut_told, cut_fares}
 use Rattle.ftp_pair_agreement.proofs.FetchLink.{Leads, FarLeads, near_acts, far_acts, both_act, fits_more, rest_breaks, near_ends, near_breaks, near_ends_all, near_breaks_all, far_linked, ready_breaks, giving_breaks}
 
 -- ---- a world of a stage as its base with other ends
@@ -93,6 +93,16 @@ left_ends b way c n fits leads =
     ap (told DataToClient) (as_ends b way c)
     ∙ both_act b to way c (near.data_end (world_at b way c).near) (world_at b way c).far
     (near_acts near.data_end b to way c fits leads) (far_acts (λ f. f) b to way c (λ ear owed. refl))
+
+-- ---- how the link can't stand
+
+-- a link that stands breaks
+pub no_link_stands : (link : Link) → link ≡ Gone → is_gone link ≡ false → ⊥
+no_link_stands link is some = let e : true ≡ false = sym (ap is_gone is) ∙ some in cc
+
+-- a link equal to one that the server has not closed is not closed by the server
+pub not_left : (link : Link) (other : Link) → link ≡ other → is_closed_by_far other ≡ false → is_closed_by_far link ≡ true → ⊥
+not_left link other is none some = let e : true ≡ false = sym some ∙ ap is_closed_by_far is ∙ none in cc
 
 module _ (read : Reading) (state : State) (ask : Ask)
     (good : IsAsk ask) (sound : IsSound state) (own : List Mark) where
@@ -231,11 +241,11 @@ module _ (read : Reading) (state : State) (ask : Ask)
   -- a break behind both replies leads to the stage of the answer that tells what was cut
   given_all_broken : (came queue : List ℕ) (way : Way) (b : World) (c : Cut) → Fits way c → Stands own (carry (Given BothReplies true) came queue) way b → Breaks way b c
   given_all_broken came queue way b c fits h =
-      let n : Near = near_at (Answers (cut_said ask came) no_link) b.near in
+      let n : Near = near_at (Answers (cut_told state ask good came) no_link) b.near in
       let marked : own ++ Broken b.came ∷ [] ≡ Broken (counted (length came)) ∷ [] = broken_so b came h.marked h.came in
-      placed (own ++ Broken b.came ∷ []) _ (behind_break n b.far b) way c (Answers (cut_said ask came) no_link)
+      placed (own ++ Broken b.came ∷ []) _ (behind_break n b.far b) way c (Answers (cut_told state ask good came) no_link)
       (left_breaks b way c n fits h.link (subst (λ v. Leads near.data_fault v n) (sym h.near)
-      (near_breaks_all ask.op ask.settings came b.near (cut_said ask came) (judged_cut ask good 226 came (inl refl))))) fits
+      (near_breaks_all ask.op ask.settings came b.near (cut_told state ask good came) (judged_cut state ask good 226 came (inl refl) sound h.fine.0.0 (queue, h.fine.1))))) fits
       (record {
         near = refl;
         session = h.session;
@@ -269,10 +279,6 @@ module _ (read : Reading) (state : State) (ask : Ask)
         way_is = h.way_is;
         fine = (h.fine.0, (h.fine.1.0, refl));
       })
-
-  -- a link that stands breaks
-  no_link_stands : (link : Link) → link ≡ Gone → is_gone link ≡ false → ⊥
-  no_link_stands link is some = let e : true ≡ false = sym (ap is_gone is) ∙ some in cc
 
   -- a break at any course of the octets leads to a stage, if the course does not pass and a link stands
   carry_breaks : (course : Course) (came queue : List ℕ) (way : Way) (b : World) (c : Cut) → Fits way c → Stands own (carry course came queue) way b
@@ -384,10 +390,6 @@ module _ (read : Reading) (state : State) (ask : Ask)
         way_is = h.way_is;
         fine = (h.fine.0, (h.fine.1.0, refl));
       })
-
-  -- a link equal to one that the server has not closed is not closed by the server
-  not_left : (link : Link) (other : Link) → link ≡ other → is_closed_by_far other ≡ false → is_closed_by_far link ≡ true → ⊥
-  not_left link other is none some = let e : true ≡ false = sym some ∙ ap is_closed_by_far is ∙ none in cc
 
   -- the end of the link that the server has closed leads each stage that does not pass to a stage, if no octets are left
   pub stage_ends : (stage : Stage) (way : Way) (b : World) (c : Cut) → Fits way c → Stands own stage way b → is_closed_by_far b.link ≡ true → is_passing stage ≡ false → b.data_to_client ≡ []

@@ -1,20 +1,20 @@
 -- Openings and refusals of the link lead what was asked for from a stage to a stage.
-use Rattle.std.proofs.Common.{◌≡◌, inr, ℕ, ◌≤◌, Bool, true, false, List, [], ◌∷◌, ◌++◌, length, Option, Some, None, refl, sym, ap, subst, ◌∙◌, append-nil, arith}
+use Rattle.std.proofs.Common.{◌≡◌, ◌⊎◌, inl, inr, ℕ, ◌≤◌, Bool, true, false, List, [], ◌∷◌, ◌++◌, length, Option, Some, None, refl, sym, ap, subst, ◌∙◌, append-nil, arith}
 use Rattle.std.specs.Prelude.{if◌then◌else◌}
 use Rattle.ftp_nvt.specs.Lines.{written_line}
 use Rattle.ftp_command.specs.Line.{IsLine, line_of}
 use Rattle.ftp_command.specs.declared.command.Command.TheVariants as Commands
 use Rattle.ftp_command.proofs.CarriedLemmas.{carried}
-use Rattle.ftp_wire.specs.Decoder.{no_octets}
+use Rattle.ftp_ends.specs.Ear.{quiet}
 use Rattle.ftp_ends.specs.Link.{same_host, is_connecting}
 use Rattle.ftp_ends.specs.Reply.{reply_octets}
 use Rattle.ftp_operation.specs.Answer.{Unopened as NotOpened}
 use Rattle.ftp_operation.specs.declared.op.Op.{Op}
+use Rattle.ftp_reply.specs.Reader.{Between}
 use Rattle.ftp_direct.specs.Direct.{State}
 use Rattle.ftp_client_model.specs.Calls as near
 use Rattle.ftp_client_model.specs.Dialogue.{answers_once_over, sends_abort}
-use Rattle.ftp_client_model.specs.Octets.{has_settled}
-use Rattle.ftp_client_model.specs.View.{View as Near, Flow, Transfer, Receiving}
+use Rattle.ftp_client_model.specs.View.{View as Near, Transfer}
 use Rattle.ftp_client_model.specs.declared.client.Abort.TheVariants as Aborts
 use Rattle.ftp_client_model.specs.declared.client.Replied.TheVariants as Replies
 use Rattle.ftp_client_model.specs.declared.client.ClientLink.TheVariants as NearData
@@ -31,14 +31,18 @@ use Rattle.ftp_server_model.proofs.RepliesWritten.{replies_are_written}
 use Rattle.ftp_pair_world.specs.Events.{link_opens, link_refused, refused_by}
 use Rattle.ftp_pair_world.specs.World.{World, Opened, Mark, Refused, marked_last, with_mark}
 use Rattle.ftp_pair_dialogues.specs.Dialogue.{IsSound}
-use Rattle.ftp_pair_dialogues.specs.Fetches.{Ask, IsAsk, IsPlacedAt, fetching, giving_of, leaving, linked, opened_job, opened_command, offset_pending, busy}
+use Rattle.ftp_pair_dialogues.specs.Fetches.{Ask, IsAsk, IsPlacedAt, fetching, flow_after, giving_of, is_filled, leaving, linked, opened_job, opened_command, offset_pending, busy}
+use Rattle.ftp_pair_dialogues.specs.Peeks.{abort_line, halting}
 use Rattle.ftp_pair_dialogues.specs.Stage.{calm, still, Way, Asking, Answering, rest}
 use Rattle.ftp_pair_dialogues.proofs.Fetching.{given_all, giving_on, opening_sent, own_host}
 use Rattle.ftp_pair_agreement.specs.Cut.{Cut, Flows as FlowsOf, Fits, world_at, PlacedAt}
-use Rattle.ftp_pair_agreement.specs.Stages.{Sent, OneReply, Course, Giving, Given, port_aside, Stage, Dials, Restarts, Retrieves, Carries, Answers, Holds, AtFetch, Dialled, Awaits, Unaccepted}
+use Rattle.ftp_pair_agreement.specs.PeekStages.{AtHalt, Gives, Gave}
+use Rattle.ftp_pair_agreement.specs.Stages.{Sent, Unclosed, OneReply, Course, Giving, Given, port_aside, Stage, Dials, Restarts, Retrieves, Carries, Answers, Holds, AtFetch, Dialled, Awaits, Unaccepted}
+use Rattle.ftp_pair_agreement.proofs.CrossKeeps.{abort_crosses, none_heard}
 use Rattle.ftp_pair_agreement.proofs.Fates.{refused_link_fares}
 use Rattle.ftp_pair_agreement.proofs.FetchLink.{fits_more, far_linked}
 use Rattle.ftp_pair_agreement.proofs.Keeps.{line_is_some, anew}
+use Rattle.ftp_pair_agreement.proofs.PeekBegins.{halts_at}
 use Rattle.ftp_pair_agreement.proofs.Still.{no_octets as no_cut}
 
 module _ (read : Reading) (state : State) (ask : Ask) (good : IsAsk ask) (sound : IsSound state) (own : List Mark) where
@@ -190,17 +194,28 @@ module _ (read : Reading) (state : State) (ask : Ask) (good : IsAsk ask) (sound 
   -- ---- the server has connected to the client's port, or could not
 
   module _ (port : ℕ) (w b : World) (way : Way) (c : Cut) (is : w ≡ world_at b rest no_cut) (h : Stands own (Awaits port true) way b) where
-    -- the client behind it
-    accepts_near : near.data_opened b.far.footing.here (calm b.near) ≡ calm (busy (fetching op Replies.Begun ask.settings []) NearData.Open b.near)
+    -- the client behind it: a Peek that asks for no octet has sent its ABOR
+    abbrev accepted_near : Bool → Near
+    accepted_near true = record (calm (busy (halting op Replies.Begun Aborts.Sent ask.settings []) NearData.Open b.near)) { owed = written_line abort_line }
+    accepted_near false = calm (busy (fetching op Replies.Begun ask.settings []) NearData.Open b.near)
+
+    -- the client behind it, by whether a Peek has enough
+    accepts_near : (enough : Bool) → is_filled op ask.settings [] ≡ enough → near.data_opened b.far.footing.here (calm b.near) ≡ accepted_near enough
     unfolding near.data_opened
-    accepts_near =
+    accepts_near enough is =
         let v : Near = calm (busy (fetching op Replies.Begun ask.settings []) NearData.Open b.near) in
-        let flow : Flow = Receiving (no_octets ask.settings) None in
-        let transfer : Transfer = record { replied = Replies.Begun; abort = Aborts.Unsent; flow = flow } in
+        let transfer : Transfer = record { replied = Replies.Begun; abort = Aborts.Unsent; flow = flow_after ask.settings [] } in
         let peer : same_host b.far.footing.here b.near.peer ≡ true = ap (same_host b.far.footing.here) h.steady.peer ∙ own_host b.far.footing.here in
         ap (λ n. near.data_opened b.far.footing.here (calm n)) h.near
         ∙ ap (λ same. near.accepted same (calm (busy (fetching op Replies.Begun ask.settings []) (NearData.Accepting port) b.near))) peer
-        ∙ ap (λ count. answers_once_over (if has_settled count flow then sends_abort op transfer v else v)) good.plan.all
+        ∙ ap (λ (b : Bool). answers_once_over (if b then sends_abort op transfer v else v)) is ∙ by_enough enough
+      where
+        by_enough : (enough : Bool)
+            → answers_once_over (if enough then sends_abort op (record { replied = Replies.Begun; abort = Aborts.Unsent; flow = flow_after ask.settings [] })
+            (calm (busy (fetching op Replies.Begun ask.settings []) NearData.Open b.near)) else calm (busy (fetching op Replies.Begun ask.settings []) NearData.Open b.near))
+            ≡ accepted_near enough
+        by_enough true = refl
+        by_enough false = refl
 
     -- the server behind it, whatever it has to give
     giving_so : List ℕ → Far
@@ -219,13 +234,13 @@ module _ (read : Reading) (state : State) (ask : Ask) (good : IsAsk ask) (sound 
     accepted_base f = record b { near = busy (fetching op Replies.Begun ask.settings []) NearData.Open b.near; far = f; link = Opened; came = 0 }
 
     -- where an octet is to be given, the link that came is placed at the stage of giving
-    accepts_some : (octet : ℕ) (more : List ℕ) → ask.wire state ≡ octet ∷ more → PlacedAt (At own) (link_opens w)
+    accepts_some : is_filled op ask.settings [] ≡ false → (octet : ℕ) (more : List ℕ) → ask.wire state ≡ octet ∷ more → PlacedAt (At own) (link_opens w)
     unfolding accepted_base giving_so
-    accepts_some octet more wire =
+    accepts_some short octet more wire =
         let f : Far = giving_so (octet ∷ more) in
         let far : far.data_opened b.near.here (still b.far) ≡ still f = accepts_far (octet ∷ more) wire ∙ ap later (giving_on ask.listed octet more (still f)) in
         let opened : link_opens w ≡ world_at (accepted_base f) rest no_cut =
-        ap link_opens is ∙ (λ i. record (accepted_base f) { near = accepts_near i; far = far i; control_to_server = []; control_to_client = [] }) in
+        ap link_opens is ∙ (λ i. record (accepted_base f) { near = accepts_near false short i; far = far i; control_to_server = []; control_to_client = [] }) in
         placed own (link_opens w) (accepted_base f) rest no_cut (carry (Giving true octet more) [] []) opened (tt, (refl, refl)) (record {
           near = refl;
           session = refl;
@@ -237,18 +252,18 @@ module _ (read : Reading) (state : State) (ask : Ask) (good : IsAsk ask) (sound 
           came = refl;
           marked = h.marked;
           way_is = refl;
-          fine = (h.fine, sym wire);
+          fine = (h.fine, sym wire, short);
         })
 
     -- where none is to be given, the link that came is placed at the stage after the close
-    accepts_none : ask.wire state ≡ [] → PlacedAt (At own) (link_opens w)
+    accepts_none : is_filled op ask.settings [] ≡ false → ask.wire state ≡ [] → PlacedAt (At own) (link_opens w)
     unfolding accepted_base giving_so
-    accepts_none wire =
+    accepts_none short wire =
         let f : Far = far_linked (linked FarData.Free true Pendings.Nothing b.far.session) b.far in
         let owed : List ℕ = reply_octets (fixed_reply Texts.Complete) in
         let far : far.data_opened b.near.here (still b.far) ≡ record (still f) { owed = owed } = accepts_far [] wire ∙ ap later (given_all ask.listed (still (giving_so []))) in
         let opened : link_opens w ≡ world_at (accepted_base f) (Answering (fixed_reply Texts.Complete ∷ [])) (record { held = []; moving = []; owed = owed }) =
-        ap link_opens is ∙ (λ i. record (accepted_base f) { near = accepts_near i; far = far i; control_to_server = []; control_to_client = [] }) in
+        ap link_opens is ∙ (λ i. record (accepted_base f) { near = accepts_near false short i; far = far i; control_to_server = []; control_to_client = [] }) in
         placed own (link_opens w) (accepted_base f) (Answering (fixed_reply Texts.Complete ∷ [])) (record { held = []; moving = []; owed = owed })
         (carry (Given OneReply false) [] []) opened
         (fits_more [] (fixed_reply Texts.Complete) no_cut (replies_are_written b.far.session (Kinds.Fixed Texts.Complete) (fixed_reply Texts.Complete) tt refl) (tt, (refl, refl)))
@@ -263,16 +278,66 @@ module _ (read : Reading) (state : State) (ask : Ask) (good : IsAsk ask) (sound 
           came = refl;
           marked = h.marked;
           way_is = refl;
-          fine = (h.fine, sym wire);
+          fine = (h.fine, sym wire, short);
         })
 
-    -- a link that came after the 150 is placed
-    pub accepted_placed : PlacedAt (At own) (link_opens w)
-    accepted_placed = by_wire (ask.wire state) refl
+    -- the same of a Peek that asks for no octet
+    halt_base : Far → World
+    halt_base f = record b { near = busy (halting op Replies.Begun Aborts.Sent ask.settings []) NearData.Open b.near; far = f; link = Opened; came = 0 }
+
+    -- where an octet is to be given, ABOR is sent while the server gives
+    halts_some : is_filled op ask.settings [] ≡ true → (octet : ℕ) (more : List ℕ) → ask.wire state ≡ octet ∷ more → AtHalt state ask own (link_opens w)
+    unfolding halt_base giving_so
+    halts_some enough octet more wire =
+        let f : Far = giving_so (octet ∷ more) in
+        let far : far.data_opened b.near.here (still b.far) ≡ still f = accepts_far (octet ∷ more) wire ∙ ap later (giving_on ask.listed octet more (still f)) in
+        abort_crosses state ask own [] (halt_base f) (link_opens w) no_cut (record { ear = quiet; gathered = Between; heard = none_heard }) tt (refl, refl)
+        (ap link_opens is ∙ (λ i. record (halt_base f) { near = accepts_near true enough i; far = far i; control_to_server = []; control_to_client = [] }))
+        (record {
+          halt = Gives octet more;
+          said = ask.said state;
+          came = [];
+          queue = [];
+          text_is = refl;
+          asked = refl;
+          rows_are = refl;
+          here = halts_at state ask good sound own (Gives octet more) [] [] (halt_base f) refl refl h.steady h.ready.1 refl h.to_server h.to_client tt h.marked h.fine (ask.wire state, refl)
+              enough;
+        })
+
+    -- where none is to be given, ABOR crosses the 226
+    halts_none : is_filled op ask.settings [] ≡ true → ask.wire state ≡ [] → AtHalt state ask own (link_opens w)
+    unfolding halt_base giving_so
+    halts_none enough wire =
+        let f : Far = far_linked (linked FarData.Free true Pendings.Nothing b.far.session) b.far in
+        let owed : List ℕ = reply_octets (fixed_reply Texts.Complete) in
+        let far : far.data_opened b.near.here (still b.far) ≡ record (still f) { owed = owed } = accepts_far [] wire ∙ ap later (given_all ask.listed (still (giving_so []))) in
+        let fits = fits_more [] (fixed_reply Texts.Complete) no_cut (replies_are_written b.far.session (Kinds.Fixed Texts.Complete) (fixed_reply Texts.Complete) tt refl) (tt, (refl, refl)) in
+        abort_crosses state ask own (fixed_reply Texts.Complete ∷ []) (halt_base f) (link_opens w) (record { held = []; moving = []; owed = owed })
+        (record { ear = quiet; gathered = Between; heard = none_heard }) fits.0 fits.1
+        (ap link_opens is ∙ (λ i. record (halt_base f) { near = accepts_near true enough i; far = far i; control_to_server = []; control_to_client = [] }))
+        (record {
+          halt = Gave true false true Unclosed;
+          said = ask.said state;
+          came = [];
+          queue = [];
+          text_is = refl;
+          asked = refl;
+          rows_are = refl;
+          here = halts_at state ask good sound own (Gave true false true Unclosed) [] [] (halt_base f) refl refl h.steady h.ready.1 refl h.to_server h.to_client tt h.marked h.fine
+              (ask.wire state, refl) enough;
+        })
+
+    -- a link that came after the 150 is placed, or ABOR was sent
+    pub accepted_placed : PlacedAt (At own) (link_opens w) ⊎ AtHalt state ask own (link_opens w)
+    accepted_placed = by_enough (is_filled op ask.settings []) refl (ask.wire state) refl
       where
-        by_wire : (octets : List ℕ) → ask.wire state ≡ octets → PlacedAt (At own) (link_opens w)
-        by_wire [] wire = accepts_none wire
-        by_wire (octet ∷ more) wire = accepts_some octet more wire
+        by_enough : (enough : Bool) → is_filled op ask.settings [] ≡ enough → (octets : List ℕ) → ask.wire state ≡ octets
+            → PlacedAt (At own) (link_opens w) ⊎ AtHalt state ask own (link_opens w)
+        by_enough false short [] wire = inl (accepts_none short wire)
+        by_enough false short (octet ∷ more) wire = inl (accepts_some short octet more wire)
+        by_enough true enough [] wire = inr (halts_none enough wire)
+        by_enough true enough (octet ∷ more) wire = inr (halts_some enough octet more wire)
 
     -- the client does not want to connect: it waits at its port
     accepting : is_connecting (near.wants (calm b.near)) ≡ false

@@ -24,7 +24,7 @@ use Rattle.ftp_pair_dialogues.specs.Fetches.{Ask, HasPlan, busy, linked}
 use Rattle.ftp_pair_dialogues.specs.Stage.{Way, Asking, Answering}
 use Rattle.ftp_pair_agreement.specs.Cut.{Cut, world_at, PlacedAt}
 use Rattle.ftp_pair_agreement.specs.Follows.{Told, Follows}
-use Rattle.ftp_pair_agreement.specs.Runs.{IsFetching, IsFetchingOn, IsTrailing}
+use Rattle.ftp_pair_agreement.specs.Runs.{IsAsked, IsFetching, IsFetchingOn, IsTrailing}
 use Rattle.ftp_pair_agreement.specs.Stages as Stages
 use Rattle.ftp_pair_agreement.specs.Stages.{Course, Giving, Given, Ended, Severed, Refusing, Unopened, Unclosed, Closed, Lost, Stage, PortAsked, PortTold, Dials, Restarts, Retrieves, Carries, Answers, Holds, AtFetch, IsLasting, Dialled, Ported, PortWanted, PortSaid, PortTaken, PortDenied, Awaits, Unaccepted, Dismissed}
 use Rattle.ftp_pair_agreement.proofs.FetchServed.{near_form, far_form, leads_still, moves_on, lasting_untold}
@@ -52,7 +52,7 @@ unfolding near.control_end far.control_end
 parts_is w sound = ap (λ v. record (parting (failed_job LostSaid w.near.job) (w.near.closing || stands w.near.connection) (session_cut w.far.session).closing w) { near = v }) (near_fails w.near.standing w.near sound)
 
 -- what is served leaves no link
-abbrev Clears : Link → List ℕ → (near_closes far_closes : Bool) → Type 0
+abbrev pub Clears : Link → List ℕ → (near_closes far_closes : Bool) → Type 0
 Clears Gone queue near_closes far_closes = queue ≡ []
 Clears Opened queue true true = Unit {0}
 Clears ClosedByFar queue true far_closes = Unit {0}
@@ -79,7 +79,7 @@ clears ClosedByFar queue false far_closes w is = absurd is
 clears ClosedByNear queue near_closes far_closes w is = absurd is
 
 -- the control connection ends while the client is busy with a job that is lost: the loss is reported and the link is gone
-parts_with : (w : World) (job : Job) (connection : NearConnection) → w.near ≡ busy job connection w.near → failed_job LostSaid job ≡ Answered LostSaid
+pub parts_with : (w : World) (job : Job) (connection : NearConnection) → w.near ≡ busy job connection w.near → failed_job LostSaid job ≡ Answered LostSaid
     → (far : FarConnection Transfer) (pending : Pending Names) → w.far.session ≡ linked far false pending w.far.session → (link : Link) (queue : List ℕ) → w.link ≡ link → w.data_to_server ≡ []
     → w.data_to_client ≡ queue → Clears link queue (stands connection) (is_standing far) → after_event (ends_control w) ≡ lost_link w
 parts_with w job connection near_is fails far pending far_is link queue link_is to_server to_client clear =
@@ -115,6 +115,34 @@ told_lost from done marks cutoff reports now ask plan moment own t last few =
           (let e : length done ≡ 0 + length done = omega arith in e) holds (tt, refl);
       now_is = t.now_is ∙ sym (state_more from t.items (lost_item op moment own));
     }
+
+-- what is asked for is under way, however it stands: where its loss is reported and its link gone, the world follows with its operation lost
+pub lost_follows : (Stood : State → Ask → List Mark → World → Type 0) (read : Reading) (from : State) (begun : List Order) (w : World) (g : IsAsked Stood from begun w)
+    → after_event (ends_control w) ≡ lost_link w → w.far.session.table ≡ g.now.table → length g.own ≤ 1 → Follows read from begun (after_event (ends_control w))
+lost_follows Stood read from begun w g after table few =
+    let many : length g.marks ≡ length g.done = marks_are_all from g.done g.marks None w.reports g.now g.told in
+    let one : length w.marks ≡ suc (length g.done) = ap length g.marks_are ∙ length-more g.marks g.own ∙ ap suc many in
+    let cut = told_cut from g.done g.marks (length w.marks) w.reports g.now (omega (arith, one)) g.told in
+    let lost = told_lost from g.done g.marks (length w.marks) w.reports g.now g.ask g.is_ask.plan g.moment g.own cut (sym one) few in
+    let all : length begun ≡ suc (length g.done) = ap length g.begun_is ∙ length-more g.done (Single g.ask.op g.moment) in
+    subst (Follows read from begun) (sym after) (record {
+      unlinked = record { link = refl; to_server = refl; to_client = refl };
+      untold = refl;
+      phase = inr (record {
+        now = g.now;
+        cutoff = length w.marks;
+        cut_is = refl;
+        early = omega (arith, one, all);
+        told = subst (λ done. Told from done w.marks (Some (length w.marks)) (w.reports ++ LostSaid ∷ []) g.now) (sym g.begun_is)
+            (subst (λ marks. Told from (g.done ++ Single g.ask.op g.moment ∷ []) marks (Some (length w.marks)) (w.reports ++ LostSaid ∷ []) g.now) (sym g.marks_are) lost);
+        near = near_lost w.near;
+        far = far_lost w.far;
+        table = table;
+        control = refl;
+        to_server = refl;
+        to_client = refl;
+      });
+    })
 
 module _ (read : Reading) (from : State) (begun : List Order) (w : World) (on : IsFetchingOn read from begun w) where
   -- what is asked for is under way in this world
@@ -254,31 +282,7 @@ module _ (read : Reading) (from : State) (begun : List Order) (w : World) (on : 
 
   -- the control connection ends while what is asked for is under way, and the world follows with its operation lost
   pub fetch_parts : Follows read from begun (after_event (ends_control w))
-  fetch_parts =
-      let g : IsFetching read from begun w = on.fetching in
-      let many : length g.marks ≡ length g.done = marks_are_all from g.done g.marks None w.reports g.now g.told in
-      let one : length w.marks ≡ suc (length g.done) = ap length g.marks_are ∙ length-more g.marks g.own ∙ ap suc many in
-      let cut = told_cut from g.done g.marks (length w.marks) w.reports g.now (omega (arith, one)) g.told in
-      let lost = told_lost from g.done g.marks (length w.marks) w.reports g.now g.ask g.is_ask.plan g.moment g.own cut (sym one) parts.few in
-      let all : length begun ≡ suc (length g.done) = ap length g.begun_is ∙ length-more g.done (Single g.ask.op g.moment) in
-      subst (Follows read from begun) (sym parts.after) (record {
-        unlinked = record { link = refl; to_server = refl; to_client = refl };
-        untold = refl;
-        phase = inr (record {
-          now = g.now;
-          cutoff = length w.marks;
-          cut_is = refl;
-          early = omega (arith, one, all);
-          told = subst (λ done. Told from done w.marks (Some (length w.marks)) (w.reports ++ LostSaid ∷ []) g.now) (sym g.begun_is)
-              (subst (λ marks. Told from (g.done ++ Single g.ask.op g.moment ∷ []) marks (Some (length w.marks)) (w.reports ++ LostSaid ∷ []) g.now) (sym g.marks_are) lost);
-          near = near_lost w.near;
-          far = far_lost w.far;
-          table = parts.table;
-          control = refl;
-          to_server = refl;
-          to_client = refl;
-        });
-      })
+  fetch_parts = lost_follows (λ now ask own w. PlacedAt (λ way b. AtFetch now ask read own way b) w) read from begun w on.fetching parts.after parts.table parts.few
 
 -- ---- behind a refused REST
 

@@ -25,6 +25,7 @@ use Rattle.ftp_pair_agreement.specs.Stages.{Course, Giving, Given, Ended, Severe
 use Rattle.ftp_pair_agreement.proofs.FetchData.{given_of}
 use Rattle.ftp_pair_agreement.proofs.FetchServed.{near_form, far_form, moves_on}
 use Rattle.ftp_pair_agreement.proofs.FetchTold.{closed_is}
+use Rattle.ftp_pair_agreement.proofs.PeekQuiet.{halt_moves}
 use Rattle.ftp_pair_agreement.proofs.Quiet.{can_move_first, can_take_now, follows_answered, follows_unblocked, never, quiet_at}
 use Rattle.ftp_pair_agreement.proofs.Still.{IsSeen, seen_placed}
 
@@ -179,7 +180,9 @@ module _ (read : Reading) (from : State) (begun : List Order) (w : World) (on : 
 pub runs_answered : (read : Reading) → IsReading read → (from : State) (begun : List Order) (w : World) → Runs read from begun w → IsStill w → IsAnswered begun w
 runs_answered read reads from begun w (inl h) still = follows_answered read from begun w h still
 runs_answered read reads from begun w (inr (inl on)) still = absurd (fetch_moves read from begun w on still)
-runs_answered read reads from begun w (inr (inr t)) still =
+runs_answered read reads from begun w (inr (inr (inr on))) still =
+    absurd (halt_moves on.halting.now on.halting.ask on.halting.own w on.halting.stands on.lasts still)
+runs_answered read reads from begun w (inr (inr (inl t))) still =
     absurd (let e : true ≡ false = (subst IsStill (closed_is read reads from begun w t) still).ended DataToServer in cc)
 
 -- a world of a list of plain events that is still is quiet
@@ -187,5 +190,7 @@ pub runs_quiet : (read : Reading) → IsReading read → (from : State) (begun :
 runs_quiet read reads from begun w (inl h) still =
     elim (still_is_quiet w still) [ inl quiet ↦ quiet | inr blocked ↦ absurd (follows_unblocked read from begun w h still blocked.0 blocked.1) ]
 runs_quiet read reads from begun w (inr (inl on)) still = absurd (fetch_moves read from begun w on still)
-runs_quiet read reads from begun w (inr (inr t)) still =
+runs_quiet read reads from begun w (inr (inr (inr on))) still =
+    absurd (halt_moves on.halting.now on.halting.ask on.halting.own w on.halting.stands on.lasts still)
+runs_quiet read reads from begun w (inr (inr (inl t))) still =
     absurd (let e : true ≡ false = (subst IsStill (closed_is read reads from begun w t) still).ended DataToServer in cc)

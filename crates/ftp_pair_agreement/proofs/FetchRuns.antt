@@ -3,15 +3,18 @@ use Rattle.std.proofs.Common.{◌≡◌, ◌⊎◌, inl, inr, ℕ, ◌≤◌, Bo
 use Rattle.ftp_direct.specs.Direct.{State}
 use Rattle.ftp_client_model.specs.Calls as near
 use Rattle.ftp_ends.specs.Link.{is_connecting}
+use Rattle.ftp_ends.specs.Reply.{Reply}
 use Rattle.ftp_server_model.specs.Machine.{Reading, IsReading}
 use Rattle.ftp_pair_world.specs.Agreement.{Order}
 use Rattle.ftp_pair_world.specs.Events.{ControlToServer, ControlToClient, DataToClient, pulled, pushed, filled, DeliversBy, link_breaks, link_opens, link_refused, told, broken_by, refused_by, is_asked_for, is_gone, is_closed_by_far}
 use Rattle.ftp_pair_world.specs.Serving.{after_event}
 use Rattle.ftp_pair_world.specs.World.{World, Link, Gone, Opened, ClosedByNear, ClosedByFar, Mark, Broken, Refused, marked_last, with_mark, gone}
+use Rattle.ftp_pair_dialogues.specs.Fetches.{Ask}
 use Rattle.ftp_pair_dialogues.specs.Stage.{Way, Asking, Answering}
 use Rattle.ftp_pair_agreement.specs.Cut.{Cut, Goes, world_at, PlacedAt}
 use Rattle.ftp_pair_agreement.specs.Follows.{Told}
-use Rattle.ftp_pair_agreement.specs.Runs.{IsFetching, IsFetchingOn, Runs}
+use Rattle.ftp_pair_agreement.specs.PeekStages.{AtHalt, IsHaltCross}
+use Rattle.ftp_pair_agreement.specs.Runs.{IsAsked, IsFetching, IsFetchingOn, IsHalting, Runs}
 use Rattle.ftp_pair_agreement.specs.Stages.{Course, Giving, Given, Ended, Severed, Refusing, Unopened, Unclosed, Closed, Lost, Stage, PortAsked, PortTold, Dials, Restarts, Retrieves, Carries, Answers, Holds, AtFetch, IsLasting, PortWanted, PortSaid, PortTaken, PortDenied, Awaits, Unaccepted, Dismissed, is_passing, is_served, AtServed, IsServed}
 use Rattle.ftp_pair_agreement.proofs.Deliveries.{taken_at}
 use Rattle.ftp_pair_agreement.proofs.FetchData.{AtFlow, flow_pulls, flow_pushes, flow_is}
@@ -22,6 +25,8 @@ use Rattle.ftp_pair_agreement.proofs.FetchWants.{dials_or_none}
 use Rattle.ftp_pair_agreement.proofs.FetchTold.{answers_served, marks_last}
 use Rattle.ftp_pair_agreement.proofs.FetchTurns.{fetch_goes}
 use Rattle.ftp_pair_agreement.proofs.Keeps.{pulls_to_server, pulls_to_client, pushes_to_server, pushes_to_client}
+use Rattle.ftp_pair_agreement.proofs.PeekHears.{OnOrTold, crossed_halts}
+use Rattle.ftp_pair_agreement.proofs.PeekServed.{halt_serves}
 use Rattle.ftp_pair_agreement.proofs.Still.{rest_placed}
 
 -- nothing was begun, marked, reported or left
@@ -38,10 +43,10 @@ module _ (read : Reading) (reads : IsReading read) (from : State) (begun : List 
   abbrev At : (w : World) → Fetching w → Way → World → Type 0
   At w f way b = AtFetch f.now f.ask read f.own way b
 
-  -- with other marks of its link
-  pub fetching_marked : (w new : World) (f : Fetching w) (own : List Mark) → new.marks ≡ f.marks ++ own ∷ [] → new.reports ≡ w.reports → new.control ≡ w.control → new.cutoff ≡ w.cutoff
-      → PlacedAt (λ way b. AtFetch f.now f.ask read own way b) new → Fetching new
-  fetching_marked w new f own marks reports control cutoff stands = record {
+  -- what is asked for, of which something else is so, with other marks of its link
+  unfoldable pub asked_marked : (Stood Other : State → Ask → List Mark → World → Type 0) (w new : World) (f : IsAsked Stood from begun w) (own : List Mark) → new.marks ≡ f.marks ++ own ∷ []
+      → new.reports ≡ w.reports → new.control ≡ w.control → new.cutoff ≡ w.cutoff → Other f.now f.ask own new → IsAsked Other from begun new
+  asked_marked Stood Other w new f own marks reports control cutoff stands = record {
     done = f.done;
     marks = f.marks;
     own = own;
@@ -57,6 +62,19 @@ module _ (read : Reading) (reads : IsReading read) (from : State) (begun : List 
     stands = stands;
   }
 
+  -- a download or a listing stands at a stage
+  abbrev pub Fetches : State → Ask → List Mark → World → Type 0
+  Fetches now ask own w = PlacedAt (λ way b. AtFetch now ask read own way b) w
+
+  -- or ABOR was sent
+  abbrev pub HaltsAt : State → Ask → List Mark → World → Type 0
+  HaltsAt now ask own w = AtHalt now ask own w
+
+  -- with other marks of its link
+  pub fetching_marked : (w new : World) (f : Fetching w) (own : List Mark) → new.marks ≡ f.marks ++ own ∷ [] → new.reports ≡ w.reports → new.control ≡ w.control → new.cutoff ≡ w.cutoff
+      → PlacedAt (λ way b. AtFetch f.now f.ask read own way b) new → Fetching new
+  fetching_marked w new f own marks reports control cutoff stands = asked_marked Fetches Fetches w new f own marks reports control cutoff stands
+
   -- a download or listing is still under way where nothing was marked, reported or left and its stage still stands
   fetching_moved : (w new : World) (f : Fetching w) → IsKept w new → PlacedAt (At w f) new → Fetching new
   fetching_moved w new f kept stands = fetching_marked w new f f.own (kept.marks ∙ f.marks_are) kept.reports kept.control kept.cutoff stands
@@ -65,7 +83,7 @@ module _ (read : Reading) (reads : IsReading read) (from : State) (begun : List 
 
   -- where the world behind an event is served to a lasting stage, the list runs on there
   served_on : (w : World) (f : Fetching w) → Served read f.now f.ask f.is_ask.plan f.own w (after_event w) → Runs read from begun (after_event w)
-  unfolding fetching_moved fetching_marked
+  unfolding fetching_moved fetching_marked asked_marked
   served_on w f s = inr (inl (record {
     fetching = fetching_moved w (after_event w) f (record { marks = s.marks; reports = s.reports; control = s.control; cutoff = s.cutoff }) s.placed;
     lasts = s.lasts;
@@ -116,13 +134,37 @@ module _ (read : Reading) (reads : IsReading read) (from : State) (begun : List 
       by_here (inr (Carries c, h)) e = by_course c.course c.came c.queue h e
       by_here (inr (Answers said leaves, h)) e = answers_served read from begun w f said leaves h
 
+  -- where ABOR was sent, the list runs on once what is due behind an event is served
+  pub halt_after : (w : World) → IsHalting from begun w → Runs read from begun (after_event w)
+  unfolding asked_marked
+  halt_after w f =
+      let s = halt_serves f.now f.ask f.own w f.stands in
+      inr (inr (inr (record {
+        halting = asked_marked HaltsAt HaltsAt w (after_event w) f f.own (s.marks ∙ f.marks_are) s.reports s.control s.cutoff s.placed;
+        lasts = s.lasts;
+      })))
+
+  -- what is asked for goes on so or so, with these marks of its link
+  pub on_or_told : (Stood : State → Ask → List Mark → World → Type 0) (w new : World) (f : IsAsked Stood from begun w) (own : List Mark) → new.marks ≡ f.marks ++ own ∷ []
+      → new.reports ≡ w.reports → new.control ≡ w.control → new.cutoff ≡ w.cutoff → OnOrTold read f.now f.ask own new → Runs read from begun (after_event new)
+  on_or_told Stood w new f own marks reports control cutoff (inl halts) = halt_after new (asked_marked Stood HaltsAt w new f own marks reports control cutoff halts)
+  on_or_told Stood w new f own marks reports control cutoff (inr told) = fetch_after new (asked_marked Stood Fetches w new f own marks reports control cutoff told)
+
+  -- the same where nothing was marked
+  pub moved_on : (Stood : State → Ask → List Mark → World → Type 0) (w new : World) (f : IsAsked Stood from begun w) → IsKept w new → OnOrTold read f.now f.ask f.own new
+      → Runs read from begun (after_event new)
+  moved_on Stood w new f kept so = on_or_told Stood w new f f.own (kept.marks ∙ f.marks_are) kept.reports kept.control kept.cutoff so
+
   -- ---- octets of the control connection
 
   abbrev Serves : (w : World) → Fetching w → Way → World → Type 0
   Serves w f way b = AtServed f.now f.ask read f.own way b
 
+  abbrev Crosses : (w : World) → Fetching w → List ℕ → List Reply → World → Type 0
+  Crosses w f text rows b = IsHaltCross f.now f.ask f.own text rows b
+
   -- from a served stage each next turn of the client or the server leads to a stage of the same download or listing
-  goes_of : (w : World) (f : Fetching w) → Goes read (Serves w f) (At w f)
+  goes_of : (w : World) (f : Fetching w) → Goes read (Serves w f) (At w f) (Crosses w f)
   goes_of w f = fetch_goes read reads f.now f.ask f.is_ask f.sound f.own
 
   -- a world keeps its own marks, reports, control connection and cutoff
@@ -175,14 +217,14 @@ module _ (read : Reading) (reads : IsReading read) (from : State) (begun : List 
   -- the client gives octets of its commands, and the world is still served
   pulled_server : (n : ℕ) (w : World) (f : Fetching w) (u : World) → Serving w f u → Serving w f (pulled ControlToServer u n)
   pulled_server n w f u m = record {
-    placed = pulls_to_server read (Serves w f) (At w f) (goes_of w f) n u m.placed;
+    placed = pulls_to_server read (Serves w f) (At w f) (Crosses w f) (goes_of w f) n u m.placed;
     kept = record { marks = m.kept.marks; reports = m.kept.reports; control = m.kept.control; cutoff = m.kept.cutoff };
   }
 
   -- the server gives octets of its replies, and the world is still served
   pulled_client : (n : ℕ) (w : World) (f : Fetching w) (u : World) → Serving w f u → Serving w f (pulled ControlToClient u n)
   pulled_client n w f u m = record {
-    placed = pulls_to_client read (Serves w f) (At w f) (goes_of w f) n u m.placed;
+    placed = pulls_to_client read (Serves w f) (At w f) (Crosses w f) (goes_of w f) n u m.placed;
     kept = record { marks = m.kept.marks; reports = m.kept.reports; control = m.kept.control; cutoff = m.kept.cutoff };
   }
 
@@ -190,14 +232,17 @@ module _ (read : Reading) (reads : IsReading read) (from : State) (begun : List 
   pushed_server : (n : ℕ) (w : World) (f : Fetching w) (u : World) → Serving w f u → Fetching (pushed read ControlToServer n u)
   pushed_server n w f u m =
       fetching_moved w (pushed read ControlToServer n u) f (record { marks = m.kept.marks; reports = m.kept.reports; control = m.kept.control; cutoff = m.kept.cutoff })
-      (pushes_to_server read (Serves w f) (At w f) (goes_of w f) n u m.placed)
+      (pushes_to_server read (Serves w f) (At w f) (Crosses w f) (goes_of w f) n u m.placed)
 
-  -- the client takes octets of a reply, and the download or listing is still under way
-  pushed_client : (n : ℕ) (w : World) (f : Fetching w) (u : World) → Serving w f u → Fetching (pushed read ControlToClient n u)
-  pushed_client n w f u m = serving_is w f (pushed read ControlToClient n u) (record {
-    placed = pushes_to_client read (Serves w f) (At w f) (goes_of w f) n u m.placed;
-    kept = record { marks = m.kept.marks; reports = m.kept.reports; control = m.kept.control; cutoff = m.kept.cutoff };
-  })
+  -- the client takes octets of replies, and the list runs on
+  pushed_client : (n : ℕ) (w : World) (f : Fetching w) (u : World) → Serving w f u → Runs read from begun (after_event (pushed read ControlToClient n u))
+  pushed_client n w f u m = elim (pushes_to_client read (Serves w f) (At w f) (Crosses w f) (goes_of w f) n u m.placed) [
+    | inl placed ↦ fetch_after (pushed read ControlToClient n u) (serving_is w f (pushed read ControlToClient n u) (record { placed = placed; kept = kept }))
+    | inr crossed ↦ moved_on Fetches w (pushed read ControlToClient n u) f kept (crossed_halts read f.now f.ask f.own (pushed read ControlToClient n u) crossed)
+  ]
+    where
+      kept : IsKept w (pushed read ControlToClient n u)
+      kept = record { marks = m.kept.marks; reports = m.kept.reports; control = m.kept.control; cutoff = m.kept.cutoff }
 
   -- the client gives octets call after call, and the world is still served
   filled_server : (counts : List ℕ) (w : World) (f : Fetching w) (u : World) → Serving w f u → Serving w f (filled ControlToServer u counts)
@@ -254,7 +299,7 @@ module _ (read : Reading) (reads : IsReading read) (from : State) (begun : List 
 
   -- between two events a download or listing is under way also with other octets lent
   pub fetching_on_taken : (octets : List ℕ) (w : World) → IsFetchingOn read from begun w → IsFetchingOn read from begun (record w { taken = octets })
-  unfolding fetching_taken fetching_moved fetching_marked
+  unfolding fetching_taken fetching_moved fetching_marked asked_marked
   fetching_on_taken octets w f = record { fetching = fetching_taken octets w f.fetching; lasts = lasts_taken octets w f.fetching f.fetching.stands.here f.lasts }
 
   -- what is served is served with other octets lent
@@ -301,12 +346,12 @@ module _ (read : Reading) (reads : IsReading read) (from : State) (begun : List 
       let f = on.fetching in
       let full = filled_client d.counts w f w (serving_first w on) in
       let lent = serving_taken (take d.taken (filled ControlToClient w d.counts).control_to_client) w f (filled ControlToClient w d.counts) full in
-      subst (Runs read from begun) (sym d.is) (fetch_after _ (pushed_client d.taken w f _ lent))
+      subst (Runs read from begun) (sym d.is) (pushed_client d.taken w f _ lent)
 
   -- ---- octets of the link
 
   abbrev Flowing : (w : World) → Fetching w → World → Type 0
-  Flowing w f new = PlacedAt (AtFlow read f.now f.ask f.is_ask.plan f.own) new
+  Flowing w f new = PlacedAt (AtFlow f.now f.ask f.own) new
 
   -- a world whose octets have moved
   record Moved (w : World) (f : Fetching w) (new : World) : Type 0 where
@@ -316,7 +361,7 @@ module _ (read : Reading) (reads : IsReading read) (from : State) (begun : List 
   -- the server gives octets of the file to the link, and they still flow
   moved_pulls : (n : ℕ) (w : World) (f : Fetching w) (u : World) → Moved w f u → Moved w f (pulled DataToClient u n)
   moved_pulls n w f u m = record {
-    flowing = flow_pulls read f.now f.ask f.is_ask.plan f.own n u m.flowing;
+    flowing = flow_pulls read f.now f.ask f.is_ask f.sound f.own n u m.flowing;
     kept = record { marks = m.kept.marks; reports = m.kept.reports; control = m.kept.control; cutoff = m.kept.cutoff };
   }
 
@@ -348,16 +393,19 @@ module _ (read : Reading) (reads : IsReading read) (from : State) (begun : List 
         kept = record { marks = m.kept.marks; reports = m.kept.reports; control = m.kept.control; cutoff = m.kept.cutoff };
       }
 
-  -- the client takes octets of those that are on the link, and they still flow
-  moved_pushes : (n : ℕ) (w : World) (f : Fetching w) (u : World) → n ≤ length u.data_to_client → Moved w f u → Moved w f (pushed read DataToClient n u)
-  moved_pushes n w f u few m = record {
-    flowing = flow_pushes read f.now f.ask f.is_ask.plan f.own n u few m.flowing;
-    kept = record { marks = m.kept.marks; reports = m.kept.reports; control = m.kept.control; cutoff = m.kept.cutoff };
-  }
-
   -- a world whose octets of the link have moved still has the download or listing under way
   moved_is : (w : World) (f : Fetching w) (u : World) → Moved w f u → Fetching u
-  moved_is w f u m = fetching_moved w u f m.kept (flow_is read f.now f.ask f.is_ask.plan f.own u m.flowing)
+  moved_is w f u m = fetching_moved w u f m.kept (flow_is read f.now f.ask f.is_ask f.sound f.own u m.flowing)
+
+  -- the client takes octets of those that are on the link, and the list runs on
+  moved_pushes : (n : ℕ) (w : World) (f : Fetching w) (u : World) → n ≤ length u.data_to_client → Moved w f u → Runs read from begun (after_event (pushed read DataToClient n u))
+  moved_pushes n w f u few m = elim (flow_pushes read f.now f.ask f.is_ask f.sound f.own n u few m.flowing) [
+    | inl flowing ↦ fetch_after (pushed read DataToClient n u) (moved_is w f (pushed read DataToClient n u) (record { flowing = flowing; kept = kept }))
+    | inr halts ↦ moved_on Fetches w (pushed read DataToClient n u) f kept (inl halts)
+  ]
+    where
+      kept : IsKept w (pushed read DataToClient n u)
+      kept = record { marks = m.kept.marks; reports = m.kept.reports; control = m.kept.control; cutoff = m.kept.cutoff }
 
   -- a delivery of octets of the link to the client keeps the list running while they flow
   pub fetch_delivers_data : (none : Bool) (count : ℕ) (w new : World) (f : Fetching w) → Flowing w f w → DeliversBy none read DataToClient count w new → Runs read from begun new
@@ -367,7 +415,7 @@ module _ (read : Reading) (reads : IsReading read) (from : State) (begun : List 
       let full = moved_filled d.counts w f w (record { flowing = flowing; kept = no_change w }) in
       let lent = moved_taken (take d.taken (filled DataToClient w d.counts).data_to_client) w f (filled DataToClient w d.counts) full in
       let few : d.taken ≤ length (filled DataToClient w d.counts).data_to_client = omega (arith, d.takes.within) in
-      subst (Runs read from begun) (sym d.is) (fetch_after _ (moved_is w f _ (moved_pushes d.taken w f _ few lent)))
+      subst (Runs read from begun) (sym d.is) (moved_pushes d.taken w f _ few lent)
 
   -- ---- the link
 
@@ -396,14 +444,14 @@ module _ (read : Reading) (reads : IsReading read) (from : State) (begun : List 
       by_way (Answering rows) c = refl
 
   -- what a break leaves as it is
-  record IsBreak (w new : World) : Type 0 where
-    marks : new.marks ≡ marked_last (Broken w.came) w.marks
-    reports : new.reports ≡ w.reports
-    control : new.control ≡ w.control
-    cutoff : new.cutoff ≡ w.cutoff
+  pub record IsBreak (w new : World) : Type 0 where
+    pub marks : new.marks ≡ marked_last (Broken w.came) w.marks
+    pub reports : new.reports ≡ w.reports
+    pub control : new.control ≡ w.control
+    pub cutoff : new.cutoff ≡ w.cutoff
 
   -- however the link stands, a break adds its mark and keeps reports, control connection and cutoff
-  breaks_by : (w : World) (link : Link) → IsBreak w (with_mark (Broken w.came) (gone (broken_by link w)))
+  pub breaks_by : (w : World) (link : Link) → IsBreak w (with_mark (Broken w.came) (gone (broken_by link w)))
   breaks_by w Gone = record { marks = refl; reports = refl; control = refl; cutoff = refl }
   breaks_by w Opened = record { marks = refl; reports = refl; control = refl; cutoff = refl }
   breaks_by w ClosedByNear = record { marks = refl; reports = refl; control = refl; cutoff = refl }
@@ -467,6 +515,10 @@ module _ (read : Reading) (reads : IsReading read) (from : State) (begun : List 
       f : Fetching w
       f = on.fetching
 
+      by_enough : Fetches f.now f.ask f.own (link_opens w) ⊎ AtHalt f.now f.ask f.own (link_opens w) → Runs read from begun (after_event (link_opens w))
+      by_enough (inl placed) = fetch_after (link_opens w) (fetching_moved w (link_opens w) f (record { marks = refl; reports = refl; control = refl; cutoff = refl }) placed)
+      by_enough (inr halts) = moved_on Fetches w (link_opens w) f (record { marks = refl; reports = refl; control = refl; cutoff = refl }) (inl halts)
+
       by_dial : ((port : ℕ) × Holds f.now f.ask f.own (Dials port) f.stands.way f.stands.base)
           ⊎ (((port : ℕ) × Holds f.now f.ask f.own (Awaits port true) f.stands.way f.stands.base) ⊎ (is_asked_for w ≡ false)) → Runs read from begun (after_event (link_opens w))
       by_dial (inl (port, h)) =
@@ -475,8 +527,7 @@ module _ (read : Reading) (reads : IsReading read) (from : State) (begun : List 
           (opened_placed read f.now f.ask f.is_ask f.sound f.own port w f.stands.base f.stands.way f.stands.cut is h))
       by_dial (inr (inl (port, h))) =
           let is = rest_placed _ w f.stands h.way_is in
-          fetch_after (link_opens w) (fetching_moved w (link_opens w) f (record { marks = refl; reports = refl; control = refl; cutoff = refl })
-          (accepted_placed read f.now f.ask f.is_ask f.sound f.own port w f.stands.base f.stands.way f.stands.cut is h))
+          by_enough (accepted_placed read f.now f.ask f.is_ask f.sound f.own port w f.stands.base f.stands.way f.stands.cut is h)
       by_dial (inr (inr none)) = absurd (let e : true ≡ false = sym asks ∙ none in cc)
 
   -- a link that is asked for is refused, and the list runs on

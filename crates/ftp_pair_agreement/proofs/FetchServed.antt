@@ -65,21 +65,21 @@ pub record Rests (w : World) : Type 0 where
   pub none : report_of w.near ≡ None
 
 -- a world where nothing is served and nothing is reported stays behind an event
-after_rests : (w : World) → Rests w → after_event w ≡ w
+pub after_rests : (w : World) → Rests w → after_event w ≡ w
 after_rests w r =
     ap (λ u. collected (far_served (far_served (far_served (near_served (near_served u)))))) r.near
     ∙ ap (λ u. collected (far_served (far_served (far_served (near_served u))))) r.near ∙ ap (λ u. collected (far_served (far_served (far_served u)))) r.near
     ∙ ap (λ u. collected (far_served (far_served u))) r.far ∙ ap (λ u. collected (far_served u)) r.far ∙ ap collected r.far ∙ ap (λ o. collected_by o w) r.none
 
 -- a client with this job and this connection, and a server with this one, neither of which wants anything of the world
-near_rests : (w : World) (job : Job) (connection : NearConnection) → w.near ≡ busy job connection w.near
+pub near_rests : (w : World) (job : Job) (connection : NearConnection) → w.near ≡ busy job connection w.near
     → near_served (record w { near = busy job connection w.near }) ≡ record w { near = busy job connection w.near } → near_served w ≡ w
 near_rests w job connection is rests =
     let put : Near → World = λ v. record w { near = v } in
     ap near_served (ap put is) ∙ rests ∙ ap put (sym is)
 
 -- a server with this connection, closing or not, and this pending wants nothing, if in this form it wants nothing
-far_rests : (w : World) (connection : FarConnection Transfer) (closing : Bool) (pending : Pending Names) → w.far.session ≡ linked connection closing pending w.far.session
+pub far_rests : (w : World) (connection : FarConnection Transfer) (closing : Bool) (pending : Pending Names) → w.far.session ≡ linked connection closing pending w.far.session
     → far_served (record w { far = far_linked (linked connection closing pending w.far.session) w.far }) ≡ record w { far = far_linked (linked connection closing pending w.far.session) w.far }
     → far_served w ≡ w
 far_rests w connection closing pending is rests =
@@ -87,7 +87,7 @@ far_rests w connection closing pending is rests =
     ap far_served (ap put is) ∙ rests ∙ ap put (sym is)
 
 -- a server that gives wants nothing but that
-giving_rests : (listed : Bool) (octets : List ℕ) (pending : Pending Names) (w : World)
+pub giving_rests : (listed : Bool) (octets : List ℕ) (pending : Pending Names) (w : World)
     → far_served (record w { far = far_linked (linked (FarData.Transferring (giving_of listed octets)) false pending w.far.session) w.far })
     ≡ record w { far = far_linked (linked (FarData.Transferring (giving_of listed octets)) false pending w.far.session) w.far }
 giving_rests false octets pending w = refl

@@ -203,7 +203,7 @@ module _ (read : Reading) (from : State) (begun : List Order) (w : World) (f : I
   answers_served LinkOpen h =
       let is = is_rest LinkOpen h in
       let new : World = world_at (taken_base said FarData.Ready Pendings.Nothing ClosedByNear b) rest no_octets in
-      inr (inr (subst (IsTrailing from begun) (sym (ap after_event (is_told LinkOpen h) ∙ open_served said b)) (record {
+      inr (inr (inl (subst (IsTrailing from begun) (sym (ap after_event (is_told LinkOpen h) ∙ open_served said b)) (record {
         done = f.done;
         marks = f.marks;
         reports = w.reports;
@@ -235,7 +235,7 @@ module _ (read : Reading) (from : State) (begun : List Order) (w : World) (f : I
             way_is = refl;
           };
         };
-      })))
+      }))))
 
 -- ---- the server is told that the client has closed a link that it had for no transfer
 

@@ -1,5 +1,5 @@
 -- Each turn of the client leads what is asked for from a stage to a stage, and so does each turn of either end.
-use Rattle.std.proofs.Common.{◌≡◌, inl, inr, ℕ, zero, suc, ◌≤◌, true, false, List, [], ◌∷◌, length, Option, Some, None, refl, sym, ap, subst, ◌∙◌}
+use Rattle.std.proofs.Common.{◌≡◌, ◌⊎◌, inl, inr, ℕ, zero, suc, ◌≤◌, true, false, List, [], ◌∷◌, length, Option, Some, None, refl, sym, ap, subst, ◌∙◌}
 use Rattle.ftp_command.specs.Line.{IsLine, line_of}
 use Rattle.ftp_command.specs.declared.command.Command.TheVariants as Commands
 use Rattle.ftp_command.proofs.CarriedLemmas.{carried}
@@ -31,7 +31,8 @@ use Rattle.ftp_pair_dialogues.specs.Stage.{calm, Way, Asking, Answering, FarTurn
 use Rattle.ftp_pair_dialogues.proofs.Fetching.{begins_awaited, port_denied, port_taken, steady_at, unaccepted, port_is_told, rest_granted, rest_denied, denied}
 use Rattle.ftp_pair_dialogues.proofs.LoginTurns.{no_asking, no_reply, operation_turns}
 use Rattle.ftp_pair_dialogues.proofs.Refusing.{ask_leads}
-use Rattle.ftp_pair_agreement.specs.Cut.{Goes}
+use Rattle.ftp_pair_agreement.specs.Cut.{Crosses, Goes}
+use Rattle.ftp_pair_agreement.specs.PeekStages.{IsHaltCross}
 use Rattle.ftp_pair_agreement.specs.Stages as Stages
 use Rattle.ftp_pair_agreement.specs.Stages.{Over, Sent, Granted, Denied, LinkOpen, Stage, PortAsked, PortTold, Dials, Restarts, Retrieves, Carries, Answers, Holds, AtFetch, Early, Dialled, Ported, at_port, early_near, early_far, Aside, no_link, port_left, PortWanted, PortSaid, PortTaken, PortDenied, Awaits, Unaccepted, Dismissed, is_served, AtServed, Fared}
 use Rattle.ftp_pair_agreement.proofs.Fates.{refused_fares, unknown_fares, refused_link_fares}
@@ -145,6 +146,13 @@ module _ (read : Reading) (reads : IsReading read) (state : State) (ask : Ask) (
   -- a reply is heard, and nothing is sent
   abbrev Hears : World → Reply → List Reply → Type 0
   Hears b reply more = (t : NearTurn b.near reply more) × Served (behind t.line more) (record b { near = t.near })
+
+  -- or ABOR is sent, while the other replies are on their way
+  abbrev pub Cross : List ℕ → List Reply → World → Type 0
+  Cross text rows b = IsHaltCross state ask own text rows b
+
+  abbrev Tells : World → Reply → List Reply → Type 0
+  Tells b reply more = Hears b reply more ⊎ Crosses Cross b reply more
 
   -- the client's peer in a steady session is a typed host
   typed_peer : (b : World) → IsSteady state (kept b.near b.far) → IsTypedHost b.near.peer
@@ -429,47 +437,47 @@ module _ (read : Reading) (reads : IsReading read) (state : State) (ask : Ask) (
 
   -- ---- every reply
 
-  -- at each stage that is served the first reply is heard, and the world is served behind it
-  told_at : (stage : Stage) (reply : Reply) (more : List Reply) (b : World) → Stands stage (Answering (reply ∷ more)) b → is_served stage ≡ true → Hears b reply more
+  -- at each stage that is served the first reply is heard, and the world is served behind it, or ABOR crosses the others
+  told_at : (stage : Stage) (reply : Reply) (more : List Reply) (b : World) → Stands stage (Answering (reply ∷ more)) b → is_served stage ≡ true → Tells b reply more
   told_at (PortAsked closing) reply more b h served = absurd (no_reply reply more h.way_is)
   told_at (PortTold port) reply more b h served =
-      at_first (Hears b) reply (port_reply (is_extended b.near op) b.near.peer port) more [] h.way_is (port_heard port (Answering (reply ∷ more)) b h)
+      inl (at_first (Hears b) reply (port_reply (is_extended b.near op) b.near.peer port) more [] h.way_is (port_heard port (Answering (reply ∷ more)) b h))
   told_at (Dials port) reply more b h served = absurd (no_reply reply more h.way_is)
   told_at (PortWanted connection pending) reply more b h served = absurd (no_reply reply more h.way_is)
   told_at (PortSaid port connection pending) reply more b h served = absurd (no_asking _ (reply ∷ more) (sym h.way_is))
   told_at (PortTaken port true) reply more b h served = absurd (cc)
   told_at (PortTaken port false) reply more b h served =
-      at_first (Hears b) reply (fixed_reply Texts.EndpointTaken) more [] h.way_is (port_goes port (Answering (reply ∷ more)) b h)
+      inl (at_first (Hears b) reply (fixed_reply Texts.EndpointTaken) more [] h.way_is (port_goes port (Answering (reply ∷ more)) b h))
   told_at (PortDenied port connection) reply more b h served =
-      at_first (Hears b) reply (fixed_reply Texts.NotLoggedIn) more [] h.way_is
+      inl (at_first (Hears b) reply (fixed_reply Texts.NotLoggedIn) more [] h.way_is
       (leaves_port (PortDenied port connection) connection (Answering (reply ∷ more)) b (fixed_reply Texts.NotLoggedIn) (Refused 530) h
       (port_denied op port (fixed_reply Texts.NotLoggedIn).lines b.near) h.session h.link h.to_client (none_more own h.marked)
-      (unknown_fares state ask good own h.fine.1) h.fine.0)
+      (unknown_fares state ask good own h.fine.1) h.fine.0))
   told_at (Restarts at Sent early) reply more b h served = absurd (no_asking (line_of (Commands.Rest at)) (reply ∷ more) (sym h.way_is))
-  told_at (Restarts at Granted early) reply more b h served = at_first (Hears b) reply (rest_reply at) more [] h.way_is (rest_heard at early (Answering (reply ∷ more)) b h)
+  told_at (Restarts at Granted early) reply more b h served = inl (at_first (Hears b) reply (rest_reply at) more [] h.way_is (rest_heard at early (Answering (reply ∷ more)) b h))
   told_at (Restarts at (Denied why) early) reply more b h served =
-      at_first (Hears b) reply (fixed_reply (refusal_text why)) more [] h.way_is (rest_refused at why early (Answering (reply ∷ more)) b h)
+      inl (at_first (Hears b) reply (fixed_reply (refusal_text why)) more [] h.way_is (rest_refused at why early (Answering (reply ∷ more)) b h))
   told_at (Retrieves early) reply more b h served = absurd (no_asking (line_of ask.command) (reply ∷ more) (sym h.way_is))
   told_at (Awaits port false) reply more b h served =
-      at_first (Hears b) reply (fixed_reply Texts.Opens) more [] h.way_is (awaits_heard port (Answering (reply ∷ more)) b h)
+      inl (at_first (Hears b) reply (fixed_reply Texts.Opens) more [] h.way_is (awaits_heard port (Answering (reply ∷ more)) b h))
   told_at (Awaits port true) reply more b h served = absurd (no_reply reply more h.way_is)
   told_at (Unaccepted port) reply more b h served =
-      at_first (Hears b) reply (fixed_reply Texts.NoConnection) more [] h.way_is
+      inl (at_first (Hears b) reply (fixed_reply Texts.NoConnection) more [] h.way_is
       (leaves_port (Unaccepted port) FarData.Free (Answering (reply ∷ more)) b (fixed_reply Texts.NoConnection) NotOpened h
       (unaccepted op ask.settings [] port b.near (fixed_reply Texts.NoConnection).lines) h.session h.link h.to_client (one_more own RefusedLink h.marked)
-      (refused_link_fares state ask good own h.marked) refl)
+      (refused_link_fares state ask good own h.marked) refl))
   told_at (Dismissed port why) reply more b h served =
-      at_first (Hears b) reply (fixed_reply (refusal_text why)) more [] h.way_is
+      inl (at_first (Hears b) reply (fixed_reply (refusal_text why)) more [] h.way_is
       (leaves_port (Dismissed port why) FarData.Free (Answering (reply ∷ more)) b (fixed_reply (refusal_text why)) (Refused (code_of why)) h
       (denied op ask.settings [] b.near why (NearData.Listening port) (fixed_reply (refusal_text why)).lines) h.session h.link h.to_client (none_more own h.marked)
-      (refused_fares state ask good own why h.ready.1 h.fine) refl)
+      (refused_fares state ask good own why h.ready.1 h.fine) refl))
   told_at (Carries c) reply more b h served = carry_heard read state ask good sound own c.course c.came c.queue (Answering (reply ∷ more)) b reply more h h.way_is
   told_at (Answers said leaves) reply more b h served = absurd (no_reply reply more h.way_is)
 
   -- ---- all turns
 
   -- each turn of either end leads what is asked for on, and behind a reply the world is served
-  pub fetch_goes : Goes read Served At
+  pub fetch_goes : Goes read Served At Cross
   fetch_goes = record { held = λ way b here. here.0; asked = asked; told = told }
     where
       turns : Turns read (IsOnWay read state op Along Goal)
@@ -481,8 +489,8 @@ module _ (read : Reading) (reads : IsReading read) (state : State) (ask : Ask) (
           (next.0, (arrives (Answering next.0.replies) (record b { far = next.0.far }) l.link l.to_server l.to_client l.marked next.1).0)
       asked line b (inr (stage, h), served) = asked_at read reads state ask good own stage line b h
 
-      told : (reply : Reply) (more : List Reply) (b : World) → Served (Answering (reply ∷ more)) b → Hears b reply more
+      told : (reply : Reply) (more : List Reply) (b : World) → Served (Answering (reply ∷ more)) b → Tells b reply more
       told reply more b (inl l, served) =
           let next = turns.told reply more b.near b.far l.on in
-          (next.0, arrives (behind next.0.line more) (record b { near = next.0.near }) l.link l.to_server l.to_client l.marked next.1)
+          inl (next.0, arrives (behind next.0.line more) (record b { near = next.0.near }) l.link l.to_server l.to_client l.marked next.1)
       told reply more b (inr (stage, h), served) = told_at stage reply more b h served

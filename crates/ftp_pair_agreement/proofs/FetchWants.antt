@@ -49,7 +49,7 @@ module _ (read : Reading) (state : State) (ask : Ask) (plan : HasPlan ask) (own 
 
   -- octets of it are given or taken, or there are none
   pub flows_or_none : (w : World) → (s : PlacedAt At w) → IsLasting state ask read own s.way s.base s.here
-      → PlacedAt (AtFlow read state ask plan own) w ⊎ ((far.to_give w.far ≡ []) × (w.data_to_client ≡ []))
+      → PlacedAt (AtFlow state ask own) w ⊎ ((far.to_give w.far ≡ []) × (w.data_to_client ≡ []))
   flows_or_none w s lasts = by_here s.here lasts
     where
       seen : IsSeen s.base w
@@ -66,12 +66,12 @@ module _ (read : Reading) (state : State) (ask : Ask) (plan : HasPlan ask) (own 
           → (far.to_give w.far ≡ []) × (w.data_to_client ≡ [])
       none connection pending is gives empty = (ap (λ v. far.given_by (far.connection_of v)) (far_form s.base w seen connection false pending is) ∙ gives, queue_is ∙ empty)
 
-      flowing : (course : Course) (came queue : List ℕ) → flows course ≡ true → Stands (carry course came queue) s.way s.base → PlacedAt (AtFlow read state ask plan own) w
+      flowing : (course : Course) (came queue : List ℕ) → flows course ≡ true → Stands (carry course came queue) s.way s.base → PlacedAt (AtFlow state ask own) w
       flowing course came queue is h =
           record { base = s.base; way = s.way; cut = s.cut; is = s.is; fits = s.fits; here = record { course = course; came = came; queue = queue; flows = is; holds = h } }
 
       by_course : (course : Course) (came queue : List ℕ) → Stands (carry course came queue) s.way s.base → is_passing (carry course came queue) ≡ false
-          → PlacedAt (AtFlow read state ask plan own) w ⊎ ((far.to_give w.far ≡ []) × (w.data_to_client ≡ []))
+          → PlacedAt (AtFlow state ask own) w ⊎ ((far.to_give w.far ≡ []) × (w.data_to_client ≡ []))
       by_course (Giving begun octet more) came queue h lasts = inl (flowing (Giving begun octet more) came queue refl h)
       by_course (Given heard left) came queue h lasts = inl (flowing (Given heard left) came queue refl h)
       by_course (Ended begun true) came queue h lasts = inr (none _ _ h.session refl (h.to_client ∙ h.fine.2))
@@ -83,7 +83,7 @@ module _ (read : Reading) (state : State) (ask : Ask) (plan : HasPlan ask) (own 
       by_course Unopened came queue h lasts = inr (none _ _ h.session refl (h.to_client ∙ h.fine.1))
 
       by_here : (here : At s.way s.base) → IsLasting state ask read own s.way s.base here
-          → PlacedAt (AtFlow read state ask plan own) w ⊎ ((far.to_give w.far ≡ []) × (w.data_to_client ≡ []))
+          → PlacedAt (AtFlow state ask own) w ⊎ ((far.to_give w.far ≡ []) × (w.data_to_client ≡ []))
       by_here (inl l) lasts = inr ((still_data w (leads_still read state ask plan own s.base w s.way seen l).0).far_gives, queue_is ∙ l.to_client)
       by_here (inr (PortAsked closing, h)) lasts = absurd (cc)
       by_here (inr (PortTold port, h)) lasts = inr (none _ _ h.session refl h.to_client)

@@ -1,6 +1,6 @@
 -- Octets that move, and octets that are heard, keep a world at a stage: they change the cut alone, but where the last octet of a unit is
 -- heard, which is a turn.
-use Rattle.std.proofs.Common.{◌≡◌, ◌<◌, inl, inr, ℕ, List, [], ◌∷◌, ◌++◌, take, drop, length, Option, Some, None, refl, sym, ap, subst, ◌∙◌, append-nil, append_assoc, arith}
+use Rattle.std.proofs.Common.{◌≡◌, ◌⊎◌, ◌<◌, inl, inr, ℕ, List, [], ◌∷◌, ◌++◌, take, drop, length, Option, Some, None, refl, sym, ap, subst, ◌∙◌, append-nil, append_assoc, arith}
 use Rattle.std.proofs.Math.Seq.{take-nil, drop-nil}
 use Rattle.std.proofs.lemmas.List.{take-append-drop}
 use Rattle.std.specs.List.{flat_map}
@@ -9,6 +9,7 @@ use Rattle.ftp_command.specs.Line.{IsLine}
 use Rattle.ftp_ends.specs.Reply.{Reply, IsWritten, reply_octets}
 use Rattle.ftp_reply.specs.Reply.{last_line, opening_line, written_after}
 use Rattle.ftp_client_model.specs.Calls as near
+use Rattle.ftp_client_model.specs.Dialogue.{answered}
 use Rattle.ftp_client_model.specs.View.{View as Near}
 use Rattle.ftp_client_model.proofs.RepliesInFlight as replies
 use Rattle.ftp_server_model.specs.Calls.{gives_control}
@@ -19,7 +20,7 @@ use Rattle.ftp_server_model.proofs.CommandsInFlight as commands
 use Rattle.ftp_pair_world.specs.Events.{ControlToServer, ControlToClient, pulled, pushed}
 use Rattle.ftp_pair_world.specs.World.{World}
 use Rattle.ftp_pair_dialogues.specs.Stage.{calm, still, Way, Asking, Answering, row_octets, AreWritten, line_octets, IsAlone, behind, FarTurn, NearTurn}
-use Rattle.ftp_pair_agreement.specs.Cut.{Cut, Flows, FlowsRow, Fits, coming, world_at, PlacedAt, Goes}
+use Rattle.ftp_pair_agreement.specs.Cut.{Crosses, Crossed, Cut, Flows, FlowsRow, Fits, coming, world_at, PlacedAt, Goes}
 use Rattle.ftp_pair_agreement.proofs.Chunks.{both_empty, IsAll, hears_some}
 
 -- ---- a unit has an octet, and is owed whole
@@ -60,10 +61,10 @@ row_anew (reply ∷ more) fine = anew (reply_octets reply) (row_octets more) (re
 -- ---- octets that move
 
 -- what is to come stays the same where owed octets move into the queue
-moved_coming : (n : ℕ) (c : Cut) → (c.moving ++ take n c.owed) ++ drop n c.owed ≡ coming c
+pub moved_coming : (n : ℕ) (c : Cut) → (c.moving ++ take n c.owed) ++ drop n c.owed ≡ coming c
 moved_coming n c = append_assoc c.moving (take n c.owed) (drop n c.owed) ∙ ap (λ l. c.moving ++ l) (take-append-drop n c.owed)
 
-abbrev moves : ℕ → Cut → Cut
+abbrev pub moves : ℕ → Cut → Cut
 moves n c = record c { moving = c.moving ++ take n c.owed; owed = drop n c.owed }
 
 -- a cut that fits a way still fits it when owed octets have moved
@@ -120,13 +121,17 @@ far_held : (read : Reading) (f : Far) (text held more : List ℕ) (octet : ℕ) 
     → hears read (still f) held ≡ only_heard (still f) held
 far_held read f text held more octet is whole = (commands.line_is_heard read text (still f) is refl).cut held more octet whole
 
-module _ (read : Reading) (At After : Way → World → Type 0) (goes : Goes read At After) where
+module _ (read : Reading) (At After : Way → World → Type 0) (Cross : List ℕ → List Reply → World → Type 0) (goes : Goes read At After Cross) where
   abbrev pub Keeps : World → Type 0
   Keeps w = PlacedAt At w
 
   -- behind a turn of the server
   abbrev pub Leaves : World → Type 0
   Leaves w = PlacedAt After w
+
+  -- behind turns of the client, where a line may cross replies
+  abbrev pub Hears : World → Type 0
+  Hears w = Keeps w ⊎ Crossed Cross w
 
   -- ---- octets that move
 
@@ -223,13 +228,13 @@ module _ (read : Reading) (At After : Way → World → Type 0) (goes : Goes rea
     control_to_client = ys;
   }
 
-  -- a world whose client has heard octets of a row of replies stays placed
+  -- a world whose client has heard octets of a row of replies stays placed, or a line crosses the rest of the row
   row_heard : (rows : List Reply) (b : World) (held xs ys owed : List ℕ) → AreWritten rows → FlowsRow rows held (xs ++ (ys ++ owed)) → At (Answering rows) b
-      → Keeps (hearing b held xs ys owed)
+      → Hears (hearing b held xs ys owed)
   row_heard [] b held xs ys owed fine flow here =
       let none = both_empty xs (ys ++ owed) flow.1 in
       let empty = both_empty ys owed none.1 in
-      record {
+      inl (record {
         base = b;
         way = Answering [];
         cut = record { held = []; moving = []; owed = [] };
@@ -241,67 +246,85 @@ module _ (read : Reading) (At After : Way → World → Type 0) (goes : Goes rea
         };
         fits = (tt, (refl, refl));
         here = here;
-      }
+      })
   row_heard (reply ∷ more) b held xs ys owed fine flow here = elim (hears_some (reply_octets reply) held xs (ys ++ owed) (row_octets more) flow) [
-    | inl front ↦ record {
+    | inl front ↦ inl (record {
       base = b;
       way = Answering (reply ∷ more);
       cut = record { held = held ++ xs; moving = ys; owed = owed };
       is = ap (λ v. record (hearing b held xs ys owed) { near = v }) (sym (replies.in_pieces (calm b.near) held xs));
       fits = (fine, front);
       here = here;
-    }
+    })
     | inr all ↦ by_line (λ u more_xs flows at. row_heard more u [] more_xs ys owed fine.1 flows at) all (goes.told reply more b here)
   ]
     where
-      by_line : ((u : World) (more_xs : List ℕ) → FlowsRow more [] (more_xs ++ (ys ++ owed)) → At (Answering more) u → Keeps (hearing u [] more_xs ys owed))
-          → (all : IsAll (reply_octets reply) held xs (ys ++ owed) (row_octets more)) → ((t : NearTurn b.near reply more) × At (behind t.line more) (record b { near = t.near }))
-          → Keeps (hearing b held xs ys owed)
-      by_line others all next = by_turn next.0.line refl
+      -- the rest of a row is to come, of which nothing is held
+      again : (rows : List Reply) (all : IsAll (reply_octets reply) held xs (ys ++ owed) (row_octets rows)) → AreWritten rows → FlowsRow rows [] (all.more ++ (ys ++ owed))
+      again rows all fine = subst (FlowsRow rows []) (sym all.left) (row_anew rows fine)
+
+      -- the reply is heard, and then what is more
+      heard : (all : IsAll (reply_octets reply) held xs (ys ++ owed) (row_octets more)) (next : Near) → answered reply.code reply.lines (calm b.near) ≡ next
+          → near.hears (near.hears (calm b.near) held) xs ≡ near.hears next all.more
+      heard all next is =
+          ap (near.hears (near.hears (calm b.near) held)) all.heard
+          ∙ replies.in_pieces (near.hears (calm b.near) held) all.last all.more
+          ∙ ap (λ v. near.hears v all.more)
+          (sym (replies.in_pieces (calm b.near) held all.last) ∙ ap (near.hears (calm b.near)) all.whole
+          ∙ (replies.reply_is_heard reply.code reply.lines (calm b.near) fine.0 (record { ear = refl; gathered = refl })).whole ∙ is)
+
+      by_line : ((u : World) (more_xs : List ℕ) → FlowsRow more [] (more_xs ++ (ys ++ owed)) → At (Answering more) u → Hears (hearing u [] more_xs ys owed))
+          → (all : IsAll (reply_octets reply) held xs (ys ++ owed) (row_octets more))
+          → ((t : NearTurn b.near reply more) × At (behind t.line more) (record b { near = t.near })) ⊎ Crosses Cross b reply more
+          → Hears (hearing b held xs ys owed)
+      by_line others all (inr c) = inr (record {
+        base = record b { near = c.near };
+        text = c.text;
+        replies = more;
+        heard = all.more;
+        moving = ys;
+        owed = owed;
+        is = ap (λ v. record (hearing b held xs ys owed) { near = v }) (heard all (record (calm c.near) { owed = written_line c.text }) c.is);
+        fine = c.fine;
+        written = fine.1;
+        flows = again more all fine.1;
+        here = c.here;
+      })
+      by_line others all (inl next) = by_turn next.0.line refl
         where
           t : NearTurn b.near reply more
           t = next.0
 
-          heard : near.hears (near.hears (calm b.near) held) xs ≡ near.hears (record (calm t.near) { owed = line_octets t.line }) all.more
-          heard =
-              ap (near.hears (near.hears (calm b.near) held)) all.heard
-              ∙ replies.in_pieces (near.hears (calm b.near) held) all.last all.more
-              ∙ ap (λ v. near.hears v all.more)
-              (sym (replies.in_pieces (calm b.near) held all.last) ∙ ap (near.hears (calm b.near)) all.whole
-              ∙ (replies.reply_is_heard reply.code reply.lines (calm b.near) fine.0 (record { ear = refl; gathered = refl })).whole ∙ t.is)
-
-          by_turn : (line : Option (List ℕ)) → t.line ≡ line → Keeps (hearing b held xs ys owed)
+          by_turn : (line : Option (List ℕ)) → t.line ≡ line → Hears (hearing b held xs ys owed)
           by_turn None none =
               let is : hearing b held xs ys owed ≡ hearing (record b { near = t.near }) [] all.more ys owed =
-              ap (λ v. record (hearing b held xs ys owed) { near = v }) (heard ∙ ap (λ l. near.hears (record (calm t.near) { owed = line_octets l }) all.more) none) in
-              subst Keeps (sym is)
-              (others (record b { near = t.near }) all.more (again more fine.1 all.left)
+              ap (λ v. record (hearing b held xs ys owed) { near = v })
+              (heard all (record (calm t.near) { owed = line_octets t.line }) t.is ∙ ap (λ l. near.hears (record (calm t.near) { owed = line_octets l }) all.more) none) in
+              subst Hears (sym is)
+              (others (record b { near = t.near }) all.more (again more all fine.1)
               (subst (λ l. At (behind l more) (record b { near = t.near })) none next.1))
-            where
-              again : (rows : List Reply) → AreWritten rows → all.more ++ (ys ++ owed) ≡ row_octets rows → FlowsRow rows [] (all.more ++ (ys ++ owed))
-              again rows fine left = subst (FlowsRow rows []) (sym left) (row_anew rows fine)
           by_turn (Some text) some =
               let alone : IsLine text × (more ≡ []) = subst (λ l. IsAlone l more) some t.fine in
               let none = both_empty all.more (ys ++ owed) (all.left ∙ ap row_octets alone.1) in
               let empty = both_empty ys owed none.1 in
               let near : near.hears (near.hears (calm b.near) held) xs ≡ record (calm t.near) { owed = written_line text } =
-              heard ∙ (λ i. near.hears (record (calm t.near) { owed = line_octets (some i) }) (none.0 i)) in
-              record {
+              heard all (record (calm t.near) { owed = line_octets t.line }) t.is ∙ (λ i. near.hears (record (calm t.near) { owed = line_octets (some i) }) (none.0 i)) in
+              inl (record {
                 base = record b { near = t.near };
                 way = Asking text;
                 cut = record { held = []; moving = []; owed = written_line text };
                 is = λ i. record b { near = near i; far = record (still b.far) { owed = empty.1 i }; control_to_server = []; control_to_client = empty.0 i };
                 fits = (alone.0, subst (λ l. Flows (written_line text) [] l []) (append-nil (written_line text)) (anew (written_line text) [] (line_is_some text)));
                 here = subst (λ l. At (behind l more) (record b { near = t.near })) some next.1;
-              }
+              })
 
-  -- a world of a way and a cut that fit stays placed when the client has heard octets
-  pushes_to_client_at : (n : ℕ) (b : World) (way : Way) (c : Cut) → Fits way c → At way b → Keeps (pushed read ControlToClient n (world_at b way c))
+  -- a world of a way and a cut that fit stays placed when the client has heard octets, or a line crosses replies
+  pushes_to_client_at : (n : ℕ) (b : World) (way : Way) (c : Cut) → Fits way c → At way b → Hears (pushed read ControlToClient n (world_at b way c))
   pushes_to_client_at n b (Asking text) c fits here =
-      record { base = b; way = Asking text; cut = c; is = no_push_to_client read n (world_at b (Asking text) c) refl; fits = fits; here = here }
+      inl (record { base = b; way = Asking text; cut = c; is = no_push_to_client read n (world_at b (Asking text) c) refl; fits = fits; here = here })
   pushes_to_client_at n b (Answering rows) c fits here =
       row_heard rows b c.held (take n c.moving) (drop n c.moving) c.owed fits.0 (subst (FlowsRow rows c.held) (pushed_coming n c) fits.1) here
 
   -- so does every placed world when the client has heard octets
-  pub pushes_to_client : (n : ℕ) (w : World) → Keeps w → Keeps (pushed read ControlToClient n w)
-  pushes_to_client n w s = subst (λ u. Keeps (pushed read ControlToClient n u)) (sym s.is) (pushes_to_client_at n s.base s.way s.cut s.fits s.here)
+  pub pushes_to_client : (n : ℕ) (w : World) → Keeps w → Hears (pushed read ControlToClient n w)
+  pushes_to_client n w s = subst (λ u. Hears (pushed read ControlToClient n u)) (sym s.is) (pushes_to_client_at n s.base s.way s.cut s.fits s.here)

@@ -38,7 +38,7 @@ pub never : (b : Bool) → b ≡ true → b ≡ false → ⊥
 never b is other = let e : true ≡ false = sym is ∙ other in cc
 
 -- of octets that are to come some are in the queue, or it is empty and some are owed
-some_octets : (moving owed : List ℕ) (octet : ℕ) (more : List ℕ) → moving ++ owed ≡ octet ∷ more
+pub some_octets : (moving owed : List ℕ) (octet : ℕ) (more : List ℕ) → moving ++ owed ≡ octet ∷ more
     → ((moving ≡ []) × (has_octets owed ≡ true)) ⊎ (has_octets moving ≡ true)
 some_octets [] owed octet more is = inl (refl, ap has_octets is)
 some_octets (x ∷ moving) owed octet more is = inr refl

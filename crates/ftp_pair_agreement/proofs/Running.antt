@@ -18,7 +18,7 @@ use Rattle.ftp_pair_dialogues.specs.Dialogue.{HasNoTransfer}
 use Rattle.ftp_pair_dialogues.specs.Fetches.{IsFetch}
 use Rattle.ftp_pair_agreement.specs.Follows.{IsFree, IsUnder, IsLinked, Phase, Follows}
 use Rattle.ftp_pair_agreement.specs.Laws.{IsPlain, ArePlain}
-use Rattle.ftp_pair_agreement.specs.Runs.{IsFetchingOn, IsTrailing, Runs}
+use Rattle.ftp_pair_agreement.specs.Runs.{IsFetchingOn, IsHaltingOn, IsTrailing, Runs}
 use Rattle.ftp_pair_agreement.proofs.Asks.{IsAskOf, ask_of}
 use Rattle.ftp_pair_agreement.proofs.Begins.{begins_free}
 use Rattle.ftp_pair_agreement.proofs.Deliveries.{taken_at}
@@ -29,6 +29,8 @@ use Rattle.ftp_pair_agreement.proofs.FetchRuns.{fetching_on_taken, fetch_deliver
 use Rattle.ftp_pair_agreement.proofs.FetchWants.{flows_or_none, gives_none, lasting_busy}
 use Rattle.ftp_pair_agreement.proofs.FetchTold.{closed_is, trailing_ends, trailing_breaks}
 use Rattle.ftp_pair_agreement.proofs.Parting.{begins_lost}
+use Rattle.ftp_pair_agreement.proofs.PeekParting.{halting_parts}
+use Rattle.ftp_pair_agreement.proofs.PeekRuns.{halt_asks_none, halt_busy, halt_delivers_client, halt_delivers_data, halt_delivers_server, halt_gives_none, halting_breaks, halting_ends, halting_on_taken, halting_taken}
 use Rattle.ftp_pair_agreement.proofs.Unsendable.{upload_free, upload_lost}
 
 -- what is lent is of no matter
@@ -163,6 +165,32 @@ module _ (read : Reading) (reads : IsReading read) (from : State) where
     trails_happen (Next op moment) plain e = absurd plain
     trails_happen (Upload upload moment) plain e = absurd plain
 
+  -- ---- a Peek has sent ABOR
+
+  -- whatever happens that begins nothing keeps what was begun running
+  halts_happen : (begun : List Order) (event : Event) (w new : World) → IsNoBeginning event → IsHaltingOn from begun w → Happens read event w true new → Holds begun new
+  halts_happen begun (Deliver ControlToServer count) w new plain on e = halt_delivers_server read reads from begun _ count _ new (halting_taken read reads from begun [] w on.halting) e.1
+  halts_happen begun (Deliver ControlToClient count) w new plain on e = halt_delivers_client read reads from begun _ count _ new (halting_taken read reads from begun [] w on.halting) e.1
+  halts_happen begun (Deliver DataToServer count) w new plain on e =
+      let f = on.halting in
+      let none = halt_gives_none f.now f.ask f.own w f.stands in
+      absurd (never (can_happen (Deliver DataToServer count) w) (both_false (near.to_give w.near) w.data_to_server _ (not (count == 0)) _ none.due none.queue) e.0)
+  halts_happen begun (Deliver DataToClient count) w new plain on e = halt_delivers_data read reads from begun _ count _ new (halting_taken read reads from begun [] w on.halting) e.1
+  halts_happen begun Open w new plain on e = let f = on.halting in absurd (never _ (halt_asks_none f.now f.ask f.own w f.stands) e.0)
+  halts_happen begun Refuse w new plain on e = let f = on.halting in absurd (never _ (halt_asks_none f.now f.ask f.own w f.stands) e.0)
+  halts_happen begun (End ControlToServer) w new plain on e = absurd (never _ (rw (ap is_left_by_near on.halting.linked.control) refl) e.0)
+  halts_happen begun (End ControlToClient) w new plain on e = absurd (never _ (rw (ap is_left_by_far on.halting.linked.control) refl) e.0)
+  halts_happen begun (End DataToServer) w new plain on e = let f = on.halting in absurd (never _ (rw (halt_gives_none f.now f.ask f.own w f.stands).closed refl) e.0)
+  halts_happen begun (End DataToClient) w new plain on e =
+      let left = three_parts (is_closed_by_far w.link) (not (has_octets w.data_to_client)) _ e.0 in
+      subst (Holds begun) (sym e.1) (halting_ends read reads from begun (record w { taken = [] }) (halting_on_taken read reads from begun [] w on) left.0)
+  halts_happen begun Break w new plain on e =
+      subst (Holds begun) (sym e.1) (halting_breaks read reads from begun (record w { taken = [] }) (halting_on_taken read reads from begun [] w on) (not_so (is_gone w.link) e.0))
+  halts_happen begun EndControl w new plain on e =
+      subst (Holds begun) (sym e.1) (inl (halting_parts from begun (record w { taken = [] }) (halting_on_taken read reads from begun [] w on) read))
+  halts_happen begun (Next op moment) w new plain on e = absurd plain
+  halts_happen begun (Upload upload moment) w new plain on e = absurd plain
+
   -- ---- every event
 
   -- an event that begins nothing keeps what was begun running
@@ -179,7 +207,8 @@ module _ (read : Reading) (reads : IsReading read) (from : State) where
       nothing_begun (Next op moment) plain = absurd plain
       nothing_begun (Upload upload moment) plain = absurd plain
   other_happens begun event w new plain (inr (inl on)) e = on_happens begun event w new plain on e
-  other_happens begun event w new plain (inr (inr t)) e = trails_happen begun w new t event plain e
+  other_happens begun event w new plain (inr (inr (inl t))) e = trails_happen begun w new t event plain e
+  other_happens begun event w new plain (inr (inr (inr on))) e = halts_happen begun event w new plain on e
 
   -- an operation begins where none is under way
   free_begins : (begun : List Order) (op : Op (List ℕ)) (moment : ℕ) (u : World) → IsPlain (Next op moment) → (h : Follows read from begun u) → IsLinked u → IsFree from begun u
@@ -209,6 +238,12 @@ module _ (read : Reading) (reads : IsReading read) (from : State) where
       let f = on.fetching in
       never (can_begin w) (ap (λ (b : Bool). not b && is_gone w.link && not (is_asked_for w)) (lasting_busy read f.now f.ask f.is_ask.plan f.own w f.stands on.lasts)) can
 
+  -- nothing begins while a Peek has sent ABOR
+  halts_on : (begun : List Order) (w : World) → IsHaltingOn from begun w → IsTrue (can_begin w) → ⊥
+  halts_on begun w on can =
+      let f = on.halting in
+      never (can_begin w) (ap (λ (b : Bool). not b && is_gone w.link && not (is_asked_for w)) (halt_busy f.now f.ask f.own w f.stands)) can
+
   -- nothing begins while a closed link trails
   trails_on : (begun : List Order) (w : World) → IsTrailing from begun w → IsTrue (can_begin w) → ⊥
   trails_on begun w t can = never (can_begin w) (ap can_begin (closed_is read reads from begun w t)) can
@@ -226,7 +261,8 @@ module _ (read : Reading) (reads : IsReading read) (from : State) where
       by_phase u h can (inl (l, inr under)) = absurd (under_way begun u under can)
       by_phase u h can (inr l) = inl (begins_lost read from begun op moment u h.unlinked l)
   next_runs begun op moment w new plain (inr (inl on)) e = absurd (fetch_under_way begun w on e.0)
-  next_runs begun op moment w new plain (inr (inr t)) e = absurd (trails_on begun w t e.0)
+  next_runs begun op moment w new plain (inr (inr (inl t))) e = absurd (trails_on begun w t e.0)
+  next_runs begun op moment w new plain (inr (inr (inr on))) e = absurd (halts_on begun w on e.0)
 
   -- an upload over breaks that can't be sent
   upload_runs : (begun : List Order) (upload : OverBreaks) (moment : ℕ) (w new : World) → IsPlain (Upload upload moment) → Holds begun w → Happens read (Upload upload moment) w true new
@@ -242,7 +278,8 @@ module _ (read : Reading) (reads : IsReading read) (from : State) where
       by_phase u h can (inl (l, inr under)) = absurd (under_way begun u under can)
       by_phase u h can (inr l) = upload_lost read reads from begun upload moment plain u h.unlinked l
   upload_runs begun upload moment w new plain (inr (inl on)) e = absurd (fetch_under_way begun w on e.0)
-  upload_runs begun upload moment w new plain (inr (inr t)) e = absurd (trails_on begun w t e.0)
+  upload_runs begun upload moment w new plain (inr (inr (inl t))) e = absurd (trails_on begun w t e.0)
+  upload_runs begun upload moment w new plain (inr (inr (inr on))) e = absurd (halts_on begun w on e.0)
 
   -- what was begun with nothing added is what was begun
   same : (begun : List Order) (w : World) → Holds begun w → Holds (begun ++ []) w

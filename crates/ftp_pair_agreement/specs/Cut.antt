@@ -1,9 +1,10 @@
 -- A world as a stage and a cut: the ends and what is on its way over the control connection, and where its octets are.
-use Rattle.std.specs.Prelude.{◌≡◌, ℕ, List, [], ◌∷◌, ◌++◌}
+use Rattle.std.specs.Prelude.{◌≡◌, ◌⊎◌, ℕ, List, [], ◌∷◌, ◌++◌}
 use Rattle.ftp_nvt.specs.Lines.{written_line}
 use Rattle.ftp_command.specs.Line.{IsLine}
 use Rattle.ftp_ends.specs.Reply.{Reply, reply_octets}
 use Rattle.ftp_client_model.specs.Calls as near
+use Rattle.ftp_client_model.specs.Dialogue.{answered}
 use Rattle.ftp_client_model.specs.View.{View as Near}
 use Rattle.ftp_server_model.specs.InFlight.{only_heard}
 use Rattle.ftp_server_model.specs.Machine.{Reading}
@@ -71,9 +72,37 @@ of_ends At way b = At way b.near b.far
 abbrev pub StandsAt : (Way → Near → Far → Type 0) → World → Type 0
 StandsAt At w = PlacedAt (of_ends At) w
 
--- each turn of an end leads to such a base again; behind a turn of the server it may be another, in which more is served before the client is told
-pub record Goes (read : Reading) (At After : Way → World → Type 0) : Type 0 where
+-- the client hears a reply and sends a line while these others are on their way, and that is so
+pub record Crosses (Cross : List ℕ → List Reply → World → Type 0) (b : World) (reply : Reply) (more : List Reply) : Type 0 where
+  pub near : Near
+  pub text : List ℕ
+  pub is : answered reply.code reply.lines (calm b.near) ≡ record (calm near) { owed = written_line text }
+  pub fine : IsLine text
+  pub here : Cross text more (record b { near = near })
+
+-- a world where a line was sent so, of which nothing has moved, and some octets of these replies were heard since
+pub record Crossed (Cross : List ℕ → List Reply → World → Type 0) (w : World) : Type 0 where
+  pub base : World
+  pub text : List ℕ
+  pub replies : List Reply
+  pub heard : List ℕ
+  pub moving : List ℕ
+  pub owed : List ℕ
+  pub is : w ≡ record base {
+    near = near.hears (record (calm base.near) { owed = written_line text }) heard;
+    far = record (still base.far) { owed = owed };
+    control_to_server = [];
+    control_to_client = moving;
+  }
+  pub fine : IsLine text
+  pub written : AreWritten replies
+  pub flows : FlowsRow replies [] (heard ++ (moving ++ owed))
+  pub here : Cross text replies base
+
+-- each turn of an end leads to such a base again; behind a turn of the server it may be another, in which more is served before the client is told;
+-- and behind one of the client a line may cross replies
+pub record Goes (read : Reading) (At After : Way → World → Type 0) (Cross : List ℕ → List Reply → World → Type 0) : Type 0 where
   pub held : (way : Way) (b : World) → At way b → After way b
   pub asked : (text : List ℕ) (b : World) → At (Asking text) b → (t : FarTurn read b.far text) × After (Answering t.replies) (record b { far = t.far })
   pub told : (reply : Reply) (more : List Reply) (b : World) → At (Answering (reply ∷ more)) b
-      → (t : NearTurn b.near reply more) × At (behind t.line more) (record b { near = t.near })
+      → ((t : NearTurn b.near reply more) × At (behind t.line more) (record b { near = t.near })) ⊎ Crosses Cross b reply more

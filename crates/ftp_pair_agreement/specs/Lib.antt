@@ -3,4 +3,6 @@ pub mod Cut
 pub mod Follows
 pub mod Laws
 pub mod Stages
+pub mod Crossing
+pub mod PeekStages
 pub mod Runs

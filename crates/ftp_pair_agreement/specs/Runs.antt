@@ -12,10 +12,11 @@ use Rattle.ftp_pair_dialogues.specs.Fetches.{Ask, HasPlan, IsAsk, linked, kept, 
 use Rattle.ftp_pair_dialogues.specs.Stage.{Way, rest}
 use Rattle.ftp_pair_agreement.specs.Cut.{PlacedAt}
 use Rattle.ftp_pair_agreement.specs.Follows.{Told, IsLinked, Follows}
+use Rattle.ftp_pair_agreement.specs.PeekStages.{AtHalt, is_halt_passing}
 use Rattle.ftp_pair_agreement.specs.Stages.{AtFetch, IsLasting, Fared}
 
--- a download or a listing is under way; these are the marks of its link
-pub record IsFetching (read : Reading) (from : State) (begun : List Order) (w : World) : Type 0 where
+-- what is asked for is under way, and that is so; these are the marks of its link
+pub record IsAsked (Stood : State → Ask → List Mark → World → Type 0) (from : State) (begun : List Order) (w : World) : Type 0 where
   pub done : List Order
   pub marks : List (List Mark)
   pub own : List Mark
@@ -28,12 +29,25 @@ pub record IsFetching (read : Reading) (from : State) (begun : List Order) (w : 
   pub is_ask : IsAsk ask
   pub told : Told from done marks None w.reports now
   pub linked : IsLinked w
-  pub stands : PlacedAt (λ way b. AtFetch now ask read own way b) w
+  pub stands : Stood now ask own w
+
+-- a download or a listing is under way
+abbrev pub IsFetching : Reading → State → List Order → World → Type 0
+IsFetching read from begun w = IsAsked (λ now ask own w. PlacedAt (λ way b. AtFetch now ask read own way b) w) from begun w
+
+-- a Peek has sent its ABOR
+abbrev pub IsHalting : State → List Order → World → Type 0
+IsHalting from begun w = IsAsked (λ now ask own w. AtHalt now ask own w) from begun w
 
 -- between two events
 pub record IsFetchingOn (read : Reading) (from : State) (begun : List Order) (w : World) : Type 0 where
   pub fetching : IsFetching read from begun w
   pub lasts : IsLasting fetching.now fetching.ask read fetching.own fetching.stands.way fetching.stands.base fetching.stands.here
+
+-- between two events
+pub record IsHaltingOn (from : State) (begun : List Order) (w : World) : Type 0 where
+  pub halting : IsHalting from begun w
+  pub lasts : is_halt_passing halting.stands.halt ≡ false
 
 -- both ends where the client has closed a link that the server had for no transfer yet
 pub record AtClosed (now : State) (way : Way) (b : World) : Type 0 where
@@ -66,4 +80,4 @@ pub record IsTrailing (from : State) (begun : List Order) (w : World) : Type 0 w
 
 -- one of these
 abbrev pub Runs : Reading → State → List Order → World → Type 0
-Runs read from begun w = Follows read from begun w ⊎ (IsFetchingOn read from begun w ⊎ IsTrailing from begun w)
+Runs read from begun w = Follows read from begun w ⊎ (IsFetchingOn read from begun w ⊎ (IsTrailing from begun w ⊎ IsHaltingOn from begun w))

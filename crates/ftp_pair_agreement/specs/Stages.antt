@@ -1,4 +1,4 @@
--- A world while a download or a listing is under way: a stage says what both ends hold of it, how the link stands and
+-- A world while a download or a listing is under way, of a Peek until it sends ABOR: a stage says what both ends hold of it, how the link stands and
 -- what is on its way (RFC 959, sections 3.2 to 3.5 and 4.1.2).
 use Rattle.std.specs.Prelude.{◌≡◌, ◌≢◌, ◌⊎◌, ℕ, ◌<◌, ◌≤◌, Bool, true, false, not, List, [], ◌∷◌, ◌++◌, length, Some, None}
 use mathlib.Core.Logic.{inl, inr}
@@ -36,7 +36,7 @@ use Rattle.ftp_pair_world.specs.Agreement.{Allows}
 use Rattle.ftp_pair_world.specs.Outcome.{Outcome, CanBe, did}
 use Rattle.ftp_pair_world.specs.World.{World, Link, Gone, Opened, ClosedByFar, Mark, Broken, Refused, counted}
 use Rattle.ftp_pair_dialogues.specs.Dialogue.{Passes, is_aside}
-use Rattle.ftp_pair_dialogues.specs.Fetches.{Ask, IsPlacedAt, busy, fetching, leaving, linked, asked_of, port_reply, rest_reply, giving_of, offset_pending, kept, IsSteady, Opens}
+use Rattle.ftp_pair_dialogues.specs.Fetches.{Ask, IsPlacedAt, busy, fetching, leaving, linked, asked_of, port_reply, rest_reply, giving_of, is_filled, offset_pending, kept, IsSteady, Opens}
 use Rattle.ftp_pair_dialogues.specs.Login.{IsOnWay}
 use Rattle.ftp_pair_dialogues.specs.Stage.{Way, Asking, Answering, rest}
 
@@ -425,6 +425,11 @@ module _ (state : State) (ask : Ask) where
   abbrev pub wire : List ℕ
   wire = ask.wire state
 
+  -- while the link is open, a client that has heard the 150 has not enough: it has sent no ABOR
+  abbrev pub IsShortAt : Heard → List ℕ → Type 0
+  IsShortAt NoReply came = Unit {0}
+  IsShortAt heard came = is_filled ask.op ask.settings came ≡ false
+
   -- a break leaves a front of the text
   abbrev pub IsCutAt : List ℕ → List ℕ → Type 0
   IsCutAt came queue = IsFront came wire × (queue ≡ [])
@@ -435,8 +440,8 @@ module _ (state : State) (ask : Ask) where
 
   -- the octets that came and those on their way, with those still to be given, are the text; where the link broke, those that came are a front of it
   abbrev pub Flows : Course → (came queue : List ℕ) → Type 0
-  Flows (Giving begun octet more) came queue = IsTaken × (came ++ (queue ++ octet ∷ more) ≡ wire)
-  Flows (Given heard left) came queue = IsTaken × (came ++ queue ≡ wire)
+  Flows (Giving begun octet more) came queue = IsTaken × (came ++ (queue ++ octet ∷ more) ≡ wire) × IsShortAt (heard_by begun) came
+  Flows (Given heard left) came queue = IsTaken × (came ++ queue ≡ wire) × IsShortAt heard came
   Flows (Ended begun true) came queue = IsTaken × (came ≡ wire) × (queue ≡ [])
   Flows (Ended begun false) came queue = IsTaken × IsCutAt came queue
   Flows (Severed begun) came queue = IsTaken × IsCutAt came queue

@@ -28,9 +28,9 @@ use Rattle.ftp_direct.specs.declared.refusal.Refusal.TheVariants as Refusals
 use Rattle.ftp_direct.specs.Direct.{State, file_of, offset_refusal, or_refused, place_at, refused_file, refused_there}
 use Rattle.ftp_direct.specs.Refusal.{code_of}
 use Rattle.ftp_client_model.specs.Dialogue.{answered, answers_once_over, endpoint_named, finishes_read, judged, judged_reply, last_job, passive_named, placed, port_named, sends, sends_abort, sends_if}
-use Rattle.ftp_client_model.specs.Octets.{flow_of, has_settled}
-use Rattle.ftp_client_model.specs.Plan.{asks_extended, count_of, from_kind, how_of, is_extended, offset_of, opening_of, passive_command, port_command, restart_command, step_behind_opening, step_by}
-use Rattle.ftp_client_model.specs.View.{View as Near, Transfer as ClientTransfer, Flow, Doing, Receiving, stands}
+use Rattle.ftp_client_model.specs.Octets.{flow_of}
+use Rattle.ftp_client_model.specs.Plan.{asks_extended, from_kind, how_of, is_extended, offset_of, opening_of, passive_command, port_command, restart_command, step_behind_opening, step_by}
+use Rattle.ftp_client_model.specs.View.{View as Near, Transfer as ClientTransfer, Doing, Receiving, stands}
 use Rattle.ftp_client_model.specs.declared.client.Abort.TheVariants as Aborts
 use Rattle.ftp_client_model.specs.declared.client.ClientLink.{ClientLink as NearConnection}
 use Rattle.ftp_client_model.specs.declared.client.ClientLink.TheVariants as NearData
@@ -57,7 +57,7 @@ use Rattle.ftp_server_model.specs.declared.session.Transfer.TheVariants as Trans
 use Rattle.ftp_server_model.specs.declared.session.Way.TheVariants as Ways
 use Rattle.ftp_pair_world.specs.Outcome.{mark_in}
 use Rattle.ftp_pair_dialogues.specs.Dialogue.{FarWaits, Passes, Stands, doing, resting}
-use Rattle.ftp_pair_dialogues.specs.Fetches.{Ask, HasPlan, HasRow, Opens, busy, fetching, leaving, opened_command, opened_job, asked_of, port_reply, rest_reply, giving_of, offset_pending, kept, IsSteady, download_ask, place_in_file}
+use Rattle.ftp_pair_dialogues.specs.Fetches.{Ask, HasPlan, HasRow, Opens, busy, fetching, flow_after, is_filled, leaving, opened_command, opened_job, asked_of, port_reply, rest_reply, giving_of, offset_pending, kept, IsSteady, download_ask, place_in_file}
 use Rattle.ftp_pair_dialogues.specs.Operations.{LeadsBy}
 use Rattle.ftp_pair_dialogues.specs.Stage.{calm, still, row_octets, FarTurn}
 use Rattle.ftp_pair_dialogues.proofs.Exchanges.{IsSent, with_session}
@@ -358,27 +358,25 @@ pub unaccepted : (op : Op (List ℕ)) (settings : Representation) (came : List �
 unfolding answered
 unaccepted op settings came port n texts = refl
 
--- while the link is open, of an operation that asks for all octets
-pub begins_open : (op : Op (List ℕ)) → count_of op ≡ None → (settings : Representation) (came : List ℕ) (n : Near) (texts : List ReplyText)
+-- while the link is open, and a Peek has not enough
+pub begins_open : (op : Op (List ℕ)) (settings : Representation) (came : List ℕ) → is_filled op settings came ≡ false → (n : Near) (texts : List ReplyText)
     → answered 150 texts (calm (busy (fetching op Replies.Nothing settings came) NearData.Open n))
     ≡ record (calm (busy (fetching op Replies.Begun settings came) NearData.Open n)) { owed = [] }
 unfolding answered
-begins_open op all settings came n texts =
-    let flow : Flow = Receiving (decoder_of settings came) (mark_in (no_octets settings) None came) in
-    let transfer : ClientTransfer = record { replied = Replies.Begun; abort = Aborts.Unsent; flow = flow } in
+begins_open op settings came short n texts =
+    let transfer : ClientTransfer = record { replied = Replies.Begun; abort = Aborts.Unsent; flow = flow_after settings came } in
     let v : Near = calm (busy (fetching op Replies.Begun settings came) NearData.Open n) in
-    ap (λ count. answers_once_over (if has_settled count flow then sends_abort op transfer v else v)) all
+    ap (λ (b : Bool). answers_once_over (if b then sends_abort op transfer v else v)) short
 
 -- a 226 while the link is open is kept as the final reply, and the link stays open
-pub ends_open : (op : Op (List ℕ)) → count_of op ≡ None → (settings : Representation) (came : List ℕ) (n : Near) (texts : List ReplyText)
+pub ends_open : (op : Op (List ℕ)) (settings : Representation) (came : List ℕ) → is_filled op settings came ≡ false → (n : Near) (texts : List ReplyText)
     → answered 226 texts (calm (busy (fetching op Replies.Begun settings came) NearData.Open n))
     ≡ record (calm (busy (fetching op (Replies.Final 226) settings came) NearData.Open n)) { owed = [] }
 unfolding answered
-ends_open op all settings came n texts =
-    let flow : Flow = Receiving (decoder_of settings came) (mark_in (no_octets settings) None came) in
-    let transfer : ClientTransfer = record { replied = Replies.Final 226; abort = Aborts.Unsent; flow = flow } in
+ends_open op settings came short n texts =
+    let transfer : ClientTransfer = record { replied = Replies.Final 226; abort = Aborts.Unsent; flow = flow_after settings came } in
     let v : Near = calm (busy (fetching op (Replies.Final 226) settings came) NearData.Open n) in
-    ap (λ count. answers_once_over (if has_settled count flow then sends_abort op transfer v else v)) all
+    ap (λ (b : Bool). answers_once_over (if b then sends_abort op transfer v else v)) short
 
 -- ---- the server: PORT
 
@@ -570,8 +568,8 @@ place_is (Some offset) text how s set = ap (λ settings. place_at (direct_of s) 
 
 -- a download has a plan: settings, offset, own command and flow of its operation are those asked for
 pub download_plan : (offset : Option ℕ) (text : List ℕ) (how : How) → HasPlan (download_ask offset text how)
-download_plan None text how = record { how_is = refl; asks = refl; offset_is = refl; own = refl; flow = refl; all = refl }
-download_plan (Some at) text how = record { how_is = refl; asks = refl; offset_is = refl; own = refl; flow = refl; all = refl }
+download_plan None text how = record { how_is = refl; asks = refl; offset_is = refl; own = refl; flow = refl }
+download_plan (Some at) text how = record { how_is = refl; asks = refl; offset_is = refl; own = refl; flow = refl }
 
 -- the command of a download can be carried, and the server acts on it as the direct run does, if path and offset are good
 pub download_row : (offset : Option ℕ) (text : List ℕ) (how : How) → IsPathText text → ((at : ℕ) → offset ≡ Some at → at < 10 ^ 18) → HasRow (download_ask offset text how)

@@ -14,6 +14,7 @@ pub mod Theorems
 pub mod Commuting
 pub mod PortTexts
 pub mod Fetching
+pub mod PeekTurns
 pub mod Refusing
 pub mod ListingTexts
 pub mod Listings

@@ -62,6 +62,7 @@ list_answer text how can = record {
       let d = decoder_of settings (listing_wire how.representation.mode (entry_lines all_facts (part state) (named_or_here state text))) in
       ap (λ (b : Bool). if b then content_answer (Ops.List text how) (ended d).content else cut_answer (Ops.List text how) (Receiving d mark)) gives.whole
       ∙ ap (λ content. option_map Entries (entries_value content)) gives.content ∙ ap (option_map Entries) (entries-back state (named_or_here state text) sound);
+  filled = λ state came sound none front filled. absurd (cc);
   no_upload = λ state. refl;
   sent_so = λ state none. record { start = 0; octets = listing_text state text; down = refl; text = refl };
 }
@@ -69,7 +70,7 @@ list_answer text how can = record {
 -- all that is so of a listing of entries
 pub list_is_ask : (text : List ℕ) (how : How) → can_be_sent (Ops.List text how) ≡ true → IsAsk (list_ask text how)
 list_is_ask text how can = record {
-  plan = record { how_is = refl; asks = refl; offset_is = refl; own = refl; flow = refl; all = refl };
+  plan = record { how_is = refl; asks = refl; offset_is = refl; own = refl; flow = refl };
   row = list_row text how can;
   answer = list_answer text how can;
 }
@@ -123,6 +124,7 @@ names_answer text how can = record {
       ap (λ (b : Bool). if b then content_answer (Ops.Names text how) (ended d).content else cut_answer (Ops.Names text how) (Receiving d mark)) gives.whole
       ∙ ap (λ content. option_map NameList (names_value content)) gives.content
       ∙ ap (option_map NameList) (names-back state (named_or_here state text) text sound (names_given text how can) (here_is_dir state text sound known));
+  filled = λ state came sound none front filled. absurd (cc);
   no_upload = λ state. refl;
   sent_so = λ state none. record { start = 0; octets = names_text state text; down = refl; text = refl };
 }
@@ -130,7 +132,7 @@ names_answer text how can = record {
 -- all that is so of a listing of names
 pub names_is_ask : (text : List ℕ) (how : How) → can_be_sent (Ops.Names text how) ≡ true → IsAsk (names_ask text how)
 names_is_ask text how can = record {
-  plan = record { how_is = refl; asks = refl; offset_is = refl; own = refl; flow = refl; all = refl };
+  plan = record { how_is = refl; asks = refl; offset_is = refl; own = refl; flow = refl };
   row = names_row text how can;
   answer = names_answer text how can;
 }

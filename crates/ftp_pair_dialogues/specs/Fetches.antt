@@ -1,10 +1,11 @@
--- A download or a listing: what both ends hold while it is under way (RFC 959, sections 3.2 to 3.5 and 4.1.2; RFC 2428; RFC 3659,
+-- A download, a Peek among them, or a listing: what both ends hold while it is under way (RFC 959, sections 3.2 to 3.5 and 4.1.2; RFC 2428; RFC 3659,
 -- sections 5 and 7).
 use Rattle.std.specs.Prelude.{◌≡◌, ◌⊎◌, ℕ, ◌<◌, ◌^◌, Bool, true, false, drop, List, [], ◌++◌, codes, decimal, Option, Some, None, if◌then◌else◌}
 use Rattle.std.specs.Option.{unwrap_or}
 use Rattle.ftp_command.specs.Line.{IsStated, IsTyped}
 use Rattle.ftp_command.specs.declared.command.Command.{Command}
 use Rattle.ftp_command.specs.declared.command.Command.TheVariants as Commands
+use Rattle.ftp_cutting.specs.Machine.{IsFront}
 use Rattle.ftp_endpoint.specs.Written.{IsTypedHost}
 use Rattle.ftp_endpoint.specs.declared.host.Host.{Host}
 use Rattle.ftp_wire.specs.Decoder.{no_octets, decoder_of}
@@ -22,9 +23,9 @@ use Rattle.ftp_tree.specs.Tree.{Table}
 use Rattle.ftp_direct.specs.declared.refusal.Refusal.{Refusal}
 use Rattle.ftp_direct.specs.Direct.{State, done, entries_in, file_of, named, named_or_here, names_for, offset_refusal, or_refused, part, place_at, refusal, refused_file, refused_there}
 use Rattle.ftp_client_model.specs.Dialogue.{judged}
-use Rattle.ftp_client_model.specs.Octets.{download_flow, flow_of, written}
+use Rattle.ftp_client_model.specs.Octets.{content_answer, download_flow, flow_of, has_enough, written}
 use Rattle.ftp_client_model.specs.Plan.{asked_settings, count_of, how_of, is_extended, listing_settings, offset_of, optional, own_command}
-use Rattle.ftp_client_model.specs.View.{View as Near, Job, Doing, Transferring, Told, Receiving}
+use Rattle.ftp_client_model.specs.View.{View as Near, Job, Doing, Transferring, Told, Flow, Receiving}
 use Rattle.ftp_client_model.specs.declared.client.Abort.TheVariants as Aborts
 use Rattle.ftp_client_model.specs.declared.client.ClientLink.{ClientLink as NearConnection}
 use Rattle.ftp_client_model.specs.declared.client.ClientLink.TheVariants as NearData
@@ -55,10 +56,11 @@ use Rattle.ftp_pair_dialogues.specs.Dialogue.{Ends, IsSound, is_aside}
 
 -- ---- what is asked for
 
--- a download of a file or a listing
+-- a download of a file, whole, from an offset on or of its first octets, or a listing
 abbrev pub IsFetch : Op (List ℕ) → Type 0
 IsFetch (Ops.Get text how) = Unit {0}
 IsFetch (Ops.GetFrom text offset how) = Unit {0}
+IsFetch (Ops.Peek text count how) = Unit {0}
 IsFetch (Ops.List text how) = Unit {0}
 IsFetch (Ops.Names text how) = Unit {0}
 IsFetch other = ⊥
@@ -82,10 +84,18 @@ pub record Ask : Type 0 where
 abbrev pub busy : Job → NearConnection → Near → Near
 busy job connection n = record n { standing = Standings.Entered; job = job; run = None; connection = connection; closing = false }
 
+-- what the client holds of octets that came
+abbrev pub flow_after : Representation → List ℕ → Flow
+flow_after settings came = Receiving (decoder_of settings came) (mark_in (no_octets settings) None came)
+
+-- a Peek has all octets that it asked for
+abbrev pub is_filled : Op (List ℕ) → Representation → List ℕ → Bool
+is_filled op settings came = has_enough op (flow_after settings came)
+
 -- the job whose command was sent: replies that came, and octets that came
 abbrev pub fetching : Op (List ℕ) → Replied → Representation → List ℕ → Job
 fetching op replied settings came =
-    Transferring op (record { replied = replied; abort = Aborts.Unsent; flow = Receiving (decoder_of settings came) (mark_in (no_octets settings) None came) })
+    Transferring op (record { replied = replied; abort = Aborts.Unsent; flow = flow_after settings came })
 
 -- it has told this, and its link is to be closed or not
 abbrev pub leaving : Said → Bool → Near → Near
@@ -282,7 +292,6 @@ pub record HasPlan (ask : Ask) : Type 0 where
   pub offset_is : offset_of ask.op ≡ ask.offset
   pub own : own_command ask.op ≡ ask.command
   pub flow : flow_of ask.op ≡ Some (download_flow ask.settings)
-  pub all : count_of ask.op ≡ None
 
 -- the server reads its commands, and acts on the own one so in these settings
 pub record HasRow (ask : Ask) : Type 0 where
@@ -302,10 +311,10 @@ IsPlacedAt settings (Some at) = offset_refusal at (how_in_force settings) ≡ No
 pub record IsKnownText (ask : Ask) (state : State) : Type 0 where
   pub start : ℕ
   pub octets : List ℕ
-  pub down : download_of state ask.op ≡ Some (fetched ask.settings start octets)
+  pub down : download_of state ask.op ≡ Some (record (fetched ask.settings start octets) { asked = count_of ask.op })
   pub text : written (has_markers ask.settings) ask.settings start octets ≡ ask.wire state
 
--- the direct run refuses it or answers so, and the client reads that answer out of the whole octets
+-- the direct run refuses it or answers so, and the client reads that answer out of the whole octets, and a Peek out of a front of them that is enough
 pub record HasAnswer (ask : Ask) : Type 0 where
   pub can : can_be_sent ask.op ≡ true
   pub refused : (state : State) → IsPlacedAt ask.settings ask.offset → refusal state ask.op ≡ ask.why state
@@ -314,6 +323,8 @@ pub record HasAnswer (ask : Ask) : Type 0 where
   pub done_so : (state : State) (moment : ℕ) → done state ask.op moment ≡ (ask.said state, state)
   pub whole : (state : State) (mark : Option ℕ) → IsSound state → state.known ≡ true → ask.why state ≡ None
       → judged Endings.Clean Aborts.Unsent 226 ask.op (Receiving (decoder_of ask.settings (ask.wire state)) mark) ≡ Some (ask.said state)
+  pub filled : (state : State) (came : List ℕ) → IsSound state → ask.why state ≡ None → IsFront came (ask.wire state)
+      → is_filled ask.op ask.settings came ≡ true → content_answer ask.op (decoder_of ask.settings came).content ≡ Some (ask.said state)
   pub no_upload : (state : State) → upload_of state ask.op ≡ None
   pub sent_so : (state : State) → ask.why state ≡ None → IsKnownText ask state
 

@@ -6,3 +6,4 @@ pub mod Login
 pub mod Laws
 pub mod Downloads
 pub mod Fetches
+pub mod Peeks

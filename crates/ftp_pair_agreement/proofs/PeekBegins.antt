@@ -1,0 +1,40 @@
+-- A Peek comes to where it has enough, and sends its ABOR.
+use Rattle.std.proofs.Common.{◌≡◌, ℕ, true, List, []}
+use Rattle.ftp_cutting.specs.Machine.{IsFront}
+use Rattle.ftp_operation.specs.Answer.{Said}
+use Rattle.ftp_direct.specs.Direct.{State}
+use Rattle.ftp_server_model.specs.declared.session.Pending.TheVariants as Pendings
+use Rattle.ftp_pair_world.specs.World.{World, Mark}
+use Rattle.ftp_pair_dialogues.specs.Dialogue.{IsSound}
+use Rattle.ftp_pair_dialogues.specs.Fetches.{Ask, IsAsk, IsSteady, is_filled, kept, linked}
+use Rattle.ftp_pair_agreement.specs.Crossing.{AreCut, Cuts, crossing_at}
+use Rattle.ftp_pair_agreement.specs.PeekStages.{AtHalt, Halt, Halts, MarksFit, QueueFits, halt_asked, halt_far, halt_near, halt_rows, halt_tie}
+use Rattle.ftp_pair_agreement.specs.Stages.{IsTaken, is_parting, link_of}
+use Rattle.ftp_pair_agreement.proofs.Fates.{said_fares}
+
+-- both ends where ABOR was sent, behind octets that are a front of the text and enough
+pub halts_at : (state : State) (ask : Ask) (good : IsAsk ask) (sound : IsSound state) (own : List Mark) (halt : Halt) (came queue : List ℕ) (b : World)
+    → b.near ≡ halt_near state ask halt came b.near
+    → b.far.session ≡ linked (halt_far ask.listed halt) (is_parting (halt_tie halt)) Pendings.Nothing b.far.session → IsSteady state (kept b.near b.far)
+    → state.known ≡ true
+    → b.link ≡ link_of (halt_tie halt) → b.data_to_server ≡ [] → b.data_to_client ≡ queue → QueueFits halt queue → MarksFit halt own → IsTaken state ask
+    → IsFront came (ask.wire state) → is_filled ask.op ask.settings came ≡ true → Halts state ask own halt (ask.said state) came queue b
+halts_at state ask good sound own halt came queue b near session steady known link to_server to_client empty marked taken front enough = record {
+  near = near;
+  session = session;
+  steady = steady;
+  link = link;
+  to_server = to_server;
+  to_client = to_client;
+  empty = empty;
+  marked = marked;
+  settled = good.answer.filled state came sound taken.0 front enough;
+  fares = λ any. said_fares state ask good any known taken.1;
+}
+
+-- a world where it stands so, with a cut that fits
+pub halt_at : (state : State) (ask : Ask) (own : List Mark) (w : World) (halt : Halt) (said : Said) (came queue : List ℕ) (b : World) (c : Cuts)
+    → w ≡ crossing_at b c
+    → AreCut (halt_asked halt) (halt_rows halt) c → Halts state ask own halt said came queue b → AtHalt state ask own w
+halt_at state ask own w halt said came queue b c is fits h =
+    record { halt = halt; said = said; came = came; queue = queue; base = b; cuts = c; is = is; fits = fits; here = h }
