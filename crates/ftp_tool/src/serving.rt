@@ -3,7 +3,7 @@ use crate::help;
 use crate::words::{Form, Subcommand, Word};
 use clap::ArgMatches;
 use ftp_tool_files::number_of;
-use ftp_tool_serve::{Log, Serving, Sessions};
+use ftp_tool_serve::{Limits, Log, Others, Serving, Sessions};
 
 /// The words of `serve`.
 pub const SERVE: Subcommand<'static> = Subcommand {
@@ -41,6 +41,31 @@ pub const SERVE: Subcommand<'static> = Subcommand {
             form: Form::Flag,
             help: "tells on standard error what sessions do, a line each",
         },
+        Word {
+            name: "keep",
+            form: Form::Flag,
+            help: "nobody else changes the folder: it is not looked at anew for each session",
+        },
+        Word {
+            name: "login",
+            form: Form::Else("SECONDS", "30"),
+            help: "ends a control connection on which nobody logged in for so long; 0: never",
+        },
+        Word {
+            name: "idle",
+            form: Form::Else("SECONDS", "300"),
+            help: "ends one without a command and without an octet of a transfer for so long; 0: never",
+        },
+        Word {
+            name: "idle-while-waited",
+            form: Form::Else("SECONDS", "15"),
+            help: "the same while another client waits to be served",
+        },
+        Word {
+            name: "passive-ports",
+            form: Form::Else("A-B", "49152-65535"),
+            help: "the ports of passive data connections, each tried in turn",
+        },
     ],
     options: &[],
 };
@@ -58,7 +83,29 @@ pub fn serving_of<'a>(words: &'a ArgMatches<'_>) -> Option<Serving<'a>> {
         } else {
             Log::Silent
         },
+        limits: Limits {
+            login: number_of(words.get_str("login")?)?,
+            idle: number_of(words.get_str("idle")?)?,
+            idle_while_waited: number_of(words.get_str("idle-while-waited")?)?,
+        },
+        passive: ports_of(words.get_str("passive-ports")?)?,
+        others: if words.get_flag("keep") {
+            Others::Keep
+        } else {
+            Others::Change
+        },
     })
+}
+
+/// The first port and the last; none where the last is before the first.
+fn ports_of(word: &str) -> Option<(u16, u16)> {
+    let (first, last) = word.split_once('-')?;
+    let first = u16::try_from(number_of(first)?).ok()?;
+    let last = u16::try_from(number_of(last)?).ok()?;
+    if first == 0 || last < first {
+        return None;
+    }
+    Some((first, last))
 }
 
 /// How many control connections a word says.

@@ -46,8 +46,8 @@ where
     }
 
     /// Waits at most so many milliseconds until the peer has ended the last data connection too.
-    pub(crate) fn finish(&mut self, millis: i32) {
-        self.ports.finish(millis);
+    pub(crate) fn finish(&mut self) {
+        self.ports.finish();
     }
 
     fn metered(&self, link: Link<'a>) -> MeteredLink<'a, R> {

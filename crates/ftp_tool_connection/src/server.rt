@@ -1,9 +1,8 @@
 // A control connection to a server: how it is opened, and how it ends.
-use ftp_tool_sockets::{GOODBYE_MILLIS, keep_alive, say_goodbye};
+use ftp_tool_sockets::{keep_alive, say_goodbye};
 use std::io;
 use std::io::Write;
 use std::net::{Net, TcpListener, TcpStream};
-use std::time::Duration;
 
 /// Which server is asked.
 #[derive(Clone, Copy)]
@@ -30,5 +29,5 @@ where
 pub(crate) fn leave(stream: &TcpStream) -> io::Result<()> {
     let mut writer = stream;
     writer.write_all(b"QUIT\r\n")?;
-    say_goodbye(stream, Duration::from_millis(u64::from(GOODBYE_MILLIS)))
+    say_goodbye(stream)
 }

@@ -11,7 +11,7 @@ use ftp_client_model::Near;
 use ftp_client_transfer::OperationTransfer;
 use ftp_endpoint::Host;
 use ftp_operation::Login;
-use ftp_tool_sockets::{GOODBYE_MILLIS, host_of};
+use ftp_tool_sockets::host_of;
 use std::alloc::Global;
 use std::env::Env;
 use std::fs::Files;
@@ -76,7 +76,7 @@ where
     let mut control = Control::new(Noticing::new(stream, noticed), stream);
     let done = play_between(rt.alloc(), hosts, login, &mut control, &mut ports, play);
     drop(control);
-    ports.finish(i32::from(GOODBYE_MILLIS));
+    ports.finish();
     noticed.add_opened(ports.opened());
     done
 }

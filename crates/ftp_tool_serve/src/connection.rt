@@ -9,7 +9,8 @@ use ftp_server_drive::{Control, drive_server};
 use ftp_server_model::Far;
 use ftp_server_transfer::TreeTransfer;
 use ftp_tool_sockets::{
-    ControlReader, GOODBYE_MILLIS, SocketPorts, SystemWatch, host_of, keep_alive, say_goodbye,
+    ControlReader, ControlWriter, PassivePorts, Patience, SocketPorts, SystemWatch, host_of,
+    keep_alive, say_goodbye,
 };
 use ftp_tree::Tree;
 use ftp_tree_folder::Reasons;
@@ -17,7 +18,7 @@ use std::alloc::{AllocError, Global};
 use std::io;
 use std::io::Eprint;
 use std::net::{Net, SocketAddr, TcpListener, TcpStream};
-use std::time::{Clock, Duration};
+use std::time::Clock;
 
 /// The host of a control connection that the client reached, and the client's address.
 fn ends_of(stream: &TcpStream) -> io::Result<(Host, SocketAddr)> {
@@ -26,29 +27,30 @@ fn ends_of(stream: &TcpStream) -> io::Result<(Host, SocketAddr)> {
     Ok((host_of(stream.local_addr()?), stream.peer_addr()?))
 }
 
+/// What a session needs of whoever serves it.
+#[derive(Clone, Copy)]
+pub struct Service<'a> {
+    pub log: Log,
+    /// Why a change of the tree's folder failed.
+    pub reasons: &'a Reasons,
+    pub patience: &'a Patience<'a>,
+    pub passive: &'a PassivePorts,
+}
+
 /// Serves one control connection over a tree, and gives the tree back and whether no read, no write and no growth outside of the server failed.
-/// Why a change of the tree's folder failed is told from `reasons`.
 pub fn session<R, T>(
     rt: &R,
     tree: T,
     accounts: Accounts<Global>,
     stream: &TcpStream,
-    log: Log,
-    reasons: &Reasons,
+    service: Service<'_>,
 ) -> (T, Result<(), Failed>)
 where
     R: Net<Listener = TcpListener, Stream = TcpStream> + Clock + Eprint + AllocGlobal,
     T: Tree<Global>,
 {
     match ends_of(stream) {
-        Ok((here, peer)) => session_between(
-            rt,
-            tree,
-            accounts,
-            stream,
-            (here, peer),
-            (log, reasons),
-        ),
+        Ok(ends) => session_between(rt, tree, accounts, stream, ends, service),
         Err(_) => (tree, Err(Failed)),
     }
 }
@@ -60,7 +62,7 @@ fn session_between<R, T>(
     accounts: Accounts<Global>,
     stream: &TcpStream,
     (here, peer): (Host, SocketAddr),
-    telling: (Log, &Reasons),
+    service: Service<'_>,
 ) -> (T, Result<(), Failed>)
 where
     R: Net<Listener = TcpListener, Stream = TcpStream> + Clock + Eprint + AllocGlobal,
@@ -74,7 +76,7 @@ where
         host_of(peer),
     );
     match made {
-        Ok(server) => session_by(rt, server, stream, peer, telling),
+        Ok(server) => session_by(rt, server, stream, peer, service),
         Err(back) => (back.tree, Err(Failed)),
     }
 }
@@ -85,15 +87,15 @@ fn session_by<R, T>(
     server: Server<Global, T, TreeTransfer<Global>>,
     stream: &TcpStream,
     peer: SocketAddr,
-    (log, reasons): (Log, &Reasons),
+    service: Service<'_>,
 ) -> (T, Result<(), Failed>)
 where
     R: Net<Listener = TcpListener, Stream = TcpStream> + Clock + Eprint + AllocGlobal,
     T: Tree<Global>,
 {
     let mut server = server;
-    let ended = match Journal::new(rt, log, peer, reasons) {
-        Ok(journal) => connected(rt, &mut server, stream, &journal),
+    let ended = match Journal::new(rt, service.log, peer, service.reasons, service.patience) {
+        Ok(journal) => connected(rt, &mut server, stream, &journal, service),
         Err(AllocError) => Err(Failed),
     };
     (server.into_tree(), ended)
@@ -105,14 +107,15 @@ fn connected<'a, R, T, F>(
     server: &mut F,
     stream: &'a TcpStream,
     journal: &'a Journal<'a, R>,
+    service: Service<'a>,
 ) -> Result<(), Failed>
 where
     R: Net<Listener = TcpListener, Stream = TcpStream> + Clock + Eprint + AllocGlobal,
     T: Tree<Global>,
     F: Far<Global, T>,
 {
-    match SocketPorts::new(rt, stream) {
-        Ok(ports) => driven(rt, server, stream, ports, journal),
+    match SocketPorts::new(rt, stream, service.patience, service.passive) {
+        Ok(ports) => driven(rt, server, stream, ports, journal, service.patience),
         Err(_) => Err(Failed),
     }
 }
@@ -124,6 +127,7 @@ fn driven<'a, R, T, F>(
     stream: &'a TcpStream,
     ports: SocketPorts<'a, R>,
     journal: &'a Journal<'a, R>,
+    patience: &'a Patience<'a>,
 ) -> Result<(), Failed>
 where
     R: Net<Listener = TcpListener, Stream = TcpStream> + Clock + Eprint + AllocGlobal,
@@ -132,21 +136,24 @@ where
 {
     journal.note("begins");
     let reader = HeardReader {
-        inner: ControlReader::new(stream),
+        inner: ControlReader::new(stream, patience),
         journal,
     };
-    let writer = SaidWriter::new(stream, journal);
+    let writer = SaidWriter::new(ControlWriter::new(stream, patience), journal);
     let mut ports = CountedPorts {
         inner: ports,
         journal,
     };
     let mut control = Control::new(reader, writer);
     let ended = drive_server(server, &mut control, &mut ports, &mut SystemWatch::new(rt));
-    ports.inner.finish(i32::from(GOODBYE_MILLIS));
+    ports.inner.finish();
     if ended.is_ok() {
-        let _gone = say_goodbye(stream, Duration::from_millis(u64::from(GOODBYE_MILLIS)));
+        let _gone = say_goodbye(stream);
     }
     journal.finish();
-    journal.note(if ended.is_ok() { "ends" } else { "breaks off" });
-    ended
+    journal.end(ended.is_ok());
+    match patience.over() {
+        Some(_) => Ok(()),
+        None => ended,
+    }
 }

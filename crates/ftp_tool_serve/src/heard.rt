@@ -2,7 +2,7 @@
 use crate::journal::{Fate, Journal};
 use ftp_control::{Accepted, For, Ports, Ready, Spoken, Whole};
 use ftp_endpoint::Endpoint;
-use ftp_tool_sockets::{ControlReader, Link, SocketPorts};
+use ftp_tool_sockets::{ControlReader, ControlWriter, Link, SocketPorts};
 use std::io;
 use std::io::{Eprint, Read, Write};
 use std::net::{Net, TcpListener, TcpStream};
@@ -24,19 +24,19 @@ impl<'a, R: Clock + Eprint> Read for HeardReader<'a, R> {
     }
 }
 
-/// The writing side of a control connection. The journal is told what is said before it is written.
+/// The writing side of a control connection. The journal is told what is said before it is written; after refused logins that is slow.
 #[derive(Drop)]
 pub(crate) struct SaidWriter<'a, R: Clock + Eprint> {
-    stream: &'a TcpStream,
+    inner: ControlWriter<'a>,
     journal: &'a Journal<'a, R>,
     /// How many octets at the front of the next write were told already.
     told: usize,
 }
 
 impl<'a, R: Clock + Eprint> SaidWriter<'a, R> {
-    pub(crate) fn new(stream: &'a TcpStream, journal: &'a Journal<'a, R>) -> SaidWriter<'a, R> {
+    pub(crate) fn new(inner: ControlWriter<'a>, journal: &'a Journal<'a, R>) -> SaidWriter<'a, R> {
         SaidWriter {
-            stream,
+            inner,
             journal,
             told: 0,
         }
@@ -48,9 +48,11 @@ impl<'a, R: Clock + Eprint> Write for SaidWriter<'a, R> {
         let (_, fresh) = octets.split_at(self.told.min(octets.len()));
         self.journal.say(fresh);
         self.told = octets.len();
-        let mut stream = self.stream;
-        let count = stream.write(octets)?;
+        let count = self.inner.write(octets)?;
         self.told = octets.len().saturating_sub(count);
+        if self.told == 0 {
+            self.journal.written();
+        }
         Ok(count)
     }
 
@@ -66,19 +68,29 @@ pub(crate) struct CountedLink<'a, R: Clock + Eprint> {
     journal: &'a Journal<'a, R>,
 }
 
+impl<'a, R: Clock + Eprint> CountedLink<'a, R> {
+    /// Counts the octets of a read or a write, or notes that it failed.
+    fn note(&self, moved: &io::Result<usize>) {
+        match moved {
+            Ok(count) => self.journal.carry(*count),
+            Err(_) => self.journal.give_up(),
+        }
+    }
+}
+
 impl<'a, R: Clock + Eprint> Read for CountedLink<'a, R> {
     fn read(&mut self, room: &mut [u8]) -> io::Result<usize> {
-        let count = self.inner.read(room)?;
-        self.journal.carry(count);
-        Ok(count)
+        let read = self.inner.read(room);
+        self.note(&read);
+        read
     }
 }
 
 impl<'a, R: Clock + Eprint> Write for CountedLink<'a, R> {
     fn write(&mut self, octets: &[u8]) -> io::Result<usize> {
-        let count = self.inner.write(octets)?;
-        self.journal.carry(count);
-        Ok(count)
+        let written = self.inner.write(octets);
+        self.note(&written);
+        written
     }
 
     fn flush(&mut self) -> io::Result<()> {
@@ -109,7 +121,10 @@ impl<'a, R: Net<Listener = TcpListener, Stream = TcpStream> + Clock + Eprint> Po
         match self.inner.accept(hears) {
             Accepted::Came(inner, host) => Accepted::Came(CountedLink { inner, journal }, host),
             Accepted::Spoken => Accepted::Spoken,
-            Accepted::Refused => Accepted::Refused,
+            Accepted::Refused => {
+                journal.give_up();
+                Accepted::Refused
+            }
         }
     }
 
@@ -120,7 +135,11 @@ impl<'a, R: Net<Listener = TcpListener, Stream = TcpStream> + Clock + Eprint> Po
     }
 
     fn wait(&mut self, stream: &mut CountedLink<'a, R>, what: For, hears: bool) -> Ready {
-        self.inner.wait(&mut stream.inner, what, hears)
+        let ready = self.inner.wait(&mut stream.inner, what, hears);
+        if ready == Ready::Lost {
+            self.journal.give_up();
+        }
+        ready
     }
 
     fn spoken(&mut self) -> Spoken {

@@ -1,10 +1,11 @@
 // What is told of a session on standard error.
 use crate::line::Line;
+use crate::manner::{Manner, Pace};
 use crate::talk::{Answered, Talk};
 use crate::telling::{Asked, Guest, Quoted, tells};
 use ftp_control::Watch;
 use ftp_facts::moment_text;
-use ftp_tool_sockets::SystemWatch;
+use ftp_tool_sockets::{Over, Patience, SystemWatch, pause};
 use ftp_tree_folder::Reasons;
 use std::alloc::AllocError;
 use std::cell::{Cell, RefCell};
@@ -13,6 +14,9 @@ use std::io::Eprint;
 use std::net::SocketAddr;
 use std::time::Clock;
 use std::{fmt, io};
+
+/// How long an answer waits after refused logins, in milliseconds.
+const SLOW_MILLIS: u16 = 1_000;
 
 /// Whether sessions are told on standard error.
 #[derive(Clone, Copy, Debug, PartialEq, Eq)]
@@ -45,6 +49,8 @@ pub(crate) struct Journal<'a, R: Clock + Eprint> {
     log: Log,
     peer: SocketAddr,
     reasons: &'a Reasons,
+    patience: &'a Patience<'a>,
+    manner: Cell<Manner>,
     known: RefCell<Known>,
     moved: Cell<u64>,
     fate: Cell<Fate>,
@@ -56,6 +62,7 @@ impl<'a, R: Clock + Eprint + AllocGlobal> Journal<'a, R> {
         log: Log,
         peer: SocketAddr,
         reasons: &'a Reasons,
+        patience: &'a Patience<'a>,
     ) -> Result<Journal<'a, R>, AllocError> {
         let known = Known {
             talk: Talk::new(rt.alloc())?,
@@ -66,6 +73,8 @@ impl<'a, R: Clock + Eprint + AllocGlobal> Journal<'a, R> {
             log,
             peer,
             reasons,
+            patience,
+            manner: Cell::new(Manner::new()),
             known: RefCell::new(known),
             moved: Cell::new(0),
             fate: Cell::new(Fate::Ended),
@@ -83,11 +92,21 @@ impl<'a, R: Clock + Eprint> Journal<'a, R> {
         }
     }
 
+    /// Tells how a session ended, and why it was ended where the server did that.
+    pub(crate) fn end(&self, is_whole: bool) {
+        let ended = match self.patience.over() {
+            None if is_whole => "ends",
+            None => "breaks off",
+            Some(Over::Login) => "is ended: nobody logged in",
+            Some(Over::Idle) => "is ended: nothing was said or sent",
+            Some(Over::Waited) => "is ended: nothing was said or sent, and others wait",
+            Some(Over::Refused) => "is ended: ten logins were refused",
+        };
+        self.note(ended);
+    }
+
     /// The client said octets.
     pub(crate) fn hear(&self, octets: &[u8]) {
-        if self.log == Log::Silent {
-            return;
-        }
         if let Ok(mut known) = self.known.try_borrow_mut() {
             for octet in octets {
                 known.talk.hear(*octet);
@@ -97,14 +116,40 @@ impl<'a, R: Clock + Eprint> Journal<'a, R> {
 
     /// Octets are to be said to the client.
     pub(crate) fn say(&self, octets: &[u8]) {
-        if self.log == Log::Silent {
-            return;
-        }
         for octet in octets {
             if let Some(answered) = self.answered_by(*octet) {
+                self.judge(&answered);
                 self.tell(&answered);
             }
         }
+    }
+
+    /// Takes in how a login went; after some that were refused answers wait.
+    fn judge(&self, answered: &Answered) {
+        let Some(code) = answered.code else {
+            return;
+        };
+        let manner = self.manner.get().after(answered.asked.verb, code);
+        self.manner.set(manner);
+        if manner.logged_in {
+            self.patience.log_in();
+            return;
+        }
+        if manner.pace() != Pace::AtOnce {
+            pause(SLOW_MILLIS);
+        }
+    }
+
+    /// What was told was written: behind the last answer nothing more is heard.
+    pub(crate) fn written(&self) {
+        if self.manner.get().pace() == Pace::Last {
+            self.patience.end(Over::Refused);
+        }
+    }
+
+    /// A data connection, or the wait for one, was given up.
+    pub(crate) fn give_up(&self) {
+        self.patience.stir();
     }
 
     /// What is answered with an octet that is said.
@@ -154,6 +199,9 @@ impl<'a, R: Clock + Eprint> Journal<'a, R> {
 
     /// Tells a line, where it is one that is told.
     fn tell(&self, answered: &Answered) {
+        if self.log == Log::Silent {
+            return;
+        }
         let Some((guest, names)) = self.named(answered) else {
             return;
         };

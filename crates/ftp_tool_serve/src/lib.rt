@@ -5,12 +5,14 @@ mod connection;
 mod heard;
 mod journal;
 mod line;
+mod manner;
 mod serving;
 mod talk;
 mod telling;
 mod users;
 
-pub use connection::session;
+pub use connection::{Service, session};
+pub use ftp_tool_sockets::{Limits, PassivePorts, Patience};
 pub use journal::Log;
-pub use serving::{Serving, Sessions, serve};
+pub use serving::{Others, Serving, Sessions, serve};
 pub use users::users_of;

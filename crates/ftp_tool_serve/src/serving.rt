@@ -1,18 +1,21 @@
 // What the subcommand `serve` does.
-use crate::connection::session;
+use crate::connection::{Service, session};
 use crate::journal::Log;
 use crate::users::{roots_of, users_of};
-use ftp_control::TURNS;
+use ftp_control::{TURNS, Watch};
 use ftp_operation::Accounts;
+use ftp_tool_sockets::{Limits, PassivePorts, Patience, SystemWatch, pause};
 use ftp_tool_status::Status;
-use ftp_tree::Tree;
-use ftp_tree_folder::{Reasons, open};
+use ftp_tree_folder::{DiskFolder, LeftOut, Mirror, Reasons, Seen, open, reloaded};
 use std::alloc::Global;
 use std::fs::Files;
-use std::io;
 use std::io::{Eprint, Print};
 use std::net::{IpAddr, Net, SocketAddr, TcpListener, TcpStream};
 use std::time::Clock;
+use std::{fs, io};
+
+/// How long a client is waited for again where one could not be taken, in milliseconds.
+const AGAIN_MILLIS: u16 = 1_000;
 
 /// How many control connections are served.
 #[derive(Clone, Copy, Debug, PartialEq, Eq)]
@@ -44,6 +47,29 @@ pub struct Serving<'a> {
     /// The file of accounts, which is read anew for each session; none: `guest` and `anonymous`, and an address of the loopback alone.
     pub accounts: Option<&'a str>,
     pub log: Log,
+    /// How long clients are waited for.
+    pub limits: Limits,
+    /// The first and the last port of passive data connections.
+    pub passive: (u16, u16),
+    pub others: Others,
+}
+
+/// Whether anybody else changes the folder while it is served.
+#[derive(Clone, Copy, Debug, PartialEq, Eq)]
+pub enum Others {
+    /// Others may: each session begins with the folder as it is then.
+    Change,
+    /// Nobody does: what was loaded at the start is what stands there.
+    Keep,
+}
+
+/// What stays the same over all sessions.
+#[derive(Clone, Copy)]
+struct Desk<'a> {
+    job: Serving<'a>,
+    listener: &'a TcpListener,
+    reasons: &'a Reasons,
+    passive: &'a PassivePorts,
 }
 
 impl<'a> Serving<'a> {
@@ -109,7 +135,7 @@ where
     };
     let reasons = Reasons::new();
     match open(rt, job.dir, roots.as_slice(), &reasons) {
-        Ok(tree) => serve_tree(rt, tree, job, &reasons),
+        Ok(mirror) => serve_mirror(rt, mirror, job, &reasons),
         Err(fault) => {
             eprintln!(rt; "error: {fault}")?;
             Ok(Status::Failed)
@@ -117,8 +143,24 @@ where
     }
 }
 
-/// Listens at the port and serves a tree.
-fn serve_tree<R, T>(rt: &R, tree: T, job: Serving<'_>, reasons: &Reasons) -> io::Result<Status>
+/// Tries whether the folder can be written, where nobody is served: by an empty file of a name that no client can say.
+fn try_writing<R: Files + AllocGlobal>(rt: &R, job: Serving<'_>) -> io::Result<()> {
+    if job.sessions != Sessions::Count(0) {
+        return Ok(());
+    }
+    let dir = if job.dir.is_empty() { "." } else { job.dir };
+    let place = format!(in rt.alloc(); "{dir}/ftp-left-try\x7f")?;
+    fs::write(rt, place.as_str(), "")?;
+    fs::remove_file(rt, place.as_str())
+}
+
+/// Listens at the port and serves a folder.
+fn serve_mirror<'b, R>(
+    rt: &'b R,
+    mirror: Mirror<Global, DiskFolder<'_, &'b R>>,
+    job: Serving<'_>,
+    reasons: &Reasons,
+) -> io::Result<Status>
 where
     R: Net<Listener = TcpListener, Stream = TcpStream>
         + Files
@@ -126,12 +168,22 @@ where
         + Print
         + Eprint
         + AllocGlobal,
-    T: Tree<Global>,
 {
-    match listener_at(rt, job)? {
-        Some(listener) => Ok(serve_at(rt, &listener, tree, job, reasons)),
-        None => Ok(Status::Failed),
+    if let Err(error) = try_writing(rt, job) {
+        eprintln!(rt; "error: the folder can't be written: {error}")?;
+        return Ok(Status::Failed);
     }
+    let Some(listener) = listener_at(rt, job)? else {
+        return Ok(Status::Failed);
+    };
+    let passive = PassivePorts::new(job.passive.0, job.passive.1);
+    let desk = Desk {
+        job,
+        listener: &listener,
+        reasons,
+        passive: &passive,
+    };
+    Ok(serve_at(rt, mirror, desk))
 }
 
 /// Listens at the port, and tells where, or why not.
@@ -152,22 +204,20 @@ where
 }
 
 /// Serves control connections one after another; a session that failed counts, and makes the status a failure.
-fn serve_at<R, T>(
-    rt: &R,
-    listener: &TcpListener,
-    tree: T,
-    job: Serving<'_>,
-    reasons: &Reasons,
+fn serve_at<'b, R>(
+    rt: &'b R,
+    mirror: Mirror<Global, DiskFolder<'_, &'b R>>,
+    desk: Desk<'_>,
 ) -> Status
 where
     R: Net<Listener = TcpListener, Stream = TcpStream> + Files + Clock + Eprint + AllocGlobal,
-    T: Tree<Global>,
 {
-    let mut tree = tree;
+    let mut mirror = mirror;
+    let mut seen = Seen::nothing(rt.alloc());
     let mut status = Status::Done;
-    for _ in 0..job.sessions.turns() {
-        let (back, went) = next_session(rt, listener, tree, job, reasons);
-        tree = back;
+    for _ in 0..desk.job.sessions.turns() {
+        let (back, went) = next_session(rt, mirror, &mut seen, desk);
+        mirror = back;
         if !went {
             status = Status::Failed;
         }
@@ -175,41 +225,81 @@ where
     status
 }
 
-/// Serves the next control connection; gives the tree back, and whether all went well.
-fn next_session<R, T>(
-    rt: &R,
-    listener: &TcpListener,
-    tree: T,
-    job: Serving<'_>,
-    reasons: &Reasons,
-) -> (T, bool)
+/// Serves the next control connection; gives the folder's mirror back, and whether all went well.
+fn next_session<'a, 'b, R>(
+    rt: &'b R,
+    mirror: Mirror<Global, DiskFolder<'a, &'b R>>,
+    seen: &mut Seen,
+    desk: Desk<'_>,
+) -> (Mirror<Global, DiskFolder<'a, &'b R>>, bool)
 where
     R: Net<Listener = TcpListener, Stream = TcpStream> + Files + Clock + Eprint + AllocGlobal,
-    T: Tree<Global>,
 {
-    match listener.accept() {
-        Ok((stream, _)) => serve_stream(rt, &stream, tree, job, reasons),
-        Err(_) => (tree, false),
+    let Some(stream) = next_client(rt, desk.listener) else {
+        return (mirror, false);
+    };
+    let Some(accounts) = users_told(rt, desk.job.accounts) else {
+        return (mirror, false);
+    };
+    let mirror = looked_at(rt, mirror, seen, desk.job);
+    let patience = Patience::new(desk.job.limits, Some(desk.listener));
+    let service = Service {
+        log: desk.job.log,
+        reasons: desk.reasons,
+        patience: &patience,
+        passive: desk.passive,
+    };
+    let (mirror, ended) = session(rt, mirror, accounts, &stream, service);
+    (mirror, ended.is_ok())
+}
+
+/// The mirror of the folder as it is now, where others may change it. What of it can't be served is told.
+fn looked_at<'a, 'b, R>(
+    rt: &'b R,
+    mirror: Mirror<Global, DiskFolder<'a, &'b R>>,
+    seen: &mut Seen,
+    job: Serving<'_>,
+) -> Mirror<Global, DiskFolder<'a, &'b R>>
+where
+    R: Files + Clock + Eprint + AllocGlobal,
+{
+    if job.others == Others::Keep {
+        return mirror;
+    }
+    let Ok(roots) = roots_of(rt, job.accounts) else {
+        return mirror;
+    };
+    let now = SystemWatch::new(rt).moment().seconds;
+    let (mirror, left) = reloaded(&rt, job.dir, roots.as_slice(), mirror, seen, now);
+    tell_left(rt, &left);
+    mirror
+}
+
+/// Tells what of the folder is not served.
+fn tell_left<R: Eprint>(rt: &R, left: &LeftOut) {
+    if let Some(first) = &left.first {
+        let _told = eprintln!(rt;
+            "note: {} of the folder's entries are not served; the first is {first}",
+            left.count
+        );
     }
 }
 
-/// Serves a control connection; gives the tree back, and whether all went well.
-fn serve_stream<R, T>(
-    rt: &R,
-    stream: &TcpStream,
-    tree: T,
-    job: Serving<'_>,
-    reasons: &Reasons,
-) -> (T, bool)
-where
-    R: Net<Listener = TcpListener, Stream = TcpStream> + Files + Clock + Eprint + AllocGlobal,
-    T: Tree<Global>,
-{
-    match users_told(rt, job.accounts) {
-        Some(accounts) => {
-            let (tree, ended) = session(rt, tree, accounts, stream, job.log, reasons);
-            (tree, ended.is_ok())
+/// Waits for the next client. Where the system refuses to give one, that is told once, and tried again each second.
+fn next_client<R: Eprint>(rt: &R, listener: &TcpListener) -> Option<TcpStream> {
+    match listener.accept() {
+        Ok((stream, _)) => return Some(stream),
+        Err(error) => {
+            let _told = eprintln!(rt;
+                "error: no client can be taken: {error}; it is tried again each second"
+            );
         }
-        None => (tree, false),
     }
+    for _ in 0..TURNS {
+        pause(AGAIN_MILLIS);
+        if let Ok((stream, _)) = listener.accept() {
+            return Some(stream);
+        }
+    }
+    None
 }

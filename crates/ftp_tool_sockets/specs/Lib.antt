@@ -1,1 +1,2 @@
 pub mod Host
+pub mod Waiting

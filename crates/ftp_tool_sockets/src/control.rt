@@ -1,22 +1,27 @@
 // The reader of a control connection, which puts back the octet that urgent data hides (RFC 854; RFC 959, section 4.1.3).
-ghost use Rattle.std.specs.Prelude.{◌<◌, ◌≤◌, IfOk, length};
+ghost use Rattle.std.specs.Prelude.{◌≡◌, ◌<◌, ◌≤◌, IfOk, length};
+ghost use Rattle.ftp_tool_sockets.specs.Waiting.{hidden};
 
+use crate::patience::{Patience, Waited, monotonic_millis, piece_of};
+use crate::wait::{Polled, ask, asking};
+use ftp_control::TURNS;
 use libc::net as c;
-use libc::types::pollfd;
 use std::io;
-use std::io::Read;
+use std::io::{Error, ErrorKind, Read, Write};
 use std::net::{Shutdown, TcpStream};
-use std::os::fd::AsRawFd;
-use std::time::Duration;
 
-/// The most reads of octets that came behind the last reply.
-const LAST_READS: u32 = 64;
+/// How long a peer is waited for after the last reply, in milliseconds, in all.
+const LAST_MILLIS: u64 = 1_000;
+
+/// The most octets of one write: so many there is room for where a poll says that there is some.
+const REPLY_PIECE: usize = 1_024;
 
 /// Reads a control connection. The system takes an urgent octet out of what is read; behind CR it is taken for LF, and behind IAC for the
-/// data mark 242, so that an ABOR whose last octet is urgent is a line, and a Synch is whole.
+/// data mark 242, so that an ABOR whose last octet is urgent is a line, and a Synch is whole. Where patience is over, the connection has ended.
 #[derive(Drop)]
 pub struct ControlReader<'a> {
     stream: &'a TcpStream,
+    patience: &'a Patience<'a>,
     /// Whether the urgent octet that waits was put back already.
     given: bool,
     /// The last octet that was read.
@@ -24,11 +29,25 @@ pub struct ControlReader<'a> {
 }
 
 impl<'a> ControlReader<'a> {
-    pub fn new(stream: &'a TcpStream) -> ControlReader<'a> {
+    pub fn new(stream: &'a TcpStream, patience: &'a Patience<'a>) -> ControlReader<'a> {
         ControlReader {
             stream,
+            patience,
             given: false,
             last: 0,
+        }
+    }
+
+    /// Waits until octets or the end are there, or an urgent octet that was not put back yet; none where patience is over.
+    fn wait(&self) -> io::Result<Option<Waiting>> {
+        let mut asked = [asking(self.stream, events_of(!self.given))];
+        match self.patience.wait(&mut asked) {
+            Waited::Told => Ok(Some(waiting_by(asked[0].revents))),
+            Waited::Over(over) => {
+                self.patience.end(over);
+                Ok(None)
+            }
+            Waited::Failed => Err(Error::from(ErrorKind::ConnectionAborted)),
         }
     }
 
@@ -36,17 +55,22 @@ impl<'a> ControlReader<'a> {
     fn read_behind(&mut self, room: &mut [u8]) -> io::Result<(Option<u8>, usize)>
         ensures within { IfOk result (λ read. read.1 ≤ length room.new) }
     {
-        let (before, more) = waits_urgent(self.stream.as_raw_fd(), -1, !self.given);
-        if before && !more {
+        let Some(before) = self.wait()? else {
+            return Ok((None, 0));
+        };
+        if before.is_urgent && !before.has_more {
             self.given = true;
             if let Some(octet) = hidden_after(self.last) {
                 return Ok((Some(octet), 0));
             }
+            if self.wait()?.is_none() {
+                return Ok((None, 0));
+            }
         }
         let mut stream = self.stream;
         let count = stream.read(room)?;
-        let (after, _) = waits_urgent(self.stream.as_raw_fd(), 0, true);
-        let passed = before && !after && !self.given;
+        let after = look(self.stream, true);
+        let passed = before.is_urgent && !after.is_urgent && !self.given;
         self.given = false;
         let hidden = if passed {
             hidden_after(self.last)
@@ -78,24 +102,11 @@ impl<'a> ControlReader<'a> {
         }
     }
 
-    /// The octet that is hidden behind what was read last, where nothing else stands behind that yet: who asks whether the connection has
-    /// more to read is told of no urgent octet.
-    fn hidden_behind(&mut self) -> Option<u8> {
-        let (waits, more) = waits_urgent(self.stream.as_raw_fd(), 0, !self.given);
-        if !waits || more {
-            return None;
-        }
-        self.given = true;
-        hidden_after(self.last)
-    }
-}
-
-impl<'a> Read for ControlReader<'a> {
-    fn read(&mut self, room: &mut [u8]) -> io::Result<usize> {
-        if room.len() < 3 {
-            let mut stream = self.stream;
-            return stream.read(room);
-        }
+    /// Reads, with the octets that were hidden before and after what was read.
+    fn read_hidden(&mut self, room: &mut [u8]) -> io::Result<usize>
+        requires { 3 ≤ length room.old }
+        ensures within { IfOk result (λ count. count ≤ length room.new) }
+    {
         let last = room.len() - 1;
         let (front, _) = room.split_at_mut(last);
         let count = self.read_front(front)?;
@@ -110,11 +121,80 @@ impl<'a> Read for ControlReader<'a> {
             None => Ok(count),
         }
     }
+
+    /// The octet that is hidden behind what was read last, where nothing else stands behind that yet: who asks whether the connection has
+    /// more to read is told of no urgent octet.
+    fn hidden_behind(&mut self) -> Option<u8> {
+        let waits = look(self.stream, !self.given);
+        if !waits.is_urgent || waits.has_more {
+            return None;
+        }
+        self.given = true;
+        hidden_after(self.last)
+    }
+}
+
+impl<'a> Read for ControlReader<'a> {
+    fn read(&mut self, room: &mut [u8]) -> io::Result<usize> {
+        if room.len() < 3 {
+            if self.wait()?.is_none() {
+                return Ok(0);
+            }
+            let mut stream = self.stream;
+            return stream.read(room);
+        }
+        let count = self.read_hidden(room)?;
+        if room
+            .get(..count)
+            .is_some_and(|octets| octets.contains(&b'\n'))
+        {
+            self.patience.stir();
+        }
+        Ok(count)
+    }
+}
+
+/// Writes a control connection while patience lasts.
+#[derive(Drop)]
+pub struct ControlWriter<'a> {
+    stream: &'a TcpStream,
+    patience: &'a Patience<'a>,
+}
+
+impl<'a> ControlWriter<'a> {
+    pub fn new(stream: &'a TcpStream, patience: &'a Patience<'a>) -> ControlWriter<'a> {
+        ControlWriter { stream, patience }
+    }
+}
+
+impl<'a> Write for ControlWriter<'a> {
+    fn write(&mut self, octets: &[u8]) -> io::Result<usize> {
+        let mut asked = [asking(self.stream, c::POLLOUT)];
+        match self.patience.wait(&mut asked) {
+            Waited::Told => {}
+            Waited::Over(over) => {
+                self.patience.end(over);
+                return Err(Error::from(ErrorKind::TimedOut));
+            }
+            Waited::Failed => return Err(Error::from(ErrorKind::ConnectionAborted)),
+        }
+        let (piece, _) = octets.split_at(octets.len().min(REPLY_PIECE));
+        let mut stream = self.stream;
+        let count = stream.write(piece)?;
+        self.patience.stir();
+        Ok(count)
+    }
+
+    fn flush(&mut self) -> io::Result<()> {
+        Ok(())
+    }
 }
 
 /// The octet that urgent data hides behind another one: LF of CR LF, DM of IAC DM, and the IAC behind IAC IP, which clients send as urgent
 /// before DM and ABOR (RFC 959, section 4.1.3).
-fn hidden_after(last: u8) -> Option<u8> {
+fn hidden_after(last: u8) -> Option<u8>
+    ensures { result ≡ hidden last }
+{
     match last {
         b'\r' => Some(b'\n'),
         255 => Some(242),
@@ -123,30 +203,51 @@ fn hidden_after(last: u8) -> Option<u8> {
     }
 }
 
-/// Whether an urgent octet waits, and whether other octets or the end do.
-fn waits_urgent(fd: i32, millis: i32, asks: bool) -> (bool, bool) {
-    let urgent = if asks { c::POLLPRI } else { 0 };
-    let mut asked = [pollfd {
-        fd,
-        events: c::POLLIN | c::POLLRDHUP | urgent,
-        revents: 0,
-    }];
-    let _count = c::poll(&mut asked, millis);
-    let told = asked[0].revents;
-    (
-        told & c::POLLPRI != 0,
-        told & (c::POLLIN | c::POLLRDHUP) != 0,
-    )
+/// What of a control connection can be read.
+#[derive(Clone, Copy)]
+struct Waiting {
+    /// An urgent octet waits.
+    is_urgent: bool,
+    /// Other octets or the end do.
+    has_more: bool,
 }
 
-/// Closes a control connection behind its last reply: sends nothing more, and reads what the peer sent behind it, for so many milliseconds
-/// at most, since a connection that is dropped with unread octets is reset, and loses the reply.
-pub fn say_goodbye(stream: &TcpStream, wait: Duration) -> io::Result<()> {
+/// The events that are asked of a control connection.
+fn events_of(asks_urgent: bool) -> i16 {
+    let urgent = if asks_urgent { c::POLLPRI } else { 0 };
+    c::POLLIN | c::POLLRDHUP | urgent
+}
+
+/// What can be read by the events of a control connection.
+fn waiting_by(events: i16) -> Waiting {
+    Waiting {
+        is_urgent: events & c::POLLPRI != 0,
+        has_more: events & (c::POLLIN | c::POLLRDHUP) != 0,
+    }
+}
+
+/// What can be read now.
+fn look(stream: &TcpStream, asks_urgent: bool) -> Waiting {
+    let mut asked = [asking(stream, events_of(asks_urgent))];
+    match ask(&mut asked, 0) {
+        Polled::Told => waiting_by(asked[0].revents),
+        Polled::TimeOver | Polled::Failed => waiting_by(0),
+    }
+}
+
+/// Closes a control connection behind its last reply: sends nothing more, and reads what the peer sent behind it, for a second in all,
+/// since a connection that is dropped with unread octets is reset, and loses the reply.
+pub fn say_goodbye(stream: &TcpStream) -> io::Result<()> {
     stream.shutdown(Shutdown::Write)?;
-    stream.set_read_timeout(Some(wait))?;
+    let until = monotonic_millis().saturating_add(LAST_MILLIS);
     let mut rest = [0u8; 1024];
     let mut reader = stream;
-    for _ in 0..LAST_READS {
+    for _ in 0..TURNS {
+        let left = until.saturating_sub(monotonic_millis());
+        let mut asked = [asking(stream, c::POLLIN | c::POLLRDHUP)];
+        if left == 0 || ask(&mut asked, piece_of(left)) != Polled::Told {
+            return Ok(());
+        }
         if reader.read(&mut rest)? == 0 {
             return Ok(());
         }

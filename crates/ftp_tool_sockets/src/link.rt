@@ -1,6 +1,7 @@
 // A data connection that does not outlast its control connection.
 use crate::options::drop_connection;
-use crate::wait::{Heeds, Woke, has_room, wait};
+use crate::patience::{Patience, monotonic_millis, piece_of};
+use crate::wait::{Heeds, Woke, has_room, wait, wait_millis};
 use ftp_control::{For, Ready, TURNS};
 use std::io;
 use std::io::{Error, ErrorKind, Read, Write};
@@ -9,17 +10,20 @@ use std::net::{Shutdown, TcpStream};
 /// The most reads of octets that came behind the end of a transfer.
 const LAST_READS: u32 = 4096;
 
-/// How long a write waits behind the end of the control connection, in milliseconds.
-const LAST_MILLIS: i32 = 30_000;
+/// How long a write waits after the end of the control connection, in milliseconds.
+const LAST_MILLIS: u64 = 30_000;
 
 /// A data connection. A read that would wait ends where the control connection does; one that hears fails as `WouldBlock` where
-/// the control connection has octets or ended, and so does a write. A write that doesn't hear goes on behind the end of the control connection
-/// while the peer takes octets within 30 seconds.
+/// the control connection has octets or ended, and so does a write. A write that doesn't hear goes on after the end of the control connection
+/// while the peer takes octets within 30 seconds. Where patience is over, what would wait fails.
 #[derive(Drop)]
 pub struct Link<'a> {
     control: &'a TcpStream,
     stream: TcpStream,
     heeds: Heeds,
+    patience: Option<&'a Patience<'a>>,
+    /// Whether the end of the control connection was met: what goes after it is no sign of life.
+    outlives: bool,
 }
 
 /// The control connection ended before.
@@ -41,6 +45,7 @@ impl<'a> Link<'a> {
         control: &'a TcpStream,
         stream: TcpStream,
         heeds: Heeds,
+        patience: Option<&'a Patience<'a>>,
     ) -> io::Result<Link<'a>> {
         stream.set_nonblocking(true)?;
         stream.set_nodelay(true)?;
@@ -48,7 +53,17 @@ impl<'a> Link<'a> {
             control,
             stream,
             heeds,
+            patience,
+            outlives: false,
         })
+    }
+
+    /// So many octets went over the connection.
+    fn moved(&self, count: usize) {
+        match self.patience {
+            Some(patience) if count > 0 && !self.outlives => patience.stir(),
+            _ => {}
+        }
     }
 
     /// Waits until octets can be read or written; where `hears`, octets of the control connection go first.
@@ -58,10 +73,20 @@ impl<'a> Link<'a> {
         } else {
             Heeds::End
         };
-        match wait(self.control, &self.stream, what, heeds, -1) {
+        match wait(self.control, &self.stream, what, heeds, self.patience) {
             Woke::Ready => Ready::Data,
             Woke::Spoken => Ready::Control,
             Woke::Ended | Woke::TimeOver | Woke::Failed => Ready::Lost,
+        }
+    }
+
+    /// Waits after the end of the control connection until there is room.
+    fn await_room(&mut self) -> io::Result<()> {
+        self.outlives = true;
+        if has_room(&self.stream, LAST_MILLIS, self.patience) {
+            Ok(())
+        } else {
+            Err(lost())
         }
     }
 
@@ -76,23 +101,28 @@ impl<'a> Link<'a> {
     }
 
     /// Reads what the peer sent too much, since a connection that is dropped with unread octets is reset, and loses what was sent. Waits
-    /// at most so many milliseconds for more.
-    pub(crate) fn finish(mut self, millis: i32) {
+    /// at most so many milliseconds in all for more.
+    pub(crate) fn finish(mut self, millis: u64) {
+        let until = monotonic_millis().saturating_add(millis);
         let mut rest = [0u8; 4096];
         for _ in 0..LAST_READS {
             match self.stream.read(&mut rest) {
                 Ok(0) => return,
                 Ok(_) => {}
                 Err(error) if error.kind() == ErrorKind::WouldBlock => {
-                    if wait(self.control, &self.stream, For::Octets, Heeds::End, millis)
-                        != Woke::Ready
-                    {
+                    if !self.has_more(until) {
                         return;
                     }
                 }
                 Err(_) => return,
             }
         }
+    }
+
+    /// Whether the peer sends more before a moment of the monotonic clock, and the control connection lasts so long.
+    fn has_more(&self, until: u64) -> bool {
+        let left = piece_of(until.saturating_sub(monotonic_millis()));
+        wait_millis(self.control, &self.stream, For::Octets, Heeds::End, left) == Woke::Ready
     }
 }
 
@@ -101,9 +131,19 @@ impl<'a> Read for Link<'a> {
         for _ in 0..TURNS {
             match self.stream.read(room) {
                 Err(error) if error.kind() == ErrorKind::WouldBlock => {}
-                other => return other,
+                Ok(count) => {
+                    self.moved(count);
+                    return Ok(count);
+                }
+                failed => return failed,
             }
-            match wait(self.control, &self.stream, For::Octets, self.heeds, -1) {
+            match wait(
+                self.control,
+                &self.stream,
+                For::Octets,
+                self.heeds,
+                self.patience,
+            ) {
                 Woke::Ready => {}
                 woke => return Err(halted(woke)),
             }
@@ -117,11 +157,21 @@ impl<'a> Write for Link<'a> {
         for _ in 0..TURNS {
             match self.stream.write(octets) {
                 Err(error) if error.kind() == ErrorKind::WouldBlock => {}
-                other => return other,
+                Ok(count) => {
+                    self.moved(count);
+                    return Ok(count);
+                }
+                failed => return failed,
             }
-            match wait(self.control, &self.stream, For::Room, self.heeds, -1) {
+            match wait(
+                self.control,
+                &self.stream,
+                For::Room,
+                self.heeds,
+                self.patience,
+            ) {
                 Woke::Ready => {}
-                Woke::Ended if has_room(&self.stream, LAST_MILLIS) => {}
+                Woke::Ended => self.await_room()?,
                 woke => return Err(halted(woke)),
             }
         }

@@ -15,9 +15,6 @@ const PROBE_SECONDS: i32 = 30;
 /// How many probes go without an answer before the connection has ended.
 const PROBES: i32 = 4;
 
-/// How long a peer is waited for behind the last reply, in milliseconds.
-pub const GOODBYE_MILLIS: u16 = 500;
-
 /// The length of an address that names no family, `AF_UNSPEC`.
 const NO_ADDRESS: u32 = 16;
 

@@ -3,15 +3,20 @@ ghost use Rattle.std.specs.Prelude.{◌≡◌};
 
 use crate::host::{addr_of, host_of};
 use crate::link::Link;
-use crate::wait::{Heeds, Woke, look_at, wait};
+use crate::passive::PassivePorts;
+use crate::patience::Patience;
+use crate::wait::{Heeds, Woke, look_at, wait, wait_millis};
 use ftp_control::{Accepted, For, Ports, Ready, Spoken, TURNS, Whole};
-use ftp_endpoint::Endpoint;
+use ftp_endpoint::{Endpoint, Host};
 use std::io;
 use std::io::ErrorKind;
 use std::net::{IpAddr, Net, SocketAddr, TcpListener, TcpStream};
 
 /// How long an opening may take, in milliseconds.
 const OPENING_MILLIS: i32 = 30_000;
+
+/// How long the end of the last data connection is waited for, in milliseconds.
+const LEAVING_MILLIS: u64 = 500;
 
 /// Data connections beside one control connection.
 #[derive(Drop)]
@@ -22,6 +27,8 @@ pub struct SocketPorts<'a, R: Net<Listener = TcpListener, Stream = TcpStream>> {
     here: IpAddr,
     /// What a read or a write of a data connection that would wait heeds of the control connection.
     heeds: Heeds,
+    /// What a server's data connections have beside a client's.
+    served: Option<Served<'a>>,
     listener: Option<TcpListener>,
     /// A connection that was ended, until what the peer sent too much is read.
     leaving: Option<Link<'a>>,
@@ -30,28 +37,51 @@ pub struct SocketPorts<'a, R: Net<Listener = TcpListener, Stream = TcpStream>> {
 }
 
 impl<'a, R: Net<Listener = TcpListener, Stream = TcpStream>> SocketPorts<'a, R> {
-    /// Data connections beside this control connection, at the address that its client reached.
-    pub fn new(net: &'a R, control: &'a TcpStream) -> io::Result<SocketPorts<'a, R>> {
-        SocketPorts::beside(net, control, Heeds::End)
+    /// Data connections of a server, at the address that its client reached: they wait as long as its patience lasts, a passive one listens at one
+    /// of these ports, and no host but the client's is accepted there.
+    pub fn new(
+        net: &'a R,
+        control: &'a TcpStream,
+        patience: &'a Patience<'a>,
+        passive: &'a PassivePorts,
+    ) -> io::Result<SocketPorts<'a, R>> {
+        let client = host_of(control.peer_addr()?);
+        let served = Served {
+            patience,
+            passive,
+            client,
+        };
+        SocketPorts::beside(net, control, Heeds::End, Some(served))
     }
 
     /// Data connections of a client: a read or a write of one that would wait fails as `WouldBlock` where the control connection has octets
     /// or ended.
     pub fn hearing(net: &'a R, control: &'a TcpStream) -> io::Result<SocketPorts<'a, R>> {
-        SocketPorts::beside(net, control, Heeds::Octets)
+        SocketPorts::beside(net, control, Heeds::Octets, None)
     }
 
-    fn beside(net: &'a R, control: &'a TcpStream, heeds: Heeds) -> io::Result<SocketPorts<'a, R>> {
+    fn beside(
+        net: &'a R,
+        control: &'a TcpStream,
+        heeds: Heeds,
+        served: Option<Served<'a>>,
+    ) -> io::Result<SocketPorts<'a, R>> {
         let here = control.local_addr()?.ip().to_canonical();
         Ok(SocketPorts {
             net,
             control,
             here,
             heeds,
+            served,
             listener: None,
             leaving: None,
             opened: 0,
         })
+    }
+
+    /// How long a peer is waited for.
+    fn patience(&self) -> Option<&'a Patience<'a>> {
+        self.served.map(|served| served.patience)
     }
 
     /// How many data connections were opened so far, by either end.
@@ -61,17 +91,25 @@ impl<'a, R: Net<Listener = TcpListener, Stream = TcpStream>> SocketPorts<'a, R> 
         self.opened
     }
 
-    /// Waits at most so many milliseconds until the peer has ended the last data connection too.
-    pub fn finish(&mut self, millis: i32) {
+    /// Waits for half a second in all until the peer has ended the last data connection too.
+    pub fn finish(&mut self) {
         self.listener = None;
+        self.drain(LEAVING_MILLIS);
+    }
+
+    /// Reads what the peer of the last data connection sent too much, and waits at most so many milliseconds for its end.
+    fn drain(&mut self, millis: u64) {
         if let Some(link) = self.leaving.take() {
             link.finish(millis);
         }
     }
 
-    /// Listens at a port that the system chooses.
+    /// Listens at one of the passive ports of a server, or at a port that the system chooses.
     fn bind(&mut self) -> io::Result<u16> {
-        let listener = TcpListener::bind(self.net, SocketAddr::new(self.here, 0))?;
+        let listener = match self.served {
+            Some(served) => served.passive.listen(self.net, self.here)?,
+            None => TcpListener::bind(self.net, SocketAddr::new(self.here, 0))?,
+        };
         listener.set_nonblocking(true)?;
         let port = listener.local_addr()?.port();
         self.listener = Some(listener);
@@ -81,7 +119,7 @@ impl<'a, R: Net<Listener = TcpListener, Stream = TcpStream>> SocketPorts<'a, R> 
     /// Opens a connection; ends as failed where the control connection does.
     fn open(&self, addr: SocketAddr) -> io::Result<Option<TcpStream>> {
         let begun = mio::net::TcpStream::connect(self.net, addr)?;
-        if wait(self.control, &begun, For::Room, Heeds::End, OPENING_MILLIS) != Woke::Ready {
+        if wait_millis(self.control, &begun, For::Room, Heeds::End, OPENING_MILLIS) != Woke::Ready {
             return Ok(None);
         }
         match begun.take_error()? {
@@ -101,10 +139,19 @@ impl<'a, R: Net<Listener = TcpListener, Stream = TcpStream>> SocketPorts<'a, R> 
 
     /// An open connection as a link, which is counted.
     fn counted(&mut self, stream: TcpStream) -> Option<Link<'a>> {
-        let link = Link::new(self.control, stream, self.heeds).ok()?;
+        let link = Link::new(self.control, stream, self.heeds, self.patience()).ok()?;
         self.opened = self.opened.saturating_add(1);
         Some(link)
     }
+}
+
+/// What a server's data connections have beside a client's.
+#[derive(Clone, Copy)]
+struct Served<'a> {
+    patience: &'a Patience<'a>,
+    passive: &'a PassivePorts,
+    /// The client's host; one that comes from another host is let go.
+    client: Host,
 }
 
 /// What waiting at a port gave.
@@ -115,16 +162,32 @@ enum Waited {
     Refused,
 }
 
+/// The next connection that comes from a host that may, if one did.
+fn take_next(listener: &TcpListener, served: Option<Served<'_>>) -> Option<Waited> {
+    match listener.accept() {
+        Ok((stream, peer)) => match served {
+            Some(served) if host_of(peer) != served.client => None,
+            _ => Some(Waited::Came(stream, peer)),
+        },
+        Err(error) if error.kind() == ErrorKind::WouldBlock => None,
+        Err(_) => Some(Waited::Refused),
+    }
+}
+
 /// Waits at a port for a connection, or where `hears` for octets of the control connection.
-fn wait_at(listener: &TcpListener, control: &TcpStream, hears: bool) -> Waited {
+fn wait_at(
+    listener: &TcpListener,
+    control: &TcpStream,
+    served: Option<Served<'_>>,
+    hears: bool,
+) -> Waited {
     let heeds = if hears { Heeds::Octets } else { Heeds::End };
+    let patience = served.map(|served| served.patience);
     for _ in 0..TURNS {
-        match listener.accept() {
-            Ok((stream, peer)) => return Waited::Came(stream, peer),
-            Err(error) if error.kind() == ErrorKind::WouldBlock => {}
-            Err(_) => return Waited::Refused,
+        if let Some(waited) = take_next(listener, served) {
+            return waited;
         }
-        match wait(control, listener, For::Octets, heeds, -1) {
+        match wait(control, listener, For::Octets, heeds, patience) {
             Woke::Ready => {}
             Woke::Spoken => return Waited::Spoken,
             Woke::Ended | Woke::TimeOver | Woke::Failed => return Waited::Refused,
@@ -137,7 +200,8 @@ impl<'a, R: Net<Listener = TcpListener, Stream = TcpStream>> Ports for SocketPor
     type Stream = Link<'a>;
 
     fn listen(&mut self) -> Option<u16> {
-        self.finish(0);
+        self.listener = None;
+        self.drain(0);
         self.bind().ok()
     }
 
@@ -145,7 +209,7 @@ impl<'a, R: Net<Listener = TcpListener, Stream = TcpStream>> Ports for SocketPor
         let Some(listener) = &self.listener else {
             return Accepted::Refused;
         };
-        match wait_at(listener, self.control, hears) {
+        match wait_at(listener, self.control, self.served, hears) {
             Waited::Came(stream, peer) => self.linked(stream, peer),
             Waited::Spoken => Accepted::Spoken,
             Waited::Refused => Accepted::Refused,
@@ -153,7 +217,8 @@ impl<'a, R: Net<Listener = TcpListener, Stream = TcpStream>> Ports for SocketPor
     }
 
     fn connect(&mut self, endpoint: Endpoint) -> Option<Link<'a>> {
-        self.finish(0);
+        self.listener = None;
+        self.drain(0);
         match self.open(addr_of(endpoint)) {
             Ok(Some(stream)) => self.counted(stream),
             Ok(None) | Err(_) => None,
@@ -173,7 +238,8 @@ impl<'a, R: Net<Listener = TcpListener, Stream = TcpStream>> Ports for SocketPor
             self.listener = None;
             return;
         };
-        self.finish(0);
+        self.listener = None;
+        self.drain(0);
         let link = whole.into_stream();
         if link.end().is_ok() {
             self.leaving = Some(link);
@@ -181,7 +247,8 @@ impl<'a, R: Net<Listener = TcpListener, Stream = TcpStream>> Ports for SocketPor
     }
 
     fn reset(&mut self, stream: Link<'a>) {
-        self.finish(0);
+        self.listener = None;
+        self.drain(0);
         stream.reset();
     }
 }

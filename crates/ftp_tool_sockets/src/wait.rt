@@ -1,4 +1,8 @@
 // Waiting for the control connection and another socket together, or for nothing.
+ghost use Rattle.std.specs.Prelude.{◌≡◌};
+ghost use Rattle.ftp_tool_sockets.specs.Waiting.{wakes};
+
+use crate::patience::{Patience, Waited, monotonic_millis, piece_of, wait_within};
 use ftp_control::{For, Spoken, TURNS};
 use libc::net as c;
 use libc::types::pollfd;
@@ -28,45 +32,85 @@ pub(crate) enum Heeds {
     OctetsFirst,
 }
 
-/// Waits until the other socket is ready or what is heeded of the control connection is there; for at most so many milliseconds, where that
-/// is not negative. The end is seen behind octets that are not read yet, too.
+/// Whether what was asked for of the other socket is there.
+#[derive(Clone, Copy, Debug, PartialEq, Eq)]
+pub(crate) enum Other {
+    Waits,
+    Ready,
+}
+
+/// Waits until the other socket is ready or what is heeded of the control connection is there, while patience lasts. The end is seen behind
+/// octets that are not read yet, too.
 pub(crate) fn wait<C: AsRawFd, S: AsRawFd>(
+    control: &C,
+    other: &S,
+    what: For,
+    heeds: Heeds,
+    patience: Option<&Patience<'_>>,
+) -> Woke {
+    let mut asked = both_of(control, other, what, heeds);
+    match wait_within(patience, &mut asked) {
+        Waited::Told => told_by(&asked, heeds),
+        Waited::Over(_) => Woke::TimeOver,
+        Waited::Failed => Woke::Failed,
+    }
+}
+
+/// The same for at most so many milliseconds.
+pub(crate) fn wait_millis<C: AsRawFd, S: AsRawFd>(
     control: &C,
     other: &S,
     what: For,
     heeds: Heeds,
     millis: i32,
 ) -> Woke {
-    let events = match what {
-        For::Octets => c::POLLIN,
-        For::Room => c::POLLOUT,
-    };
-    let told = match heeds {
-        Heeds::End => c::POLLRDHUP,
-        Heeds::Octets | Heeds::OctetsFirst => c::POLLIN | c::POLLRDHUP,
-    };
-    let mut asked = [
-        pollfd {
-            fd: control.as_raw_fd(),
-            events: told,
-            revents: 0,
-        },
-        pollfd {
-            fd: other.as_raw_fd(),
-            events,
-            revents: 0,
-        },
-    ];
+    let mut asked = both_of(control, other, what, heeds);
     match ask(&mut asked, millis) {
-        Polled::Told => woken(asked[0].revents, asked[1].revents, heeds),
+        Polled::Told => told_by(&asked, heeds),
         Polled::TimeOver => Woke::TimeOver,
         Polled::Failed => Woke::Failed,
     }
 }
 
+/// What is asked of the control connection and of another socket.
+fn both_of<C: AsRawFd, S: AsRawFd>(control: &C, other: &S, what: For, heeds: Heeds) -> [pollfd; 2] {
+    let told = match heeds {
+        Heeds::End => c::POLLRDHUP,
+        Heeds::Octets | Heeds::OctetsFirst => c::POLLIN | c::POLLRDHUP,
+    };
+    [asking(control, told), asking(other, events_of(what))]
+}
+
+/// A socket of which these events are asked.
+pub(crate) fn asking<S: AsRawFd>(socket: &S, events: i16) -> pollfd {
+    pollfd {
+        fd: socket.as_raw_fd(),
+        events,
+        revents: 0,
+    }
+}
+
+/// The event that is waited for.
+fn events_of(what: For) -> i16 {
+    match what {
+        For::Octets => c::POLLIN,
+        For::Room => c::POLLOUT,
+    }
+}
+
+/// What ended the wait for both.
+fn told_by(asked: &[pollfd; 2], heeds: Heeds) -> Woke {
+    let other = if asked[1].revents == 0 {
+        Other::Waits
+    } else {
+        Other::Ready
+    };
+    woken(spoken_by(asked[0].revents), other, heeds)
+}
+
 /// How a poll ended.
 #[derive(Clone, Copy, Debug, PartialEq, Eq)]
-enum Polled {
+pub(crate) enum Polled {
     /// What was asked for of a socket is there.
     Told,
     TimeOver,
@@ -74,7 +118,7 @@ enum Polled {
 }
 
 /// Polls, also behind signals.
-fn ask(asked: &mut [pollfd], millis: i32) -> Polled {
+pub(crate) fn ask(asked: &mut [pollfd], millis: i32) -> Polled {
     for _ in 0..TURNS {
         let count = c::poll(asked, millis);
         if count == 0 {
@@ -90,48 +134,59 @@ fn ask(asked: &mut [pollfd], millis: i32) -> Polled {
     Polled::Failed
 }
 
-/// Whether there is room for octets on a socket within so many milliseconds, whatever the control connection does.
-pub(crate) fn has_room<S: AsRawFd>(socket: &S, millis: i32) -> bool {
-    let mut asked = [pollfd {
-        fd: socket.as_raw_fd(),
-        events: c::POLLOUT,
-        revents: 0,
-    }];
-    ask(&mut asked, millis) == Polled::Told
+/// Whether there is room for octets on a socket within so many milliseconds and while patience lasts, whatever the control connection does.
+pub(crate) fn has_room<S: AsRawFd>(
+    socket: &S,
+    millis: u64,
+    patience: Option<&Patience<'_>>,
+) -> bool {
+    let mut asked = [asking(socket, c::POLLOUT)];
+    let until = monotonic_millis().saturating_add(millis);
+    for _ in 0..TURNS {
+        let left = until.saturating_sub(monotonic_millis());
+        if left == 0 || patience.is_some_and(|patience| patience.is_over()) {
+            return false;
+        }
+        match ask(&mut asked, piece_of(left)) {
+            Polled::Told => return true,
+            Polled::Failed => return false,
+            Polled::TimeOver => {}
+        }
+    }
+    false
 }
 
 /// What a control connection has now.
 pub(crate) fn look_at<C: AsRawFd>(control: &C) -> Spoken {
-    let mut asked = [pollfd {
-        fd: control.as_raw_fd(),
-        events: c::POLLIN | c::POLLRDHUP,
-        revents: 0,
-    }];
+    let mut asked = [asking(control, c::POLLIN | c::POLLRDHUP)];
     match ask(&mut asked, 0) {
-        Polled::Told if has_ended(asked[0].revents) => Spoken::Ended,
-        Polled::Told => Spoken::Octets,
+        Polled::Told => spoken_by(asked[0].revents),
         Polled::TimeOver => Spoken::Nothing,
         Polled::Failed => Spoken::Ended,
     }
 }
 
-/// Whether these events tell of the end of a connection, or of its break.
-fn has_ended(events: i16) -> bool {
-    events & (c::POLLRDHUP | c::POLLHUP | c::POLLERR) != 0
+/// What the events of a control connection say: an end or a break, octets, or nothing.
+fn spoken_by(events: i16) -> Spoken {
+    if events & (c::POLLRDHUP | c::POLLHUP | c::POLLERR) != 0 {
+        Spoken::Ended
+    } else if events == 0 {
+        Spoken::Nothing
+    } else {
+        Spoken::Octets
+    }
 }
 
-/// What the events of both say.
-fn woken(control: i16, other: i16, heeds: Heeds) -> Woke {
-    if heeds == Heeds::OctetsFirst && control != 0 && !has_ended(control) {
-        Woke::Spoken
-    } else if other != 0 {
-        Woke::Ready
-    } else if control == 0 {
-        Woke::Failed
-    } else if heeds == Heeds::End {
-        Woke::Ended
-    } else {
-        Woke::Spoken
+/// What ends a wait, by what both have.
+fn woken(control: Spoken, other: Other, heeds: Heeds) -> Woke
+    ensures { result ≡ wakes control other heeds }
+{
+    match (control, other, heeds) {
+        (Spoken::Octets, _, Heeds::OctetsFirst) => Woke::Spoken,
+        (_, Other::Ready, _) => Woke::Ready,
+        (Spoken::Nothing, Other::Waits, _) => Woke::Failed,
+        (_, Other::Waits, Heeds::End) => Woke::Ended,
+        (_, Other::Waits, _) => Woke::Spoken,
     }
 }
 

@@ -5,32 +5,22 @@ ghost use Rattle.ftp_tree_folder.specs.Place.{folder_text};
 use crate::Mirror;
 use crate::fault::{LoadFault, Reason};
 use crate::folder::DiskFolder;
-use crate::place::{check_free, place_of};
+use crate::look::{Look, Seen};
+use crate::place::place_of;
+use crate::reading::{is_left, leave, moment_of, open_same, path_in, read_all};
 use crate::reasons::Reasons;
-use crate::writing::BESIDE;
-use ftp_facts::Moment;
-use ftp_path::{Name, Path, PathFault, is_path_text};
-use ftp_tree::{Content, MemTree, Tree, TreeFault};
+use ftp_path::Path;
+use ftp_tree::{Content, MemTree, NodeKind, Tree, TreeFault};
 use std::alloc::{AllocError, Global};
-use std::fs::{DirEntry, File, Files, Metadata, OpenFile};
-use std::io::{ErrorKind, Read};
+use std::fs;
+use std::fs::{DirEntry, Files, Metadata};
 use std::os::unix::fs::MetadataExt;
-use std::{fs, io};
 
 /// The loop over directories ends, as at a limit, once it has made so many turns.
 const DIR_TURNS: u64 = 1_099_511_627_776;
 
-/// The most parts that interrupted writes left in one directory and that are kept.
-const LEFT_LIMIT: u32 = 10_000;
-
-/// What a part that an interrupted write left is called, behind it a number and the octet 127, which is of no name of a tree.
-const LEFT: &str = "ftp-left-";
-
 /// How many octets of a file are read at once.
 const PIECE: usize = 65_536;
-
-/// The last moment of the profile, the end of the year 9999.
-const LAST_SECOND: u64 = 253_402_300_799;
 
 /// Loads the folder below a directory, and mirrors it: the changes of the tree that it gives go there. What fails of them is told by `reasons`.
 /// Limits are counted as `load` says.
@@ -65,56 +55,112 @@ pub fn load<'a, R: Files + AllocGlobal + Clone + Drop>(
     dir: &'a str,
     roots: &'a [Path<Global>],
 ) -> Result<MemTree<Global>, LoadFault> {
-    let dir = if dir.is_empty() { "." } else { dir };
-    let Ok(mut loading) = Loading::new(files, dir, roots) else {
+    let dir = dir_text(dir);
+    let alloc = files.alloc();
+    let old = Old {
+        tree: MemTree::new(alloc),
+        seen: Seen::nothing(alloc),
+    };
+    let Ok(mut loading) = Loading::new(files, dir, roots, old, 0) else {
         return Err(LoadFault::Memory);
     };
     for _ in 0..DIR_TURNS {
         let Some(here) = loading.next_dir() else {
             return Ok(loading.tree);
         };
-        loading.load_dir(&here)?;
+        loading.load_dir(&here, &mut Refusing)?;
     }
     Err(LoadFault::of_tree(files.alloc(), dir, TreeFault::Full))
+}
+
+/// The text of a directory: an empty one is the current one.
+pub(crate) fn dir_text(dir: &str) -> &str {
+    if dir.is_empty() { "." } else { dir }
+}
+
+/// A tree as it was, and how its files looked when they were read.
+#[derive(Drop)]
+pub(crate) struct Old {
+    pub(crate) tree: MemTree<Global>,
+    pub(crate) seen: Seen,
+}
+
+/// Room for a piece of a file.
+fn piece(alloc: Global) -> Result<Vec<u8, Global>, AllocError> {
+    let room = vec![in alloc; 0u8; PIECE]?;
+    Ok(room)
+}
+
+/// What is done with an entry that can't be loaded.
+pub(crate) trait OnFault {
+    /// It can't; `Err` ends the loading.
+    fn meet(&mut self, fault: LoadFault) -> Result<(), LoadFault>;
+}
+
+/// It ends the loading.
+#[derive(Drop)]
+pub(crate) struct Refusing;
+
+impl OnFault for Refusing {
+    fn meet(&mut self, fault: LoadFault) -> Result<(), LoadFault> {
+        Err(fault)
+    }
 }
 
 /// A tree that is being loaded, and the directories that are still to be read: those below the root that is being loaded now, and the roots
 /// that come behind it.
 #[derive(Drop)]
-struct Loading<'a, R: Files + AllocGlobal + Clone + Drop> {
-    files: &'a R,
-    dir: &'a str,
+pub(crate) struct Loading<'a, R: Files + AllocGlobal + Clone + Drop> {
+    pub(crate) files: &'a R,
+    pub(crate) dir: &'a str,
     roots: &'a [Path<Global>],
-    root: Path<Global>,
-    tree: MemTree<Global>,
+    pub(crate) root: Path<Global>,
+    pub(crate) tree: MemTree<Global>,
+    /// How the files of the tree looked that need not be read anew where they look so still.
+    old: Seen,
+    /// How files look that were read, or need not be.
+    pub(crate) seen: Seen,
+    /// The second since 1970 in which the loading began.
+    now: u64,
     waiting: Vec<Path<Global>, Global>,
     later: Vec<Path<Global>, Global>,
     buffer: Vec<u8, Global>,
 }
 
 impl<'a, R: Files + AllocGlobal + Clone + Drop> Loading<'a, R> {
-    fn new(
+    /// Loads into a tree that stands already; where memory is refused, it is given back.
+    pub(crate) fn new(
         files: &'a R,
         dir: &'a str,
         roots: &'a [Path<Global>],
-    ) -> Result<Loading<'a, R>, AllocError> {
+        old: Old,
+        now: u64,
+    ) -> Result<Loading<'a, R>, Old> {
         let alloc = files.alloc();
         let mut waiting = Vec::new(alloc);
-        waiting.push(Path::root(alloc))?;
+        let Ok(()) = waiting.push(Path::root(alloc)) else {
+            return Err(old);
+        };
+        let Ok(buffer) = piece(alloc) else {
+            return Err(old);
+        };
         Ok(Loading {
             files,
             dir,
             roots,
             root: Path::root(alloc),
-            tree: MemTree::new(alloc),
+            tree: old.tree,
+            old: old.seen,
+            seen: Seen::nothing(alloc),
+            now,
             waiting,
             later: Vec::new(alloc),
-            buffer: vec![in alloc; 0u8; PIECE]?,
+            buffer,
         })
     }
 
     /// The next directory, below the root that is being loaded; where none waits there, the next root is.
-    fn next_dir(&mut self) -> Option<Path<Global>> {
+    pub(crate) fn next_dir(&mut self) -> Option<Path<Global>> {
         if let Some(here) = self.waiting.pop() {
             return Some(here);
         }
@@ -128,20 +174,27 @@ impl<'a, R: Files + AllocGlobal + Clone + Drop> Loading<'a, R> {
     }
 
     /// Loads what stands directly in a directory; the directories in it wait.
-    fn load_dir(&mut self, here: &Path<Global>) -> Result<(), LoadFault> {
+    pub(crate) fn load_dir<F: OnFault>(
+        &mut self,
+        here: &Path<Global>,
+        on_fault: &mut F,
+    ) -> Result<(), LoadFault> {
         let alloc = self.files.alloc();
         let place = match place_of(alloc, self.dir, &self.root, here) {
             Ok(place) => place,
-            Err(error) => return Err(LoadFault::of_system(alloc, self.dir, error)),
+            Err(error) => return on_fault.meet(LoadFault::of_system(alloc, self.dir, error)),
         };
         let entries = match fs::read_dir(self.files, place.as_str()) {
             Ok(entries) => entries,
-            Err(error) => return Err(LoadFault::of_system(alloc, place.as_str(), error)),
+            Err(error) => return on_fault.meet(LoadFault::of_system(alloc, place.as_str(), error)),
         };
         for entry in entries {
-            match entry {
-                Ok(entry) => self.load_entry(here, &entry)?,
-                Err(error) => return Err(LoadFault::of_system(alloc, place.as_str(), error)),
+            let loaded = match entry {
+                Ok(entry) => self.load_entry(here, &entry),
+                Err(error) => Err(LoadFault::of_system(alloc, place.as_str(), error)),
+            };
+            if let Err(fault) = loaded {
+                on_fault.meet(fault)?;
             }
         }
         Ok(())
@@ -165,7 +218,7 @@ impl<'a, R: Files + AllocGlobal + Clone + Drop> Loading<'a, R> {
                 Err(error) => Err(LoadFault::of_system(alloc, place, error)),
             };
         }
-        let path = path_in(alloc, here, entry.file_name(), place)?;
+        let path = path_in(alloc, here, entry.file_name().as_bytes(), place)?;
         if found.is_dir() {
             return self.add_dir(path, place);
         }
@@ -178,8 +231,10 @@ impl<'a, R: Files + AllocGlobal + Clone + Drop> Loading<'a, R> {
     /// Adds a directory, which then waits.
     fn add_dir(&mut self, path: Path<Global>, place: &str) -> Result<(), LoadFault> {
         let alloc = self.files.alloc();
-        if let Err(fault) = self.tree.make_dir(&self.root, &path) {
-            return Err(LoadFault::of_tree(alloc, place, fault));
+        if self.tree.kind(&self.root, &path) != Some(NodeKind::Dir) {
+            if let Err(fault) = self.tree.make_dir(&self.root, &path) {
+                return Err(LoadFault::of_tree(alloc, place, fault));
+            }
         }
         let waits = if self.is_later(&path) {
             self.later.push(path)
@@ -192,8 +247,34 @@ impl<'a, R: Files + AllocGlobal + Clone + Drop> Loading<'a, R> {
         }
     }
 
-    /// Adds a file with its octets and its moment.
+    /// Adds a file with its octets and its moment, where it does not stand there already as it is. One that can't be read stands there no more.
     fn add_file(
+        &mut self,
+        path: &Path<Global>,
+        place: &str,
+        found: &Metadata,
+    ) -> Result<(), LoadFault> {
+        let look = Look::of(found);
+        if !self.stands(path, place, found) {
+            if let Err(fault) = self.read_file(path, place, found) {
+                let _gone = self.tree.delete(&self.root, path);
+                return Err(fault);
+            }
+        }
+        match self.seen.put(place, look, self.now) {
+            Ok(()) => Ok(()),
+            Err(AllocError) => Err(LoadFault::Memory),
+        }
+    }
+
+    /// Whether a file stands in the tree already as it is in the folder.
+    fn stands(&self, path: &Path<Global>, place: &str, found: &Metadata) -> bool {
+        self.tree.size(&self.root, path) == Some(found.len())
+            && self.old.has(place, Look::of(found))
+    }
+
+    /// Reads a file, and installs it.
+    fn read_file(
         &mut self,
         path: &Path<Global>,
         place: &str,
@@ -214,96 +295,5 @@ impl<'a, R: Files + AllocGlobal + Clone + Drop> Loading<'a, R> {
             Ok(()) => Ok(()),
             Err(fault) => Err(LoadFault::of_tree(alloc, place, fault)),
         }
-    }
-}
-
-/// Whether a name is that of a part that an interrupted write left.
-fn is_left(name: &str) -> bool {
-    name == BESIDE || (name.starts_with(LEFT) && name.ends_with('\x7f'))
-}
-
-/// Keeps a part that an interrupted write left under a name of its own; one that has no octet is removed.
-fn leave<R: Files + AllocGlobal>(files: &R, place: &str, len: u64) -> io::Result<()> {
-    if len == 0 {
-        return fs::remove_file(files, place);
-    }
-    let Some(dir) = place.strip_suffix(BESIDE) else {
-        return Ok(());
-    };
-    for number in 1..LEFT_LIMIT {
-        let free = format!(in files.alloc(); "{dir}{LEFT}{number}\x7f")?;
-        if check_free(files, free.as_str()).is_ok() {
-            return fs::rename(files, place, free.as_str());
-        }
-    }
-    Err(io::Error::from(ErrorKind::AlreadyExists))
-}
-
-/// The path of a name in a directory.
-fn path_in(
-    alloc: Global,
-    here: &Path<Global>,
-    name: &str,
-    place: &str,
-) -> Result<Path<Global>, LoadFault> {
-    let octets = name.as_bytes();
-    if !is_path_text(octets) || Name::new(octets).is_none() {
-        return Err(LoadFault::at(alloc, place, Reason::Name));
-    }
-    match here.resolve(alloc, octets) {
-        Ok(path) => Ok(path),
-        Err(PathFault::TooBig) => Err(LoadFault::of_tree(alloc, place, TreeFault::TooBig)),
-        Err(PathFault::Memory) => Err(LoadFault::Memory),
-    }
-}
-
-/// Opens the file that was found, and no other that has come in its place: so no link is followed.
-fn open_same<R: Files + AllocGlobal>(
-    files: &R,
-    place: &str,
-    found: &Metadata,
-) -> Result<R::File, LoadFault> {
-    let alloc = files.alloc();
-    let file = match File::open(files, place) {
-        Ok(file) => file,
-        Err(error) => return Err(LoadFault::of_system(alloc, place, error)),
-    };
-    match file.metadata() {
-        Ok(opened) if opened.dev() == found.dev() && opened.ino() == found.ino() => Ok(file),
-        Ok(_) => Err(LoadFault::at(alloc, place, Reason::Exchanged)),
-        Err(error) => Err(LoadFault::of_system(alloc, place, error)),
-    }
-}
-
-/// Reads a file to its end, or until it has more octets than there is room for.
-fn read_all<F: Read>(
-    file: &mut F,
-    buffer: &mut [u8],
-    room: u64,
-    content: &mut Content<Global>,
-) -> Result<(), Reason> {
-    for _ in 0..1_099_511_627_776u64 {
-        if content.len() > room {
-            return Ok(());
-        }
-        match file.read(buffer) {
-            Ok(0) => return Ok(()),
-            Ok(count) => {
-                if content.push(&buffer[..count]).is_err() {
-                    return Err(Reason::Tree(TreeFault::Memory));
-                }
-            }
-            Err(error) if error.kind() == ErrorKind::Interrupted => {}
-            Err(error) => return Err(Reason::System(error)),
-        }
-    }
-    Err(Reason::System(io::Error::from(ErrorKind::TimedOut)))
-}
-
-/// The moment of a file: the nearest of the profile.
-fn moment_of(seconds: i64) -> Moment {
-    let seconds = u64::try_from(seconds).unwrap_or(0);
-    Moment {
-        seconds: seconds.min(LAST_SECOND),
     }
 }

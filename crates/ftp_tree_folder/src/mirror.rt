@@ -29,6 +29,13 @@ impl<A: Allocator + Copy, D: Folder> Mirror<A, D> {
         Mirror { tree, folder }
     }
 
+    /// The tree and the folder, which are no mirror any more.
+    pub fn into_parts(self) -> (MemTree<A>, D)
+        ensures { result ≡ (self.tree, self.folder) }
+    {
+        (self.tree, self.folder)
+    }
+
     /// The folder.
     pub fn folder(&self) -> &D
         ensures folder { result.now ≡ self.now.folder }

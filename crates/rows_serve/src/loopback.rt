@@ -1,7 +1,7 @@
 // A session over the loopback, with both ends in one thread: the client says all its lines, and then the server serves them.
 use crate::made::file;
 use crate::meeting::Meeting;
-use ftp_tool_serve::{Log, session, users_of};
+use ftp_tool_serve::{Limits, Log, PassivePorts, Patience, Service, session, users_of};
 use ftp_tree_folder::{Reasons, open};
 use rows_base::{Paper, cut};
 use std::fs::Files;
@@ -20,6 +20,13 @@ const BETWEEN: &[u8] = b"\r\nRETR a\r\nEPRT |1|127.0.0.1|";
 
 const BEHIND: &[u8] =
     b"|\r\nNLST\r\nRETR none\r\nRNFR a\r\nRNTO d/b\r\nDELE d\r\nSIZE d/up\r\nQUIT\r\n";
+
+/// How long the client is waited for, in seconds.
+const LIMITS: Limits = Limits {
+    login: 30,
+    idle: 30,
+    idle_while_waited: 30,
+};
 
 /// What stands before each line of a reply.
 const MARK: &[u8] = b"< ";
@@ -86,13 +93,34 @@ where
         + AllocGlobal,
 {
     let reasons = Reasons::new();
-    let Ok(tree) = open(rt, DIR, &[], &reasons) else {
+    served_over(rt, stream, &reasons)
+}
+
+/// The same, where the folder tells why it failed.
+fn served_over<R>(rt: &R, stream: &TcpStream, reasons: &Reasons) -> io::Result<bool>
+where
+    R: Net<Listener = TcpListener, Stream = TcpStream>
+        + Files
+        + Clock
+        + Print
+        + Eprint
+        + AllocGlobal,
+{
+    let Ok(tree) = open(rt, DIR, &[], reasons) else {
         return Err(io::Error::from(ErrorKind::InvalidData));
     };
     let Ok(accounts) = users_of(rt, None) else {
         return Err(io::Error::from(ErrorKind::OutOfMemory));
     };
-    let (_tree, ended) = session(&Meeting { rt }, tree, accounts, stream, Log::Told, &reasons);
+    let patience = Patience::new(LIMITS, None);
+    let passive = PassivePorts::new(0, 0);
+    let service = Service {
+        log: Log::Told,
+        reasons,
+        patience: &patience,
+        passive: &passive,
+    };
+    let (_tree, ended) = session(&Meeting { rt }, tree, accounts, stream, service);
     Ok(ended.is_ok())
 }
 

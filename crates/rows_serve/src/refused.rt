@@ -1,6 +1,6 @@
 // What `serve` answers where nobody is served.
 use crate::made::{deep, file};
-use ftp_tool_serve::{Log, Serving, Sessions, serve, users_of};
+use ftp_tool_serve::{Limits, Log, Others, Serving, Sessions, serve, users_of};
 use ftp_tree_folder::{LoadFault, Reasons, open};
 use std::fs::Files;
 use std::io::{Eprint, Print};
@@ -63,6 +63,13 @@ fn nobody<'a>(dir: &'a str) -> Serving<'a> {
         sessions: Sessions::Count(0),
         accounts: None,
         log: Log::Silent,
+        limits: Limits {
+            login: 0,
+            idle: 0,
+            idle_while_waited: 0,
+        },
+        passive: (0, 0),
+        others: Others::Keep,
     }
 }
 

@@ -1,0 +1,76 @@
+// How a client behaves: whether it logged in, and how many logins were refused.
+ghost use Rattle.std.specs.Prelude.{◌≡◌};
+ghost use Rattle.ftp_tool_serve.specs.Manner.{answer_to, manner_after};
+
+use ftp_command::Verb;
+
+/// The code of a login, and that of a refused one (RFC 959, section 4.2.2).
+const LOGGED_IN: u16 = 230;
+
+const NOT_LOGGED_IN: u16 = 530;
+
+/// From this refused login on each answer waits.
+const SLOW_FROM: u8 = 3;
+
+/// With this refused login the connection ends.
+const LAST: u8 = 10;
+
+/// How the logins of a connection went.
+#[derive(Clone, Copy, Debug, PartialEq, Eq)]
+pub(crate) struct Manner {
+    pub(crate) logged_in: bool,
+    /// How many logins were refused, 10 for more.
+    pub(crate) refused: u8,
+}
+
+/// How a client is answered.
+#[derive(Clone, Copy, Debug, PartialEq, Eq)]
+pub(crate) enum Pace {
+    AtOnce,
+    /// After a second.
+    Slow,
+    /// After a second, and nothing more is heard.
+    Last,
+}
+
+impl Manner {
+    /// Nobody logged in, and none was refused.
+    pub(crate) fn new() -> Manner {
+        Manner {
+            logged_in: false,
+            refused: 0,
+        }
+    }
+
+    /// A line of this verb was answered by a last reply of this code.
+    pub(crate) fn after(self, verb: Option<Verb>, code: u16) -> Manner
+        ensures { result ≡ manner_after self verb code }
+    {
+        if code == LOGGED_IN {
+            return Manner {
+                logged_in: true,
+                refused: self.refused,
+            };
+        }
+        match verb {
+            Some(Verb::Pass) if code == NOT_LOGGED_IN && self.refused < LAST => Manner {
+                logged_in: self.logged_in,
+                refused: self.refused + 1,
+            },
+            _ => self,
+        }
+    }
+
+    /// How the next answer goes.
+    pub(crate) fn pace(self) -> Pace
+        ensures { result ≡ answer_to self }
+    {
+        if self.refused < SLOW_FROM {
+            Pace::AtOnce
+        } else if self.refused < LAST {
+            Pace::Slow
+        } else {
+            Pace::Last
+        }
+    }
+}

@@ -1,0 +1,211 @@
+// How long a server waits for its peer.
+ghost use Rattle.std.specs.Prelude.{◌≡◌};
+ghost use Rattle.ftp_tool_sockets.specs.Waiting.{sooner_of, term_after};
+
+use crate::wait::{Polled, ask, asking};
+use ftp_control::TURNS;
+use libc::net as c;
+use libc::types::{pollfd, timespec};
+use std::cell::Cell;
+use std::net::TcpListener;
+
+/// The longest wait in one piece, in milliseconds: so often it is looked at whether other clients wait.
+const LOOK_MILLIS: i32 = 1_000;
+
+/// How long a server waits for its peer, in seconds; 0: without a limit.
+#[derive(Clone, Copy, Debug, PartialEq, Eq)]
+pub struct Limits {
+    /// From the beginning of a session to its login.
+    pub login: u32,
+    /// Without a command, a reply, or an octet of a data connection.
+    pub idle: u32,
+    /// The same, while another client waits to be served.
+    pub idle_while_waited: u32,
+}
+
+/// Why a server waits no more.
+#[derive(Clone, Copy, Debug, PartialEq, Eq)]
+pub enum Over {
+    /// Nobody logged in for so long.
+    Login,
+    /// Nothing was said or sent for so long.
+    Idle,
+    /// Nothing was said or sent for so long, and another client waits.
+    Waited,
+    /// Too many logins were refused.
+    Refused,
+}
+
+/// How many milliseconds are left of a limit, and what is over with it.
+#[derive(Clone, Copy, Debug, PartialEq, Eq)]
+pub(crate) struct Term {
+    pub(crate) left: u64,
+    pub(crate) over: Over,
+}
+
+/// How a wait ended.
+#[derive(Clone, Copy, Debug, PartialEq, Eq)]
+pub(crate) enum Waited {
+    /// What was asked for of a socket is there.
+    Told,
+    /// Patience is over.
+    Over(Over),
+    Failed,
+}
+
+/// The patience of one session. Who serves it says when something was done (`stir`), when somebody logged in, and when nothing is waited for
+/// any more; time is that of the system's monotonic clock.
+#[derive(Drop)]
+pub struct Patience<'a> {
+    limits: Limits,
+    /// Where other clients wait to be served.
+    door: Option<&'a TcpListener>,
+    /// When the session began, and when something was done last, in milliseconds.
+    begun: u64,
+    last: Cell<u64>,
+    logged_in: Cell<bool>,
+    over: Cell<Option<Over>>,
+}
+
+impl<'a> Patience<'a> {
+    /// The patience of a session that begins now. Other clients wait at `door`, if that is known.
+    pub fn new(limits: Limits, door: Option<&'a TcpListener>) -> Patience<'a> {
+        let now = monotonic_millis();
+        Patience {
+            limits,
+            door,
+            begun: now,
+            last: Cell::new(now),
+            logged_in: Cell::new(false),
+            over: Cell::new(None),
+        }
+    }
+
+    /// Something was done: a command, a reply, or octets of a data connection.
+    pub fn stir(&self) {
+        self.last.set(monotonic_millis());
+    }
+
+    /// Somebody logged in.
+    pub fn log_in(&self) {
+        self.logged_in.set(true);
+    }
+
+    /// Nothing is waited for any more.
+    pub fn end(&self, over: Over) {
+        self.over.set(Some(over));
+    }
+
+    /// Why nothing is waited for any more; none while something is.
+    pub fn over(&self) -> Option<Over> {
+        self.over.get()
+    }
+
+    /// Polls while patience lasts.
+    pub(crate) fn wait(&self, asked: &mut [pollfd]) -> Waited {
+        for _ in 0..TURNS {
+            let millis = match self.term() {
+                Some(term) if term.left == 0 => return Waited::Over(term.over),
+                Some(term) => piece_of(term.left),
+                None => LOOK_MILLIS,
+            };
+            match ask(asked, millis) {
+                Polled::Told => return Waited::Told,
+                Polled::Failed => return Waited::Failed,
+                Polled::TimeOver => {}
+            }
+        }
+        Waited::Failed
+    }
+
+    /// Whether patience is over now.
+    pub(crate) fn is_over(&self) -> bool {
+        self.term().is_some_and(|term| term.left == 0)
+    }
+
+    /// What is left of the limits.
+    fn term(&self) -> Option<Term> {
+        if let Some(over) = self.over.get() {
+            return Some(Term { left: 0, over });
+        }
+        let now = monotonic_millis();
+        let quiet = now.saturating_sub(self.last.get());
+        let idle = term_of(self.limits.idle, quiet, Over::Idle);
+        let term = if self.is_waited() {
+            let waited = term_of(self.limits.idle_while_waited, quiet, Over::Waited);
+            sooner(idle, waited)
+        } else {
+            idle
+        };
+        if self.logged_in.get() {
+            return term;
+        }
+        let spent = now.saturating_sub(self.begun);
+        sooner(term, term_of(self.limits.login, spent, Over::Login))
+    }
+
+    /// Whether another client waits to be served.
+    fn is_waited(&self) -> bool {
+        let Some(door) = self.door else {
+            return false;
+        };
+        let mut asked = [asking(door, c::POLLIN)];
+        ask(&mut asked, 0) == Polled::Told
+    }
+}
+
+/// Waits while a patience lasts; without one, without a limit.
+pub(crate) fn wait_within(patience: Option<&Patience<'_>>, asked: &mut [pollfd]) -> Waited {
+    match patience {
+        Some(patience) => patience.wait(asked),
+        None => match ask(asked, -1) {
+            Polled::Told => Waited::Told,
+            Polled::TimeOver | Polled::Failed => Waited::Failed,
+        },
+    }
+}
+
+/// What is left of a limit after so many milliseconds; none where there is no limit.
+fn term_of(limit: u32, spent: u64, over: Over) -> Option<Term>
+    ensures { result ≡ term_after limit spent over }
+{
+    if limit == 0 {
+        return None;
+    }
+    let left = (u64::from(limit) * 1_000).saturating_sub(spent);
+    Some(Term { left, over })
+}
+
+/// The one of two limits that ends sooner, the first where both do.
+fn sooner(one: Option<Term>, other: Option<Term>) -> Option<Term>
+    ensures { result ≡ sooner_of one other }
+{
+    match (one, other) {
+        (Some(one), Some(other)) if one.left <= other.left => Some(one),
+        (Some(_), Some(other)) => Some(other),
+        (Some(one), None) => Some(one),
+        (None, other) => other,
+    }
+}
+
+/// How long one wait is where so many milliseconds are left.
+pub(crate) fn piece_of(left: u64) -> i32 {
+    match i32::try_from(left) {
+        Ok(left) => left.min(LOOK_MILLIS),
+        Err(_) => LOOK_MILLIS,
+    }
+}
+
+/// The milliseconds of the system's monotonic clock, from some beginning.
+pub(crate) fn monotonic_millis() -> u64 {
+    let mut time = timespec {
+        tv_sec: 0,
+        tv_nsec: 0,
+    };
+    let _status = libc::clock_gettime(libc::CLOCK_MONOTONIC, &mut time);
+    let seconds = u64::try_from(time.tv_sec).unwrap_or(0);
+    let nanos = u64::try_from(time.tv_nsec).unwrap_or(0);
+    seconds
+        .saturating_mul(1_000)
+        .saturating_add(nanos / 1_000_000)
+}

@@ -1,0 +1,111 @@
+// What stands in a folder: names, kinds, and the octets of files.
+use crate::fault::{LoadFault, Reason};
+use crate::place::check_free;
+use crate::writing::BESIDE;
+use ftp_facts::Moment;
+use ftp_path::{Name, Path, PathFault, is_path_text};
+use ftp_tree::{Content, TreeFault};
+use std::alloc::Global;
+use std::fs::{File, Files, Metadata, OpenFile};
+use std::io::{ErrorKind, Read};
+use std::os::unix::fs::MetadataExt;
+use std::{fs, io};
+
+/// The most parts that interrupted writes left in one directory and that are kept.
+const LEFT_LIMIT: u32 = 10_000;
+
+/// What a part that an interrupted write left is called, behind it a number and the octet 127, which is of no name of a tree.
+const LEFT: &str = "ftp-left-";
+
+/// The last moment of the profile, the end of the year 9999.
+const LAST_SECOND: u64 = 253_402_300_799;
+
+/// Whether a name is that of a part that an interrupted write left.
+pub(crate) fn is_left(name: &str) -> bool {
+    name == BESIDE || (name.starts_with(LEFT) && name.ends_with('\x7f'))
+}
+
+/// Keeps a part that an interrupted write left under a name of its own; one that has no octet is removed.
+pub(crate) fn leave<R: Files + AllocGlobal>(files: &R, place: &str, len: u64) -> io::Result<()> {
+    if len == 0 {
+        return fs::remove_file(files, place);
+    }
+    let Some(dir) = place.strip_suffix(BESIDE) else {
+        return Ok(());
+    };
+    for number in 1..LEFT_LIMIT {
+        let free = format!(in files.alloc(); "{dir}{LEFT}{number}\x7f")?;
+        if check_free(files, free.as_str()).is_ok() {
+            return fs::rename(files, place, free.as_str());
+        }
+    }
+    Err(io::Error::from(ErrorKind::AlreadyExists))
+}
+
+/// The path of a name in a directory.
+pub(crate) fn path_in(
+    alloc: Global,
+    here: &Path<Global>,
+    name: &[u8],
+    place: &str,
+) -> Result<Path<Global>, LoadFault> {
+    if !is_path_text(name) || Name::new(name).is_none() {
+        return Err(LoadFault::at(alloc, place, Reason::Name));
+    }
+    match here.resolve(alloc, name) {
+        Ok(path) => Ok(path),
+        Err(PathFault::TooBig) => Err(LoadFault::of_tree(alloc, place, TreeFault::TooBig)),
+        Err(PathFault::Memory) => Err(LoadFault::Memory),
+    }
+}
+
+/// Opens the file that was found, and no other that has come in its place: so no link is followed.
+pub(crate) fn open_same<R: Files + AllocGlobal>(
+    files: &R,
+    place: &str,
+    found: &Metadata,
+) -> Result<R::File, LoadFault> {
+    let alloc = files.alloc();
+    let file = match File::open(files, place) {
+        Ok(file) => file,
+        Err(error) => return Err(LoadFault::of_system(alloc, place, error)),
+    };
+    match file.metadata() {
+        Ok(opened) if opened.dev() == found.dev() && opened.ino() == found.ino() => Ok(file),
+        Ok(_) => Err(LoadFault::at(alloc, place, Reason::Exchanged)),
+        Err(error) => Err(LoadFault::of_system(alloc, place, error)),
+    }
+}
+
+/// Reads a file to its end, or until it has more octets than there is room for.
+pub(crate) fn read_all<F: Read>(
+    file: &mut F,
+    buffer: &mut [u8],
+    room: u64,
+    content: &mut Content<Global>,
+) -> Result<(), Reason> {
+    for _ in 0..1_099_511_627_776u64 {
+        if content.len() > room {
+            return Ok(());
+        }
+        match file.read(buffer) {
+            Ok(0) => return Ok(()),
+            Ok(count) => {
+                if content.push(&buffer[..count]).is_err() {
+                    return Err(Reason::Tree(TreeFault::Memory));
+                }
+            }
+            Err(error) if error.kind() == ErrorKind::Interrupted => {}
+            Err(error) => return Err(Reason::System(error)),
+        }
+    }
+    Err(Reason::System(io::Error::from(ErrorKind::TimedOut)))
+}
+
+/// The moment of a file: the nearest of the profile.
+pub(crate) fn moment_of(seconds: i64) -> Moment {
+    let seconds = u64::try_from(seconds).unwrap_or(0);
+    Moment {
+        seconds: seconds.min(LAST_SECOND),
+    }
+}

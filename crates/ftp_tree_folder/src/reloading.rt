@@ -1,0 +1,173 @@
+// Loading anew what changed in a folder that is mirrored.
+ghost use Rattle.std.specs.Prelude.{◌≡◌, string_bytes};
+ghost use Rattle.ftp_tree_folder.specs.Place.{folder_text};
+
+use crate::Mirror;
+use crate::fault::LoadFault;
+use crate::folder::DiskFolder;
+use crate::loading::{Loading, Old, OnFault, dir_text};
+use crate::look::Seen;
+use crate::place::place_of;
+use crate::reading::path_in;
+use ftp_path::Path;
+use ftp_tree::{MemTree, NodeKind, Tree};
+use std::alloc::Global;
+use std::fs;
+use std::fs::Files;
+
+/// The most turns of a loop over directories or entries.
+const TURNS: u64 = 1_099_511_627_776;
+
+/// What of a folder could not be loaded anew, and is not part of the tree.
+#[derive(Drop)]
+pub struct LeftOut {
+    /// How many entries.
+    pub count: u64,
+    /// Why the first one.
+    pub first: Option<LoadFault>,
+}
+
+impl LeftOut {
+    fn nothing() -> LeftOut {
+        LeftOut {
+            count: 0,
+            first: None,
+        }
+    }
+}
+
+impl OnFault for LeftOut {
+    fn meet(&mut self, fault: LoadFault) -> Result<(), LoadFault> {
+        self.count = self.count.saturating_add(1);
+        if self.first.is_none() {
+            self.first = Some(fault);
+        }
+        Ok(())
+    }
+}
+
+/// The mirror of a folder that others may have changed: what changed is loaded anew, and of each other file what was read before stays.
+/// `seen` is how files looked when they were read, and becomes how they look now; `now` is the second since 1970. What can't be loaded is no part of
+/// the tree, and is told.
+pub fn reloaded<'a, R: Files + AllocGlobal + Clone + Drop>(
+    files: &R,
+    dir: &str,
+    roots: &[Path<Global>],
+    mirror: Mirror<Global, DiskFolder<'a, R>>,
+    seen: &mut Seen,
+    now: u64,
+) -> (Mirror<Global, DiskFolder<'a, R>>, LeftOut) {
+    let alloc = files.alloc();
+    let (tree, folder) = mirror.into_parts();
+    let old = Old {
+        tree,
+        seen: std::mem::replace(seen, Seen::nothing(alloc)),
+    };
+    let mut left = LeftOut::nothing();
+    match Loading::new(files, dir_text(dir), roots, old, now) {
+        Ok(mut loading) => {
+            load_all(&mut loading, &mut left);
+            *seen = loading.seen;
+            seen.sort();
+            (Mirror::new(loading.tree, folder), left)
+        }
+        Err(old) => {
+            *seen = old.seen;
+            let _met = left.meet(LoadFault::Memory);
+            (Mirror::new(old.tree, folder), left)
+        }
+    }
+}
+
+/// Loads each directory, without what it has no more.
+fn load_all<R: Files + AllocGlobal + Clone + Drop>(
+    loading: &mut Loading<'_, R>,
+    left: &mut LeftOut,
+) {
+    for _ in 0..TURNS {
+        let Some(here) = loading.next_dir() else {
+            return;
+        };
+        let loaded = match loading.prune(&here) {
+            Ok(()) => loading.load_dir(&here, left),
+            Err(fault) => Err(fault),
+        };
+        if let Err(fault) = loaded {
+            let _met = left.meet(fault);
+        }
+    }
+}
+
+impl<'a, R: Files + AllocGlobal + Clone + Drop> Loading<'a, R> {
+    /// Takes out of the tree what does not stand directly in a directory of the folder any more, or is of another kind.
+    fn prune(&mut self, here: &Path<Global>) -> Result<(), LoadFault> {
+        let mut at = 0usize;
+        for _ in 0..TURNS {
+            let Some(path) = self.nth_path(here, at)? else {
+                return Ok(());
+            };
+            if self.is_there(&path) || !self.take_out(path)? {
+                at = at.saturating_add(1);
+            }
+        }
+        Ok(())
+    }
+
+    /// The path of the name at a place in a directory of the tree.
+    fn nth_path(&self, here: &Path<Global>, at: usize) -> Result<Option<Path<Global>>, LoadFault> {
+        match self.tree.nth_name(&self.root, here, at) {
+            Some(name) => match path_in(self.files.alloc(), here, name.octets(), self.dir) {
+                Ok(path) => Ok(Some(path)),
+                Err(fault) => Err(fault),
+            },
+            None => Ok(None),
+        }
+    }
+
+    /// Whether the folder has what the tree has at a path, of the same kind.
+    fn is_there(&self, path: &Path<Global>) -> bool {
+        let Ok(place) = place_of(self.files.alloc(), self.dir, &self.root, path) else {
+            return true;
+        };
+        let Ok(found) = fs::symlink_metadata(self.files, place.as_str()) else {
+            return false;
+        };
+        match self.tree.kind(&self.root, path) {
+            Some(NodeKind::Dir) => found.is_dir(),
+            Some(NodeKind::File) => found.is_file(),
+            None => false,
+        }
+    }
+
+    /// Takes out of the tree what stands at a path, with all below it; gives whether it could.
+    fn take_out(&mut self, path: Path<Global>) -> Result<bool, LoadFault> {
+        for _ in 0..TURNS {
+            let deepest = self.deepest(&path)?;
+            let gone = match self.tree.kind(&self.root, &deepest) {
+                Some(NodeKind::File) => self.tree.delete(&self.root, &deepest),
+                _ => self.tree.remove_dir(&self.root, &deepest),
+            };
+            if gone.is_err() {
+                return Ok(false);
+            }
+            if deepest.key() == path.key() {
+                return Ok(true);
+            }
+        }
+        Ok(false)
+    }
+
+    /// The first path below another at which nothing stands below.
+    fn deepest(&self, path: &Path<Global>) -> Result<Path<Global>, LoadFault> {
+        let Ok(mut deepest) = path.copy(self.files.alloc()) else {
+            return Err(LoadFault::Memory);
+        };
+        for _ in 0..TURNS {
+            match self.nth_path(&deepest, 0)? {
+                Some(below) => deepest = below,
+                None => return Ok(deepest),
+            }
+        }
+        Ok(deepest)
+    }
+}
