@@ -15,10 +15,11 @@ use Rattle.ftp_pair_dialogues.specs.Stage.{rest}
 use Rattle.ftp_pair_agreement.specs.Follows.{Told, IsFree, IsUnder, Phase, Follows}
 use Rattle.ftp_pair_agreement.specs.Cut.{PlacedAt}
 use Rattle.ftp_pair_agreement.specs.PeekStages.{AtHalt}
+use Rattle.ftp_pair_agreement.specs.Rising.{FaredTo}
 use Rattle.ftp_pair_agreement.specs.Runs.{IsAsked, IsFetchingOn, IsHaltingOn, IsTrailing, Runs}
 use Rattle.ftp_pair_agreement.specs.Stages.{AtFetch}
 use Rattle.ftp_pair_agreement.proofs.FetchParting.{parts}
-use Rattle.ftp_pair_agreement.proofs.FetchTold.{few_links, closed_is, closed_at, marks_at, reported}
+use Rattle.ftp_pair_agreement.proofs.FetchTold.{fared_holds, fared_item, fared_leaves, few_links, closed_is, closed_at, marks_at, reported}
 use Rattle.ftp_pair_agreement.proofs.Items.{state_more, before_more, one_more}
 use Rattle.ftp_pair_agreement.proofs.PeekParting.{halt_parts}
 use Rattle.ftp_pair_agreement.proofs.Phases.{whole_item, whole_holds, length-more}
@@ -94,17 +95,17 @@ follows_agrees read from begun w h = by_phase h.phase
         subst (λ cutoff. Agrees from begun w.marks cutoff w.reports w.far.session.table) (sym l.cut_is)
         (told_agrees from begun w.marks (Some l.cutoff) w.reports l.now w.far.session.table l.told l.table)
 
--- ---- a download
+-- ---- a download, a listing or an upload
 
 -- an operation that is whole, whatever its marks
 marked_item : Op (List ℕ) → ℕ → List Mark → Item
 marked_item op moment own = record { moment = moment; first = record { op = op; outcome = Whole; marks = own }; more = [] }
 
--- a world with what is asked for under way agrees, however that stands
-asked_agrees : (Stood : State → Ask → List Mark → World → Type 0) (from : State) (begun : List Order) (w : World) → (f : IsAsked Stood from begun w) → w.far.session.table ≡ f.now.table
+-- a world with what is asked for under way agrees, however that stands, where the map is that before it
+asked_before : (Stood : State → Ask → List Mark → World → Type 0) (from : State) (begun : List Order) (w : World) → (f : IsAsked Stood from begun w) → w.far.session.table ≡ f.now.table
     → length f.own ≤ 1 → Agrees from begun w.marks None w.reports w.far.session.table
 unfolding marked_item
-asked_agrees Stood from begun w f table few =
+asked_before Stood from begun w f table few =
     let op : Op (List ℕ) = f.ask.op in
     let item : Item = marked_item op f.moment f.own in
     let holds : ItemHolds (state_after from f.told.items) (Single op f.moment) f.own None (length f.done) item = record {
@@ -121,14 +122,33 @@ asked_agrees Stood from begun w f table few =
       map_is = inr (fewer, table ∙ ap (λ s. s.table) (f.told.now_is ∙ sym (before_more from f.told.items item refl)));
     }))
 
--- a world with a download or a listing under way agrees
+-- and so it does where it fared so, and the map is that behind it
+asked_behind : (Stood : State → Ask → List Mark → World → Type 0) (from : State) (begun : List Order) (w : World) → (f : IsAsked Stood from begun w) → (said : Said) (after : State)
+    → FaredTo f.now f.ask f.own said after f.moment → w.far.session.table ≡ after.table → length f.own ≤ 1 → Agrees from begun w.marks None w.reports w.far.session.table
+asked_behind Stood from begun w f said after fares table few =
+    let op : Op (List ℕ) = f.ask.op in
+    let there : FaredTo (state_after from f.told.items) f.ask f.own said after f.moment = subst (λ s. FaredTo s f.ask f.own said after f.moment) f.told.now_is fares in
+    let item : Item = fared_item op f.moment there.outcome f.own in
+    subst (λ b. Agrees from b w.marks None w.reports w.far.session.table) (sym f.begun_is)
+    (subst (λ marks. Agrees from (f.done ++ Single op f.moment ∷ []) marks None w.reports w.far.session.table) (sym f.marks_are) (record {
+      items = f.told.items ++ item ∷ [];
+      hold = one_more w.reports from 0 (length f.done) f.done f.marks None f.told.items (Single op f.moment) f.own item f.told.all f.told.hold
+          (let e : length f.done ≡ 0 + length f.done = omega arith in e)
+          (fared_holds (state_after from f.told.items) f.ask f.is_ask.plan f.moment (length f.done) f.own said after there few);
+      map_is = inl (table ∙ ap (λ s. s.table) (sym (state_more from f.told.items item ∙ fared_leaves (state_after from f.told.items) f.ask f.own said after f.moment there)));
+    }))
+
+-- a world with a download, a listing or an upload under way agrees
 fetching_agrees : (read : Reading) (from : State) (begun : List Order) (w : World) → (on : IsFetchingOn read from begun w) → Agrees from begun w.marks None w.reports w.far.session.table
-fetching_agrees read from begun w on =
-    let p = parts read from begun w on in asked_agrees (λ now ask own w. PlacedAt (λ way b. AtFetch now ask read own way b) w) from begun w on.fetching p.table p.few
+fetching_agrees read from begun w on = elim (parts read from begun w on).table [
+  | inl same ↦ asked_before (λ now ask own w. PlacedAt (λ way b. AtFetch now ask read own way b) w) from begun w on.fetching same (parts read from begun w on).few
+  | inr settles ↦ asked_behind (λ now ask own w. PlacedAt (λ way b. AtFetch now ask read own way b) w) from begun w on.fetching settles.said settles.after settles.fares settles.table
+      (parts read from begun w on).few
+]
 
 -- so does one with a Peek that has sent ABOR
 halting_agrees : (from : State) (begun : List Order) (w : World) → (on : IsHaltingOn from begun w) → Agrees from begun w.marks None w.reports w.far.session.table
-halting_agrees from begun w on = let p = halt_parts from begun w on in asked_agrees (λ now ask own w. AtHalt now ask own w) from begun w on.halting p.table p.few
+halting_agrees from begun w on = let p = halt_parts from begun w on in asked_before (λ now ask own w. AtHalt now ask own w) from begun w on.halting p.table p.few
 
 -- a world that has told a refused REST agrees, though its server is not told yet that the link is closed
 trailing_agrees : (read : Reading) (reads : IsReading read) (from : State) (begun : List Order) (w : World) → (t : IsTrailing from begun w) → Agrees from begun w.marks None w.reports w.far.session.table

@@ -240,9 +240,7 @@ none_filled (Some at) text how came enough = absurd (cc)
 -- of a download that can be sent the client reads the answer of the direct run out of the whole octets
 download_answer : (offset : Option ℕ) (text : List ℕ) (how : How) → can_be_sent (fetch offset text how) ≡ true → HasAnswer (download_ask offset text how)
 download_answer offset text how can = record {
-  can = can;
   refused = λ state placed. refusal_is state offset text how placed;
-  unplaced = λ state at why is some. unplaced_is state offset text how at why is some;
   done_so = λ state moment. done_is state offset text how moment;
   whole = λ state mark sound known none. judged_so state offset text how mark sound;
   filled = λ state came sound none front enough. none_filled offset text how came enough;
@@ -255,5 +253,10 @@ pub download_is_ask : (offset : Option ℕ) (text : List ℕ) (how : How) → ca
 download_is_ask offset text how can = record {
   plan = download_plan offset text how;
   row = download_row offset text how (fetch_text offset text how can) (fetch_few offset text how can);
-  answer = download_answer offset text how can;
+  refuses = record {
+    can = can;
+    refused = λ state why placed is. refusal_is state offset text how placed ∙ is;
+    unplaced = λ state at why is some. unplaced_is state offset text how at why is some;
+  };
+  way = download_answer offset text how can;
 }

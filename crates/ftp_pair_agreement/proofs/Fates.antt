@@ -24,7 +24,7 @@ use Rattle.ftp_client_model.specs.declared.client.Ending.TheVariants as Endings
 use Rattle.ftp_pair_world.specs.Outcome.{Whole, Cut, Unopened, CanBeCut, IsCutOf, IsShort, cut_by, did, download_of, fetched, mark_in}
 use Rattle.ftp_pair_world.specs.World.{Mark, Broken, Refused as RefusedLink, counted}
 use Rattle.ftp_pair_dialogues.specs.Dialogue.{IsSound}
-use Rattle.ftp_pair_dialogues.specs.Fetches.{Ask, IsAsk, flow_after, is_filled}
+use Rattle.ftp_pair_dialogues.specs.Fetches.{Ask, HasAnswer, IsAsk, flow_after, is_filled}
 use Rattle.ftp_pair_dialogues.proofs.Rows.{answer_known, answer_unknown}
 use Rattle.ftp_pair_agreement.specs.Stages.{Fared}
 
@@ -44,22 +44,22 @@ module _ (state : State) (ask : Ask) (good : IsAsk ask) where
 
   -- an operation that the direct run refuses fares as refused, with the code of that refusal
   pub refused_fares : (own : List Mark) (why : Refusal) → state.known ≡ true → refusal state op ≡ Some why → Fared state ask own (Refused (code_of why))
-  refused_fares own why known is = whole_fares own (Refused (code_of why)) (λ moment. sym (answer_known state op moment (Some why) good.answer.can known is))
+  refused_fares own why known is = whole_fares own (Refused (code_of why)) (λ moment. sym (answer_known state op moment (Some why) good.refuses.can known is))
 
   -- nobody is logged in
   pub unknown_fares : (own : List Mark) → state.known ≡ false → Fared state ask own (Refused 530)
-  unknown_fares own unknown = whole_fares own (Refused 530) (λ moment. sym (answer_unknown state op moment good.answer.can unknown))
+  unknown_fares own unknown = whole_fares own (Refused 530) (λ moment. sym (answer_unknown state op moment good.refuses.can unknown))
 
   -- an operation that the direct run does not refuse fares with what is said of it whole
-  pub said_fares : (own : List Mark) → state.known ≡ true → refusal state op ≡ None → Fared state ask own (ask.said state)
-  said_fares own known none =
-      whole_fares own (ask.said state) (λ moment. sym (answer_known state op moment None good.answer.can known none) ∙ good.answer.done_so state moment)
+  pub said_fares : HasAnswer ask → (own : List Mark) → state.known ≡ true → refusal state op ≡ None → Fared state ask own (ask.said state)
+  said_fares answers own known none =
+      whole_fares own (ask.said state) (λ moment. sym (answer_known state op moment None good.refuses.can known none) ∙ answers.done_so state moment)
 
   -- when all octets came, the end was clean and the reply is 226, it is judged as what is said of it whole
-  pub judged_whole : (came : List ℕ) (mark : Option ℕ) → IsSound state → state.known ≡ true → ask.why state ≡ None → came ≡ ask.wire state
+  pub judged_whole : HasAnswer ask → (came : List ℕ) (mark : Option ℕ) → IsSound state → state.known ≡ true → ask.why state ≡ None → came ≡ ask.wire state
       → judged Endings.Clean Aborts.Unsent 226 op (Receiving (decoder_of ask.settings came) mark) ≡ Some (ask.said state)
-  judged_whole came mark sound known none is =
-      ap (λ w. judged Endings.Clean Aborts.Unsent 226 op (Receiving (decoder_of ask.settings w) mark)) is ∙ good.answer.whole state mark sound known none
+  judged_whole answers came mark sound known none is =
+      ap (λ w. judged Endings.Clean Aborts.Unsent 226 op (Receiving (decoder_of ask.settings w) mark)) is ∙ answers.whole state mark sound known none
 
   -- ---- cut
 
@@ -70,15 +70,15 @@ module _ (state : State) (ask : Ask) (good : IsAsk ask) where
   short_of (Some count) octets settings came short is = subst (λ l. length l < count) is (leb-false count (length (decoder_of settings came).content) short)
 
   -- an operation that is not refused can be cut at each front of its octets
-  can_be_cut : (came : List ℕ) → state.known ≡ true → refusal state op ≡ None → ask.why state ≡ None → IsFront came (ask.wire state) → is_filled op ask.settings came ≡ false
-      → CanBeCut state op came
-  can_be_cut came known none taken front short =
-      let t = good.answer.sent_so state taken in
+  can_be_cut : HasAnswer ask → (came : List ℕ) → state.known ≡ true → refusal state op ≡ None → ask.why state ≡ None → IsFront came (ask.wire state)
+      → is_filled op ask.settings came ≡ false → CanBeCut state op came
+  can_be_cut answers came known none taken front short =
+      let t = answers.sent_so state taken in
       let first : first_refusal state op ≡ None = ap (λ (b : Bool). if b then refusal state op else Some Refusals.NotLoggedIn) known ∙ none in
       let whole : IsCutOf None (Some (record (fetched ask.settings t.start t.octets) { asked = count_of op })) state came =
       (subst (IsFront came) (sym t.text) front, short_of (count_of op) _ ask.settings came short (what_is_settled ask.settings came)) in (
-        (good.answer.can, inl first),
-        subst (λ up. IsCutOf up (download_of state op) state came) (sym (good.answer.no_upload state))
+        (good.refuses.can, inl first),
+        subst (λ up. IsCutOf up (download_of state op) state came) (sym (answers.no_upload state))
             (subst (λ down. IsCutOf None down state came) (sym t.down) whole),
       )
 
@@ -87,44 +87,44 @@ module _ (state : State) (ask : Ask) (good : IsAsk ask) where
   cut_told came = if is_filled op ask.settings came then ask.said state else cut_said ask came
 
   -- behind a break, a 226 and a 426 alike are judged so
-  pub judged_cut : (code : ℕ) (came : List ℕ) → (code ≡ 226) ⊎ (code ≡ 426) → IsSound state → ask.why state ≡ None → IsFront came (ask.wire state)
+  pub judged_cut : HasAnswer ask → (code : ℕ) (came : List ℕ) → (code ≡ 226) ⊎ (code ≡ 426) → IsSound state → ask.why state ≡ None → IsFront came (ask.wire state)
       → judged Endings.Broken Aborts.Unsent code op (flow_after ask.settings came) ≡ Some (cut_told came)
-  judged_cut code came either sound taken front = elim either [
+  judged_cut answers code came either sound taken front = elim either [
     | inl is ↦ ap (λ code. judged Endings.Broken Aborts.Unsent code op (flow_after ask.settings came)) is ∙ by_enough (is_filled op ask.settings came) refl
     | inr is ↦ ap (λ code. judged Endings.Broken Aborts.Unsent code op (flow_after ask.settings came)) is ∙ by_enough (is_filled op ask.settings came) refl
   ]
     where
       by_enough : (b : Bool) → is_filled op ask.settings came ≡ b
           → (if b then content_answer op (decoder_of ask.settings came).content else Some (cut_said ask came)) ≡ Some (if b then ask.said state else cut_said ask came)
-      by_enough true enough = good.answer.filled state came sound taken front enough
+      by_enough true enough = answers.filled state came sound taken front enough
       by_enough false short = refl
 
   -- a list of one mark contains it
-  among_one : (own : List Mark) (mark : Mark) → own ≡ mark ∷ [] → Contains own mark
+  pub among_one : (own : List Mark) (mark : Mark) → own ≡ mark ∷ [] → Contains own mark
   among_one own mark is = subst (λ l. Contains l mark) (sym is) (0, omega arith, refl)
 
   -- an operation cut behind what came says that it broke off there, and leaves the state as it was
-  cut_is : (came : List ℕ) (moment : ℕ) → ask.why state ≡ None → did (Cut came) state op moment ≡ (cut_said ask came, state)
-  cut_is came moment taken =
-      let t = good.answer.sent_so state taken in
-      ap (λ up. cut_by up (download_of state op) state moment came) (good.answer.no_upload state) ∙ ap (λ down. cut_by None down state moment came) t.down
+  cut_is : HasAnswer ask → (came : List ℕ) (moment : ℕ) → ask.why state ≡ None → did (Cut came) state op moment ≡ (cut_said ask came, state)
+  cut_is answers came moment taken =
+      let t = answers.sent_so state taken in
+      ap (λ up. cut_by up (download_of state op) state moment came) (answers.no_upload state) ∙ ap (λ down. cut_by None down state moment came) t.down
       ∙ ap (λ octets. (BrokenOff octets (mark_in (no_octets ask.settings) None came), state)) settled
     where
       settled : settled_content ask.settings.mode (form_of ask.settings) came ≡ (decoder_of ask.settings came).content
       settled = sym (what_is_settled ask.settings came)
 
   -- an operation cut at a front of its octets, with the mark of a break there and no other, fares as broken off, or as whole where a Peek has enough
-  pub cut_fares : (own : List Mark) (came : List ℕ) → state.known ≡ true → refusal state op ≡ None → ask.why state ≡ None → IsFront came (ask.wire state)
+  pub cut_fares : HasAnswer ask → (own : List Mark) (came : List ℕ) → state.known ≡ true → refusal state op ≡ None → ask.why state ≡ None → IsFront came (ask.wire state)
       → own ≡ Broken (counted (length came)) ∷ [] → Fared state ask own (cut_told came)
-  cut_fares own came known none taken front marked = by_enough (is_filled op ask.settings came) refl
+  cut_fares answers own came known none taken front marked = by_enough (is_filled op ask.settings came) refl
     where
       by_enough : (b : Bool) → is_filled op ask.settings came ≡ b → Fared state ask own (if b then ask.said state else cut_said ask came)
-      by_enough true enough = said_fares own known none
+      by_enough true enough = said_fares answers own known none
       by_enough false short = record {
         outcome = Cut came;
-        can_be = can_be_cut came known none taken front short;
+        can_be = can_be_cut answers came known none taken front short;
         allowed = λ index. (tt, among_one own (Broken (counted (length came))) marked);
-        did_so = λ moment. cut_is came moment taken;
+        did_so = λ moment. cut_is answers came moment taken;
       }
 
   -- ---- not opened

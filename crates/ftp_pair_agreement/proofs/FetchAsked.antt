@@ -2,21 +2,21 @@
 use Rattle.std.proofs.Common.{◌≡◌, inr, ℕ, ◌<◌, ◌^◌, Bool, true, false, ◌||◌, List, [], ◌∷◌, Option, Some, None, refl, sym, ap, subst, ◌∙◌}
 use Rattle.ftp_command.specs.Line.{line_of}
 use Rattle.ftp_command.specs.declared.command.Command.TheVariants as Commands
-use Rattle.ftp_endpoint.specs.declared.host.Host.{Host}
-use Rattle.ftp_ends.specs.Reply.{IsWritten}
 use Rattle.ftp_operation.specs.declared.op.Op.{Op}
 use Rattle.ftp_path.specs.Path.{Names}
 use Rattle.ftp_direct.specs.declared.refusal.Refusal.{Refusal}
 use Rattle.ftp_direct.specs.Direct.{State, offset_refusal}
 use Rattle.ftp_client_model.specs.Plan.{is_extended, port_command}
 use Rattle.ftp_client_model.specs.View.{View as Near}
+use Rattle.ftp_client_model.specs.declared.client.ClientLink.TheVariants as NearData
+use Rattle.ftp_client_model.specs.declared.client.Ending.TheVariants as Endings
+use Rattle.ftp_client_model.specs.declared.client.Replied.TheVariants as Replies
 use Rattle.ftp_server_model.specs.Endpoint.{forgotten, is_standing}
 use Rattle.ftp_server_model.specs.Machine.{Reading, IsReading, is_connection_busy}
 use Rattle.ftp_server_model.specs.Replies.{fixed_reply}
-use Rattle.ftp_server_model.specs.View.{View as Far, Session, Transfer, how_in_force}
+use Rattle.ftp_server_model.specs.View.{Transfer, how_in_force}
 use Rattle.ftp_server_model.specs.Walk.{refusal_text}
 use Rattle.ftp_server_model.specs.declared.reply.ReplyKind.TheVariants as Kinds
-use Rattle.ftp_server_model.specs.declared.reply.FixedReply.{FixedReply}
 use Rattle.ftp_server_model.specs.declared.reply.FixedReply.TheVariants as Texts
 use Rattle.ftp_server_model.specs.declared.session.ServerLink.{ServerLink as FarConnection}
 use Rattle.ftp_server_model.specs.declared.session.ServerLink.TheVariants as FarData
@@ -25,26 +25,16 @@ use Rattle.ftp_server_model.specs.declared.session.Pending.TheVariants as Pendin
 use Rattle.ftp_server_model.proofs.RepliesWritten.{replies_are_written}
 use Rattle.ftp_pair_world.specs.World.{World, Mark}
 use Rattle.ftp_pair_dialogues.specs.Dialogue.{is_aside}
-use Rattle.ftp_pair_dialogues.specs.Fetches.{Ask, IsAsk, linked, rest_reply, offset_pending}
+use Rattle.ftp_pair_dialogues.specs.Fetches.{Ask, Direction, Down, Up, HasAnswer, IsAsk, IsOf, busy, carried, giving_of, rest_reply, offset_pending}
 use Rattle.ftp_pair_dialogues.specs.Stage.{Way, Asking, Answering, FarTurn}
 use Rattle.ftp_pair_dialogues.proofs.Exchanges.{with_session}
 use Rattle.ftp_pair_dialogues.proofs.Fetching.{at_endpoint, awaits_turn, connecting, refused_turn, taken_turn, granted_turn, denied_turn, refuses_turn, unopens_turn, gives_turn, gave_turn, giving}
 use Rattle.ftp_pair_dialogues.proofs.LoginTurns.{no_asking, asked_text}
+use Rattle.ftp_pair_dialogues.proofs.Offering.{down_job}
 use Rattle.ftp_pair_dialogues.proofs.ServerTurns.{aside_idle, cleared}
-use Rattle.ftp_pair_agreement.specs.Stages.{Sent, Granted, Denied, NoReply, Unclosed, Lost, Giving, Given, Refusing, Unopened, Stage, PortAsked, PortTold, Dials, Restarts, Retrieves, Carries, Answers, Holds, AtFetch, Early, Dialled, Ported, at_port, early_far, PortWanted, PortSaid, PortTaken, PortDenied, Awaits, Unaccepted, Dismissed}
-
--- ---- sessions
-
--- a session that is linked so, with something else pending
-linked_on : (s : Session) (connection : FarConnection Transfer) (closing : Bool) (pending next : Pending Names) → s ≡ linked connection closing pending s
-    → record s { pending = next } ≡ linked connection closing next (record s { pending = next })
-linked_on s connection closing pending next e = λ i. record s { connection = (e i).connection; closing = (e i).closing; life = (e i).life; pending = next }
-
--- the link of it is given up
-forgotten_on : (s : Session) (connection : FarConnection Transfer) (pending : Pending Names) → s ≡ linked connection false pending s
-    → forgotten (record s { pending = Pendings.Nothing }) ≡ linked FarData.Free (is_standing connection) Pendings.Nothing (forgotten (record s { pending = Pendings.Nothing }))
-forgotten_on s connection pending e =
-    λ i. record (forgotten (record s { pending = Pendings.Nothing })) { closing = (e i).closing || is_standing (e i).connection; life = (e i).life }
+use Rattle.ftp_pair_agreement.specs.Stages.{Sent, Granted, Denied, NoReply, Unclosed, Lost, Giving, Given, Refusing, Unopened, Stage, PortAsked, PortTold, Dials, Restarts, Retrieves, Carries, Rises, Tells, Answers, Holds, AtFetch, Early, Dialled, Ported, at_port, early_far, PortWanted, PortSaid, PortTaken, PortDenied, Awaits, Unaccepted, Dismissed}
+use Rattle.ftp_pair_agreement.proofs.Sessions.{fixed, forgotten_on, idle_at, linked_on}
+use Rattle.ftp_pair_agreement.proofs.UploadAsked.{no_line, stor_broken, stor_open}
 
 module _ (read : Reading) (reads : IsReading read) (state : State) (ask : Ask) (good : IsAsk ask) (own : List Mark) where
   abbrev At : Way → World → Type 0
@@ -61,16 +51,6 @@ module _ (read : Reading) (reads : IsReading read) (state : State) (ask : Ask) (
   few at is = good.row.few at is
 
   -- ---- the server
-
-  -- each reply with a set text is a written one
-  fixed : (s : Session) (text : FixedReply) → IsWritten (fixed_reply text).code (fixed_reply text).lines
-  fixed s text = replies_are_written s (Kinds.Fixed text) (fixed_reply text) tt refl
-
-  -- before the transfer the data connection of the server is not busy
-  idle_at : (early : Early) (here : Host) (f : Far) → f.session.connection ≡ early_far here early → is_connection_busy f.session.connection ≡ false
-  idle_at (Dialled true) here f is = ap is_connection_busy is
-  idle_at (Dialled false) here f is = ap is_connection_busy is
-  idle_at (Ported port) here f is = ap is_connection_busy is
 
   -- REST: the server grants the offset or denies it
   rest_turn : (at : ℕ) (early : Early) (b : World) → Stands (Restarts at Sent early) (Asking (line_of (Commands.Rest at))) b
@@ -95,6 +75,7 @@ module _ (read : Reading) (reads : IsReading read) (state : State) (ask : Ask) (
             near = h.near;
             session = linked_on b.far.session (early_far b.near.here early) false Pendings.Nothing (Pendings.Restart at) h.session;
             steady = h.steady;
+            timed = h.timed;
             ready = h.ready;
             link = h.link;
             to_server = h.to_server;
@@ -119,6 +100,7 @@ module _ (read : Reading) (reads : IsReading read) (state : State) (ask : Ask) (
             near = h.near;
             session = linked_on b.far.session (early_far b.near.here early) false Pendings.Nothing Pendings.Nothing h.session;
             steady = h.steady;
+            timed = h.timed;
             ready = h.ready;
             link = h.link;
             to_server = h.to_server;
@@ -131,10 +113,10 @@ module _ (read : Reading) (reads : IsReading read) (state : State) (ask : Ask) (
         ),
       )
 
-  -- RETR over a link that broke
-  retr_broken : (b : World) → Stands (Retrieves (Dialled false)) (Asking (line_of ask.command)) b
+  -- RETR, MLSD or NLST over a link that broke
+  retr_broken : ask.sends ≡ Down → (b : World) → Stands (Retrieves (Dialled false)) (Asking (line_of ask.command)) b
       → (t : FarTurn read b.far (line_of ask.command)) × At (Answering t.replies) (record b { far = t.far })
-  retr_broken b h = by_why (ask.why state) refl
+  retr_broken down b h = by_why (ask.why state) refl
     where
       idle : is_connection_busy b.far.session.connection ≡ false
       idle = idle_at (Dialled false) b.near.here b.far (ap (λ s. s.connection) h.session)
@@ -151,9 +133,10 @@ module _ (read : Reading) (reads : IsReading read) (state : State) (ask : Ask) (
         inr (
           Carries (record { course = Unopened; came = []; queue = [] }),
           record {
-            near = h.near;
+            near = h.near ∙ ap (λ job. busy job (NearData.Over Endings.Broken) b.near) (down_job ask down Replies.Nothing);
             session = linked_on b.far.session FarData.Free false (offset_pending ask.offset) Pendings.Nothing h.session;
             steady = h.steady;
+            timed = h.timed;
             ready = h.ready;
             link = h.link;
             to_server = h.to_server;
@@ -175,9 +158,10 @@ module _ (read : Reading) (reads : IsReading read) (state : State) (ask : Ask) (
         inr (
           Carries (record { course = Refusing why (Lost false); came = []; queue = [] }),
           record {
-            near = h.near;
+            near = h.near ∙ ap (λ job. busy job (NearData.Over Endings.Broken) b.near) (down_job ask down Replies.Nothing);
             session = forgotten_on b.far.session FarData.Free (offset_pending ask.offset) h.session;
             steady = h.steady;
+            timed = h.timed;
             ready = h.ready;
             link = h.link;
             to_server = h.to_server;
@@ -185,15 +169,15 @@ module _ (read : Reading) (reads : IsReading read) (state : State) (ask : Ask) (
             came = h.came;
             marked = h.marked;
             way_is = refl;
-            fine = (good.answer.refused state h.fine ∙ some, (refl, refl));
+            fine = (good.refuses.refused state why h.fine some, (refl, refl));
           },
         ),
       )
 
-  -- RETR over an open link
-  retr_open : (b : World) → Stands (Retrieves (Dialled true)) (Asking (line_of ask.command)) b
+  -- RETR, MLSD or NLST over an open link
+  retr_open : ask.sends ≡ Down → HasAnswer ask → (b : World) → Stands (Retrieves (Dialled true)) (Asking (line_of ask.command)) b
       → (t : FarTurn read b.far (line_of ask.command)) × At (Answering t.replies) (record b { far = t.far })
-  retr_open b h = by_why (ask.why state) refl (ask.wire state) refl
+  retr_open down answers b h = by_why (ask.why state) refl (ask.wire state) refl
     where
       idle : is_connection_busy b.far.session.connection ≡ false
       idle = idle_at (Dialled true) b.near.here b.far (ap (λ s. s.connection) h.session)
@@ -210,15 +194,16 @@ module _ (read : Reading) (reads : IsReading read) (state : State) (ask : Ask) (
         record {
           far = with_session (forgotten (giving ask.listed [] b.far)) b.far;
           replies = fixed_reply Texts.Opens ∷ fixed_reply Texts.Complete ∷ [];
-          is = gave_turn read reads state ask good.row b.near b.far h.steady h.ready.0 h.ready.1 idle pending none ready empty;
+          is = gave_turn read reads state ask good.row b.near b.far h.steady h.ready.0 h.ready.1 idle pending (ap (λ d. carried d ask state) down ∙ ap (giving_of ask.listed) empty) none ready;
           fine = (fixed b.far.session Texts.Opens, (fixed b.far.session Texts.Complete, tt));
         },
         inr (
           Carries (record { course = Given NoReply false; came = []; queue = [] }),
           record {
-            near = h.near;
+            near = h.near ∙ ap (λ job. busy job NearData.Open b.near) (down_job ask down Replies.Nothing);
             session = λ i. record (forgotten (giving ask.listed [] b.far)) { closing = (h.session i).closing || true; life = (h.session i).life };
             steady = h.steady;
+            timed = h.timed;
             ready = h.ready;
             link = h.link;
             to_server = h.to_server;
@@ -226,7 +211,7 @@ module _ (read : Reading) (reads : IsReading read) (state : State) (ask : Ask) (
             came = h.came;
             marked = h.marked;
             way_is = refl;
-            fine = ((none, good.answer.refused state h.fine ∙ none), sym empty, tt);
+            fine = ((none, answers.refused state h.fine ∙ none, answers), sym empty, tt);
           },
         ),
       )
@@ -234,15 +219,16 @@ module _ (read : Reading) (reads : IsReading read) (state : State) (ask : Ask) (
         record {
           far = with_session (giving ask.listed (octet ∷ more) b.far) b.far;
           replies = fixed_reply Texts.Opens ∷ [];
-          is = gives_turn read reads state ask good.row b.near b.far h.steady h.ready.0 h.ready.1 idle pending octet more none ready some;
+          is = gives_turn read reads state ask good.row b.near b.far h.steady h.ready.0 h.ready.1 idle pending octet more (ap (λ d. carried d ask state) down ∙ ap (giving_of ask.listed) some) none ready;
           fine = (fixed b.far.session Texts.Opens, tt);
         },
         inr (
           Carries (record { course = Giving false octet more; came = []; queue = [] }),
           record {
-            near = h.near;
+            near = h.near ∙ ap (λ job. busy job NearData.Open b.near) (down_job ask down Replies.Nothing);
             session = λ i. record (giving ask.listed (octet ∷ more) b.far) { closing = (h.session i).closing; life = (h.session i).life };
             steady = h.steady;
+            timed = h.timed;
             ready = h.ready;
             link = h.link;
             to_server = h.to_server;
@@ -250,7 +236,7 @@ module _ (read : Reading) (reads : IsReading read) (state : State) (ask : Ask) (
             came = h.came;
             marked = h.marked;
             way_is = refl;
-            fine = ((none, good.answer.refused state h.fine ∙ none), sym some, tt);
+            fine = ((none, answers.refused state h.fine ∙ none, answers), sym some, tt);
           },
         ),
       )
@@ -264,9 +250,10 @@ module _ (read : Reading) (reads : IsReading read) (state : State) (ask : Ask) (
         inr (
           Carries (record { course = Refusing why Unclosed; came = []; queue = [] }),
           record {
-            near = h.near;
+            near = h.near ∙ ap (λ job. busy job NearData.Open b.near) (down_job ask down Replies.Nothing);
             session = forgotten_on b.far.session FarData.Ready (offset_pending ask.offset) h.session;
             steady = h.steady;
+            timed = h.timed;
             ready = h.ready;
             link = h.link;
             to_server = h.to_server;
@@ -274,12 +261,12 @@ module _ (read : Reading) (reads : IsReading read) (state : State) (ask : Ask) (
             came = h.came;
             marked = h.marked;
             way_is = refl;
-            fine = (good.answer.refused state h.fine ∙ some, (refl, refl));
+            fine = (good.refuses.refused state why h.fine some, (refl, refl));
           },
         ),
       )
 
-  -- RETR where the client listens at a port
+  -- the own command where the client listens at a port
   retr_ported : (port : ℕ) (b : World) → Stands (Retrieves (Ported port)) (Asking (line_of ask.command)) b
       → (t : FarTurn read b.far (line_of ask.command)) × At (Answering t.replies) (record b { far = t.far })
   retr_ported port b h = by_why (ask.why state) refl
@@ -290,7 +277,7 @@ module _ (read : Reading) (reads : IsReading read) (state : State) (ask : Ask) (
       by_why : (why : Option Refusal) → ask.why state ≡ why → (t : FarTurn read b.far (line_of ask.command)) × At (Answering t.replies) (record b { far = t.far })
       by_why None none = (
         record {
-          far = with_session (connecting ask.listed (ask.wire state) (at_port b.near.here port) b.far) b.far;
+          far = with_session (connecting (carried ask.sends ask state) (at_port b.near.here port) b.far) b.far;
           replies = fixed_reply Texts.Opens ∷ [];
           is = awaits_turn read reads state ask good.row b.near b.far h.steady h.ready.0 h.ready.1 idle (ap (λ s. s.pending) h.session) (at_port b.near.here port) none
               (ap (λ s. s.connection) h.session);
@@ -300,8 +287,9 @@ module _ (read : Reading) (reads : IsReading read) (state : State) (ask : Ask) (
           Awaits port false,
           record {
             near = h.near;
-            session = λ i. record (connecting ask.listed (ask.wire state) (at_port b.near.here port) b.far) { closing = (h.session i).closing; life = (h.session i).life };
+            session = λ i. record (connecting (carried ask.sends ask state) (at_port b.near.here port) b.far) { closing = (h.session i).closing; life = (h.session i).life };
             steady = h.steady;
+            timed = h.timed;
             ready = h.ready;
             link = h.link;
             to_server = h.to_server;
@@ -309,7 +297,7 @@ module _ (read : Reading) (reads : IsReading read) (state : State) (ask : Ask) (
             came = tt;
             marked = h.marked;
             way_is = refl;
-            fine = (none, good.answer.refused state h.fine ∙ none);
+            fine = (none, h.fine);
           },
         ),
       )
@@ -326,6 +314,7 @@ module _ (read : Reading) (reads : IsReading read) (state : State) (ask : Ask) (
             near = h.near;
             session = forgotten_on b.far.session (FarData.Active (at_port b.near.here port)) (offset_pending ask.offset) h.session;
             steady = h.steady;
+            timed = h.timed;
             ready = h.ready;
             link = h.link;
             to_server = h.to_server;
@@ -333,10 +322,29 @@ module _ (read : Reading) (reads : IsReading read) (state : State) (ask : Ask) (
             came = tt;
             marked = h.marked;
             way_is = refl;
-            fine = good.answer.refused state h.fine ∙ some;
+            fine = good.refuses.refused state why h.fine some;
           },
         ),
       )
+
+  -- the own command over a link, whichever way octets go
+  own_open : (b : World) → Stands (Retrieves (Dialled true)) (Asking (line_of ask.command)) b
+      → (t : FarTurn read b.far (line_of ask.command)) × At (Answering t.replies) (record b { far = t.far })
+  own_open b = by_way ask.sends refl good.way
+    where
+      by_way : (d : Direction) → ask.sends ≡ d → IsOf ask d → Stands (Retrieves (Dialled true)) (Asking (line_of ask.command)) b
+          → (t : FarTurn read b.far (line_of ask.command)) × At (Answering t.replies) (record b { far = t.far })
+      by_way Down down answers h = retr_open down answers b h
+      by_way (Up rise) up upload h = stor_open read reads state ask good own rise upload b h
+
+  own_broken : (b : World) → Stands (Retrieves (Dialled false)) (Asking (line_of ask.command)) b
+      → (t : FarTurn read b.far (line_of ask.command)) × At (Answering t.replies) (record b { far = t.far })
+  own_broken b = by_way ask.sends refl good.way
+    where
+      by_way : (d : Direction) → ask.sends ≡ d → IsOf ask d → Stands (Retrieves (Dialled false)) (Asking (line_of ask.command)) b
+          → (t : FarTurn read b.far (line_of ask.command)) × At (Answering t.replies) (record b { far = t.far })
+      by_way Down down answers h = retr_broken down b h
+      by_way (Up rise) up upload h = stor_broken read reads state ask good own rise upload b h
 
   -- PORT
   abbrev port_line : Near → ℕ → List ℕ
@@ -364,6 +372,7 @@ module _ (read : Reading) (reads : IsReading read) (state : State) (ask : Ask) (
             near = h.near;
             session = λ i. record (at_endpoint (at_port b.near.here port) b.far) { closing = (h.session i).closing || is_standing (h.session i).connection; life = (h.session i).life };
             steady = h.steady;
+            timed = h.timed;
             ready = (h.ready known, known);
             link = h.link;
             to_server = h.to_server;
@@ -388,6 +397,7 @@ module _ (read : Reading) (reads : IsReading read) (state : State) (ask : Ask) (
             near = h.near;
             session = linked_on b.far.session connection false pending Pendings.Nothing h.session;
             steady = h.steady;
+            timed = h.timed;
             ready = tt;
             link = h.link;
             to_server = h.to_server;
@@ -418,10 +428,10 @@ module _ (read : Reading) (reads : IsReading read) (state : State) (ask : Ask) (
   asked_at (Restarts at (Denied why) early) line b h = absurd (no_asking line _ h.way_is)
   asked_at (Retrieves (Dialled true)) line b h =
       let T : List ℕ → Type 0 = λ l. Stands (Retrieves (Dialled true)) (Asking l) b → (t : FarTurn read b.far l) × At (Answering t.replies) (record b { far = t.far }) in
-      subst T (sym (asked_text h.way_is)) (retr_open b) h
+      subst T (sym (asked_text h.way_is)) (own_open b) h
   asked_at (Retrieves (Dialled false)) line b h =
       let T : List ℕ → Type 0 = λ l. Stands (Retrieves (Dialled false)) (Asking l) b → (t : FarTurn read b.far l) × At (Answering t.replies) (record b { far = t.far }) in
-      subst T (sym (asked_text h.way_is)) (retr_broken b) h
+      subst T (sym (asked_text h.way_is)) (own_broken b) h
   asked_at (Retrieves (Ported port)) line b h =
       let T : List ℕ → Type 0 = λ l. Stands (Retrieves (Ported port)) (Asking l) b → (t : FarTurn read b.far l) × At (Answering t.replies) (record b { far = t.far }) in
       subst T (sym (asked_text h.way_is)) (retr_ported port b) h
@@ -430,4 +440,6 @@ module _ (read : Reading) (reads : IsReading read) (state : State) (ask : Ask) (
   asked_at (Unaccepted port) line b h = absurd (no_asking line _ h.way_is)
   asked_at (Dismissed port why) line b h = absurd (no_asking line _ h.way_is)
   asked_at (Carries c) line b h = absurd (no_asking line _ h.way_is)
+  asked_at (Rises rise lift) line b h = absurd (no_line lift line h.way_is)
+  asked_at (Tells rise said after) line b h = absurd (no_asking line _ h.way_is)
   asked_at (Answers said leaves) line b h = absurd (no_asking line _ h.way_is)

@@ -1,15 +1,17 @@
--- A download or a listing begins.
-use Rattle.std.proofs.Common.{◌≡◌, ℕ, List, [], ◌∷◌, ◌++◌, refl, sym, ap, ◌∙◌}
+-- A download, a listing or an upload begins.
+use Rattle.std.proofs.Common.{◌≡◌, ℕ, List, [], ◌∷◌, ◌++◌, refl, sym, ap, subst, ◌∙◌}
 use Rattle.ftp_operation.specs.declared.op.Op.{Op}
 use Rattle.ftp_direct.specs.Direct.{State}
+use Rattle.ftp_server_model.specs.Calls as far
 use Rattle.ftp_server_model.specs.Machine.{Reading, IsReading}
 use Rattle.ftp_pair_world.specs.Agreement.{Order, Single}
 use Rattle.ftp_pair_world.specs.Events.{operation_begins}
 use Rattle.ftp_pair_world.specs.Serving.{after_event}
 use Rattle.ftp_pair_world.specs.World.{World}
 use Rattle.ftp_pair_dialogues.specs.Dialogue.{Passes}
-use Rattle.ftp_pair_dialogues.specs.Fetches.{Ask, IsAsk, Opens}
+use Rattle.ftp_pair_dialogues.specs.Fetches.{Ask, IsAsk, IsTimely, Opens}
 use Rattle.ftp_pair_dialogues.specs.Stage.{Way, Asking, Answering}
+use Rattle.ftp_pair_dialogues.proofs.Footing.{waited_footing}
 use Rattle.ftp_pair_dialogues.proofs.Refusing.{ask_leads}
 use Rattle.ftp_pair_agreement.specs.Cut.{Cut, world_at}
 use Rattle.ftp_pair_agreement.specs.Follows.{IsFree, IsLinked, IsUnlinked}
@@ -18,14 +20,22 @@ use Rattle.ftp_pair_agreement.proofs.Begins.{begins_stands}
 use Rattle.ftp_pair_agreement.proofs.FetchRuns.{fetch_after}
 use Rattle.ftp_pair_agreement.proofs.FetchTurns.{arrives}
 
--- a download or listing begins in a free world without a data link, and the list runs on with it
-pub begins_fetch : (read : Reading) (reads : IsReading read) (from : State) (begun : List Order) (ask : Ask) (moment : ℕ) → IsAsk ask
+-- the server's clock is set, and so it is in the base of what is placed
+placed_moment : (moment : ℕ) (w new b : World) (way : Way) (c : Cut) → new.far ≡ far.clocked moment w.far → new ≡ world_at b way c → b.far.footing.moment ≡ moment
+unfolding far.clocked
+placed_moment moment w new b (Asking line) c clocked is =
+    ap (λ u. u.far.footing.moment) (sym is) ∙ ap (λ v. v.footing.moment) clocked ∙ ap (λ g. g.moment) (waited_footing w.far.waiting (far.clock_step moment w.far))
+placed_moment moment w new b (Answering rows) c clocked is =
+    ap (λ u. u.far.footing.moment) (sym is) ∙ ap (λ v. v.footing.moment) clocked ∙ ap (λ g. g.moment) (waited_footing w.far.waiting (far.clock_step moment w.far))
+
+-- a download, a listing or an upload begins in a free world without a data link, and the list runs on with it
+pub begins_fetch : (read : Reading) (reads : IsReading read) (from : State) (begun : List Order) (ask : Ask) (moment : ℕ) → IsAsk ask → IsTimely ask.sends moment
     → (w : World) → IsUnlinked w → IsLinked w → IsFree from begun w → Runs read from (begun ++ Single ask.op moment ∷ []) (after_event (operation_begins ask.op moment w))
-begins_fetch read reads from begun ask moment good w unlinked linked f =
+begins_fetch read reads from begun ask moment good timely w unlinked linked f =
     let op : Op (List ℕ) = ask.op in
     let new : World = operation_begins op moment w in
     let s = begins_stands read reads from begun op moment f.now (Passes f.now.table f.now.table) (Opens f.now ask) w
-    (λ n g stands. ask_leads read f.now ask reads good.plan n g stands) good.answer.can f.stands f.stands.here in
+    (λ n g stands. ask_leads read f.now ask reads good.plan n g stands) good.refuses.can f.stands f.stands.here in
     let same = fields s.base s.way s.cut in
     fetch_after read reads from (begun ++ Single op moment ∷ []) new (record {
       done = begun;
@@ -39,6 +49,7 @@ begins_fetch read reads from begun ask moment good w unlinked linked f =
       sound = f.sound;
       is_ask = good;
       told = f.told;
+      timely = timely;
       linked = record { control = linked.control; cutoff = linked.cutoff };
       stands = record {
         base = s.base;
@@ -47,7 +58,8 @@ begins_fetch read reads from begun ask moment good w unlinked linked f =
         is = s.is;
         fits = s.fits;
         here = (arrives read reads f.now ask good f.sound [] s.way s.base (sym same.0 ∙ sym (ap (λ u. u.link) s.is) ∙ unlinked.link)
-            (sym same.1 ∙ sym (ap (λ u. u.data_to_server) s.is) ∙ unlinked.to_server) (sym same.2 ∙ sym (ap (λ u. u.data_to_client) s.is) ∙ unlinked.to_client) refl s.here).0;
+            (sym same.1 ∙ sym (ap (λ u. u.data_to_server) s.is) ∙ unlinked.to_server) (sym same.2 ∙ sym (ap (λ u. u.data_to_client) s.is) ∙ unlinked.to_client) refl
+            (subst (IsTimely ask.sends) (sym (placed_moment moment w new s.base s.way s.cut refl s.is)) timely) s.here).0;
       };
     })
   where

@@ -1,8 +1,6 @@
 -- Octets of the link that are given and taken lead what is asked for from a stage to a stage.
-use Rattle.std.proofs.Common.{◌≡◌, ◌⊎◌, inl, inr, ℕ, ◌+◌, ◌≤◌, Bool, true, false, List, [], ◌∷◌, ◌++◌, length, take, drop, refl, sym, ap, subst, ◌∙◌, append-nil, append_assoc, arith, length-append}
-use Rattle.std.specs.Prelude.{min}
+use Rattle.std.proofs.Common.{◌≡◌, ◌⊎◌, inl, inr, ℕ, ◌+◌, ◌≤◌, Bool, true, false, List, [], ◌∷◌, ◌++◌, length, take, drop, refl, sym, ap, subst, ◌∙◌, append-nil, append_assoc}
 use Rattle.std.proofs.Math.Seq.{take-nil}
-use Rattle.std.proofs.lemmas.List.{take-append-drop, length-take}
 use Rattle.ftp_cutting.specs.Machine.{IsFront}
 use Rattle.ftp_ends.specs.Ear.{Ear, quiet}
 use Rattle.ftp_ends.specs.Reply.{Reply, reply_octets}
@@ -29,6 +27,7 @@ use Rattle.ftp_pair_dialogues.proofs.Fetching.{giving_on, given_all}
 use Rattle.ftp_pair_agreement.specs.Cut.{Cut, Fits, coming, world_at, PlacedAt}
 use Rattle.ftp_pair_agreement.specs.PeekStages.{AtHalt, Gives, Gave, IsHaltCross, final_heard, final_rows}
 use Rattle.ftp_pair_agreement.specs.Stages.{Heard, NoReply, OneReply, BothReplies, Unclosed, Closed, IsShortAt, heard_by, left_tie, near_link, replied_of, tie_marks, Course, Giving, Given, Ended, Severed, Refusing, Unopened, replies_in, Stage, Carries, Holds, AtFetch}
+use Rattle.ftp_pair_agreement.proofs.Counts.{comes_all, comes_on, counts_on, goes_on}
 use Rattle.ftp_pair_agreement.proofs.CrossKeeps.{abort_crosses, rows_heard}
 use Rattle.ftp_pair_agreement.proofs.FetchLink.{Leads, hearing, listening, near_acts, fits_more, far_linked}
 use Rattle.ftp_pair_agreement.proofs.PeekBegins.{halts_at}
@@ -101,21 +100,6 @@ pub free_owes : (closing : Bool) (f : Far) (ear : Ear) (owed : List ℕ) → f.s
 free_owes true f ear owed is = ap (λ s. far.to_give (listening ear owed (far_linked s f))) is
 free_owes false f ear owed is = ap (λ s. far.to_give (listening ear owed (far_linked s f))) is
 
--- octets that are on their way come
-pub comes_on : (n : ℕ) (came queue rest wire : List ℕ) → came ++ (queue ++ rest) ≡ wire → (came ++ take n queue) ++ (drop n queue ++ rest) ≡ wire
-comes_on n came queue rest wire is =
-    append_assoc came (take n queue) (drop n queue ++ rest)
-    ∙ ap (λ l. came ++ l) (sym (append_assoc (take n queue) (drop n queue) rest) ∙ ap (λ l. l ++ rest) (take-append-drop n queue)) ∙ is
-
--- octets that are the last on their way come, and together they are the wire still
-comes_all : (n : ℕ) (came queue wire : List ℕ) → came ++ queue ≡ wire → (came ++ take n queue) ++ drop n queue ≡ wire
-comes_all n came queue wire is = append_assoc came (take n queue) (drop n queue) ∙ ap (λ l. came ++ l) (take-append-drop n queue) ∙ is
-
--- octets that are to be given go on their way
-goes_on : (n : ℕ) (came queue rest left wire : List ℕ) → drop n rest ≡ left → came ++ (queue ++ rest) ≡ wire → came ++ ((queue ++ take n rest) ++ left) ≡ wire
-goes_on n came queue rest left wire is all =
-    ap (λ l. came ++ l) (append_assoc queue (take n rest) left ∙ ap (λ l. queue ++ (take n rest ++ l)) (sym is) ∙ ap (λ l. queue ++ l) (take-append-drop n rest)) ∙ all
-
 -- octets are given or taken
 pub record AtFlow (state : State) (ask : Ask) (own : List Mark) (way : Way) (b : World) : Type 0 where
   pub course : Course
@@ -165,6 +149,7 @@ module _ (read : Reading) (state : State) (ask : Ask) (good : IsAsk ask) (sound 
             near = h.near;
             session = refl;
             steady = h.steady;
+            timed = h.timed;
             ready = h.ready;
             link = h.link;
             to_server = h.to_server;
@@ -184,6 +169,7 @@ module _ (read : Reading) (state : State) (ask : Ask) (good : IsAsk ask) (sound 
             near = h.near;
             session = refl;
             steady = h.steady;
+            timed = h.timed;
             ready = h.ready;
             link = h.link;
             to_server = h.to_server;
@@ -212,13 +198,6 @@ module _ (read : Reading) (state : State) (ask : Ask) (good : IsAsk ask) (sound 
 
   abbrev Pushes : ℕ → List Reply → World → Cut → Type 0
   Pushes n rows b c = OnOrHalts (pushed read DataToClient n (world_at b (Answering rows) c))
-
-  -- the count of octets that came goes on by those that are taken from the queue
-  counts_on : (n count : ℕ) (came queue : List ℕ) → n ≤ length queue → count ≡ counted (length came) → counted (count + n) ≡ counted (length (came ++ take n queue))
-  counts_on n count came queue few is =
-      let long : length (came ++ take n queue) ≡ length came + length (take n queue) = length-append came (take n queue) in
-      let taken : length (take n queue) ≡ min n (length queue) = length-take n queue in
-      omega (arith, few, is, long, taken)
 
   -- both ends where octets came, or where ABOR was sent behind the first of them
   abbrev came_base : World → Heard → (came queue : List ℕ) → ℕ → World
@@ -284,6 +263,7 @@ module _ (read : Reading) (state : State) (ask : Ask) (good : IsAsk ask) (sound 
         near = refl;
         session = h.session;
         steady = h.steady;
+        timed = h.timed;
         ready = h.ready;
         link = h.link;
         to_server = h.to_server;
@@ -307,7 +287,7 @@ module _ (read : Reading) (state : State) (ask : Ask) (good : IsAsk ask) (sound 
         asked = refl;
         rows_are = refl;
         here = halts_at state ask good sound own (Gives octet more) (came ++ first) (drop n queue) (halt_base b OneReply (came ++ first) (drop n queue) n) refl h.session h.steady
-            h.ready.1 h.link h.to_server refl tt h.marked h.fine.0 (front_of n came queue (octet ∷ more) first rest _ h.fine.1 parts) enough;
+            h.timed h.ready.1 h.link h.to_server refl tt h.marked h.fine.0 (front_of n came queue (octet ∷ more) first rest _ h.fine.1 parts) enough;
       }
 
   -- where all was given, the octets that are enough lead to where ABOR crosses the final reply, or is alone
@@ -331,7 +311,7 @@ module _ (read : Reading) (state : State) (ask : Ask) (good : IsAsk ask) (sound 
         asked = refl;
         rows_are = rows;
         here = halts_at state ask good sound own (Gave true final true Closed) (came ++ first) (drop n queue) (halt_base b heard (came ++ first) (drop n queue) n) near_is h.session h.steady
-            h.ready.1 h.link h.to_server refl tt h.marked h.fine.0 (front_of n came queue [] first rest _ (ap (λ l. came ++ l) (append-nil queue) ∙ h.fine.1) parts) enough;
+            h.timed h.ready.1 h.link h.to_server refl tt h.marked h.fine.0 (front_of n came queue [] first rest _ (ap (λ l. came ++ l) (append-nil queue) ∙ h.fine.1) parts) enough;
       }
       by_left false h rows = record {
         halt = Gave true final true Unclosed;
@@ -342,7 +322,7 @@ module _ (read : Reading) (state : State) (ask : Ask) (good : IsAsk ask) (sound 
         asked = refl;
         rows_are = rows;
         here = halts_at state ask good sound own (Gave true final true Unclosed) (came ++ first) (drop n queue) (halt_base b heard (came ++ first) (drop n queue) n) near_is h.session
-            h.steady h.ready.1 h.link h.to_server refl tt h.marked h.fine.0 (front_of n came queue [] first rest _ (ap (λ l. came ++ l) (append-nil queue) ∙ h.fine.1) parts) enough;
+            h.steady h.timed h.ready.1 h.link h.to_server refl tt h.marked h.fine.0 (front_of n came queue [] first rest _ (ap (λ l. came ++ l) (append-nil queue) ∙ h.fine.1) parts) enough;
       }
 
   -- where the server has given all octets, those of the queue that come to the client lead the course on, or ABOR is sent
@@ -354,6 +334,7 @@ module _ (read : Reading) (state : State) (ask : Ask) (good : IsAsk ask) (sound 
         near = sym (opened left (came ++ take n queue));
         session = h.session;
         steady = h.steady;
+        timed = h.timed;
         ready = h.ready;
         link = h.link;
         to_server = h.to_server;

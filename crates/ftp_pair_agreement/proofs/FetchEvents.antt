@@ -2,14 +2,13 @@
 use Rattle.std.proofs.Common.{◌≡◌, inl, inr, ℕ, ◌≤◌, Bool, true, false, List, [], ◌∷◌, ◌++◌, length, None, refl, sym, ap, subst, ◌∙◌, append-nil, arith}
 use Rattle.ftp_wire.specs.Decoder.{no_octets}
 use Rattle.ftp_ends.specs.Ear.{quiet}
-use Rattle.ftp_ends.specs.Reply.{Reply, reply_octets}
+use Rattle.ftp_ends.specs.Reply.{reply_octets}
 use Rattle.ftp_direct.specs.declared.refusal.Refusal.{Refusal}
 use Rattle.ftp_operation.specs.Answer.{Said}
 use Rattle.ftp_operation.specs.declared.op.Op.{Op}
 use Rattle.ftp_direct.specs.Direct.{State}
 use Rattle.ftp_client_model.specs.Calls as near
 use Rattle.ftp_client_model.specs.View.{View as Near}
-use Rattle.ftp_server_model.specs.Calls as far
 use Rattle.ftp_server_model.specs.Machine.{Reading}
 use Rattle.ftp_server_model.specs.Replies.{fixed_reply}
 use Rattle.ftp_server_model.specs.View.{View as Far}
@@ -18,81 +17,19 @@ use Rattle.ftp_server_model.specs.declared.reply.FixedReply.TheVariants as Texts
 use Rattle.ftp_server_model.specs.declared.session.ServerLink.TheVariants as FarData
 use Rattle.ftp_server_model.specs.declared.session.Pending.TheVariants as Pendings
 use Rattle.ftp_server_model.proofs.RepliesWritten.{replies_are_written}
-use Rattle.ftp_pair_world.specs.Events.{DataToClient, is_gone, is_closed_by_far, link_breaks, broken_by, told}
+use Rattle.ftp_pair_world.specs.Events.{DataToClient, is_gone, is_closed_by_far, link_breaks, told}
 use Rattle.ftp_pair_world.specs.Outcome.{mark_in}
-use Rattle.ftp_pair_world.specs.World.{World, Link, Gone, Opened, ClosedByFar, Mark, Broken, marked_last, with_mark, gone, counted}
+use Rattle.ftp_pair_world.specs.World.{World, Link, Gone, Mark, Broken, counted}
 use Rattle.ftp_pair_dialogues.specs.Dialogue.{IsSound}
-use Rattle.ftp_pair_dialogues.specs.Fetches.{Ask, IsAsk, linked, offset_pending}
-use Rattle.ftp_pair_dialogues.specs.Stage.{still, Way, Asking, Answering}
+use Rattle.ftp_pair_dialogues.specs.Fetches.{Ask, IsAsk, carrying, linked, offset_pending}
+use Rattle.ftp_pair_dialogues.specs.Stage.{Way, Answering}
 use Rattle.ftp_pair_agreement.specs.Cut.{Cut, Fits, world_at, PlacedAt}
 use Rattle.ftp_pair_agreement.specs.Stages as Stages
-use Rattle.ftp_pair_agreement.specs.Stages.{Sent, Granted, Denied, NoReply, OneReply, BothReplies, heard_by, Unclosed, Closed, Lost, Course, Giving, Given, Ended, Severed, Refusing, Unopened, replies_in, Restart, no_link, Stage, PortAsked, PortTold, Dials, Restarts, Retrieves, Carries, Answers, is_passing, Holds, AtFetch, Dialled, Ported, PortWanted, PortSaid, PortTaken, PortDenied, Awaits, Unaccepted, Dismissed}
+use Rattle.ftp_pair_agreement.specs.Stages.{Sent, Granted, Denied, NoReply, OneReply, BothReplies, heard_by, Unclosed, Closed, Lost, Course, Giving, Given, Ended, Severed, Refusing, Unopened, replies_in, Restart, no_link, Stage, PortAsked, PortTold, Dials, Restarts, Retrieves, Carries, Rises, Tells, Answers, is_passing, Holds, AtFetch, Dialled, Ported, PortWanted, PortSaid, PortTaken, PortDenied, Awaits, Unaccepted, Dismissed}
+use Rattle.ftp_pair_agreement.proofs.Breaks.{behind_break, giving_break, left_breaks, left_ends, opened_breaks}
 use Rattle.ftp_pair_agreement.proofs.Fates.{said_fares, judged_whole, judged_cut, cut_told, cut_fares}
-use Rattle.ftp_pair_agreement.proofs.FetchLink.{Leads, FarLeads, near_acts, far_acts, both_act, fits_more, rest_breaks, near_ends, near_breaks, near_ends_all, near_breaks_all, far_linked, ready_breaks, giving_breaks}
-
--- ---- a world of a stage as its base with other ends
-
--- the base with the ends and the control queues of the world at a way and a cut
-with_ends : (b : World) (way : Way) (c : Cut) → World
-with_ends b way c = record b {
-  near = (world_at b way c).near;
-  far = (world_at b way c).far;
-  control_to_server = (world_at b way c).control_to_server;
-  control_to_client = (world_at b way c).control_to_client;
-}
-
--- the world at a way and a cut differs from its base only by its ends and its control queues
-as_ends : (b : World) (way : Way) (c : Cut) → world_at b way c ≡ with_ends b way c
-unfolding with_ends
-as_ends b (Asking text) c = refl
-as_ends b (Answering rows) c = refl
-
--- the base behind a break
-abbrev behind_break : Near → Far → World → World
-behind_break n f b =
-    record b { near = n; far = f; link = Gone; data_to_server = []; data_to_client = []; marks = marked_last (Broken b.came) b.marks }
-
--- ---- a break
-
--- a break of the open link leads the world to the base behind the break, of the same way and cut
-opened_breaks : (b : World) (way : Way) (c : Cut) (n : Near) (f : Far) → Fits way c → b.link ≡ Opened → Leads near.data_fault b.near n → FarLeads far.data_fault b.far f
-    → link_breaks (world_at b way c) ≡ world_at (behind_break n f b) way c
-unfolding with_ends
-opened_breaks b way c n f fits is leads serves =
-    ap link_breaks (as_ends b way c)
-    ∙ ap (λ link. with_mark (Broken b.came) (gone (broken_by link (with_ends b way c)))) is
-    ∙ both_act b (behind_break n f b) way c (near.data_fault (world_at b way c).near) (far.data_fault (world_at b way c).far)
-    (near_acts near.data_fault b (behind_break n f b) way c fits leads) (far_acts far.data_fault b (behind_break n f b) way c serves)
-
--- a break of the link that the server has closed leads to the base behind the break, with the server as it was
-left_breaks : (b : World) (way : Way) (c : Cut) (n : Near) → Fits way c → b.link ≡ ClosedByFar → Leads near.data_fault b.near n
-    → link_breaks (world_at b way c) ≡ world_at (behind_break n b.far b) way c
-unfolding with_ends
-left_breaks b way c n fits is leads =
-    ap link_breaks (as_ends b way c)
-    ∙ ap (λ link. with_mark (Broken b.came) (gone (broken_by link (with_ends b way c)))) is
-    ∙ both_act b (behind_break n b.far b) way c (near.data_fault (world_at b way c).near) (world_at b way c).far
-    (near_acts near.data_fault b (behind_break n b.far b) way c fits leads) (far_acts (λ f. f) b (behind_break n b.far b) way c (λ ear owed. refl))
-
--- the server was giving: it owes a 426 more
-giving_break : (b : World) (rows more : List Reply) (c : Cut) (n : Near) (f : Far) → Fits (Answering rows) c → b.link ≡ Opened → Leads near.data_fault b.near n
-    → far.data_fault (record (still b.far) { owed = c.owed }) ≡ record (still f) { owed = c.owed ++ reply_octets (fixed_reply Texts.Broken) }
-    → link_breaks (world_at b (Answering rows) c) ≡ world_at (behind_break n f b) (Answering more) (record c { owed = c.owed ++ reply_octets (fixed_reply Texts.Broken) })
-giving_break b rows more c n f fits is leads serves =
-    ap (λ link. with_mark (Broken b.came) (gone (broken_by link (world_at b (Answering rows) c)))) is
-    ∙ (λ i. record (behind_break n f b) { near = near_acts near.data_fault b (behind_break n f b) (Answering rows) c fits leads i; far = serves i; control_to_server = []; control_to_client = c.moving })
-
--- ---- the end
-
--- a client that is told the end leads the world to a base without a link, of the same way and cut
-left_ends : (b : World) (way : Way) (c : Cut) (n : Near) → Fits way c → Leads near.data_end b.near n
-    → told DataToClient (world_at b way c) ≡ world_at (record b { near = n; link = Gone; data_to_server = []; data_to_client = [] }) way c
-unfolding with_ends
-left_ends b way c n fits leads =
-    let to : World = record b { near = n; link = Gone; data_to_server = []; data_to_client = [] } in
-    ap (told DataToClient) (as_ends b way c)
-    ∙ both_act b to way c (near.data_end (world_at b way c).near) (world_at b way c).far
-    (near_acts near.data_end b to way c fits leads) (far_acts (λ f. f) b to way c (λ ear owed. refl))
+use Rattle.ftp_pair_agreement.proofs.FetchLink.{Leads, fits_more, offer_breaks, rest_breaks, near_ends, near_breaks, near_ends_all, near_breaks_all, far_linked, ready_breaks, giving_breaks}
+use Rattle.ftp_pair_agreement.proofs.UploadEvents.{lift_breaks, lift_ends}
 
 -- ---- how the link can't stand
 
@@ -145,6 +82,7 @@ module _ (read : Reading) (state : State) (ask : Ask)
         near = refl;
         session = by_restart restart;
         steady = h.steady;
+        timed = h.timed;
         ready = h.ready;
         link = refl;
         to_server = refl;
@@ -168,12 +106,13 @@ module _ (read : Reading) (state : State) (ask : Ask)
       let n : Near = near_at (Retrieves (Dialled false)) b.near in
       let f : Far = far_linked (linked FarData.Free false (offset_pending ask.offset) b.far.session) b.far in
       placed (own ++ Broken b.came ∷ []) _ (behind_break n f b) way c (Retrieves (Dialled false))
-      (opened_breaks b way c n f fits h.link (subst (λ v. Leads near.data_fault v n) (sym h.near) (near_breaks ask.op ask.settings [] b.near false))
+      (opened_breaks b way c n f fits h.link (subst (λ v. Leads near.data_fault v n) (sym h.near) (offer_breaks ask.op (carrying ask.sends ask.settings) b.near))
       (ready_breaks b.far (offset_pending ask.offset) h.session)) fits
       (record {
         near = refl;
         session = refl;
         steady = h.steady;
+        timed = h.timed;
         ready = h.ready;
         link = refl;
         to_server = refl;
@@ -195,13 +134,14 @@ module _ (read : Reading) (state : State) (ask : Ask)
       let f : Far = far_linked (linked FarData.Free false Pendings.Nothing b.far.session) b.far in
       placed (own ++ Broken b.came ∷ []) _ (behind_break n f b) (Answering (replies_in (Severed begun))) (record c { owed = c.owed ++ reply_octets (fixed_reply Texts.Broken) })
       (carry (Severed begun) came [])
-      (giving_break b (replies_in (Giving begun octet more)) (replies_in (Severed begun)) c n f fits h.link
+      (giving_break Texts.Broken b (replies_in (Giving begun octet more)) (replies_in (Severed begun)) c n f fits h.link
       (subst (λ v. Leads near.data_fault v n) (sym h.near) (near_breaks ask.op ask.settings came b.near begun))
       (giving_breaks ask.listed b.far Pendings.Nothing octet more h.session quiet c.owed)) (by_begun begun fits)
       (record {
         near = refl;
         session = refl;
         steady = h.steady;
+        timed = h.timed;
         ready = h.ready;
         link = refl;
         to_server = refl;
@@ -228,6 +168,7 @@ module _ (read : Reading) (state : State) (ask : Ask)
         near = refl;
         session = h.session;
         steady = h.steady;
+        timed = h.timed;
         ready = h.ready;
         link = refl;
         to_server = refl;
@@ -245,11 +186,12 @@ module _ (read : Reading) (state : State) (ask : Ask)
       let marked : own ++ Broken b.came ∷ [] ≡ Broken (counted (length came)) ∷ [] = broken_so b came h.marked h.came in
       placed (own ++ Broken b.came ∷ []) _ (behind_break n b.far b) way c (Answers (cut_told state ask good came) no_link)
       (left_breaks b way c n fits h.link (subst (λ v. Leads near.data_fault v n) (sym h.near)
-      (near_breaks_all ask.op ask.settings came b.near (cut_told state ask good came) (judged_cut state ask good 226 came (inl refl) sound h.fine.0.0 (queue, h.fine.1))))) fits
+      (near_breaks_all ask.op ask.settings came b.near (cut_told state ask good came) (judged_cut state ask good h.fine.0.2 226 came (inl refl) sound h.fine.0.0 (queue, h.fine.1))))) fits
       (record {
         near = refl;
         session = h.session;
         steady = h.steady;
+        timed = h.timed;
         ready = tt;
         link = refl;
         to_server = refl;
@@ -257,7 +199,7 @@ module _ (read : Reading) (state : State) (ask : Ask)
         came = tt;
         marked = subst (λ l. length l ≤ 1) (sym marked) (omega arith);
         way_is = h.way_is;
-        fine = (cut_fares state ask good (own ++ Broken b.came ∷ []) came h.ready.1 h.fine.0.1 h.fine.0.0 (queue, h.fine.1) marked, refl);
+        fine = (cut_fares state ask good h.fine.0.2 (own ++ Broken b.came ∷ []) came h.ready.1 h.fine.0.1 h.fine.0.0 (queue, h.fine.1) marked, refl);
       })
 
   -- a break of the closed link under a refusal leads to the refusal with the link lost by a break
@@ -270,6 +212,7 @@ module _ (read : Reading) (state : State) (ask : Ask)
         near = refl;
         session = h.session;
         steady = h.steady;
+        timed = h.timed;
         ready = h.ready;
         link = refl;
         to_server = refl;
@@ -316,6 +259,8 @@ module _ (read : Reading) (state : State) (ask : Ask)
   stage_breaks (Unaccepted port) way b c fits h stays some = absurd (no_link_stands b.link h.link some)
   stage_breaks (Dismissed port why) way b c fits h stays some = absurd (no_link_stands b.link h.link some)
   stage_breaks (Carries y) way b c fits h stays some = carry_breaks y.course y.came y.queue way b c fits h stays some
+  stage_breaks (Rises rise lift) way b c fits h stays some = lift_breaks read state ask good sound own rise lift way b c fits h stays some
+  stage_breaks (Tells rise said after) way b c fits h stays some = absurd (cc)
   stage_breaks (Answers said leaves) way b c fits h stays some = absurd (cc)
 
   -- ---- the client is told that the server has closed the link
@@ -338,6 +283,7 @@ module _ (read : Reading) (state : State) (ask : Ask)
         near = refl;
         session = h.session;
         steady = h.steady;
+        timed = h.timed;
         ready = h.ready;
         link = refl;
         to_server = refl;
@@ -356,11 +302,12 @@ module _ (read : Reading) (state : State) (ask : Ask)
       placed own _ (record b { near = n; link = Gone; data_to_server = []; data_to_client = [] }) way c (Answers said no_link)
       (left_ends b way c n fits (subst (λ v. Leads near.data_end v n) (sym h.near)
       (near_ends_all ask.op ask.settings came b.near said
-      (judged_whole state ask good came (mark_in (no_octets ask.settings) None came) sound h.ready.1 h.fine.0.0 (all_came came queue _ empty h.fine.1))))) fits
+      (judged_whole state ask good h.fine.0.2 came (mark_in (no_octets ask.settings) None came) sound h.ready.1 h.fine.0.0 (all_came came queue _ empty h.fine.1))))) fits
       (record {
         near = refl;
         session = h.session;
         steady = h.steady;
+        timed = h.timed;
         ready = tt;
         link = refl;
         to_server = refl;
@@ -368,7 +315,7 @@ module _ (read : Reading) (state : State) (ask : Ask)
         came = tt;
         marked = subst (λ l. length l ≤ 1) (sym h.marked) (omega arith);
         way_is = h.way_is;
-        fine = (said_fares state ask good own h.ready.1 h.fine.0.1, refl);
+        fine = (said_fares state ask good h.fine.0.2 own h.ready.1 h.fine.0.1, refl);
       })
 
   -- the end of the closed link under a refusal leads to the refusal with the link lost by a clean end
@@ -381,6 +328,7 @@ module _ (read : Reading) (state : State) (ask : Ask)
         near = refl;
         session = h.session;
         steady = h.steady;
+        timed = h.timed;
         ready = h.ready;
         link = refl;
         to_server = refl;
@@ -424,4 +372,6 @@ module _ (read : Reading) (state : State) (ask : Ask)
       by_course (Refusing why Closed) came queue h stays = refusing_ended why came queue way b c fits h
       by_course (Refusing why (Lost clean)) came queue h stays = absurd (not_left b.link _ h.link refl left)
       by_course Unopened came queue h stays = absurd (not_left b.link _ h.link refl left)
+  stage_ends (Rises rise lift) way b c fits h left stays empty = lift_ends read state ask good sound own rise lift way b c fits h left stays
+  stage_ends (Tells rise said after) way b c fits h left stays empty = absurd (cc)
   stage_ends (Answers said leaves) way b c fits h left stays empty = absurd (cc)

@@ -11,7 +11,7 @@ use Rattle.ftp_reply.specs.Reader.{Between, Gathered}
 use Rattle.ftp_settings.specs.declared.representation.Representation.{Representation}
 use Rattle.ftp_client_model.specs.Calls as near
 use Rattle.ftp_client_model.specs.Dialogue.{finishes_read, judged}
-use Rattle.ftp_client_model.specs.View.{View as Near, Doing, Receiving}
+use Rattle.ftp_client_model.specs.View.{View as Near, Flow, Doing, Receiving}
 use Rattle.ftp_client_model.specs.declared.client.Abort.TheVariants as Aborts
 use Rattle.ftp_client_model.specs.declared.client.ClientLink.TheVariants as NearData
 use Rattle.ftp_client_model.specs.declared.client.Ending.TheVariants as Endings
@@ -28,6 +28,7 @@ use Rattle.ftp_pair_world.specs.Outcome.{mark_in}
 use Rattle.ftp_pair_world.specs.World.{World}
 use Rattle.ftp_pair_dialogues.specs.Fetches.{busy, fetching, giving_of, leaving, linked}
 use Rattle.ftp_pair_dialogues.specs.Stage.{calm, Way, Asking, Answering, row_octets, AreWritten}
+use Rattle.ftp_pair_dialogues.proofs.Offering.{with_flow}
 use Rattle.ftp_pair_agreement.specs.Cut.{Cut, FlowsRow, Fits, coming, world_at}
 use Rattle.ftp_pair_agreement.specs.Stages.{heard_by, replied_of}
 use Rattle.ftp_pair_agreement.proofs.Keeps.{row_anew}
@@ -115,6 +116,12 @@ pub rest_breaks : (op : Op (List ℕ)) (n : Near)
     → Leads near.data_fault (busy (Doing op Steps.Restart) NearData.Open n) (busy (Doing op Steps.Restart) (NearData.Over Endings.Broken) n)
 unfolding near.data_fault
 rest_breaks op n ear gathered owed = refl
+
+-- the link breaks at a client whose own command was sent, whichever way its octets go
+pub offer_breaks : (op : Op (List ℕ)) (flow : Flow) (n : Near)
+    → Leads near.data_fault (busy (with_flow op Replies.Nothing flow) NearData.Open n) (busy (with_flow op Replies.Nothing flow) (NearData.Over Endings.Broken) n)
+unfolding near.data_fault
+offer_breaks op flow n ear gathered owed = refl
 
 module _ (op : Op (List ℕ)) (settings : Representation) (came : List ℕ) (n : Near) where
   abbrev open_at : Bool → Near

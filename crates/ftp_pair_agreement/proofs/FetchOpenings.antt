@@ -31,19 +31,21 @@ use Rattle.ftp_server_model.proofs.RepliesWritten.{replies_are_written}
 use Rattle.ftp_pair_world.specs.Events.{link_opens, link_refused, refused_by}
 use Rattle.ftp_pair_world.specs.World.{World, Opened, Mark, Refused, marked_last, with_mark}
 use Rattle.ftp_pair_dialogues.specs.Dialogue.{IsSound}
-use Rattle.ftp_pair_dialogues.specs.Fetches.{Ask, IsAsk, IsPlacedAt, fetching, flow_after, giving_of, is_filled, leaving, linked, opened_job, opened_command, offset_pending, busy}
+use Rattle.ftp_pair_dialogues.specs.Fetches.{Ask, Direction, Down, Up, HasAnswer, IsAsk, IsOf, IsPlacedAt, carried as offered, fetching, flow_after, giving_of, is_filled, leaving, linked, opened_job, opened_command, offset_pending, busy}
 use Rattle.ftp_pair_dialogues.specs.Peeks.{abort_line, halting}
 use Rattle.ftp_pair_dialogues.specs.Stage.{calm, still, Way, Asking, Answering, rest}
 use Rattle.ftp_pair_dialogues.proofs.Fetching.{given_all, giving_on, opening_sent, own_host}
+use Rattle.ftp_pair_dialogues.proofs.Offering.{down_job}
 use Rattle.ftp_pair_agreement.specs.Cut.{Cut, Flows as FlowsOf, Fits, world_at, PlacedAt}
 use Rattle.ftp_pair_agreement.specs.PeekStages.{AtHalt, Gives, Gave}
-use Rattle.ftp_pair_agreement.specs.Stages.{Sent, Unclosed, OneReply, Course, Giving, Given, port_aside, Stage, Dials, Restarts, Retrieves, Carries, Answers, Holds, AtFetch, Dialled, Awaits, Unaccepted}
+use Rattle.ftp_pair_agreement.specs.Stages.{Sent, Unclosed, OneReply, IsTaken, Course, Giving, Given, port_aside, Stage, Dials, Restarts, Retrieves, Carries, Answers, Holds, AtFetch, Dialled, Awaits, Unaccepted}
 use Rattle.ftp_pair_agreement.proofs.CrossKeeps.{abort_crosses, none_heard}
 use Rattle.ftp_pair_agreement.proofs.Fates.{refused_link_fares}
 use Rattle.ftp_pair_agreement.proofs.FetchLink.{fits_more, far_linked}
 use Rattle.ftp_pair_agreement.proofs.Keeps.{line_is_some, anew}
 use Rattle.ftp_pair_agreement.proofs.PeekBegins.{halts_at}
 use Rattle.ftp_pair_agreement.proofs.Still.{no_octets as no_cut}
+use Rattle.ftp_pair_agreement.proofs.UploadOpenings.{upload_accepted}
 
 module _ (read : Reading) (state : State) (ask : Ask) (good : IsAsk ask) (sound : IsSound state) (own : List Mark) where
   abbrev At : List Mark → Way → World → Type 0
@@ -133,6 +135,7 @@ module _ (read : Reading) (state : State) (ask : Ask) (good : IsAsk ask) (sound 
       near = refl;
       session = h.session;
       steady = h.steady;
+      timed = h.timed;
       ready = tt;
       link = h.link;
       to_server = h.to_server;
@@ -168,6 +171,7 @@ module _ (read : Reading) (state : State) (ask : Ask) (good : IsAsk ask) (sound 
           near = ap (λ o. busy (opened_job o ask) NearData.Open b.near) e;
           session = ap (λ o. linked FarData.Ready false o b.far.session) (sym (ap offset_pending e));
           steady = h.steady;
+          timed = h.timed;
           ready = h.ready;
           link = refl;
           to_server = h.to_server;
@@ -181,6 +185,7 @@ module _ (read : Reading) (state : State) (ask : Ask) (good : IsAsk ask) (sound 
           near = ap (λ o. busy (opened_job o ask) NearData.Open b.near) e;
           session = refl;
           steady = h.steady;
+          timed = h.timed;
           ready = h.ready;
           link = refl;
           to_server = h.to_server;
@@ -194,19 +199,23 @@ module _ (read : Reading) (state : State) (ask : Ask) (good : IsAsk ask) (sound 
   -- ---- the server has connected to the client's port, or could not
 
   module _ (port : ℕ) (w b : World) (way : Way) (c : Cut) (is : w ≡ world_at b rest no_cut) (h : Stands own (Awaits port true) way b) where
+    -- what falls is taken
+    taken : HasAnswer ask → IsTaken state ask
+    taken answers = (h.fine.0, answers.refused state h.fine.1 ∙ h.fine.0, answers)
+
     -- the client behind it: a Peek that asks for no octet has sent its ABOR
     abbrev accepted_near : Bool → Near
     accepted_near true = record (calm (busy (halting op Replies.Begun Aborts.Sent ask.settings []) NearData.Open b.near)) { owed = written_line abort_line }
     accepted_near false = calm (busy (fetching op Replies.Begun ask.settings []) NearData.Open b.near)
 
     -- the client behind it, by whether a Peek has enough
-    accepts_near : (enough : Bool) → is_filled op ask.settings [] ≡ enough → near.data_opened b.far.footing.here (calm b.near) ≡ accepted_near enough
+    accepts_near : ask.sends ≡ Down → (enough : Bool) → is_filled op ask.settings [] ≡ enough → near.data_opened b.far.footing.here (calm b.near) ≡ accepted_near enough
     unfolding near.data_opened
-    accepts_near enough is =
+    accepts_near down enough is =
         let v : Near = calm (busy (fetching op Replies.Begun ask.settings []) NearData.Open b.near) in
         let transfer : Transfer = record { replied = Replies.Begun; abort = Aborts.Unsent; flow = flow_after ask.settings [] } in
         let peer : same_host b.far.footing.here b.near.peer ≡ true = ap (same_host b.far.footing.here) h.steady.peer ∙ own_host b.far.footing.here in
-        ap (λ n. near.data_opened b.far.footing.here (calm n)) h.near
+        ap (λ n. near.data_opened b.far.footing.here (calm n)) (h.near ∙ ap (λ job. busy job (NearData.Accepting port) b.near) (down_job ask down Replies.Begun))
         ∙ ap (λ same. near.accepted same (calm (busy (fetching op Replies.Begun ask.settings []) (NearData.Accepting port) b.near))) peer
         ∙ ap (λ (b : Bool). answers_once_over (if b then sends_abort op transfer v else v)) is ∙ by_enough enough
       where
@@ -222,11 +231,12 @@ module _ (read : Reading) (state : State) (ask : Ask) (good : IsAsk ask) (sound 
     giving_so octets = far_linked (linked (FarData.Transferring (giving_of ask.listed octets)) false Pendings.Nothing b.far.session) b.far
 
     -- the server, told that its connection came, begins to give octets after its 150
-    accepts_far : (octets : List ℕ) → ask.wire state ≡ octets
+    accepts_far : ask.sends ≡ Down → (octets : List ℕ) → ask.wire state ≡ octets
         → far.data_opened b.near.here (still b.far) ≡ later (given_out (FarData.Transferring (giving_of ask.listed octets)) (still (giving_so octets)))
     unfolding far.data_opened giving_so
-    accepts_far octets wire =
+    accepts_far down octets wire =
         ap (λ s. far.data_opened b.near.here (still (far_linked s b.far))) h.session
+        ∙ ap (λ t. later (given_out (FarData.Transferring t) (still (far_linked (linked (FarData.Transferring t) false Pendings.Nothing b.far.session) b.far)))) (ap (λ d. offered d ask state) down)
         ∙ ap (λ l. later (given_out (FarData.Transferring (giving_of ask.listed l)) (still (giving_so l)))) wire
 
     -- both ends once the connection of the server came, with this server
@@ -234,17 +244,18 @@ module _ (read : Reading) (state : State) (ask : Ask) (good : IsAsk ask) (sound 
     accepted_base f = record b { near = busy (fetching op Replies.Begun ask.settings []) NearData.Open b.near; far = f; link = Opened; came = 0 }
 
     -- where an octet is to be given, the link that came is placed at the stage of giving
-    accepts_some : is_filled op ask.settings [] ≡ false → (octet : ℕ) (more : List ℕ) → ask.wire state ≡ octet ∷ more → PlacedAt (At own) (link_opens w)
+    accepts_some : ask.sends ≡ Down → HasAnswer ask → is_filled op ask.settings [] ≡ false → (octet : ℕ) (more : List ℕ) → ask.wire state ≡ octet ∷ more → PlacedAt (At own) (link_opens w)
     unfolding accepted_base giving_so
-    accepts_some short octet more wire =
+    accepts_some down answers short octet more wire =
         let f : Far = giving_so (octet ∷ more) in
-        let far : far.data_opened b.near.here (still b.far) ≡ still f = accepts_far (octet ∷ more) wire ∙ ap later (giving_on ask.listed octet more (still f)) in
+        let far : far.data_opened b.near.here (still b.far) ≡ still f = accepts_far down (octet ∷ more) wire ∙ ap later (giving_on ask.listed octet more (still f)) in
         let opened : link_opens w ≡ world_at (accepted_base f) rest no_cut =
-        ap link_opens is ∙ (λ i. record (accepted_base f) { near = accepts_near false short i; far = far i; control_to_server = []; control_to_client = [] }) in
+        ap link_opens is ∙ (λ i. record (accepted_base f) { near = accepts_near down false short i; far = far i; control_to_server = []; control_to_client = [] }) in
         placed own (link_opens w) (accepted_base f) rest no_cut (carry (Giving true octet more) [] []) opened (tt, (refl, refl)) (record {
           near = refl;
           session = refl;
           steady = h.steady;
+          timed = h.timed;
           ready = h.ready;
           link = refl;
           to_server = h.to_server;
@@ -252,18 +263,18 @@ module _ (read : Reading) (state : State) (ask : Ask) (good : IsAsk ask) (sound 
           came = refl;
           marked = h.marked;
           way_is = refl;
-          fine = (h.fine, sym wire, short);
+          fine = (taken answers, sym wire, short);
         })
 
     -- where none is to be given, the link that came is placed at the stage after the close
-    accepts_none : is_filled op ask.settings [] ≡ false → ask.wire state ≡ [] → PlacedAt (At own) (link_opens w)
+    accepts_none : ask.sends ≡ Down → HasAnswer ask → is_filled op ask.settings [] ≡ false → ask.wire state ≡ [] → PlacedAt (At own) (link_opens w)
     unfolding accepted_base giving_so
-    accepts_none short wire =
+    accepts_none down answers short wire =
         let f : Far = far_linked (linked FarData.Free true Pendings.Nothing b.far.session) b.far in
         let owed : List ℕ = reply_octets (fixed_reply Texts.Complete) in
-        let far : far.data_opened b.near.here (still b.far) ≡ record (still f) { owed = owed } = accepts_far [] wire ∙ ap later (given_all ask.listed (still (giving_so []))) in
+        let far : far.data_opened b.near.here (still b.far) ≡ record (still f) { owed = owed } = accepts_far down [] wire ∙ ap later (given_all ask.listed (still (giving_so []))) in
         let opened : link_opens w ≡ world_at (accepted_base f) (Answering (fixed_reply Texts.Complete ∷ [])) (record { held = []; moving = []; owed = owed }) =
-        ap link_opens is ∙ (λ i. record (accepted_base f) { near = accepts_near false short i; far = far i; control_to_server = []; control_to_client = [] }) in
+        ap link_opens is ∙ (λ i. record (accepted_base f) { near = accepts_near down false short i; far = far i; control_to_server = []; control_to_client = [] }) in
         placed own (link_opens w) (accepted_base f) (Answering (fixed_reply Texts.Complete ∷ [])) (record { held = []; moving = []; owed = owed })
         (carry (Given OneReply false) [] []) opened
         (fits_more [] (fixed_reply Texts.Complete) no_cut (replies_are_written b.far.session (Kinds.Fixed Texts.Complete) (fixed_reply Texts.Complete) tt refl) (tt, (refl, refl)))
@@ -271,6 +282,7 @@ module _ (read : Reading) (state : State) (ask : Ask) (good : IsAsk ask) (sound 
           near = refl;
           session = refl;
           steady = h.steady;
+          timed = h.timed;
           ready = h.ready;
           link = refl;
           to_server = h.to_server;
@@ -278,7 +290,7 @@ module _ (read : Reading) (state : State) (ask : Ask) (good : IsAsk ask) (sound 
           came = refl;
           marked = h.marked;
           way_is = refl;
-          fine = (h.fine, sym wire, short);
+          fine = (taken answers, sym wire, short);
         })
 
     -- the same of a Peek that asks for no octet
@@ -286,13 +298,13 @@ module _ (read : Reading) (state : State) (ask : Ask) (good : IsAsk ask) (sound 
     halt_base f = record b { near = busy (halting op Replies.Begun Aborts.Sent ask.settings []) NearData.Open b.near; far = f; link = Opened; came = 0 }
 
     -- where an octet is to be given, ABOR is sent while the server gives
-    halts_some : is_filled op ask.settings [] ≡ true → (octet : ℕ) (more : List ℕ) → ask.wire state ≡ octet ∷ more → AtHalt state ask own (link_opens w)
+    halts_some : ask.sends ≡ Down → HasAnswer ask → is_filled op ask.settings [] ≡ true → (octet : ℕ) (more : List ℕ) → ask.wire state ≡ octet ∷ more → AtHalt state ask own (link_opens w)
     unfolding halt_base giving_so
-    halts_some enough octet more wire =
+    halts_some down answers enough octet more wire =
         let f : Far = giving_so (octet ∷ more) in
-        let far : far.data_opened b.near.here (still b.far) ≡ still f = accepts_far (octet ∷ more) wire ∙ ap later (giving_on ask.listed octet more (still f)) in
+        let far : far.data_opened b.near.here (still b.far) ≡ still f = accepts_far down (octet ∷ more) wire ∙ ap later (giving_on ask.listed octet more (still f)) in
         abort_crosses state ask own [] (halt_base f) (link_opens w) no_cut (record { ear = quiet; gathered = Between; heard = none_heard }) tt (refl, refl)
-        (ap link_opens is ∙ (λ i. record (halt_base f) { near = accepts_near true enough i; far = far i; control_to_server = []; control_to_client = [] }))
+        (ap link_opens is ∙ (λ i. record (halt_base f) { near = accepts_near down true enough i; far = far i; control_to_server = []; control_to_client = [] }))
         (record {
           halt = Gives octet more;
           said = ask.said state;
@@ -301,21 +313,21 @@ module _ (read : Reading) (state : State) (ask : Ask) (good : IsAsk ask) (sound 
           text_is = refl;
           asked = refl;
           rows_are = refl;
-          here = halts_at state ask good sound own (Gives octet more) [] [] (halt_base f) refl refl h.steady h.ready.1 refl h.to_server h.to_client tt h.marked h.fine (ask.wire state, refl)
+          here = halts_at state ask good sound own (Gives octet more) [] [] (halt_base f) refl refl h.steady h.timed h.ready.1 refl h.to_server h.to_client tt h.marked (taken answers) (ask.wire state, refl)
               enough;
         })
 
     -- where none is to be given, ABOR crosses the 226
-    halts_none : is_filled op ask.settings [] ≡ true → ask.wire state ≡ [] → AtHalt state ask own (link_opens w)
+    halts_none : ask.sends ≡ Down → HasAnswer ask → is_filled op ask.settings [] ≡ true → ask.wire state ≡ [] → AtHalt state ask own (link_opens w)
     unfolding halt_base giving_so
-    halts_none enough wire =
+    halts_none down answers enough wire =
         let f : Far = far_linked (linked FarData.Free true Pendings.Nothing b.far.session) b.far in
         let owed : List ℕ = reply_octets (fixed_reply Texts.Complete) in
-        let far : far.data_opened b.near.here (still b.far) ≡ record (still f) { owed = owed } = accepts_far [] wire ∙ ap later (given_all ask.listed (still (giving_so []))) in
+        let far : far.data_opened b.near.here (still b.far) ≡ record (still f) { owed = owed } = accepts_far down [] wire ∙ ap later (given_all ask.listed (still (giving_so []))) in
         let fits = fits_more [] (fixed_reply Texts.Complete) no_cut (replies_are_written b.far.session (Kinds.Fixed Texts.Complete) (fixed_reply Texts.Complete) tt refl) (tt, (refl, refl)) in
         abort_crosses state ask own (fixed_reply Texts.Complete ∷ []) (halt_base f) (link_opens w) (record { held = []; moving = []; owed = owed })
         (record { ear = quiet; gathered = Between; heard = none_heard }) fits.0 fits.1
-        (ap link_opens is ∙ (λ i. record (halt_base f) { near = accepts_near true enough i; far = far i; control_to_server = []; control_to_client = [] }))
+        (ap link_opens is ∙ (λ i. record (halt_base f) { near = accepts_near down true enough i; far = far i; control_to_server = []; control_to_client = [] }))
         (record {
           halt = Gave true false true Unclosed;
           said = ask.said state;
@@ -324,20 +336,24 @@ module _ (read : Reading) (state : State) (ask : Ask) (good : IsAsk ask) (sound 
           text_is = refl;
           asked = refl;
           rows_are = refl;
-          here = halts_at state ask good sound own (Gave true false true Unclosed) [] [] (halt_base f) refl refl h.steady h.ready.1 refl h.to_server h.to_client tt h.marked h.fine
+          here = halts_at state ask good sound own (Gave true false true Unclosed) [] [] (halt_base f) refl refl h.steady h.timed h.ready.1 refl h.to_server h.to_client tt h.marked (taken answers)
               (ask.wire state, refl) enough;
         })
 
     -- a link that came after the 150 is placed, or ABOR was sent
     pub accepted_placed : PlacedAt (At own) (link_opens w) ⊎ AtHalt state ask own (link_opens w)
-    accepted_placed = by_enough (is_filled op ask.settings []) refl (ask.wire state) refl
+    accepted_placed = by_way ask.sends refl good.way
       where
-        by_enough : (enough : Bool) → is_filled op ask.settings [] ≡ enough → (octets : List ℕ) → ask.wire state ≡ octets
+        by_enough : ask.sends ≡ Down → HasAnswer ask → (enough : Bool) → is_filled op ask.settings [] ≡ enough → (octets : List ℕ) → ask.wire state ≡ octets
             → PlacedAt (At own) (link_opens w) ⊎ AtHalt state ask own (link_opens w)
-        by_enough false short [] wire = inl (accepts_none short wire)
-        by_enough false short (octet ∷ more) wire = inl (accepts_some short octet more wire)
-        by_enough true enough [] wire = inr (halts_none enough wire)
-        by_enough true enough (octet ∷ more) wire = inr (halts_some enough octet more wire)
+        by_enough down answers false short [] wire = inl (accepts_none down answers short wire)
+        by_enough down answers false short (octet ∷ more) wire = inl (accepts_some down answers short octet more wire)
+        by_enough down answers true enough [] wire = inr (halts_none down answers enough wire)
+        by_enough down answers true enough (octet ∷ more) wire = inr (halts_some down answers enough octet more wire)
+
+        by_way : (d : Direction) → ask.sends ≡ d → IsOf ask d → PlacedAt (At own) (link_opens w) ⊎ AtHalt state ask own (link_opens w)
+        by_way Down down answers = by_enough down answers (is_filled op ask.settings []) refl (ask.wire state) refl
+        by_way (Up rise) up upload = inl (upload_accepted read state ask own rise upload port w b way is h)
 
     -- the client does not want to connect: it waits at its port
     accepting : is_connecting (near.wants (calm b.near)) ≡ false
@@ -373,6 +389,7 @@ module _ (read : Reading) (state : State) (ask : Ask) (good : IsAsk ask) (sound 
           near = h.near;
           session = refl;
           steady = h.steady;
+          timed = h.timed;
           ready = h.ready;
           link = h.link;
           to_server = h.to_server;

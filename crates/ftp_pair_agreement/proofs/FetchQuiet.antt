@@ -1,5 +1,5 @@
 -- While what was asked for is under way something can happen: octets can move, a link can open, or an end is still to be told.
-use Rattle.std.proofs.Common.{◌≡◌, ◌≢◌, inl, inr, ℕ, true, false, not, ◌&&◌, ◌||◌, List, [], ◌∷◌, length, refl, sym, ap, subst, ◌∙◌, arith}
+use Rattle.std.proofs.Common.{◌≡◌, ◌≢◌, inl, inr, ℕ, Bool, true, false, not, ◌&&◌, ◌||◌, List, [], ◌∷◌, length, refl, sym, ap, subst, ◌∙◌, arith}
 use Rattle.std.specs.Prelude.{nat_lt}
 use Rattle.ftp_ends.specs.Link.{is_wanted}
 use Rattle.ftp_ends.specs.Reply.{Reply}
@@ -9,25 +9,32 @@ use Rattle.ftp_client_model.specs.Calls as near
 use Rattle.ftp_client_model.specs.Calls.{is_sound}
 use Rattle.ftp_server_model.specs.Calls as far
 use Rattle.ftp_server_model.specs.Machine.{Reading, IsReading}
+use Rattle.ftp_server_model.specs.View.{View as Far}
+use Rattle.ftp_server_model.specs.declared.session.Pending.TheVariants as Pendings
+use Rattle.ftp_path.specs.Path.{Names}
+use Rattle.ftp_wire.specs.Decoder.{Decoder}
 use Rattle.ftp_pair_world.specs.Agreement.{Order}
 use Rattle.ftp_pair_world.specs.Claims.{IsAnswered}
 use Rattle.ftp_ends.specs.Octets.{has_octets}
-use Rattle.ftp_pair_world.specs.Events.{DataToServer, DataToClient, IsQuiet, is_closed_by_far, is_gone}
+use Rattle.ftp_pair_world.specs.Events.{DataToServer, DataToClient, IsQuiet, is_closed_by_far, is_closed_by_near, is_gone}
 use Rattle.ftp_pair_world.specs.Still.{IsStill}
 use Rattle.ftp_pair_world.specs.World.{World}
 use Rattle.ftp_pair_world.proofs.StillLemmas.{still_is_quiet}
+use Rattle.ftp_pair_dialogues.specs.Fetches.{Rise, linked}
 use Rattle.ftp_pair_dialogues.specs.Stage.{Way, Asking, Answering, rest}
 use Rattle.ftp_pair_dialogues.proofs.LoginTurns.{no_asking, no_reply}
 use Rattle.ftp_pair_agreement.specs.Cut.{Cut, world_at, PlacedAt}
+use Rattle.ftp_pair_agreement.specs.Rising.{Lift, Offered, Rising, Risen, Settled, Declined, Unjoined, Closing, Shut, Vanished, held, lift_passes}
 use Rattle.ftp_pair_agreement.specs.Runs.{IsFetching, IsFetchingOn, Runs}
 use Rattle.ftp_pair_agreement.specs.Stages as Stages
-use Rattle.ftp_pair_agreement.specs.Stages.{Course, Giving, Given, Ended, Severed, Refusing, Unopened, Unclosed, Closed, Lost, NoReply, OneReply, BothReplies, Sent, Granted, Denied, Stage, PortAsked, PortTold, Dials, Restarts, Retrieves, Carries, Answers, Holds, AtFetch, IsLasting, at_port, PortWanted, PortSaid, PortTaken, PortDenied, Awaits, Unaccepted, Dismissed}
+use Rattle.ftp_pair_agreement.specs.Stages.{Course, Giving, Given, Ended, Severed, Refusing, Unopened, Unclosed, Closed, Lost, NoReply, OneReply, BothReplies, Sent, Granted, Denied, Stage, PortAsked, PortTold, Dials, Restarts, Retrieves, Carries, Rises, Tells, Answers, Holds, AtFetch, IsLasting, at_port, PortWanted, PortSaid, PortTaken, PortDenied, Awaits, Unaccepted, Dismissed}
 use Rattle.ftp_pair_agreement.proofs.FetchData.{given_of}
-use Rattle.ftp_pair_agreement.proofs.FetchServed.{near_form, far_form, moves_on}
+use Rattle.ftp_pair_agreement.proofs.FetchServed.{moves_on}
+use Rattle.ftp_pair_agreement.proofs.Rests.{near_form, far_form}
 use Rattle.ftp_pair_agreement.proofs.FetchTold.{closed_is}
 use Rattle.ftp_pair_agreement.proofs.PeekQuiet.{halt_moves}
 use Rattle.ftp_pair_agreement.proofs.Quiet.{can_move_first, can_take_now, follows_answered, follows_unblocked, never, quiet_at}
-use Rattle.ftp_pair_agreement.proofs.Still.{IsSeen, seen_placed}
+use Rattle.ftp_pair_agreement.proofs.Still.{IsSeen, rest_placed, seen_placed}
 
 module _ (read : Reading) (from : State) (begun : List Order) (w : World) (on : IsFetchingOn read from begun w) (still : IsStill w) where
   abbrev f : IsFetching read from begun w
@@ -148,6 +155,68 @@ module _ (read : Reading) (from : State) (begun : List Order) (w : World) (on : 
   carry_moves (Refusing why (Lost clean)) came queue h lasts = moves _ h (ap (λ v. is_sound v.standing) h.near) (rows_some _ _ h.way_is)
   carry_moves Unopened came queue h lasts = moves _ h (ap (λ v. is_sound v.standing) h.near) (rows_some _ _ h.way_is)
 
+  -- an octet on its way is taken by the server
+  taken_up : (octet : ℕ) (more : List ℕ) → w.data_to_server ≡ octet ∷ more → far.may_receive w.far ≡ true → ⊥
+  taken_up octet more is receives =
+      never _ (can_take_now (has_octets (near.to_give w.near) && (false || nat_lt (length w.data_to_server) 1)) (has_octets w.data_to_server) (far.may_receive w.far)
+      (ap has_octets is) receives)
+      (still.moved DataToServer 1 (omega arith) (omega arith))
+
+  -- what is on its way to the server is the queue of the stage
+  up_is : (stage : Stage) → Stood stage → w.data_to_server ≡ Stages.rising_at f.now f.ask stage
+  up_is stage h = ap (λ u. u.data_to_server) s.is ∙ by_way s.way s.cut ∙ h.to_server
+    where
+      by_way : (way : Way) (c : Cut) → (world_at s.base way c).data_to_server ≡ s.base.data_to_server
+      by_way (Asking line) c = refl
+      by_way (Answering rows) c = refl
+
+  -- a server of an upload that owes nothing may take
+  held_receives : (past : Bool) (path : Names) (keep : ℕ) (d : Decoder) (v : Far) → v.session ≡ linked (held past path keep d) false Pendings.Nothing v.session → v.owed ≡ [] → far.may_receive v ≡ true
+  held_receives false path keep d v is none = λ i. far.may_receive (record v { session = is i; owed = none i })
+  held_receives true path keep d v is none = λ i. far.may_receive (record v { session = is i; owed = none i })
+
+  -- at rest the server owes nothing
+  none_owed : s.way ≡ rest → w.far.owed ≡ []
+  none_owed way = ap (λ u. u.far.owed) (rest_placed At w s way)
+
+  -- the client gives
+  rising_moves : (rise : Rise) (past : Bool) (octet : ℕ) (more came queue : List ℕ) → Stood (Rises rise (Rising past octet more came queue)) → ⊥
+  rising_moves rise past octet more came queue h = by_queue queue (up_is _ h)
+    where
+      due : near.to_give w.near ≡ octet ∷ more
+      due = ap near.to_give (near_form s.base w seen _ _ h.near)
+
+      by_queue : (queue : List ℕ) → w.data_to_server ≡ queue → ⊥
+      by_queue [] is =
+          never _ (can_move_first w.data_to_server (has_octets (near.to_give w.near)) _ is (ap has_octets due)) (still.moved DataToServer 1 (omega arith) (omega arith))
+      by_queue (x ∷ more) is = taken_up x more is (held_receives past _ _ _ w.far (far_form s.base w seen _ false _ h.session) (none_owed h.way_is))
+
+  -- all was given, and the server is to be told of the end
+  risen_moves : (rise : Rise) (past : Bool) (came queue : List ℕ) → Stood (Rises rise (Risen past true came queue)) → ⊥
+  risen_moves rise past came queue h = by_queue queue (up_is _ h)
+    where
+      none : near.to_give w.near ≡ []
+      none = ap near.to_give (near_form s.base w seen _ _ h.near)
+
+      by_queue : (queue : List ℕ) → w.data_to_server ≡ queue → ⊥
+      by_queue [] is =
+          never (is_closed_by_near w.link && not (has_octets w.data_to_server) && not (has_octets (near.to_give w.near)))
+          (λ i. is_closed_by_near (link_is _ h i) && not (has_octets (is i)) && not (has_octets (none i))) (still.ended DataToServer)
+      by_queue (octet ∷ more) is = taken_up octet more is (held_receives past _ _ _ w.far (far_form s.base w seen _ false _ h.session) (none_owed h.way_is))
+
+  -- while an upload is under way and its lift is not passing, the world is not still
+  lift_moves : (rise : Rise) (lift : Lift) → Stood (Rises rise lift) → lift_passes lift ≡ false → ⊥
+  lift_moves rise Offered h lasts = moves _ h (ap (λ v. is_sound v.standing) h.near) (rows_some _ _ h.way_is)
+  lift_moves rise (Rising past octet more came queue) h lasts = rising_moves rise past octet more came queue h
+  lift_moves rise (Risen past false came queue) h lasts = absurd (cc)
+  lift_moves rise (Risen past true came queue) h lasts = risen_moves rise past came queue h
+  lift_moves rise (Settled false fate left after) h lasts = moves _ h (ap (λ v. is_sound v.standing) h.near) (rows_some _ _ h.way_is)
+  lift_moves rise (Settled true fate left after) h lasts = moves _ h (ap (λ v. is_sound v.standing) h.near) (rows_some _ _ h.way_is)
+  lift_moves rise (Declined why Closing) h lasts = absurd (cc)
+  lift_moves rise (Declined why Shut) h lasts = moves _ h (ap (λ v. is_sound v.standing) h.near) (rows_some _ _ h.way_is)
+  lift_moves rise (Declined why (Vanished broken)) h lasts = moves _ h (ap (λ v. is_sound v.standing) h.near) (rows_some _ _ h.way_is)
+  lift_moves rise Unjoined h lasts = moves _ h (ap (λ v. is_sound v.standing) h.near) (rows_some _ _ h.way_is)
+
   -- at every stage that lasts the world is not still
   here_moves : (here : At s.way s.base) → IsLasting f.now f.ask read f.own s.way s.base here → ⊥
   here_moves (inl l) lasts =
@@ -170,6 +239,8 @@ module _ (read : Reading) (from : State) (begun : List Order) (w : World) (on : 
   here_moves (inr (Unaccepted port, h)) lasts = moves _ h (ap (λ v. is_sound v.standing) h.near) (rows_some _ _ h.way_is)
   here_moves (inr (Dismissed port why, h)) lasts = moves _ h (ap (λ v. is_sound v.standing) h.near) (rows_some _ _ h.way_is)
   here_moves (inr (Carries c, h)) lasts = carry_moves c.course c.came c.queue h lasts
+  here_moves (inr (Rises rise lift, h)) lasts = lift_moves rise lift h lasts
+  here_moves (inr (Tells rise said after, h)) lasts = absurd (cc)
   here_moves (inr (Answers said leaves, h)) lasts = absurd (cc)
 
   -- while what was asked for is under way between two events the world is not still

@@ -104,6 +104,7 @@ module _ (read : Reading) (state : State) (ask : Ask) (good : IsAsk ask) (sound 
           near = refl;
           session = h.session ∙ (λ i. linked (sym link i) (is_parting (sym tie i)) Pendings.Nothing b.far.session);
           steady = h.steady;
+          timed = h.timed;
           ready = h.ready;
           link = h.link ∙ ap link_of (sym tie);
           to_server = h.to_server;
@@ -137,6 +138,7 @@ module _ (read : Reading) (state : State) (ask : Ask) (good : IsAsk ask) (sound 
           near = refl;
           session = h.session ∙ (λ i. linked (sym link i) (sym parting i) (sym pends i) b.far.session);
           steady = h.steady;
+          timed = h.timed;
           ready = tt;
           link = h.link ∙ sym left;
           to_server = h.to_server;
@@ -191,7 +193,7 @@ module _ (read : Reading) (state : State) (ask : Ask) (good : IsAsk ask) (sound 
     rows_are = rows;
     here = halts_at state ask good sound own (Gave true false true gap) came queue
         (record b { near = busy (halting op Replies.Begun Aborts.Sent ask.settings came) (near_link (gap_tie gap)) b.near }) refl
-        (h.session ∙ (λ i. linked (far_is left i) (is_parting (sym tie i)) Pendings.Nothing b.far.session)) h.steady h.ready.1 (h.link ∙ ap link_of (sym tie)) h.to_server h.to_client empty
+        (h.session ∙ (λ i. linked (far_is left i) (is_parting (sym tie i)) Pendings.Nothing b.far.session)) h.steady h.timed h.ready.1 (h.link ∙ ap link_of (sym tie)) h.to_server h.to_client empty
         marked h.fine.0 (queue, h.fine.1) enough;
   }
     where
@@ -214,7 +216,7 @@ module _ (read : Reading) (state : State) (ask : Ask) (good : IsAsk ask) (sound 
         asked = refl;
         rows_are = refl;
         here = halts_at state ask good sound own (Gives octet later) came queue
-            (record b { near = busy (halting op Replies.Begun Aborts.Sent ask.settings came) NearData.Open b.near }) refl h.session h.steady h.ready.1 h.link h.to_server h.to_client tt
+            (record b { near = busy (halting op Replies.Begun Aborts.Sent ask.settings came) NearData.Open b.near }) refl h.session h.steady h.timed h.ready.1 h.link h.to_server h.to_client tt
             h.marked h.fine.0 (queue ++ octet ∷ later, h.fine.1) enough;
       }))
   carry_heard (Giving true octet later) came queue way b reply more h e = absurd (no_reply reply more e)
@@ -247,16 +249,16 @@ module _ (read : Reading) (state : State) (ask : Ask) (good : IsAsk ask) (sound 
       at_first (Hears b) reply (fixed_reply Texts.Complete) more [] e
       (tells_so (Ended true true) came queue way b (fixed_reply Texts.Complete) (ask.said state) no_link h
       (ends_over op ask.settings came b.near Endings.Clean 226 (ask.said state) (fixed_reply Texts.Complete).lines
-      (judged_whole state ask good came (mark_in (no_octets ask.settings) None came) sound h.ready.1 h.fine.0.0 h.fine.1))
+      (judged_whole state ask good h.fine.0.2 came (mark_in (no_octets ask.settings) None came) sound h.ready.1 h.fine.0.0 h.fine.1))
       refl refl refl refl h.fine.2 (none_more own h.marked)
-      (said_fares state ask good own h.ready.1 h.fine.0.1, refl))
+      (said_fares state ask good h.fine.0.2 own h.ready.1 h.fine.0.1, refl))
   carry_heard (Ended true false) came queue way b reply more h e =
       at_first (Hears b) reply (fixed_reply Texts.Complete) more [] e
       (tells_so (Ended true false) came queue way b (fixed_reply Texts.Complete) (cut_told state ask good came) no_link h
       (ends_over op ask.settings came b.near Endings.Broken 226 (cut_told state ask good came) (fixed_reply Texts.Complete).lines
-      (judged_cut state ask good 226 came (inl refl) sound h.fine.0.0 h.fine.1.0))
+      (judged_cut state ask good h.fine.0.2 226 came (inl refl) sound h.fine.0.0 h.fine.1.0))
       refl refl refl refl h.fine.1.1 (one_more own (Broken (counted (length came))) h.marked)
-      (cut_fares state ask good own came h.ready.1 h.fine.0.1 h.fine.0.0 h.fine.1.0 h.marked, refl))
+      (cut_fares state ask good h.fine.0.2 own came h.ready.1 h.fine.0.1 h.fine.0.0 h.fine.1.0 h.marked, refl))
   carry_heard (Severed false) came queue way b reply more h e =
       at_first (Hears b) reply (fixed_reply Texts.Opens) more (fixed_reply Texts.Broken ∷ []) e
       (leads_on (Severed false) (Severed true) came queue way b (fixed_reply Texts.Opens) (fixed_reply Texts.Broken ∷ []) h
@@ -265,9 +267,9 @@ module _ (read : Reading) (state : State) (ask : Ask) (good : IsAsk ask) (sound 
       at_first (Hears b) reply (fixed_reply Texts.Broken) more [] e
       (tells_so (Severed true) came queue way b (fixed_reply Texts.Broken) (cut_told state ask good came) no_link h
       (breaks_over op ask.settings came b.near (cut_told state ask good came) (fixed_reply Texts.Broken).lines
-      (judged_cut state ask good 426 came (inr refl) sound h.fine.0.0 h.fine.1.0))
+      (judged_cut state ask good h.fine.0.2 426 came (inr refl) sound h.fine.0.0 h.fine.1.0))
       refl refl refl refl h.fine.1.1 (one_more own (Broken (counted (length came))) h.marked)
-      (cut_fares state ask good own came h.ready.1 h.fine.0.1 h.fine.0.0 h.fine.1.0 h.marked, refl))
+      (cut_fares state ask good h.fine.0.2 own came h.ready.1 h.fine.0.1 h.fine.0.0 h.fine.1.0 h.marked, refl))
   carry_heard (Refusing why Unclosed) came queue way b reply more h e =
       at_first (Hears b) reply (fixed_reply (refusal_text why)) more [] e
       (tells_so (Refusing why Unclosed) came queue way b (fixed_reply (refusal_text why)) (Refused (code_of why)) LinkParting h

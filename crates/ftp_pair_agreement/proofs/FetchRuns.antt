@@ -9,13 +9,14 @@ use Rattle.ftp_pair_world.specs.Agreement.{Order}
 use Rattle.ftp_pair_world.specs.Events.{ControlToServer, ControlToClient, DataToClient, pulled, pushed, filled, DeliversBy, link_breaks, link_opens, link_refused, told, broken_by, refused_by, is_asked_for, is_gone, is_closed_by_far}
 use Rattle.ftp_pair_world.specs.Serving.{after_event}
 use Rattle.ftp_pair_world.specs.World.{World, Link, Gone, Opened, ClosedByNear, ClosedByFar, Mark, Broken, Refused, marked_last, with_mark, gone}
-use Rattle.ftp_pair_dialogues.specs.Fetches.{Ask}
+use Rattle.ftp_pair_dialogues.specs.Fetches.{Ask, Rise}
 use Rattle.ftp_pair_dialogues.specs.Stage.{Way, Asking, Answering}
 use Rattle.ftp_pair_agreement.specs.Cut.{Cut, Goes, world_at, PlacedAt}
 use Rattle.ftp_pair_agreement.specs.Follows.{Told}
 use Rattle.ftp_pair_agreement.specs.PeekStages.{AtHalt, IsHaltCross}
+use Rattle.ftp_pair_agreement.specs.Rising.{Lift, Offered, Rising, Risen, Settled, Declined, Unjoined, Closing, Shut, Vanished}
 use Rattle.ftp_pair_agreement.specs.Runs.{IsAsked, IsFetching, IsFetchingOn, IsHalting, Runs}
-use Rattle.ftp_pair_agreement.specs.Stages.{Course, Giving, Given, Ended, Severed, Refusing, Unopened, Unclosed, Closed, Lost, Stage, PortAsked, PortTold, Dials, Restarts, Retrieves, Carries, Answers, Holds, AtFetch, IsLasting, PortWanted, PortSaid, PortTaken, PortDenied, Awaits, Unaccepted, Dismissed, is_passing, is_served, AtServed, IsServed}
+use Rattle.ftp_pair_agreement.specs.Stages.{Course, Giving, Given, Ended, Severed, Refusing, Unopened, Unclosed, Closed, Lost, Stage, PortAsked, PortTold, Dials, Restarts, Retrieves, Carries, Rises, Tells, Answers, Holds, AtFetch, IsLasting, PortWanted, PortSaid, PortTaken, PortDenied, Awaits, Unaccepted, Dismissed, is_passing, is_served, AtServed, IsServed}
 use Rattle.ftp_pair_agreement.proofs.Deliveries.{taken_at}
 use Rattle.ftp_pair_agreement.proofs.FetchData.{AtFlow, flow_pulls, flow_pushes, flow_is}
 use Rattle.ftp_pair_agreement.proofs.FetchEvents.{stage_breaks, stage_ends}
@@ -28,6 +29,8 @@ use Rattle.ftp_pair_agreement.proofs.Keeps.{pulls_to_server, pulls_to_client, pu
 use Rattle.ftp_pair_agreement.proofs.PeekHears.{OnOrTold, crossed_halts}
 use Rattle.ftp_pair_agreement.proofs.PeekServed.{halt_serves}
 use Rattle.ftp_pair_agreement.proofs.Still.{rest_placed}
+use Rattle.ftp_pair_agreement.proofs.UploadServed.{declined_closes, risen_closes}
+use Rattle.ftp_pair_agreement.proofs.UploadTold.{tells_served}
 
 -- nothing was begun, marked, reported or left
 pub record IsKept (w new : World) : Type 0 where
@@ -58,11 +61,12 @@ module _ (read : Reading) (reads : IsReading read) (from : State) (begun : List 
     sound = f.sound;
     is_ask = f.is_ask;
     told = subst (λ reports. Told from f.done f.marks None reports f.now) (sym reports) f.told;
+    timely = f.timely;
     linked = record { control = control ∙ f.linked.control; cutoff = cutoff ∙ f.linked.cutoff };
     stands = stands;
   }
 
-  -- a download or a listing stands at a stage
+  -- a download, a listing or an upload stands at a stage
   abbrev pub Fetches : State → Ask → List Mark → World → Type 0
   Fetches now ask own w = PlacedAt (λ way b. AtFetch now ask read own way b) w
 
@@ -75,8 +79,8 @@ module _ (read : Reading) (reads : IsReading read) (from : State) (begun : List 
       → PlacedAt (λ way b. AtFetch f.now f.ask read own way b) new → Fetching new
   fetching_marked w new f own marks reports control cutoff stands = asked_marked Fetches Fetches w new f own marks reports control cutoff stands
 
-  -- a download or listing is still under way where nothing was marked, reported or left and its stage still stands
-  fetching_moved : (w new : World) (f : Fetching w) → IsKept w new → PlacedAt (At w f) new → Fetching new
+  -- what was asked for is still under way where nothing was marked, reported or left and its stage still stands
+  pub fetching_moved : (w new : World) (f : Fetching w) → IsKept w new → PlacedAt (At w f) new → Fetching new
   fetching_moved w new f kept stands = fetching_marked w new f f.own (kept.marks ∙ f.marks_are) kept.reports kept.control kept.cutoff stands
 
   -- ---- what is served behind an event
@@ -94,7 +98,7 @@ module _ (read : Reading) (reads : IsReading read) (from : State) (begun : List 
   lasts_on w f lasts =
       subst (Runs read from begun) (sym (lasting_stays read f.now f.ask f.is_ask.plan f.own w f.stands lasts)) (inr (inl (record { fetching = f; lasts = lasts })))
 
-  -- while a download or listing is under way, the list runs on once what is due behind an event is served
+  -- while what was asked for is under way, the list runs on once what is due behind an event is served
   pub fetch_after : (w : World) → Fetching w → Runs read from begun (after_event w)
   fetch_after w f = by_here f.stands.here refl
     where
@@ -114,6 +118,17 @@ module _ (read : Reading) (reads : IsReading read) (from : State) (begun : List 
       by_course (Refusing why (Lost clean)) came queue h e = lasting _ e refl
       by_course Unopened came queue h e = lasting _ e refl
 
+      by_lift : (rise : Rise) (lift : Lift) → (h : Holds f.now f.ask f.own (Rises rise lift) f.stands.way f.stands.base) → f.stands.here ≡ inr (Rises rise lift, h) → Runs read from begun (after_event w)
+      by_lift rise Offered h e = lasting _ e refl
+      by_lift rise (Rising past octet more came queue) h e = lasting _ e refl
+      by_lift rise (Risen past false came queue) h e = served_on w f (risen_closes read f.now f.ask f.is_ask.plan f.own rise past came queue w f.stands h)
+      by_lift rise (Risen past true came queue) h e = lasting _ e refl
+      by_lift rise (Settled started fate left after) h e = lasting _ e refl
+      by_lift rise (Declined why Closing) h e = served_on w f (declined_closes read f.now f.ask f.is_ask.plan f.own rise why w f.stands h)
+      by_lift rise (Declined why Shut) h e = lasting _ e refl
+      by_lift rise (Declined why (Vanished broken)) h e = lasting _ e refl
+      by_lift rise Unjoined h e = lasting _ e refl
+
       by_here : (here : At w f f.stands.way f.stands.base) → f.stands.here ≡ here → Runs read from begun (after_event w)
       by_here (inl l) e = lasting (inl l) e tt
       by_here (inr (PortAsked closing, h)) e =
@@ -132,6 +147,8 @@ module _ (read : Reading) (reads : IsReading read) (from : State) (begun : List 
       by_here (inr (Unaccepted port, h)) e = lasting _ e refl
       by_here (inr (Dismissed port why, h)) e = lasting _ e refl
       by_here (inr (Carries c, h)) e = by_course c.course c.came c.queue h e
+      by_here (inr (Rises rise lift, h)) e = by_lift rise lift h e
+      by_here (inr (Tells rise said after, h)) e = inl (tells_served read from begun w f rise said after h)
       by_here (inr (Answers said leaves, h)) e = answers_served read from begun w f said leaves h
 
   -- where ABOR was sent, the list runs on once what is due behind an event is served
@@ -163,12 +180,12 @@ module _ (read : Reading) (reads : IsReading read) (from : State) (begun : List 
   abbrev Crosses : (w : World) → Fetching w → List ℕ → List Reply → World → Type 0
   Crosses w f text rows b = IsHaltCross f.now f.ask f.own text rows b
 
-  -- from a served stage each next turn of the client or the server leads to a stage of the same download or listing
+  -- from a served stage each next turn of the client or the server leads to a stage of the same operation
   goes_of : (w : World) (f : Fetching w) → Goes read (Serves w f) (At w f) (Crosses w f)
   goes_of w f = fetch_goes read reads f.now f.ask f.is_ask f.sound f.own
 
   -- a world keeps its own marks, reports, control connection and cutoff
-  no_change : (w : World) → IsKept w w
+  pub no_change : (w : World) → IsKept w w
   no_change w = record { marks = refl; reports = refl; control = refl; cutoff = refl }
 
   -- a world whose octets of the control connection have moved
@@ -176,7 +193,7 @@ module _ (read : Reading) (reads : IsReading read) (from : State) (begun : List 
     placed : PlacedAt (Serves w f) new
     kept : IsKept w new
 
-  -- a world whose octets of the control connection have moved still has the download or listing under way
+  -- a world whose octets of the control connection have moved still has what was asked for under way
   serving_is : (w : World) (f : Fetching w) (u : World) → Serving w f u → Fetching u
   serving_is w f u m =
       let s = m.placed in
@@ -198,6 +215,8 @@ module _ (read : Reading) (reads : IsReading read) (from : State) (begun : List 
   served_of (Unaccepted port) lasts = refl
   served_of (Dismissed port why) lasts = refl
   served_of (Carries carry) lasts = refl
+  served_of (Rises rise lift) lasts = refl
+  served_of (Tells rise said after) lasts = refl
   served_of (Answers said leaves) lasts = refl
 
   -- where it stands outlasts an event, so nothing is served before the client is told more
@@ -228,7 +247,7 @@ module _ (read : Reading) (reads : IsReading read) (from : State) (begun : List 
     kept = record { marks = m.kept.marks; reports = m.kept.reports; control = m.kept.control; cutoff = m.kept.cutoff };
   }
 
-  -- the server takes octets of a command, and the download or listing is still under way
+  -- the server takes octets of a command, and what was asked for is still under way
   pushed_server : (n : ℕ) (w : World) (f : Fetching w) (u : World) → Serving w f u → Fetching (pushed read ControlToServer n u)
   pushed_server n w f u m =
       fetching_moved w (pushed read ControlToServer n u) f (record { marks = m.kept.marks; reports = m.kept.reports; control = m.kept.control; cutoff = m.kept.cutoff })
@@ -255,12 +274,13 @@ module _ (read : Reading) (reads : IsReading read) (from : State) (begun : List 
   filled_client (count ∷ counts) w f u m = filled_client counts w f (pulled ControlToClient u count) (pulled_client count w f u m)
 
   -- what is lent is of no matter
-  holds_taken : (w : World) (f : Fetching w) (octets : List ℕ) (stage : Stage) (way : Way) (b : World) → Holds f.now f.ask f.own stage way b
+  pub holds_taken : (w : World) (f : Fetching w) (octets : List ℕ) (stage : Stage) (way : Way) (b : World) → Holds f.now f.ask f.own stage way b
       → Holds f.now f.ask f.own stage way (record b { taken = octets })
   holds_taken w f octets stage way b h = record {
     near = h.near;
     session = h.session;
     steady = h.steady;
+    timed = h.timed;
     ready = h.ready;
     link = h.link;
     to_server = h.to_server;
@@ -273,10 +293,10 @@ module _ (read : Reading) (reads : IsReading read) (from : State) (begun : List 
 
   -- how far it is stays the same with other octets lent
   here_taken : (w : World) (f : Fetching w) (octets : List ℕ) (way : Way) (b : World) → At w f way b → At w f way (record b { taken = octets })
-  here_taken w f octets way b (inl l) = inl (record { on = l.on; some = l.some; link = l.link; to_server = l.to_server; to_client = l.to_client; marked = l.marked })
+  here_taken w f octets way b (inl l) = inl (record { on = l.on; some = l.some; timed = l.timed; link = l.link; to_server = l.to_server; to_client = l.to_client; marked = l.marked })
   here_taken w f octets way b (inr (stage, h)) = inr (stage, holds_taken w f octets stage way b h)
 
-  -- a download or listing is under way also with other octets lent
+  -- what was asked for is under way also with other octets lent
   pub fetching_taken : (octets : List ℕ) (w : World) → Fetching w → Fetching (record w { taken = octets })
   fetching_taken octets w f =
       let lends : World → World = λ u. record u { taken = octets } in
@@ -297,7 +317,7 @@ module _ (read : Reading) (reads : IsReading read) (from : State) (begun : List 
   lasts_taken octets w f (inl l) lasts = lasts
   lasts_taken octets w f (inr (stage, h)) lasts = lasts
 
-  -- between two events a download or listing is under way also with other octets lent
+  -- between two events what was asked for is under way also with other octets lent
   pub fetching_on_taken : (octets : List ℕ) (w : World) → IsFetchingOn read from begun w → IsFetchingOn read from begun (record w { taken = octets })
   unfolding fetching_taken fetching_moved fetching_marked asked_marked
   fetching_on_taken octets w f = record { fetching = fetching_taken octets w f.fetching; lasts = lasts_taken octets w f.fetching f.fetching.stands.here f.lasts }
@@ -393,7 +413,7 @@ module _ (read : Reading) (reads : IsReading read) (from : State) (begun : List 
         kept = record { marks = m.kept.marks; reports = m.kept.reports; control = m.kept.control; cutoff = m.kept.cutoff };
       }
 
-  -- a world whose octets of the link have moved still has the download or listing under way
+  -- a world whose octets of the link have moved still has what was asked for under way
   moved_is : (w : World) (f : Fetching w) (u : World) → Moved w f u → Fetching u
   moved_is w f u m = fetching_moved w u f m.kept (flow_is read f.now f.ask f.is_ask f.sound f.own u m.flowing)
 

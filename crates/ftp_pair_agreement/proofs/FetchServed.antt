@@ -32,77 +32,16 @@ use Rattle.ftp_server_model.proofs.RepliesWritten.{replies_are_written}
 use Rattle.ftp_pair_world.specs.Serving.{near_served, far_served, collected, collected_by, after_event}
 use Rattle.ftp_pair_world.specs.World.{World, Gone, Opened, ClosedByFar, Mark, next_listen, port_at}
 use Rattle.ftp_pair_dialogues.specs.Dialogue.{Passes, is_aside}
-use Rattle.ftp_pair_dialogues.specs.Fetches.{Ask, HasPlan, busy, giving_of, linked, port_reply, Opens, asked_of}
+use Rattle.ftp_pair_dialogues.specs.Fetches.{Ask, HasPlan, busy, carrying, linked, port_reply, Opens, asked_of}
 use Rattle.ftp_pair_dialogues.specs.Login.{IsOnWay}
 use Rattle.ftp_pair_dialogues.specs.Stage.{calm, still, Way, Asking, Answering, rest}
 use Rattle.ftp_pair_agreement.specs.Cut.{Cut, Flows as FlowsOf, Fits, world_at, PlacedAt}
 use Rattle.ftp_pair_agreement.specs.Stages as Stages
-use Rattle.ftp_pair_agreement.specs.Stages.{Course, Giving, Given, Ended, Severed, Refusing, Unopened, Unclosed, Closed, Lost, Heard, replies_in, Stage, PortAsked, PortTold, Dials, Restarts, Retrieves, Carries, Answers, is_passing, Holds, AtFetch, IsLasting, Dialled, Ported, at_port, PortWanted, PortSaid, PortTaken, PortDenied, Awaits, Unaccepted, Dismissed}
+use Rattle.ftp_pair_agreement.specs.Stages.{Course, Giving, Given, Ended, Severed, Refusing, Unopened, Unclosed, Closed, Lost, Heard, replies_in, Stage, PortAsked, PortTold, Dials, Restarts, Retrieves, Carries, Rises, Tells, Answers, is_passing, Holds, AtFetch, IsLasting, Dialled, Ported, at_port, PortWanted, PortSaid, PortTaken, PortDenied, Awaits, Unaccepted, Dismissed}
 use Rattle.ftp_pair_agreement.proofs.FetchLink.{far_linked, fits_more}
+use Rattle.ftp_pair_agreement.proofs.Rests.{Rests, after_rests, near_form, near_rests, giving_rests, aside_rests, offer_rests, rests_of}
+use Rattle.ftp_pair_agreement.proofs.UploadRests.{lift_rests}
 use Rattle.ftp_pair_agreement.proofs.Still.{IsSeen, seen_placed, AreSet, IsStill, still_as, after_as_is, no_octets, logging_set}
-
--- ---- both ends of a world as those of its base
-
--- a client whose base is busy with a job and a connection is itself busy with them
-pub near_form : (b w : World) → IsSeen b w → (job : Job) (connection : NearConnection) → b.near ≡ busy job connection b.near → w.near ≡ busy job connection w.near
-near_form b w seen job connection is = λ i. record w.near {
-  standing = (seen.standing ∙ ap (λ v. v.standing) is) i;
-  job = (seen.job ∙ ap (λ v. v.job) is) i;
-  run = (seen.run ∙ ap (λ v. v.run) is) i;
-  connection = (seen.connection ∙ ap (λ v. v.connection) is) i;
-  closing = (seen.closing ∙ ap (λ v. v.closing) is) i;
-}
-
--- a server whose base has this connection, closing or not, and this pending has them itself
-pub far_form : (b w : World) → IsSeen b w → (connection : FarConnection Transfer) (closing : Bool) (pending : Pending Names) → b.far.session ≡ linked connection closing pending b.far.session
-    → w.far.session ≡ linked connection closing pending w.far.session
-far_form b w seen connection closing pending is = seen.session ∙ is ∙ ap (linked connection closing pending) (sym seen.session)
-
--- nothing is served and nothing is reported
-pub record Rests (w : World) : Type 0 where
-  pub near : near_served w ≡ w
-  pub far : far_served w ≡ w
-  pub none : report_of w.near ≡ None
-
--- a world where nothing is served and nothing is reported stays behind an event
-pub after_rests : (w : World) → Rests w → after_event w ≡ w
-after_rests w r =
-    ap (λ u. collected (far_served (far_served (far_served (near_served (near_served u)))))) r.near
-    ∙ ap (λ u. collected (far_served (far_served (far_served (near_served u))))) r.near ∙ ap (λ u. collected (far_served (far_served (far_served u)))) r.near
-    ∙ ap (λ u. collected (far_served (far_served u))) r.far ∙ ap (λ u. collected (far_served u)) r.far ∙ ap collected r.far ∙ ap (λ o. collected_by o w) r.none
-
--- a client with this job and this connection, and a server with this one, neither of which wants anything of the world
-pub near_rests : (w : World) (job : Job) (connection : NearConnection) → w.near ≡ busy job connection w.near
-    → near_served (record w { near = busy job connection w.near }) ≡ record w { near = busy job connection w.near } → near_served w ≡ w
-near_rests w job connection is rests =
-    let put : Near → World = λ v. record w { near = v } in
-    ap near_served (ap put is) ∙ rests ∙ ap put (sym is)
-
--- a server with this connection, closing or not, and this pending wants nothing, if in this form it wants nothing
-pub far_rests : (w : World) (connection : FarConnection Transfer) (closing : Bool) (pending : Pending Names) → w.far.session ≡ linked connection closing pending w.far.session
-    → far_served (record w { far = far_linked (linked connection closing pending w.far.session) w.far }) ≡ record w { far = far_linked (linked connection closing pending w.far.session) w.far }
-    → far_served w ≡ w
-far_rests w connection closing pending is rests =
-    let put : Session → World = λ s. record w { far = far_linked s w.far } in
-    ap far_served (ap put is) ∙ rests ∙ ap put (sym is)
-
--- a server that gives wants nothing but that
-pub giving_rests : (listed : Bool) (octets : List ℕ) (pending : Pending Names) (w : World)
-    → far_served (record w { far = far_linked (linked (FarData.Transferring (giving_of listed octets)) false pending w.far.session) w.far })
-    ≡ record w { far = far_linked (linked (FarData.Transferring (giving_of listed octets)) false pending w.far.session) w.far }
-giving_rests false octets pending w = refl
-giving_rests true octets pending w = refl
-
--- nor does a server without a transfer
-aside_rests : (connection : FarConnection Transfer) → is_aside connection ≡ true → (pending : Pending Names) (w : World)
-    → far_served (record w { far = far_linked (linked connection false pending w.far.session) w.far }) ≡ record w { far = far_linked (linked connection false pending w.far.session) w.far }
-aside_rests FarData.Free aside pending w = refl
-aside_rests FarData.Passive aside pending w = refl
-aside_rests (FarData.Active endpoint) aside pending w = refl
-aside_rests FarData.Ready aside pending w = absurd (cc)
-aside_rests (FarData.Asked asked) aside pending w = absurd (cc)
-aside_rests (FarData.Opening transfer way) aside pending w = absurd (cc)
-aside_rests (FarData.Transferring transfer) aside pending w = absurd (cc)
 
 module _ (read : Reading) (state : State) (ask : Ask) (plan : HasPlan ask) (own : List Mark) where
   abbrev At : Way → World → Type 0
@@ -122,11 +61,7 @@ module _ (read : Reading) (state : State) (ask : Ask) (plan : HasPlan ask) (own 
       → (far : FarConnection Transfer) (pending : Pending Names) → b.far.session ≡ linked far false pending b.far.session
       → ((w : World) → far_served (record w { far = far_linked (linked far false pending w.far.session) w.far }) ≡ record w { far = far_linked (linked far false pending w.far.session) w.far })
       → Rests w
-  rests_as b w stage way seen h job connection near_is none near_stays far pending far_is far_stays = record {
-    near = near_rests w job connection (near_form b w seen job connection near_is) (near_stays w);
-    far = far_rests w far false pending (far_form b w seen far false pending far_is) (far_stays w);
-    none = ap report_of_job (seen.job ∙ ap (λ v. v.job) near_is) ∙ none;
-  }
+  rests_as b w stage way seen h job connection near_is none near_stays far pending far_is far_stays = rests_of b w seen job connection near_is none near_stays far pending far_is far_stays
 
   -- on a course that is not passing nothing is served and nothing is reported
   carry_rests : (course : Course) (came queue : List ℕ) (b w : World) (way : Way) → IsSeen b w → Stands (Carries (record { course = course; came = came; queue = queue })) way b
@@ -164,7 +99,7 @@ module _ (read : Reading) (state : State) (ask : Ask) (plan : HasPlan ask) (own 
   stage_rests (Restarts at restart (Dialled true)) b w way seen h stays = rests_as b w (Restarts at restart (Dialled true)) way seen h _ _ h.near refl (λ w. refl) _ _ h.session (λ w. refl)
   stage_rests (Restarts at restart (Dialled false)) b w way seen h stays = rests_as b w (Restarts at restart (Dialled false)) way seen h _ _ h.near refl (λ w. refl) _ _ h.session (λ w. refl)
   stage_rests (Restarts at restart (Ported port)) b w way seen h stays = rests_as b w (Restarts at restart (Ported port)) way seen h _ _ h.near refl (λ w. refl) _ _ h.session (λ w. refl)
-  stage_rests (Retrieves (Dialled true)) b w way seen h stays = rests_as b w (Retrieves (Dialled true)) way seen h _ _ h.near refl (λ w. refl) _ _ h.session (λ w. refl)
+  stage_rests (Retrieves (Dialled true)) b w way seen h stays = rests_as b w (Retrieves (Dialled true)) way seen h _ _ h.near refl (λ w. offer_rests ask.op (carrying ask.sends ask.settings) w) _ _ h.session (λ w. refl)
   stage_rests (Retrieves (Dialled false)) b w way seen h stays = rests_as b w (Retrieves (Dialled false)) way seen h _ _ h.near refl (λ w. refl) _ _ h.session (λ w. refl)
   stage_rests (Retrieves (Ported port)) b w way seen h stays = rests_as b w (Retrieves (Ported port)) way seen h _ _ h.near refl (λ w. refl) _ _ h.session (λ w. refl)
   stage_rests (Awaits port false) b w way seen h stays = rests_as b w (Awaits port false) way seen h _ _ h.near refl (λ w. refl) _ _ h.session (λ w. refl)
@@ -172,6 +107,8 @@ module _ (read : Reading) (state : State) (ask : Ask) (plan : HasPlan ask) (own 
   stage_rests (Unaccepted port) b w way seen h stays = rests_as b w (Unaccepted port) way seen h _ _ h.near refl (λ w. refl) _ _ h.session (λ w. refl)
   stage_rests (Dismissed port why) b w way seen h stays = rests_as b w (Dismissed port why) way seen h _ _ h.near refl (λ w. refl) _ _ h.session (λ w. refl)
   stage_rests (Carries c) b w way seen h stays = carry_rests c.course c.came c.queue b w way seen h stays
+  stage_rests (Rises rise lift) b w way seen h stays = lift_rests state ask own rise lift b w way seen h stays
+  stage_rests (Tells rise said after) b w way seen h stays = absurd (cc)
   stage_rests (Answers said leaves) b w way seen h stays = absurd (cc)
 
   -- ---- the login, the settings and the command for a port
@@ -292,6 +229,7 @@ module _ (read : Reading) (state : State) (ask : Ask) (plan : HasPlan ask) (own 
               near = refl;
               session = refl;
               steady = h.steady;
+              timed = h.timed;
               ready = h.ready;
               link = refl;
               to_server = h.to_server;
@@ -374,6 +312,7 @@ module _ (read : Reading) (state : State) (ask : Ask) (plan : HasPlan ask) (own 
               near = refl;
               session = refl;
               steady = h.steady;
+              timed = h.timed;
               ready = h.ready;
               link = refl;
               to_server = h.to_server;
@@ -448,6 +387,7 @@ module _ (read : Reading) (state : State) (ask : Ask) (plan : HasPlan ask) (own 
               near = h.near;
               session = refl;
               steady = h.steady;
+              timed = h.timed;
               ready = h.ready;
               link = refl;
               to_server = h.to_server;
@@ -469,7 +409,7 @@ module _ (read : Reading) (state : State) (ask : Ask) (plan : HasPlan ask) (own 
   -- ---- the server closes the link
 
   -- the world behind it
-  abbrev closed_base : World → World
+  abbrev pub closed_base : World → World
   closed_base b = record b { far = far_linked (linked FarData.Free false Pendings.Nothing b.far.session) b.far; link = ClosedByFar }
 
   -- the world where the server has no transfer left, and is to close the link
@@ -539,6 +479,7 @@ module _ (read : Reading) (state : State) (ask : Ask) (plan : HasPlan ask) (own 
         near = h.near;
         session = refl;
         steady = h.steady;
+        timed = h.timed;
         ready = h.ready;
         link = refl;
         to_server = h.to_server;
@@ -560,6 +501,7 @@ module _ (read : Reading) (state : State) (ask : Ask) (plan : HasPlan ask) (own 
         near = h.near;
         session = refl;
         steady = h.steady;
+        timed = h.timed;
         ready = h.ready;
         link = refl;
         to_server = h.to_server;

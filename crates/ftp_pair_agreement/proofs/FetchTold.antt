@@ -15,7 +15,7 @@ use Rattle.ftp_server_model.specs.View.{View as Far, Transfer}
 use Rattle.ftp_server_model.specs.declared.session.ServerLink.{ServerLink as FarConnection}
 use Rattle.ftp_server_model.specs.declared.session.ServerLink.TheVariants as FarData
 use Rattle.ftp_server_model.specs.declared.session.Pending.TheVariants as Pendings
-use Rattle.ftp_pair_world.specs.Agreement.{Order, Single, Item, state_after, ItemHolds, links_of}
+use Rattle.ftp_pair_world.specs.Agreement.{Order, Single, Item, item_did, state_after, ItemHolds, links_of}
 use Rattle.ftp_pair_world.specs.Outcome.{Outcome}
 use Rattle.ftp_pair_world.specs.Events.{DataToServer, link_breaks, told}
 use Rattle.ftp_pair_world.specs.Serving.{after_event}
@@ -25,6 +25,7 @@ use Rattle.ftp_pair_dialogues.specs.Fetches.{Ask, HasPlan, leaving, linked, kept
 use Rattle.ftp_pair_dialogues.specs.Stage.{calm, still, rest}
 use Rattle.ftp_pair_agreement.specs.Cut.{world_at}
 use Rattle.ftp_pair_agreement.specs.Follows.{Told, IsLinked, Follows}
+use Rattle.ftp_pair_agreement.specs.Rising.{FaredTo}
 use Rattle.ftp_pair_agreement.specs.Runs.{IsFetching, IsTrailing, Runs}
 use Rattle.ftp_pair_agreement.specs.Stages.{Leaving, LinkOpen, LinkLeft, LinkParting, is_to_close, far_leaves, far_parting, link_left, Answers, Fared, Holds, Aside, pending_left}
 use Rattle.ftp_pair_agreement.proofs.FetchLink.{far_linked}
@@ -42,37 +43,51 @@ fared_item op moment outcome own = record { moment = moment; first = record { op
 pub few_links : (ask : Ask) → HasPlan ask → (own : List Mark) → length own ≤ 1 → length own ≤ links_of ask.op
 few_links ask plan own few = subst (λ how. length own ≤ (if is_some how then 1 else 0)) (sym plan.how_is) few
 
--- a fetch whose answer fits how it came out holds as an item of one attempt
-pub fared_holds : (now : State) (ask : Ask) (plan : HasPlan ask) (moment index : ℕ) (own : List Mark) (said : Said) (f : Fared now ask own said) → length own ≤ 1
+-- an operation whose answer fits how it came out holds as an item of one attempt
+pub fared_holds : (now : State) (ask : Ask) (plan : HasPlan ask) (moment index : ℕ) (own : List Mark) (said : Said) (after : State) (f : FaredTo now ask own said after moment) → length own ≤ 1
     → ItemHolds now (Single ask.op moment) own None index (fared_item ask.op moment f.outcome own)
 unfolding fared_item
-fared_holds now ask plan moment index own said f few = record {
+fared_holds now ask plan moment index own said after f few = record {
   is_of = (refl, refl, refl);
   holds = (record { can_be = f.can_be; allowed = f.allowed index; few = few_links ask plan own few }, tt);
   marked = append-nil own;
 }
 
--- where all before were told, and a fetch has fared with its answer, all are told with it and its report
-pub told_fared : (from : State) (done : List Order) (marks : List (List Mark)) (reports : List Said) (now : State) (ask : Ask) (plan : HasPlan ask) (moment : ℕ) (own : List Mark) (said : Said)
-    → Told from done marks None reports now → Fared now ask own said → length own ≤ 1
-    → Told from (done ++ Single ask.op moment ∷ []) (marks ++ own ∷ []) None (reports ++ said ∷ []) now
+-- what an operation has fared is what its item leaves
+pub fared_leaves : (now : State) (ask : Ask) (own : List Mark) (said : Said) (after : State) (moment : ℕ) → (fares : FaredTo now ask own said after moment)
+    → (item_did now (fared_item ask.op moment fares.outcome own)).1 ≡ after
 unfolding fared_item
-told_fared from done marks reports now ask plan moment own said t fares few =
+fared_leaves now ask own said after moment fares = ap (λ d. d.1) fares.did_so
+
+-- where all before were told, and an operation has fared with its answer, all are told with it and its report, and it leaves its state
+pub told_fared_to : (from : State) (done : List Order) (marks : List (List Mark)) (reports : List Said) (now : State) (ask : Ask) (plan : HasPlan ask) (moment : ℕ) (own : List Mark) (said : Said)
+    (after : State) → Told from done marks None reports now → FaredTo now ask own said after moment → length own ≤ 1
+    → Told from (done ++ Single ask.op moment ∷ []) (marks ++ own ∷ []) None (reports ++ said ∷ []) after
+unfolding fared_item
+told_fared_to from done marks reports now ask plan moment own said after t fares few =
     let op : Op (List ℕ) = ask.op in
-    let there : Fared (state_after from t.items) ask own said = subst (λ s. Fared s ask own said) t.now_is fares in
+    let there : FaredTo (state_after from t.items) ask own said after moment = subst (λ s. FaredTo s ask own said after moment) t.now_is fares in
     let item : Item = fared_item op moment there.outcome own in
     record {
       items = t.items ++ item ∷ [];
       all = both_longer reports done said (Single op moment) t.all;
       hold = one_told reports from 0 (length done) done marks None t.items (Single op moment) own item said t.all t.hold (let e : length done ≡ 0 + length done = omega arith in e)
-          (fared_holds (state_after from t.items) ask plan moment (length done) own said there few) (tt, ap (λ d. d.0) (there.did_so moment));
-      now_is = t.now_is ∙ sym (state_more from t.items item ∙ ap (λ d. d.1) (there.did_so moment));
+          (fared_holds (state_after from t.items) ask plan moment (length done) own said after there few) (tt, ap (λ d. d.0) there.did_so);
+      now_is = sym (state_more from t.items item ∙ ap (λ d. d.1) there.did_so);
     }
+
+-- so it is of one that changes nothing
+pub told_fared : (from : State) (done : List Order) (marks : List (List Mark)) (reports : List Said) (now : State) (ask : Ask) (plan : HasPlan ask) (moment : ℕ) (own : List Mark) (said : Said)
+    → Told from done marks None reports now → Fared now ask own said → length own ≤ 1
+    → Told from (done ++ Single ask.op moment ∷ []) (marks ++ own ∷ []) None (reports ++ said ∷ []) now
+told_fared from done marks reports now ask plan moment own said t fares few =
+    told_fared_to from done marks reports now ask plan moment own said now t
+    (record { outcome = fares.outcome; can_be = fares.can_be; allowed = fares.allowed; did_so = fares.did_so moment }) few
 
 -- ---- both ends behind it
 
 -- ends that are steady stand, where the server is at no transfer and is not closing
-steady_stands : (now : State) (n : Near) (f : Far) → IsSteady now (kept n f) → is_aside f.session.connection ≡ true → (connection : FarConnection Transfer) (pending : Pending Names)
+pub steady_stands : (now : State) (n : Near) (f : Far) → IsSteady now (kept n f) → is_aside f.session.connection ≡ true → (connection : FarConnection Transfer) (pending : Pending Names)
     → f.session ≡ linked connection false pending f.session → Stands now n f
 steady_stands now n f steady aside connection pending session = record {
   meets = record { peer = steady.peer; here = steady.here; typed = steady.typed; own = steady.own; family = steady.family; all_ways = steady.all_ways };
@@ -83,7 +98,7 @@ steady_stands now n f steady aside connection pending session = record {
 }
 
 -- the world where an answer was told, and that where its report was taken
-abbrev told_at : Said → Leaving → World → World
+abbrev pub told_at : Said → Leaving → World → World
 told_at said leaves b = record (world_at b rest no_octets) {
   near = calm (leaving said (is_to_close leaves) b.near);
   far = still (far_linked (linked (far_leaves leaves) (far_parting leaves) (pending_left leaves) b.far.session) b.far);
@@ -92,7 +107,7 @@ told_at said leaves b = record (world_at b rest no_octets) {
   data_to_client = [];
 }
 
-abbrev taken_base : Said → FarConnection Transfer → Pending Names → Link → World → World
+abbrev pub taken_base : Said → FarConnection Transfer → Pending Names → Link → World → World
 taken_base said connection pending link b = record b {
   near = resting b.near;
   far = far_linked (linked connection false pending b.far.session) b.far;
@@ -103,7 +118,7 @@ taken_base said connection pending link b = record b {
 }
 
 -- where the server is at no transfer when the answer is told, the report is taken, and there is no link
-aside_served : (said : Said) (closes : Bool) (connection : FarConnection Transfer) → is_aside connection ≡ true → (pending : Pending Names) (b : World)
+pub aside_served : (said : Said) (closes : Bool) (connection : FarConnection Transfer) → is_aside connection ≡ true → (pending : Pending Names) (b : World)
     → after_event (told_at said (Aside closes connection pending) b) ≡ world_at (taken_base said connection pending Gone b) rest no_octets
 unfolding near.wants
 aside_served said true FarData.Free aside pending b = refl

@@ -25,20 +25,23 @@ use Rattle.ftp_server_model.specs.declared.session.ServerLink.TheVariants as Far
 use Rattle.ftp_server_model.specs.declared.session.Pending.TheVariants as Pendings
 use Rattle.ftp_pair_world.specs.World.{World, Gone, Mark, Broken, Refused as RefusedLink}
 use Rattle.ftp_pair_dialogues.specs.Dialogue.{IsSound, Passes, is_aside}
-use Rattle.ftp_pair_dialogues.specs.Fetches.{Ask, IsAsk, IsPlacedAt, busy, leaving, linked, opened_command, opened_job, port_reply, rest_reply, offset_pending, kept, IsSteady, Opens}
+use Rattle.ftp_pair_dialogues.specs.Fetches.{Ask, IsAsk, IsPlacedAt, IsTimely, busy, carrying, leaving, linked, opened_command, opened_job, port_reply, rest_reply, offset_pending, kept, IsSteady, Opens}
 use Rattle.ftp_pair_dialogues.specs.Login.{IsOnWay}
 use Rattle.ftp_pair_dialogues.specs.Stage.{calm, Way, Asking, Answering, FarTurn, NearTurn, Turns, behind}
-use Rattle.ftp_pair_dialogues.proofs.Fetching.{begins_awaited, port_denied, port_taken, steady_at, unaccepted, port_is_told, rest_granted, rest_denied, denied}
+use Rattle.ftp_pair_dialogues.proofs.Fetching.{port_denied, port_taken, steady_at, port_is_told, rest_granted, rest_denied}
 use Rattle.ftp_pair_dialogues.proofs.LoginTurns.{no_asking, no_reply, operation_turns}
+use Rattle.ftp_pair_dialogues.proofs.Footing.{turn_footing}
+use Rattle.ftp_pair_dialogues.proofs.Offering.{offer_awaited, offer_denied, offer_unaccepted}
 use Rattle.ftp_pair_dialogues.proofs.Refusing.{ask_leads}
 use Rattle.ftp_pair_agreement.specs.Cut.{Crosses, Goes}
 use Rattle.ftp_pair_agreement.specs.PeekStages.{IsHaltCross}
 use Rattle.ftp_pair_agreement.specs.Stages as Stages
-use Rattle.ftp_pair_agreement.specs.Stages.{Over, Sent, Granted, Denied, LinkOpen, Stage, PortAsked, PortTold, Dials, Restarts, Retrieves, Carries, Answers, Holds, AtFetch, Early, Dialled, Ported, at_port, early_near, early_far, Aside, no_link, port_left, PortWanted, PortSaid, PortTaken, PortDenied, Awaits, Unaccepted, Dismissed, is_served, AtServed, Fared}
+use Rattle.ftp_pair_agreement.specs.Stages.{Over, Sent, Granted, Denied, LinkOpen, Stage, PortAsked, PortTold, Dials, Restarts, Retrieves, Carries, Rises, Tells, Answers, Holds, AtFetch, Early, Dialled, Ported, at_port, early_near, early_far, Aside, no_link, port_left, PortWanted, PortSaid, PortTaken, PortDenied, Awaits, Unaccepted, Dismissed, is_served, AtServed, Fared}
 use Rattle.ftp_pair_agreement.proofs.Fates.{refused_fares, unknown_fares, refused_link_fares}
 use Rattle.ftp_pair_agreement.proofs.FetchAsked.{asked_at}
 use Rattle.ftp_pair_agreement.proofs.FetchReplies.{at_first, carry_heard, none_more, one_more}
 use Rattle.ftp_pair_agreement.proofs.Still.{way_some}
+use Rattle.ftp_pair_agreement.proofs.UploadReplies.{lift_heard}
 
 module _ (read : Reading) (reads : IsReading read) (state : State) (ask : Ask) (good : IsAsk ask) (sound : IsSound state) (own : List Mark) where
   abbrev At : Way → World → Type 0
@@ -62,14 +65,15 @@ module _ (read : Reading) (reads : IsReading read) (state : State) (ask : Ask) (
   Along n f = Passes state.table state.table n f
 
   -- at the goal of the opening, with no link, empty queues and no marks, the world is served at a stage
-  opens : (b : World) → b.link ≡ Gone → b.data_to_server ≡ [] → b.data_to_client ≡ [] → own ≡ [] → Goal b.near b.far → Served (Answering []) b
-  opens b link to_server to_client none (inl goal) = (
+  opens : (b : World) → b.link ≡ Gone → b.data_to_server ≡ [] → b.data_to_client ≡ [] → own ≡ [] → IsTimely ask.sends b.far.footing.moment → Goal b.near b.far → Served (Answering []) b
+  opens b link to_server to_client none timed (inl goal) = (
     inr (
       PortAsked goal.closing,
       record {
         near = goal.near;
         session = goal.session;
         steady = goal.steady;
+        timed = timed;
         ready = (goal.set, goal.known);
         link = link;
         to_server = to_server;
@@ -82,13 +86,14 @@ module _ (read : Reading) (reads : IsReading read) (state : State) (ask : Ask) (
     ),
     refl,
   )
-  opens b link to_server to_client none (inr (inl goal)) = (
+  opens b link to_server to_client none timed (inr (inl goal)) = (
     inr (
       PortWanted goal.connection goal.pending,
       record {
         near = goal.near;
         session = goal.session;
         steady = goal.steady;
+        timed = timed;
         ready = goal.set;
         link = link;
         to_server = to_server;
@@ -101,13 +106,14 @@ module _ (read : Reading) (reads : IsReading read) (state : State) (ask : Ask) (
     ),
     refl,
   )
-  opens b link to_server to_client none (inr (inr (unknown, goal))) = (
+  opens b link to_server to_client none timed (inr (inr (unknown, goal))) = (
     inr (
       Answers (Refused 530) (Aside false b.far.session.connection b.far.session.pending),
       record {
         near = goal.near;
         session = λ i. record b.far.session { closing = goal.stands.far.closing i; life = goal.stands.far.life i };
         steady = steady_at state b.near b.far goal.stands;
+        timed = timed;
         ready = tt;
         link = link;
         to_server = to_server;
@@ -123,21 +129,21 @@ module _ (read : Reading) (reads : IsReading read) (state : State) (ask : Ask) (
 
   -- on the way to the opening and at its goal, with no link, empty queues and no marks, the world is served
   pub arrives : (way : Way) (b : World) → b.link ≡ Gone → b.data_to_server ≡ [] → b.data_to_client ≡ [] → own ≡ []
-      → IsOnWay read state op Along Goal way b.near b.far → Served way b
-  arrives way b link to_server to_client none (inl (logging, waiting)) = (
-    inl (record { on = inl (logging, waiting); some = way_some logging.place b.near way logging.way_is; link = link; to_server = to_server; to_client = to_client; marked = none }),
+      → IsTimely ask.sends b.far.footing.moment → IsOnWay read state op Along Goal way b.near b.far → Served way b
+  arrives way b link to_server to_client none timed (inl (logging, waiting)) = (
+    inl (record { on = inl (logging, waiting); some = way_some logging.place b.near way logging.way_is; timed = timed; link = link; to_server = to_server; to_client = to_client; marked = none }),
     tt,
   )
-  arrives (Answering []) b link to_server to_client none (inr (zero, goal)) = opens b link to_server to_client none goal
-  arrives (Answering (reply ∷ more)) b link to_server to_client none (inr (zero, leads)) = absurd leads
-  arrives (Asking line) b link to_server to_client none (inr (zero, leads)) = absurd leads
-  arrives (Answering []) b link to_server to_client none (inr (suc left, leads)) = absurd leads
-  arrives (Answering (reply ∷ more)) b link to_server to_client none (inr (suc left, leads)) = (
-    inl (record { on = inr (suc left, leads); some = λ e. no_reply reply more e; link = link; to_server = to_server; to_client = to_client; marked = none }),
+  arrives (Answering []) b link to_server to_client none timed (inr (zero, goal)) = opens b link to_server to_client none timed goal
+  arrives (Answering (reply ∷ more)) b link to_server to_client none timed (inr (zero, leads)) = absurd leads
+  arrives (Asking line) b link to_server to_client none timed (inr (zero, leads)) = absurd leads
+  arrives (Answering []) b link to_server to_client none timed (inr (suc left, leads)) = absurd leads
+  arrives (Answering (reply ∷ more)) b link to_server to_client none timed (inr (suc left, leads)) = (
+    inl (record { on = inr (suc left, leads); some = λ e. no_reply reply more e; timed = timed; link = link; to_server = to_server; to_client = to_client; marked = none }),
     tt,
   )
-  arrives (Asking line) b link to_server to_client none (inr (suc left, leads)) = (
-    inl (record { on = inr (suc left, leads); some = λ e. no_asking line [] e; link = link; to_server = to_server; to_client = to_client; marked = none }),
+  arrives (Asking line) b link to_server to_client none timed (inr (suc left, leads)) = (
+    inl (record { on = inr (suc left, leads); some = λ e. no_asking line [] e; timed = timed; link = link; to_server = to_server; to_client = to_client; marked = none }),
     tt,
   )
 
@@ -151,8 +157,8 @@ module _ (read : Reading) (reads : IsReading read) (state : State) (ask : Ask) (
   abbrev pub Cross : List ℕ → List Reply → World → Type 0
   Cross text rows b = IsHaltCross state ask own text rows b
 
-  abbrev Tells : World → Reply → List Reply → Type 0
-  Tells b reply more = Hears b reply more ⊎ Crosses Cross b reply more
+  abbrev HearsOrCrosses : World → Reply → List Reply → Type 0
+  HearsOrCrosses b reply more = Hears b reply more ⊎ Crosses Cross b reply more
 
   -- the client's peer in a steady session is a typed host
   typed_peer : (b : World) → IsSteady state (kept b.near b.far) → IsTypedHost b.near.peer
@@ -175,6 +181,7 @@ module _ (read : Reading) (reads : IsReading read) (state : State) (ask : Ask) (
           near = refl;
           session = h.session;
           steady = h.steady;
+          timed = h.timed;
           ready = h.ready;
           link = h.link;
           to_server = h.to_server;
@@ -206,6 +213,7 @@ module _ (read : Reading) (reads : IsReading read) (state : State) (ask : Ask) (
           near = refl;
           session = h.session ∙ ap (λ o. linked (early_far b.near.here early) false (offset_pending o) b.far.session) (sym h.fine.0);
           steady = h.steady;
+          timed = h.timed;
           ready = h.ready;
           link = h.link;
           to_server = h.to_server;
@@ -237,6 +245,7 @@ module _ (read : Reading) (reads : IsReading read) (state : State) (ask : Ask) (
           near = refl;
           session = h.session;
           steady = h.steady;
+          timed = h.timed;
           ready = tt;
           link = h.link;
           to_server = h.to_server;
@@ -244,7 +253,7 @@ module _ (read : Reading) (reads : IsReading read) (state : State) (ask : Ask) (
           came = tt;
           marked = h.marked;
           way_is = refl;
-          fine = λ any. refused_fares state ask good any why h.ready.1 (good.answer.unplaced state at why h.fine.0 h.fine.1);
+          fine = λ any. refused_fares state ask good any why h.ready.1 (good.refuses.unplaced state at why h.fine.0 h.fine.1);
         },
       ),
       refl,
@@ -265,6 +274,7 @@ module _ (read : Reading) (reads : IsReading read) (state : State) (ask : Ask) (
           near = refl;
           session = h.session;
           steady = h.steady;
+          timed = h.timed;
           ready = tt;
           link = h.link;
           to_server = h.to_server;
@@ -272,7 +282,7 @@ module _ (read : Reading) (reads : IsReading read) (state : State) (ask : Ask) (
           came = tt;
           marked = one_more own (Broken 0) h.marked;
           way_is = refl;
-          fine = (refused_fares state ask good own why h.ready.1 (good.answer.unplaced state at why h.fine.0 h.fine.1), refl);
+          fine = (refused_fares state ask good own why h.ready.1 (good.refuses.unplaced state at why h.fine.0 h.fine.1), refl);
         },
       ),
       refl,
@@ -293,6 +303,7 @@ module _ (read : Reading) (reads : IsReading read) (state : State) (ask : Ask) (
           near = refl;
           session = h.session;
           steady = h.steady;
+          timed = h.timed;
           ready = tt;
           link = h.link;
           to_server = h.to_server;
@@ -300,7 +311,7 @@ module _ (read : Reading) (reads : IsReading read) (state : State) (ask : Ask) (
           came = tt;
           marked = none_more own h.marked;
           way_is = refl;
-          fine = (refused_fares state ask good own why h.ready.1 (good.answer.unplaced state at why h.fine.0 h.fine.1), refl);
+          fine = (refused_fares state ask good own why h.ready.1 (good.refuses.unplaced state at why h.fine.0 h.fine.1), refl);
         },
       ),
       refl,
@@ -339,6 +350,7 @@ module _ (read : Reading) (reads : IsReading read) (state : State) (ask : Ask) (
             near = ap (λ o. busy (opened_job o ask) (NearData.Listening port) b.near) e;
             session = h.session ∙ ap (λ o. linked (FarData.Active (at_port b.near.here port)) false o b.far.session) (sym (ap offset_pending e));
             steady = h.steady;
+            timed = h.timed;
             ready = h.ready;
             link = h.link;
             to_server = h.to_server;
@@ -358,6 +370,7 @@ module _ (read : Reading) (reads : IsReading read) (state : State) (ask : Ask) (
             near = ap (λ o. busy (opened_job o ask) (NearData.Listening port) b.near) e;
             session = h.session;
             steady = h.steady;
+            timed = h.timed;
             ready = h.ready;
             link = h.link;
             to_server = h.to_server;
@@ -373,10 +386,10 @@ module _ (read : Reading) (reads : IsReading read) (state : State) (ask : Ask) (
 
   -- a reply with which the client is done, whose port is to be closed, while the server stands so
   leaves_port : (stage : Stage) (connection : FarConnection Transfer) (way : Way) (b : World) (reply : Reply) (said : Said) → Stands stage way b
-      → answered reply.code reply.lines (calm (Stages.near_at state ask stage b.near)) ≡ record (calm (leaving said true b.near)) { owed = [] }
+      → IsSteady state (kept b.near b.far) → b.data_to_server ≡ [] → answered reply.code reply.lines (calm (Stages.near_at state ask stage b.near)) ≡ record (calm (leaving said true b.near)) { owed = [] }
       → b.far.session ≡ linked connection false Pendings.Nothing b.far.session → b.link ≡ Gone → b.data_to_client ≡ [] → length own ≤ 1 → Fared state ask own said → is_aside connection ≡ true
       → Hears b reply []
-  leaves_port stage connection way b reply said h is session link to_client marked fares aside = (
+  leaves_port stage connection way b reply said h steady to_server is session link to_client marked fares aside = (
     record {
       near = leaving said true b.near;
       line = None;
@@ -389,10 +402,11 @@ module _ (read : Reading) (reads : IsReading read) (state : State) (ask : Ask) (
         record {
           near = refl;
           session = session;
-          steady = h.steady;
+          steady = steady;
+          timed = h.timed;
           ready = tt;
           link = link;
-          to_server = h.to_server;
+          to_server = to_server;
           to_client = to_client;
           came = tt;
           marked = marked;
@@ -411,7 +425,7 @@ module _ (read : Reading) (reads : IsReading read) (state : State) (ask : Ask) (
       near = Stages.near_at state ask (Awaits port true) b.near;
       line = None;
       is = ap (λ v. answered (fixed_reply Texts.Opens).code (fixed_reply Texts.Opens).lines (calm v)) h.near
-          ∙ begins_awaited op ask.settings [] port b.near (fixed_reply Texts.Opens).lines;
+          ∙ offer_awaited op (carrying ask.sends ask.settings) b.near port (fixed_reply Texts.Opens).lines;
       fine = tt;
     },
     (
@@ -421,6 +435,7 @@ module _ (read : Reading) (reads : IsReading read) (state : State) (ask : Ask) (
           near = refl;
           session = h.session;
           steady = h.steady;
+          timed = h.timed;
           ready = h.ready;
           link = h.link;
           to_server = h.to_server;
@@ -438,7 +453,7 @@ module _ (read : Reading) (reads : IsReading read) (state : State) (ask : Ask) (
   -- ---- every reply
 
   -- at each stage that is served the first reply is heard, and the world is served behind it, or ABOR crosses the others
-  told_at : (stage : Stage) (reply : Reply) (more : List Reply) (b : World) → Stands stage (Answering (reply ∷ more)) b → is_served stage ≡ true → Tells b reply more
+  told_at : (stage : Stage) (reply : Reply) (more : List Reply) (b : World) → Stands stage (Answering (reply ∷ more)) b → is_served stage ≡ true → HearsOrCrosses b reply more
   told_at (PortAsked closing) reply more b h served = absurd (no_reply reply more h.way_is)
   told_at (PortTold port) reply more b h served =
       inl (at_first (Hears b) reply (port_reply (is_extended b.near op) b.near.peer port) more [] h.way_is (port_heard port (Answering (reply ∷ more)) b h))
@@ -450,7 +465,7 @@ module _ (read : Reading) (reads : IsReading read) (state : State) (ask : Ask) (
       inl (at_first (Hears b) reply (fixed_reply Texts.EndpointTaken) more [] h.way_is (port_goes port (Answering (reply ∷ more)) b h))
   told_at (PortDenied port connection) reply more b h served =
       inl (at_first (Hears b) reply (fixed_reply Texts.NotLoggedIn) more [] h.way_is
-      (leaves_port (PortDenied port connection) connection (Answering (reply ∷ more)) b (fixed_reply Texts.NotLoggedIn) (Refused 530) h
+      (leaves_port (PortDenied port connection) connection (Answering (reply ∷ more)) b (fixed_reply Texts.NotLoggedIn) (Refused 530) h h.steady h.to_server
       (port_denied op port (fixed_reply Texts.NotLoggedIn).lines b.near) h.session h.link h.to_client (none_more own h.marked)
       (unknown_fares state ask good own h.fine.1) h.fine.0))
   told_at (Restarts at Sent early) reply more b h served = absurd (no_asking (line_of (Commands.Rest at)) (reply ∷ more) (sym h.way_is))
@@ -463,15 +478,17 @@ module _ (read : Reading) (reads : IsReading read) (state : State) (ask : Ask) (
   told_at (Awaits port true) reply more b h served = absurd (no_reply reply more h.way_is)
   told_at (Unaccepted port) reply more b h served =
       inl (at_first (Hears b) reply (fixed_reply Texts.NoConnection) more [] h.way_is
-      (leaves_port (Unaccepted port) FarData.Free (Answering (reply ∷ more)) b (fixed_reply Texts.NoConnection) NotOpened h
-      (unaccepted op ask.settings [] port b.near (fixed_reply Texts.NoConnection).lines) h.session h.link h.to_client (one_more own RefusedLink h.marked)
+      (leaves_port (Unaccepted port) FarData.Free (Answering (reply ∷ more)) b (fixed_reply Texts.NoConnection) NotOpened h h.steady h.to_server
+      (offer_unaccepted op (carrying ask.sends ask.settings) b.near port (fixed_reply Texts.NoConnection).lines) h.session h.link h.to_client (one_more own RefusedLink h.marked)
       (refused_link_fares state ask good own h.marked) refl))
   told_at (Dismissed port why) reply more b h served =
       inl (at_first (Hears b) reply (fixed_reply (refusal_text why)) more [] h.way_is
-      (leaves_port (Dismissed port why) FarData.Free (Answering (reply ∷ more)) b (fixed_reply (refusal_text why)) (Refused (code_of why)) h
-      (denied op ask.settings [] b.near why (NearData.Listening port) (fixed_reply (refusal_text why)).lines) h.session h.link h.to_client (none_more own h.marked)
+      (leaves_port (Dismissed port why) FarData.Free (Answering (reply ∷ more)) b (fixed_reply (refusal_text why)) (Refused (code_of why)) h h.steady h.to_server
+      (offer_denied op (carrying ask.sends ask.settings) b.near why (NearData.Listening port) (fixed_reply (refusal_text why)).lines) h.session h.link h.to_client (none_more own h.marked)
       (refused_fares state ask good own why h.ready.1 h.fine) refl))
   told_at (Carries c) reply more b h served = carry_heard read state ask good sound own c.course c.came c.queue (Answering (reply ∷ more)) b reply more h h.way_is
+  told_at (Rises rise lift) reply more b h served = inl (lift_heard read state ask good own rise lift (Answering (reply ∷ more)) b reply more h h.way_is)
+  told_at (Tells rise said after) reply more b h served = absurd (no_reply reply more h.way_is)
   told_at (Answers said leaves) reply more b h served = absurd (no_reply reply more h.way_is)
 
   -- ---- all turns
@@ -485,12 +502,15 @@ module _ (read : Reading) (reads : IsReading read) (state : State) (ask : Ask) (
 
       asked : (line : List ℕ) (b : World) → Served (Asking line) b → (t : FarTurn read b.far line) × At (Answering t.replies) (record b { far = t.far })
       asked line b (inl l, served) =
-          let next = turns.asked line b.near b.far l.on in
-          (next.0, (arrives (Answering next.0.replies) (record b { far = next.0.far }) l.link l.to_server l.to_client l.marked next.1).0)
+          let next = turns.asked line b.near b.far l.on in (
+            next.0,
+            (arrives (Answering next.0.replies) (record b { far = next.0.far }) l.link l.to_server l.to_client l.marked
+                (subst (λ footing. IsTimely ask.sends footing.moment) (sym (turn_footing read b.far line next.0)) l.timed) next.1).0,
+          )
       asked line b (inr (stage, h), served) = asked_at read reads state ask good own stage line b h
 
-      told : (reply : Reply) (more : List Reply) (b : World) → Served (Answering (reply ∷ more)) b → Tells b reply more
+      told : (reply : Reply) (more : List Reply) (b : World) → Served (Answering (reply ∷ more)) b → HearsOrCrosses b reply more
       told reply more b (inl l, served) =
           let next = turns.told reply more b.near b.far l.on in
-          inl (next.0, arrives (behind next.0.line more) (record b { near = next.0.near }) l.link l.to_server l.to_client l.marked next.1)
+          inl (next.0, arrives (behind next.0.line more) (record b { near = next.0.near }) l.link l.to_server l.to_client l.marked l.timed next.1)
       told reply more b (inr (stage, h), served) = told_at stage reply more b h served

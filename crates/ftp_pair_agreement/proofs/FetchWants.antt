@@ -7,27 +7,40 @@ use Rattle.ftp_path.specs.Path.{Names}
 use Rattle.ftp_direct.specs.Direct.{State}
 use Rattle.ftp_client_model.specs.Calls as near
 use Rattle.ftp_client_model.specs.Calls.{is_busy_job}
-use Rattle.ftp_client_model.specs.View.{View as Near, Job}
+use Rattle.ftp_client_model.specs.View.{View as Near, Flow, Job}
 use Rattle.ftp_client_model.specs.declared.client.ClientLink.{ClientLink as NearConnection}
 use Rattle.ftp_client_model.specs.declared.client.ClientLink.TheVariants as NearData
+use Rattle.ftp_client_model.specs.declared.client.Replied.TheVariants as Replies
 use Rattle.ftp_server_model.specs.Calls as far
 use Rattle.ftp_server_model.specs.Machine.{Reading}
 use Rattle.ftp_server_model.specs.View.{View as Far, Transfer}
 use Rattle.ftp_server_model.specs.declared.session.ServerLink.{ServerLink as FarConnection}
 use Rattle.ftp_server_model.specs.declared.session.ServerLink.TheVariants as FarData
 use Rattle.ftp_server_model.specs.declared.session.Pending.{Pending}
+use Rattle.ftp_server_model.specs.declared.session.Pending.TheVariants as Pendings
 use Rattle.ftp_pair_world.specs.Events.{is_asked_for, is_closed_by_near, is_gone}
 use Rattle.ftp_pair_world.specs.World.{World, Link, Mark}
 use Rattle.ftp_pair_dialogues.specs.Dialogue.{Passes}
-use Rattle.ftp_pair_dialogues.specs.Fetches.{Ask, HasPlan, busy, linked, Opens}
+use Rattle.ftp_pair_dialogues.specs.Fetches.{Ask, HasPlan, Rise, busy, carrying, linked, Opens}
 use Rattle.ftp_pair_dialogues.specs.Login.{IsOnWay}
 use Rattle.ftp_pair_dialogues.specs.Stage.{Way, Asking, Answering, rest}
+use Rattle.ftp_pair_dialogues.proofs.Offering.{by_flow, with_flow}
 use Rattle.ftp_pair_agreement.specs.Cut.{Cut, world_at, PlacedAt}
-use Rattle.ftp_pair_agreement.specs.Stages.{Course, Giving, Given, Ended, Severed, Refusing, Unopened, Unclosed, Closed, Lost, NoReply, OneReply, BothReplies, Stage, PortAsked, PortTold, Dials, Restarts, Retrieves, Carries, Answers, is_passing, Holds, AtFetch, IsLasting, Dialled, Ported, PortWanted, PortSaid, PortTaken, PortDenied, Awaits, Unaccepted, Dismissed}
+use Rattle.ftp_pair_agreement.specs.Rising.{Lift, lift_far, lift_passes, lifts}
+use Rattle.ftp_pair_agreement.specs.Stages.{Course, Giving, Given, Ended, Severed, Refusing, Unopened, Unclosed, Closed, Lost, NoReply, OneReply, BothReplies, Stage, PortAsked, PortTold, Dials, Restarts, Retrieves, Carries, Rises, Tells, Answers, is_passing, Holds, AtFetch, IsLasting, Dialled, Ported, PortWanted, PortSaid, PortTaken, PortDenied, Awaits, Unaccepted, Dismissed}
 use Rattle.ftp_pair_agreement.proofs.Events.{and_false, given_none, still_data}
 use Rattle.ftp_pair_agreement.proofs.FetchData.{AtFlow, flows}
-use Rattle.ftp_pair_agreement.proofs.FetchServed.{far_form, leads_still, near_form}
+use Rattle.ftp_pair_agreement.proofs.FetchServed.{leads_still}
+use Rattle.ftp_pair_agreement.proofs.Rests.{far_form, near_form}
 use Rattle.ftp_pair_agreement.proofs.Still.{IsSeen, seen_placed}
+use Rattle.ftp_pair_agreement.proofs.UploadData.{AtRise}
+use Rattle.ftp_pair_agreement.proofs.UploadRests.{lift_asks, lift_busy, lift_empty, lift_form, lift_gives, lift_open, lift_owes, lift_unclosed}
+
+-- a client whose own command was sent over an open link asks for no other, whichever way its octets go
+offer_asks : (op : Op (List ℕ)) (flow : Flow) (n : Near) (other : Wants) → is_wanted (near.wants (busy (with_flow op Replies.Nothing flow) NearData.Open n)) other ≡ false
+unfolding near.wants
+offer_asks op flow n other =
+    by_flow (λ flow. is_wanted (near.wants (busy (with_flow op Replies.Nothing flow) NearData.Open n)) other ≡ false) (λ d mark. refl) (λ mark. refl) (λ octet left mark. refl) flow
 
 module _ (read : Reading) (state : State) (ask : Ask) (plan : HasPlan ask) (own : List Mark) where
   abbrev At : Way → World → Type 0
@@ -103,6 +116,9 @@ module _ (read : Reading) (state : State) (ask : Ask) (plan : HasPlan ask) (own 
       by_here (inr (Unaccepted port, h)) lasts = inr (none _ _ h.session refl h.to_client)
       by_here (inr (Dismissed port why, h)) lasts = inr (none _ _ h.session refl h.to_client)
       by_here (inr (Carries c, h)) lasts = by_course c.course c.came c.queue h lasts
+      by_here (inr (Rises rise lift, h)) lasts =
+          inr (none _ _ (h.session ∙ ap (λ c. linked (lift_far state ask rise lift) c Pendings.Nothing s.base.far.session) (lift_open state ask own rise lift lasts)) (lift_gives state ask own rise lift) h.to_client)
+      by_here (inr (Tells rise said after, h)) lasts = absurd (cc)
       by_here (inr (Answers said leaves, h)) lasts = absurd (cc)
 
   -- ---- a link is wanted only where the client dials
@@ -153,7 +169,7 @@ module _ (read : Reading) (state : State) (ask : Ask) (plan : HasPlan ask) (own 
       by_here (inr (Restarts at restart (Dialled true), h)) lasts = inr (inr (asks_none w _ _ (near_form s.base w seen _ _ h.near) (λ far. refl)))
       by_here (inr (Restarts at restart (Dialled false), h)) lasts = inr (inr (asks_none w _ _ (near_form s.base w seen _ _ h.near) (λ far. refl)))
       by_here (inr (Restarts at restart (Ported port), h)) lasts = inr (inr (asks_none w _ _ (near_form s.base w seen _ _ h.near) (λ far. refl)))
-      by_here (inr (Retrieves (Dialled true), h)) lasts = inr (inr (asks_none w _ _ (near_form s.base w seen _ _ h.near) (λ far. refl)))
+      by_here (inr (Retrieves (Dialled true), h)) lasts = inr (inr (asks_none w _ _ (near_form s.base w seen _ _ h.near) (λ far. offer_asks ask.op (carrying ask.sends ask.settings) w.near far)))
       by_here (inr (Retrieves (Dialled false), h)) lasts = inr (inr (asks_none w _ _ (near_form s.base w seen _ _ h.near) (λ far. refl)))
       by_here (inr (Retrieves (Ported port), h)) lasts = inr (inr (asks_none w _ _ (near_form s.base w seen _ _ h.near) (λ far. refl)))
       by_here (inr (Awaits port false, h)) lasts = inr (inr (asks_none w _ _ (near_form s.base w seen _ _ h.near) (λ far. refl)))
@@ -161,9 +177,13 @@ module _ (read : Reading) (state : State) (ask : Ask) (plan : HasPlan ask) (own 
       by_here (inr (Unaccepted port, h)) lasts = inr (inr (accepts_none w _ _ (near_form s.base w seen _ _ h.near) _ (far_form s.base w seen _ false _ h.session)))
       by_here (inr (Dismissed port why, h)) lasts = inr (inr (asks_none w _ _ (near_form s.base w seen _ _ h.near) (λ far. refl)))
       by_here (inr (Carries c, h)) lasts = inr (inr (by_course c.course c.came c.queue h))
+      by_here (inr (Rises rise lift, h)) lasts =
+          inr (inr (ap (λ v. is_gone w.link && is_wanted (near.wants v) (far.wants w.far)) (lift_form state ask own rise lift s.base w seen h.near lasts)
+          ∙ ap (λ (b : Bool). is_gone w.link && b) (lift_asks state ask own rise lift lasts w.near (far.wants w.far)) ∙ and_false (is_gone w.link)))
+      by_here (inr (Tells rise said after, h)) lasts = absurd (cc)
       by_here (inr (Answers said leaves, h)) lasts = absurd (cc)
 
-  -- ---- the client is under way, and gives no octets
+  -- ---- the client is under way, and gives octets of an upload or none
 
   -- at a stage that lasts the client is busy
   pub lasting_busy : (w : World) → (s : PlacedAt At w) → IsLasting state ask read own s.way s.base s.here → is_busy_job w.near.job ≡ true
@@ -198,6 +218,9 @@ module _ (read : Reading) (state : State) (ask : Ask) (plan : HasPlan ask) (own 
       by_here (inr (Unaccepted port, h)) lasts = busy_with _ _ h.near refl
       by_here (inr (Dismissed port why, h)) lasts = busy_with _ _ h.near refl
       by_here (inr (Carries c, h)) lasts = busy_with _ _ h.near refl
+      by_here (inr (Rises rise lift, h)) lasts =
+          ap is_busy_job (seen.job ∙ ap (λ v. v.job) h.near) ∙ lift_busy state ask own rise lift s.base.near
+      by_here (inr (Tells rise said after, h)) lasts = absurd (cc)
       by_here (inr (Answers said leaves, h)) lasts = absurd (cc)
 
   -- the client gives no octets, and has not closed the link
@@ -206,9 +229,9 @@ module _ (read : Reading) (state : State) (ask : Ask) (plan : HasPlan ask) (own 
     pub queue : w.data_to_server ≡ []
     pub closed : is_closed_by_near w.link ≡ false
 
-  -- at a stage that lasts the client gives no octets, and has not closed the link
-  pub gives_none : (w : World) → (s : PlacedAt At w) → IsLasting state ask read own s.way s.base s.here → GivesNone w
-  gives_none w s lasts = by_here s.here lasts
+  -- at a stage that lasts octets of an upload are given or taken, or the client gives none and has not closed the link
+  pub rises_or_none : (w : World) → (s : PlacedAt At w) → IsLasting state ask read own s.way s.base s.here → PlacedAt (AtRise read state ask own) w ⊎ GivesNone w
+  rises_or_none w s lasts = by_here s.here lasts
     where
       seen : IsSeen s.base w
       seen = seen_placed At w s
@@ -241,28 +264,38 @@ module _ (read : Reading) (state : State) (ask : Ask) (plan : HasPlan ask) (own 
       by_course (Refusing why (Lost clean)) came queue h = none_with _ _ h.near refl _ h.link refl h.to_server
       by_course Unopened came queue h = none_with _ _ h.near refl _ h.link refl h.to_server
 
-      by_here : (here : At s.way s.base) → IsLasting state ask read own s.way s.base here → GivesNone w
-      by_here (inl l) lasts = record {
+      by_lift : (rise : Rise) (lift : Lift) → Stands (Rises rise lift) s.way s.base → lift_passes lift ≡ false → (b : Bool) → lifts lift ≡ b → PlacedAt (AtRise read state ask own) w ⊎ GivesNone w
+      by_lift rise lift h lasts true rises = inl (record { base = s.base; way = s.way; cut = s.cut; is = s.is; fits = s.fits; here = record { rise = rise; lift = lift; rises = rises; holds = h } })
+      by_lift rise lift h lasts false none = inr (record {
+        due = ap near.to_give (lift_form state ask own rise lift s.base w seen h.near lasts) ∙ lift_owes state ask own rise lift none w.near;
+        queue = ap (λ u. u.data_to_server) s.is ∙ (by_way s.way s.cut).1 ∙ h.to_server ∙ lift_empty lift none;
+        closed = ap is_closed_by_near (ap (λ u. u.link) s.is ∙ (by_way s.way s.cut).0 ∙ h.link) ∙ lift_unclosed lift none;
+      })
+
+      by_here : (here : At s.way s.base) → IsLasting state ask read own s.way s.base here → PlacedAt (AtRise read state ask own) w ⊎ GivesNone w
+      by_here (inl l) lasts = inr (record {
         due = (still_data w (leads_still read state ask plan own s.base w s.way seen l).0).near_gives;
         queue = ap (λ u. u.data_to_server) s.is ∙ (by_way s.way s.cut).1 ∙ l.to_server;
         closed = ap is_closed_by_near (ap (λ u. u.link) s.is ∙ (by_way s.way s.cut).0 ∙ l.link);
-      }
+      })
       by_here (inr (PortAsked closing, h)) lasts = absurd (cc)
-      by_here (inr (PortTold port, h)) lasts = none_with _ _ h.near refl _ h.link refl h.to_server
-      by_here (inr (Dials port, h)) lasts = none_with _ _ h.near refl _ h.link refl h.to_server
+      by_here (inr (PortTold port, h)) lasts = inr (none_with _ _ h.near refl _ h.link refl h.to_server)
+      by_here (inr (Dials port, h)) lasts = inr (none_with _ _ h.near refl _ h.link refl h.to_server)
       by_here (inr (PortWanted connection pending, h)) lasts = absurd (cc)
-      by_here (inr (PortSaid port connection pending, h)) lasts = none_with _ _ h.near refl _ h.link refl h.to_server
-      by_here (inr (PortTaken port closing, h)) lasts = none_with _ _ h.near refl _ h.link refl h.to_server
-      by_here (inr (PortDenied port connection, h)) lasts = none_with _ _ h.near refl _ h.link refl h.to_server
-      by_here (inr (Restarts at restart (Dialled true), h)) lasts = none_with _ _ h.near refl _ h.link refl h.to_server
-      by_here (inr (Restarts at restart (Dialled false), h)) lasts = none_with _ _ h.near refl _ h.link refl h.to_server
-      by_here (inr (Restarts at restart (Ported port), h)) lasts = none_with _ _ h.near refl _ h.link refl h.to_server
-      by_here (inr (Retrieves (Dialled true), h)) lasts = none_with _ _ h.near refl _ h.link refl h.to_server
-      by_here (inr (Retrieves (Dialled false), h)) lasts = none_with _ _ h.near refl _ h.link refl h.to_server
-      by_here (inr (Retrieves (Ported port), h)) lasts = none_with _ _ h.near refl _ h.link refl h.to_server
-      by_here (inr (Awaits port false, h)) lasts = none_with _ _ h.near refl _ h.link refl h.to_server
-      by_here (inr (Awaits port true, h)) lasts = none_with _ _ h.near refl _ h.link refl h.to_server
-      by_here (inr (Unaccepted port, h)) lasts = none_with _ _ h.near refl _ h.link refl h.to_server
-      by_here (inr (Dismissed port why, h)) lasts = none_with _ _ h.near refl _ h.link refl h.to_server
-      by_here (inr (Carries c, h)) lasts = by_course c.course c.came c.queue h
+      by_here (inr (PortSaid port connection pending, h)) lasts = inr (none_with _ _ h.near refl _ h.link refl h.to_server)
+      by_here (inr (PortTaken port closing, h)) lasts = inr (none_with _ _ h.near refl _ h.link refl h.to_server)
+      by_here (inr (PortDenied port connection, h)) lasts = inr (none_with _ _ h.near refl _ h.link refl h.to_server)
+      by_here (inr (Restarts at restart (Dialled true), h)) lasts = inr (none_with _ _ h.near refl _ h.link refl h.to_server)
+      by_here (inr (Restarts at restart (Dialled false), h)) lasts = inr (none_with _ _ h.near refl _ h.link refl h.to_server)
+      by_here (inr (Restarts at restart (Ported port), h)) lasts = inr (none_with _ _ h.near refl _ h.link refl h.to_server)
+      by_here (inr (Retrieves (Dialled true), h)) lasts = inr (none_with _ _ h.near refl _ h.link refl h.to_server)
+      by_here (inr (Retrieves (Dialled false), h)) lasts = inr (none_with _ _ h.near refl _ h.link refl h.to_server)
+      by_here (inr (Retrieves (Ported port), h)) lasts = inr (none_with _ _ h.near refl _ h.link refl h.to_server)
+      by_here (inr (Awaits port false, h)) lasts = inr (none_with _ _ h.near refl _ h.link refl h.to_server)
+      by_here (inr (Awaits port true, h)) lasts = inr (none_with _ _ h.near refl _ h.link refl h.to_server)
+      by_here (inr (Unaccepted port, h)) lasts = inr (none_with _ _ h.near refl _ h.link refl h.to_server)
+      by_here (inr (Dismissed port why, h)) lasts = inr (none_with _ _ h.near refl _ h.link refl h.to_server)
+      by_here (inr (Carries c, h)) lasts = inr (by_course c.course c.came c.queue h)
+      by_here (inr (Rises rise lift, h)) lasts = by_lift rise lift h lasts (lifts lift) refl
+      by_here (inr (Tells rise said after, h)) lasts = absurd (cc)
       by_here (inr (Answers said leaves, h)) lasts = absurd (cc)

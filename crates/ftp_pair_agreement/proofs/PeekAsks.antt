@@ -51,12 +51,10 @@ module _ (state : State) (text : List ℕ) (count : ℕ) (how : How) where
       let settled = front_by sound came (has_markers how.representation) refl front in
       take_front count (decoder_of how.representation came).content settled.0 enough ∙ ap (take count) settled.1
 
--- of a Peek that can be sent the client reads the answer of the direct run
-peek_answer : (text : List ℕ) (count : ℕ) (how : How) → can_be_sent (Ops.Peek text count how) ≡ true → HasAnswer (peek_ask text count how)
-peek_answer text count how can = record {
-  can = can;
+-- of a Peek the client reads the answer of the direct run
+peek_answer : (text : List ℕ) (count : ℕ) (how : How) → HasAnswer (peek_ask text count how)
+peek_answer text count how = record {
   refused = λ state placed. sym (or_none _);
-  unplaced = λ state at why is some. absurd (cc);
   done_so = λ state moment. refl;
   whole = λ state mark sound known none.
       let came : List ℕ = fetched_wire state None text how in
@@ -78,5 +76,10 @@ peek_is_ask text count how can =
     record {
       plan = record { how_is = refl; asks = refl; offset_is = refl; own = refl; flow = refl };
       row = record { typed = row.typed; stated = row.stated; other = row.other; few = row.few; acts = row.acts };
-      answer = peek_answer text count how can;
+      refuses = record {
+        can = can;
+        refused = λ state why placed is. (peek_answer text count how).refused state placed ∙ is;
+        unplaced = λ state at why is some. absurd (cc);
+      };
+      way = peek_answer text count how;
     }

@@ -107,6 +107,7 @@ module _ (read : Reading) (reads : IsReading read) (state : State) (ask : Ask) (
         near = h.near;
         session = refl;
         steady = h.steady;
+        timed = h.timed;
         link = h.link;
         to_server = h.to_server;
         to_client = h.to_client;
@@ -159,6 +160,7 @@ module _ (read : Reading) (reads : IsReading read) (state : State) (ask : Ask) (
         near = h.near;
         session = refl;
         steady = h.steady;
+        timed = h.timed;
         link = h.link;
         to_server = h.to_server;
         to_client = h.to_client;
@@ -171,6 +173,7 @@ module _ (read : Reading) (reads : IsReading read) (state : State) (ask : Ask) (
         near = h.near;
         session = refl;
         steady = h.steady;
+        timed = h.timed;
         link = h.link;
         to_server = h.to_server;
         to_client = h.to_client;
@@ -183,6 +186,7 @@ module _ (read : Reading) (reads : IsReading read) (state : State) (ask : Ask) (
         near = h.near;
         session = refl;
         steady = h.steady;
+        timed = h.timed;
         link = h.link;
         to_server = h.to_server;
         to_client = h.to_client;
@@ -262,6 +266,7 @@ module _ (read : Reading) (reads : IsReading read) (state : State) (ask : Ask) (
         near = refl;
         session = refl;
         steady = h.steady;
+        timed = h.timed;
         link = refl;
         to_server = refl;
         to_client = refl;
@@ -299,6 +304,7 @@ module _ (read : Reading) (reads : IsReading read) (state : State) (ask : Ask) (
             near = refl;
             session = h.session;
             steady = h.steady;
+            timed = h.timed;
             link = refl;
             to_server = refl;
             to_client = refl;
@@ -318,6 +324,7 @@ module _ (read : Reading) (reads : IsReading read) (state : State) (ask : Ask) (
             near = refl;
             session = h.session;
             steady = h.steady;
+            timed = h.timed;
             ready = tt;
             link = refl;
             to_server = refl;
@@ -358,6 +365,7 @@ module _ (read : Reading) (reads : IsReading read) (state : State) (ask : Ask) (
             near = refl;
             session = h.session;
             steady = h.steady;
+            timed = h.timed;
             link = refl;
             to_server = refl;
             to_client = refl;
@@ -377,6 +385,7 @@ module _ (read : Reading) (reads : IsReading read) (state : State) (ask : Ask) (
             near = refl;
             session = h.session;
             steady = h.steady;
+            timed = h.timed;
             ready = tt;
             link = refl;
             to_server = refl;

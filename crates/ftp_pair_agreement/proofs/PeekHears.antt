@@ -50,6 +50,7 @@ module _ (read : Reading) (state : State) (ask : Ask) (own : List Mark) where
     near = refl;
     session = h.session;
     steady = h.steady;
+    timed = h.timed;
     ready = tt;
     link = h.link;
     to_server = h.to_server;
@@ -114,6 +115,7 @@ module _ (read : Reading) (state : State) (ask : Ask) (own : List Mark) where
               near = refl;
               session = h.session;
               steady = h.steady;
+              timed = h.timed;
               link = h.link;
               to_server = h.to_server;
               to_client = h.to_client;
@@ -130,6 +132,7 @@ module _ (read : Reading) (state : State) (ask : Ask) (own : List Mark) where
               near = refl;
               session = h.session;
               steady = h.steady;
+              timed = h.timed;
               link = h.link;
               to_server = h.to_server;
               to_client = h.to_client;
@@ -192,6 +195,7 @@ module _ (read : Reading) (state : State) (ask : Ask) (own : List Mark) where
           near = refl;
           session = h.session;
           steady = h.steady;
+          timed = h.timed;
           link = h.link;
           to_server = h.to_server;
           to_client = h.to_client;
@@ -204,6 +208,7 @@ module _ (read : Reading) (state : State) (ask : Ask) (own : List Mark) where
           near = refl;
           session = h.session;
           steady = h.steady;
+          timed = h.timed;
           link = h.link;
           to_server = h.to_server;
           to_client = h.to_client;
@@ -217,6 +222,7 @@ module _ (read : Reading) (state : State) (ask : Ask) (own : List Mark) where
               near = refl;
               session = h.session;
               steady = h.steady;
+              timed = h.timed;
               link = h.link;
               to_server = h.to_server;
               to_client = h.to_client;

@@ -93,6 +93,7 @@ module _ (read : Reading) (state : State) (ask : Ask) (own : List Mark) where
             near = h.near;
             session = refl;
             steady = h.steady;
+            timed = h.timed;
             link = h.link;
             to_server = h.to_server;
             to_client = refl;
@@ -112,6 +113,7 @@ module _ (read : Reading) (state : State) (ask : Ask) (own : List Mark) where
             near = h.near;
             session = refl;
             steady = h.steady;
+            timed = h.timed;
             link = h.link;
             to_server = h.to_server;
             to_client = refl;
@@ -191,6 +193,7 @@ module _ (read : Reading) (state : State) (ask : Ask) (own : List Mark) where
             near = h.near;
             session = h.session;
             steady = h.steady;
+            timed = h.timed;
             link = h.link;
             to_server = h.to_server;
             to_client = refl;
@@ -205,6 +208,7 @@ module _ (read : Reading) (state : State) (ask : Ask) (own : List Mark) where
             near = h.near;
             session = h.session;
             steady = h.steady;
+            timed = h.timed;
             link = h.link;
             to_server = h.to_server;
             to_client = refl;
@@ -219,6 +223,7 @@ module _ (read : Reading) (state : State) (ask : Ask) (own : List Mark) where
             near = h.near;
             session = h.session;
             steady = h.steady;
+            timed = h.timed;
             link = h.link;
             to_server = h.to_server;
             to_client = refl;
@@ -233,6 +238,7 @@ module _ (read : Reading) (state : State) (ask : Ask) (own : List Mark) where
             near = h.near;
             session = h.session;
             steady = h.steady;
+            timed = h.timed;
             link = h.link;
             to_server = h.to_server;
             to_client = refl;
@@ -247,6 +253,7 @@ module _ (read : Reading) (state : State) (ask : Ask) (own : List Mark) where
             near = h.near;
             session = h.session;
             steady = h.steady;
+            timed = h.timed;
             link = h.link;
             to_server = h.to_server;
             to_client = refl;
@@ -261,6 +268,7 @@ module _ (read : Reading) (state : State) (ask : Ask) (own : List Mark) where
             near = h.near;
             session = h.session;
             steady = h.steady;
+            timed = h.timed;
             link = h.link;
             to_server = h.to_server;
             to_client = refl;

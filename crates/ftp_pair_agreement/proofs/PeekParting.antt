@@ -1,5 +1,5 @@
 -- The control connection ends while a Peek has sent ABOR: the operation is lost, and its link is closed.
-use Rattle.std.proofs.Common.{◌≡◌, ◌≤◌, true, false, List, length, refl, ap, ◌∙◌}
+use Rattle.std.proofs.Common.{◌≡◌, ◌≤◌, true, false, List, [], length, refl, ap, ◌∙◌}
 use Rattle.ftp_operation.specs.Answer.{Lost as LostSaid}
 use Rattle.ftp_direct.specs.Direct.{State}
 use Rattle.ftp_client_model.specs.View.{Job, Told as Answered, failed_job, stands}
@@ -20,6 +20,7 @@ use Rattle.ftp_pair_agreement.specs.Runs.{IsHalting, IsHaltingOn}
 use Rattle.ftp_pair_agreement.specs.Stages.{Closed, Lost, Unclosed}
 use Rattle.ftp_pair_agreement.proofs.FetchParting.{Clears, lost_follows, lost_link, parts_with}
 use Rattle.ftp_pair_agreement.proofs.FetchReplies.{none_more}
+use Rattle.ftp_pair_agreement.proofs.LostFates.{lost_nothing}
 use Rattle.ftp_pair_agreement.proofs.PeekServed.{far_at, near_at}
 
 module _ (from : State) (begun : List Order) (w : World) (on : IsHaltingOn from begun w) where
@@ -36,10 +37,10 @@ module _ (from : State) (begun : List Order) (w : World) (on : IsHaltingOn from 
   parts_as : (halt : Halt) → Stood halt → (job : Job) (connection : NearConnection) → a.base.near ≡ busy job connection a.base.near
       → failed_job LostSaid job ≡ Answered LostSaid
       → (far : FarConnection Transfer) → a.base.far.session ≡ linked far false Pendings.Nothing a.base.far.session → (link : Link) → a.base.link ≡ link
-      → Clears link a.queue (stands connection) (is_standing far) → after_event (ends_control w) ≡ lost_link w
+      → Clears link [] a.queue (stands connection) (is_standing far) → after_event (ends_control w) ≡ lost_link w
   parts_as halt h job connection near_is fails far far_is link link_is clear =
       parts_with w job connection (near_at on.halting.now on.halting.ask on.halting.own a.base w a.cuts a.is job connection near_is) fails far Pendings.Nothing
-      (far_at on.halting.now on.halting.ask on.halting.own a.base w a.cuts a.is far false far_is) link a.queue
+      (far_at on.halting.now on.halting.ask on.halting.own a.base w a.cuts a.is far false far_is) link [] a.queue
       (ap (λ u. u.link) a.is ∙ link_is) (ap (λ u. u.data_to_server) a.is ∙ h.to_server) (ap (λ u. u.data_to_client) a.is ∙ h.to_client) clear
 
   -- what is so of a Peek that parts
@@ -69,9 +70,9 @@ module _ (from : State) (begun : List Order) (w : World) (on : IsHaltingOn from 
             few = none_more on.halting.own h.marked;
           }
       by_halt (Gave whole heard asked (Lost true)) h lasts =
-          record { after = parts_as (Gave whole heard asked (Lost true)) h _ _ h.near refl _ h.session _ h.link h.empty; table = table _ h; few = h.marked }
+          record { after = parts_as (Gave whole heard asked (Lost true)) h _ _ h.near refl _ h.session _ h.link (refl, h.empty); table = table _ h; few = h.marked }
       by_halt (Gave whole heard asked (Lost false)) h lasts =
-          record { after = parts_as (Gave whole heard asked (Lost false)) h _ _ h.near refl _ h.session _ h.link h.empty; table = table _ h; few = h.marked }
+          record { after = parts_as (Gave whole heard asked (Lost false)) h _ _ h.near refl _ h.session _ h.link (refl, h.empty); table = table _ h; few = h.marked }
       by_halt (Halted whole false) h lasts = absurd (cc)
       by_halt (Halted whole true) h lasts = record {
         after = parts_as (Halted whole true) h _ _ h.near refl _ h.session _ h.link tt;
@@ -81,4 +82,5 @@ module _ (from : State) (begun : List Order) (w : World) (on : IsHaltingOn from 
 
   -- the control connection ends, and the world follows with the operation lost
   pub halting_parts : (read : Reading) → Follows read from begun (after_event (ends_control w))
-  halting_parts read = lost_follows (λ now ask own w. AtHalt now ask own w) read from begun w on.halting halt_parts.after halt_parts.table halt_parts.few
+  halting_parts read = lost_follows (λ now ask own w. AtHalt now ask own w) read from begun w on.halting on.halting.now
+      (lost_nothing on.halting.now on.halting.ask on.halting.own on.halting.moment) halt_parts.after halt_parts.table halt_parts.few

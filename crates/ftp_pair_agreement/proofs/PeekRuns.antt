@@ -43,6 +43,7 @@ halt_taken state ask own octets w a =
         near = h.near;
         session = h.session;
         steady = h.steady;
+        timed = h.timed;
         link = h.link;
         to_server = h.to_server;
         to_client = h.to_client;

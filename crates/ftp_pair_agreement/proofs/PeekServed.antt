@@ -20,7 +20,7 @@ use Rattle.ftp_pair_agreement.specs.Crossing.{AreCut, Cuts, crossing_at}
 use Rattle.ftp_pair_agreement.specs.PeekStages.{AtHalt, Gave, Gives, Halt, Halted, Halts, halt_asked, halt_rows, is_halt_passing}
 use Rattle.ftp_pair_agreement.specs.Stages.{Closed, Lost, Unclosed}
 use Rattle.ftp_pair_agreement.proofs.FetchLink.{far_linked}
-use Rattle.ftp_pair_agreement.proofs.FetchServed.{Rests, after_rests, far_rests, giving_rests, near_rests}
+use Rattle.ftp_pair_agreement.proofs.Rests.{Rests, after_rests, far_rests, giving_rests, near_rests}
 
 module _ (state : State) (ask : Ask) (own : List Mark) where
   abbrev Stands : Halt → Said → (came queue : List ℕ) → World → Type 0
@@ -158,6 +158,7 @@ module _ (state : State) (ask : Ask) (own : List Mark) where
             near = h.near;
             session = refl;
             steady = h.steady;
+            timed = h.timed;
             link = refl;
             to_server = h.to_server;
             to_client = h.to_client;
@@ -178,6 +179,7 @@ module _ (state : State) (ask : Ask) (own : List Mark) where
             near = h.near;
             session = refl;
             steady = h.steady;
+            timed = h.timed;
             link = refl;
             to_server = h.to_server;
             to_client = h.to_client;

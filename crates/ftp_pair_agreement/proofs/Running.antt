@@ -1,5 +1,5 @@
--- Every event keeps what follows of operations without a transfer and of downloads and listings, and so every list of them.
-use Rattle.std.proofs.Common.{◌≡◌, ◌⊎◌, inl, inr, ℕ, ◌==◌, List, [], ◌∷◌, ◌++◌, Bool, true, false, not, ◌&&◌, refl, sym, ap, subst, ◌∙◌, append-nil, append_assoc}
+-- Every event keeps what follows of operations without a transfer and of downloads, listings and uploads, and so every list of them.
+use Rattle.std.proofs.Common.{◌≡◌, ◌⊎◌, inl, inr, ℕ, ◌≤◌, ◌==◌, List, [], ◌∷◌, ◌++◌, Bool, true, false, not, ◌&&◌, refl, sym, ap, subst, ◌∙◌, append-nil, append_assoc}
 use Rattle.std.specs.Prelude.{IsTrue}
 use Rattle.std.proofs.lemmas.Bool.{and_parts}
 use Rattle.ftp_operation.specs.Operation.{can_be_sent}
@@ -11,26 +11,29 @@ use Rattle.ftp_server_model.specs.Machine.{Reading, IsReading}
 use Rattle.ftp_client_model.specs.Tries.{OverBreaks}
 use Rattle.ftp_pair_world.specs.Agreement.{Order, Single, Tries, Leads, begun_by}
 use Rattle.ftp_ends.specs.Octets.{has_octets}
-use Rattle.ftp_pair_world.specs.Events.{Queue, ControlToServer, ControlToClient, DataToServer, DataToClient, Event, Deliver, Open, Refuse, End, Break, EndControl, Next, Upload, Happens, can_happen, can_begin, operation_begins, upload_begins, is_asked_for, is_gone, is_closed_by_far, is_left_by_near, is_left_by_far}
+use Rattle.ftp_pair_world.specs.Claims.{AreTimed, IsTimed}
+use Rattle.ftp_tree.specs.Sound.{last_second}
+use Rattle.ftp_pair_world.specs.Events.{Queue, ControlToServer, ControlToClient, DataToServer, DataToClient, Event, Deliver, Open, Refuse, End, Break, EndControl, Next, Upload, Happens, can_happen, can_begin, operation_begins, upload_begins, is_asked_for, is_gone, is_closed_by_far, is_closed_by_near, is_left_by_near, is_left_by_far}
 use Rattle.ftp_pair_world.specs.Serving.{after_event}
 use Rattle.ftp_pair_world.specs.World.{World}
 use Rattle.ftp_pair_dialogues.specs.Dialogue.{HasNoTransfer}
-use Rattle.ftp_pair_dialogues.specs.Fetches.{IsFetch}
+use Rattle.ftp_pair_dialogues.specs.Fetches.{IsFetch, IsStore}
 use Rattle.ftp_pair_agreement.specs.Follows.{IsFree, IsUnder, IsLinked, Phase, Follows}
 use Rattle.ftp_pair_agreement.specs.Laws.{IsPlain, ArePlain}
 use Rattle.ftp_pair_agreement.specs.Runs.{IsFetchingOn, IsHaltingOn, IsTrailing, Runs}
-use Rattle.ftp_pair_agreement.proofs.Asks.{IsAskOf, ask_of}
+use Rattle.ftp_pair_agreement.proofs.Asks.{IsAskOf, ask_of, store_of}
 use Rattle.ftp_pair_agreement.proofs.Begins.{begins_free}
 use Rattle.ftp_pair_agreement.proofs.Deliveries.{taken_at}
 use Rattle.ftp_pair_agreement.proofs.Events.{IsNoBeginning, both_false, happens, lent_again, never, under_busy}
 use Rattle.ftp_pair_agreement.proofs.FetchBegins.{begins_fetch}
 use Rattle.ftp_pair_agreement.proofs.FetchParting.{fetch_parts, trailing_parts}
 use Rattle.ftp_pair_agreement.proofs.FetchRuns.{fetching_on_taken, fetch_delivers_server, fetch_delivers_client, fetch_delivers_data, fetch_breaks, fetch_ends, fetch_opens, fetch_refuses}
-use Rattle.ftp_pair_agreement.proofs.FetchWants.{flows_or_none, gives_none, lasting_busy}
+use Rattle.ftp_pair_agreement.proofs.FetchWants.{flows_or_none, rises_or_none, lasting_busy}
 use Rattle.ftp_pair_agreement.proofs.FetchTold.{closed_is, trailing_ends, trailing_breaks}
 use Rattle.ftp_pair_agreement.proofs.Parting.{begins_lost}
 use Rattle.ftp_pair_agreement.proofs.PeekParting.{halting_parts}
 use Rattle.ftp_pair_agreement.proofs.PeekRuns.{halt_asks_none, halt_busy, halt_delivers_client, halt_delivers_data, halt_delivers_server, halt_gives_none, halting_breaks, halting_ends, halting_on_taken, halting_taken}
+use Rattle.ftp_pair_agreement.proofs.UploadRuns.{upload_delivers, upload_ends}
 use Rattle.ftp_pair_agreement.proofs.Unsendable.{upload_free, upload_lost}
 
 -- what is lent is of no matter
@@ -102,9 +105,13 @@ module _ (read : Reading) (reads : IsReading read) (from : State) where
   on_happens begun (Deliver ControlToServer count) w new plain on e = fetch_delivers_server read reads from begun _ count _ new (fetching_on_taken read reads from begun [] w on) e.1
   on_happens begun (Deliver ControlToClient count) w new plain on e = fetch_delivers_client read reads from begun _ count _ new (fetching_on_taken read reads from begun [] w on) e.1
   on_happens begun (Deliver DataToServer count) w new plain on e =
-      let f = on.fetching in
-      let none = gives_none read f.now f.ask f.is_ask.plan f.own w f.stands on.lasts in
-      absurd (never (can_happen (Deliver DataToServer count) w) (both_false (near.to_give w.near) w.data_to_server _ (not (count == 0)) _ none.due none.queue) e.0)
+      let u : World = record w { taken = [] } in
+      let on_u = fetching_on_taken read reads from begun [] w on in
+      let f = on_u.fetching in
+      elim (rises_or_none read f.now f.ask f.is_ask.plan f.own u f.stands on_u.lasts) [
+        | inl rising ↦ upload_delivers read reads from begun _ count u new f rising e.1
+        | inr none ↦ absurd (never (can_happen (Deliver DataToServer count) w) (both_false (near.to_give w.near) w.data_to_server _ (not (count == 0)) _ none.due none.queue) e.0)
+      ]
   on_happens begun (Deliver DataToClient count) w new plain on e =
       let u : World = record w { taken = [] } in
       let on_u = fetching_on_taken read reads from begun [] w on in
@@ -120,8 +127,14 @@ module _ (read : Reading) (reads : IsReading read) (from : State) where
   on_happens begun (End ControlToServer) w new plain on e = absurd (never _ (rw (ap is_left_by_near on.fetching.linked.control) refl) e.0)
   on_happens begun (End ControlToClient) w new plain on e = absurd (never _ (rw (ap is_left_by_far on.fetching.linked.control) refl) e.0)
   on_happens begun (End DataToServer) w new plain on e =
-      let f = on.fetching in
-      absurd (never _ (rw (gives_none read f.now f.ask f.is_ask.plan f.own w f.stands on.lasts).closed refl) e.0)
+      let u : World = record w { taken = [] } in
+      let on_u = fetching_on_taken read reads from begun [] w on in
+      let f = on_u.fetching in
+      let closed = three_parts (is_closed_by_near w.link) (not (has_octets w.data_to_server)) _ e.0 in
+      elim (rises_or_none read f.now f.ask f.is_ask.plan f.own u f.stands on_u.lasts) [
+        | inl rising ↦ subst (Holds begun) (sym e.1) (upload_ends read reads from begun u f rising closed.0 (no_octet w.data_to_server closed.1))
+        | inr none ↦ absurd (let no_end : false ≡ true = sym none.closed ∙ closed.0 in cc)
+      ]
   on_happens begun (End DataToClient) w new plain on e =
       let left = three_parts (is_closed_by_far w.link) (not (has_octets w.data_to_client)) _ e.0 in
       subst (Holds begun) (sym e.1)
@@ -211,18 +224,19 @@ module _ (read : Reading) (reads : IsReading read) (from : State) where
   other_happens begun event w new plain (inr (inr (inr on))) e = halts_happen begun event w new plain on e
 
   -- an operation begins where none is under way
-  free_begins : (begun : List Order) (op : Op (List ℕ)) (moment : ℕ) (u : World) → IsPlain (Next op moment) → (h : Follows read from begun u) → IsLinked u → IsFree from begun u
+  free_begins : (begun : List Order) (op : Op (List ℕ)) (moment : ℕ) (u : World) → IsPlain (Next op moment) → moment ≤ last_second → (h : Follows read from begun u) → IsLinked u → IsFree from begun u
       → Holds (begun ++ Single op moment ∷ []) (after_event (operation_begins op moment u))
-  free_begins begun op moment u plain h l f = by_sent (can_be_sent op) refl
+  free_begins begun op moment u plain dated h l f = by_sent (can_be_sent op) refl
     where
-      by_ask : IsAskOf op → Holds (begun ++ Single op moment ∷ []) (after_event (operation_begins op moment u))
+      by_ask : IsAskOf op moment → Holds (begun ++ Single op moment ∷ []) (after_event (operation_begins op moment u))
       by_ask o =
           subst (λ op. Holds (begun ++ Single op moment ∷ []) (after_event (operation_begins op moment u))) (sym o.op_is)
-          (begins_fetch read reads from begun o.ask moment o.good u h.unlinked l f)
+          (begins_fetch read reads from begun o.ask moment o.good o.timely u h.unlinked l f)
 
-      by_plain : can_be_sent op ≡ true → HasNoTransfer op ⊎ IsFetch op → Holds (begun ++ Single op moment ∷ []) (after_event (operation_begins op moment u))
+      by_plain : can_be_sent op ≡ true → HasNoTransfer op ⊎ IsFetch op ⊎ IsStore op → Holds (begun ++ Single op moment ∷ []) (after_event (operation_begins op moment u))
       by_plain can (inl alone) = inl (begins_free read reads from begun op moment u h.unlinked l f (λ sent. alone))
-      by_plain can (inr fetches) = by_ask (ask_of op fetches can)
+      by_plain can (inr (inl fetches)) = by_ask (ask_of op moment fetches can)
+      by_plain can (inr (inr stores)) = by_ask (store_of op moment stores can dated)
 
       by_sent : (b : Bool) → can_be_sent op ≡ b → Holds (begun ++ Single op moment ∷ []) (after_event (operation_begins op moment u))
       by_sent true can = by_plain can (plain can)
@@ -249,20 +263,20 @@ module _ (read : Reading) (reads : IsReading read) (from : State) where
   trails_on begun w t can = never (can_begin w) (ap can_begin (closed_is read reads from begun w t)) can
 
   -- the next operation begins, and all that was begun runs with it
-  next_runs : (begun : List Order) (op : Op (List ℕ)) (moment : ℕ) (w new : World) → IsPlain (Next op moment) → Holds begun w → Happens read (Next op moment) w true new
+  next_runs : (begun : List Order) (op : Op (List ℕ)) (moment : ℕ) (w new : World) → IsPlain (Next op moment) → moment ≤ last_second → Holds begun w → Happens read (Next op moment) w true new
       → Holds (begun ++ Single op moment ∷ []) new
-  next_runs begun op moment w new plain (inl h) e =
+  next_runs begun op moment w new plain dated (inl h) e =
       let u : World = record w { taken = [] } in
       let hu = lent_again read reads from begun w h in
       subst (Holds (begun ++ Single op moment ∷ [])) (sym e.1) (by_phase u hu e.0 hu.phase)
     where
       by_phase : (u : World) → Follows read from begun u → IsTrue (can_begin u) → Phase read from begun u → Holds (begun ++ Single op moment ∷ []) (after_event (operation_begins op moment u))
-      by_phase u h can (inl (l, inl f)) = free_begins begun op moment u plain h l f
+      by_phase u h can (inl (l, inl f)) = free_begins begun op moment u plain dated h l f
       by_phase u h can (inl (l, inr under)) = absurd (under_way begun u under can)
       by_phase u h can (inr l) = inl (begins_lost read from begun op moment u h.unlinked l)
-  next_runs begun op moment w new plain (inr (inl on)) e = absurd (fetch_under_way begun w on e.0)
-  next_runs begun op moment w new plain (inr (inr (inl t))) e = absurd (trails_on begun w t e.0)
-  next_runs begun op moment w new plain (inr (inr (inr on))) e = absurd (halts_on begun w on e.0)
+  next_runs begun op moment w new plain dated (inr (inl on)) e = absurd (fetch_under_way begun w on e.0)
+  next_runs begun op moment w new plain dated (inr (inr (inl t))) e = absurd (trails_on begun w t e.0)
+  next_runs begun op moment w new plain dated (inr (inr (inr on))) e = absurd (halts_on begun w on e.0)
 
   -- an upload over breaks that can't be sent
   upload_runs : (begun : List Order) (upload : OverBreaks) (moment : ℕ) (w new : World) → IsPlain (Upload upload moment) → Holds begun w → Happens read (Upload upload moment) w true new
@@ -286,15 +300,15 @@ module _ (read : Reading) (reads : IsReading read) (from : State) where
   same begun w h = subst (λ l. Holds l w) (sym (append-nil begun)) h
 
   -- an event that happens keeps what was begun running, with what it begins
-  runs_happen : (begun : List Order) (event : Event) (w new : World) → IsPlain event → Holds begun w → Happens read event w true new → Holds (begun ++ begun_by event true) new
-  runs_happen begun (Deliver queue count) w new plain h e = same begun new (other_happens begun (Deliver queue count) w new tt h e)
-  runs_happen begun Open w new plain h e = same begun new (other_happens begun Open w new tt h e)
-  runs_happen begun Refuse w new plain h e = same begun new (other_happens begun Refuse w new tt h e)
-  runs_happen begun (End queue) w new plain h e = same begun new (other_happens begun (End queue) w new tt h e)
-  runs_happen begun Break w new plain h e = same begun new (other_happens begun Break w new tt h e)
-  runs_happen begun EndControl w new plain h e = same begun new (other_happens begun EndControl w new tt h e)
-  runs_happen begun (Next op moment) w new plain h e = next_runs begun op moment w new plain h e
-  runs_happen begun (Upload upload moment) w new plain h e = upload_runs begun upload moment w new plain h e
+  runs_happen : (begun : List Order) (event : Event) (w new : World) → IsPlain event → IsTimed event → Holds begun w → Happens read event w true new → Holds (begun ++ begun_by event true) new
+  runs_happen begun (Deliver queue count) w new plain timed h e = same begun new (other_happens begun (Deliver queue count) w new tt h e)
+  runs_happen begun Open w new plain timed h e = same begun new (other_happens begun Open w new tt h e)
+  runs_happen begun Refuse w new plain timed h e = same begun new (other_happens begun Refuse w new tt h e)
+  runs_happen begun (End queue) w new plain timed h e = same begun new (other_happens begun (End queue) w new tt h e)
+  runs_happen begun Break w new plain timed h e = same begun new (other_happens begun Break w new tt h e)
+  runs_happen begun EndControl w new plain timed h e = same begun new (other_happens begun EndControl w new tt h e)
+  runs_happen begun (Next op moment) w new plain timed h e = next_runs begun op moment w new plain timed h e
+  runs_happen begun (Upload upload moment) w new plain timed h e = upload_runs begun upload moment w new plain h e
 
   -- an event that is not possible begins nothing
   none_begun : (event : Event) → begun_by event false ≡ []
@@ -308,17 +322,17 @@ module _ (read : Reading) (reads : IsReading read) (from : State) where
   none_begun (Upload upload moment) = refl
 
   -- an event, possible or not, keeps what was begun running, with what it begins
-  step : (begun : List Order) (event : Event) (possible : Bool) (w new : World) → IsPlain event → Holds begun w → Happens read event w possible new → Holds (begun ++ begun_by event possible) new
-  step begun event true w new plain h e = runs_happen begun event w new plain h e
-  step begun event false w new plain h e =
+  step : (begun : List Order) (event : Event) (possible : Bool) (w new : World) → IsPlain event → IsTimed event → Holds begun w → Happens read event w possible new → Holds (begun ++ begun_by event possible) new
+  step begun event true w new plain timed h e = runs_happen begun event w new plain timed h e
+  step begun event false w new plain timed h e =
       subst (Holds (begun ++ begun_by event false)) (sym e.1) (subst (λ l. Holds (begun ++ l) w) (sym (none_begun event)) (same begun w h))
 
   -- every list
-  pub runs_lead : (before : List Order) (events : List Event) (begun : List Order) (w new : World) → ArePlain events → Holds before w → Leads read w events begun new
+  pub runs_lead : (before : List Order) (events : List Event) (begun : List Order) (w new : World) → ArePlain events → AreTimed events → Holds before w → Leads read w events begun new
       → Holds (before ++ begun) new
-  runs_lead before [] begun w new plain h leads =
+  runs_lead before [] begun w new plain timed h leads =
       subst (Holds (before ++ begun)) (sym leads.1) (subst (λ l. Holds (before ++ l) w) (sym leads.0) (same before w h))
-  runs_lead before (event ∷ events) begun w new plain h leads =
-      let here = step before event leads.0 w leads.1 plain.0 h leads.3 in
-      let behind = runs_lead (before ++ begun_by event leads.0) events leads.2 leads.1 new plain.1 here leads.5 in
+  runs_lead before (event ∷ events) begun w new plain timed h leads =
+      let here = step before event leads.0 w leads.1 plain.0 timed.0 h leads.3 in
+      let behind = runs_lead (before ++ begun_by event leads.0) events leads.2 leads.1 new plain.1 timed.1 here leads.5 in
       subst (λ l. Holds l new) (append_assoc before (begun_by event leads.0) leads.2 ∙ ap (λ l. before ++ l) (sym leads.4)) behind

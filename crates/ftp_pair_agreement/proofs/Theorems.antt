@@ -1,8 +1,8 @@
--- The claims, for lists whose operations have no transfer or are downloads or listings.
+-- The claims, for lists whose operations have no transfer or are downloads, listings or uploads.
 use Rattle.std.proofs.Common.{inl, List, [], refl, subst}
 use Rattle.ftp_server_model.specs.Machine.{Reading, IsReading}
 use Rattle.ftp_pair_world.specs.Agreement.{Order, Agrees, WorldAgrees, Leads}
-use Rattle.ftp_pair_world.specs.Claims.{Beginning, IsFair, state_of, world_of}
+use Rattle.ftp_pair_world.specs.Claims.{AreTimed, Beginning, IsFair, state_of, world_of}
 use Rattle.ftp_pair_world.specs.Events.{Event}
 use Rattle.ftp_pair_world.specs.World.{World}
 use Rattle.ftp_pair_world.proofs.AgreementLemmas.{unmarked_is_direct}
@@ -17,24 +17,24 @@ use Rattle.ftp_pair_agreement.proofs.Running.{runs_lead}
 
 -- the world to which plain events lead from a fair beginning runs with the operations begun
 plain_runs : (read : Reading) → IsReading read → (b : Beginning) → IsFair b → (events : List Event) (begun : List Order) (w : World)
-    → Leads read (world_of b) events begun w → ArePlain events → Runs read (state_of b) begun w
-plain_runs read reads b fair events begun w leads plain =
-    runs_lead read reads (state_of b) [] events begun (world_of b) w plain (inl (begins_follow read b fair)) leads
+    → AreTimed events → Leads read (world_of b) events begun w → ArePlain events → Runs read (state_of b) begun w
+plain_runs read reads b fair events begun w timed leads plain =
+    runs_lead read reads (state_of b) [] events begun (world_of b) w plain timed (inl (begins_follow read b fair)) leads
 
 -- after every list of plain events there is agreement
 pub plain-agrees : PlainAgrees
 plain-agrees read reads b fair events begun w timed leads plain =
-    runs_agree read reads (state_of b) begun w (plain_runs read reads b fair events begun w leads plain)
+    runs_agree read reads (state_of b) begun w (plain_runs read reads b fair events begun w timed leads plain)
 
 -- where nothing is in flight behind plain events, nothing is left open
 pub plain-is-answered : PlainIsAnswered
 plain-is-answered read reads b fair events begun w timed leads plain quiet =
-    runs_answered read reads (state_of b) begun w (plain_runs read reads b fair events begun w leads plain) (quiet_is_still w quiet)
+    runs_answered read reads (state_of b) begun w (plain_runs read reads b fair events begun w timed leads plain) (quiet_is_still w quiet)
 
 -- where nothing moves behind plain events that takes no memory, nothing is in flight
 pub plain-still-is-quiet : PlainStillIsQuiet
 plain-still-is-quiet read reads b fair events begun w timed leads plain still =
-    runs_quiet read reads (state_of b) begun w (plain_runs read reads b fair events begun w leads plain) still
+    runs_quiet read reads (state_of b) begun w (plain_runs read reads b fair events begun w timed leads plain) still
 
 -- ---- the headline
 

@@ -2,6 +2,7 @@
 pub mod Cut
 pub mod Follows
 pub mod Laws
+pub mod Rising
 pub mod Stages
 pub mod Crossing
 pub mod PeekStages

@@ -19,7 +19,7 @@ use Rattle.ftp_server_model.specs.declared.session.ServerLink.{ServerLink as Far
 use Rattle.ftp_server_model.specs.declared.session.ServerLink.TheVariants as FarData
 use Rattle.ftp_server_model.specs.declared.session.Pending.TheVariants as Pendings
 use Rattle.ftp_pair_world.specs.World.{World, Mark}
-use Rattle.ftp_pair_dialogues.specs.Fetches.{Ask, busy, giving_of, linked, kept, IsSteady}
+use Rattle.ftp_pair_dialogues.specs.Fetches.{Ask, IsTimely, busy, giving_of, linked, kept, IsSteady}
 use Rattle.ftp_pair_dialogues.specs.Peeks.{abort_line, halting}
 use Rattle.ftp_pair_agreement.specs.Crossing.{Cuts, AreCut, crossing_at}
 use Rattle.ftp_pair_agreement.specs.Stages.{Fared, Gap, Lost, Tie, Joined, gap_tie, left_tie, is_parting, link_of, near_link}
@@ -110,6 +110,7 @@ module _ (state : State) (ask : Ask) where
     pub near : b.near ≡ halt_near halt came b.near
     pub session : b.far.session ≡ linked (halt_far ask.listed halt) (is_parting (halt_tie halt)) Pendings.Nothing b.far.session
     pub steady : IsSteady state (kept b.near b.far)
+    pub timed : IsTimely ask.sends b.far.footing.moment
     pub link : b.link ≡ link_of (halt_tie halt)
     pub to_server : b.data_to_server ≡ []
     pub to_client : b.data_to_client ≡ queue

@@ -1,4 +1,4 @@
--- What holds after every event of a list whose operations have no transfer or are downloads or listings.
+-- What holds after every event of a list whose operations have no transfer or are downloads, listings or uploads.
 use Rattle.std.specs.Prelude.{◌≡◌, ◌⊎◌, ℕ, false, List, [], ◌∷◌, ◌++◌, None}
 use Rattle.ftp_operation.specs.Answer.{Said}
 use Rattle.ftp_direct.specs.Direct.{State}
@@ -8,7 +8,7 @@ use Rattle.ftp_server_model.specs.declared.session.Pending.TheVariants as Pendin
 use Rattle.ftp_pair_world.specs.Agreement.{Order, Single}
 use Rattle.ftp_pair_world.specs.World.{World, Mark, ClosedByNear}
 use Rattle.ftp_pair_dialogues.specs.Dialogue.{IsSound, resting}
-use Rattle.ftp_pair_dialogues.specs.Fetches.{Ask, HasPlan, IsAsk, linked, kept, IsSteady}
+use Rattle.ftp_pair_dialogues.specs.Fetches.{Ask, HasPlan, IsAsk, IsTimely, linked, kept, IsSteady}
 use Rattle.ftp_pair_dialogues.specs.Stage.{Way, rest}
 use Rattle.ftp_pair_agreement.specs.Cut.{PlacedAt}
 use Rattle.ftp_pair_agreement.specs.Follows.{Told, IsLinked, Follows}
@@ -28,10 +28,11 @@ pub record IsAsked (Stood : State → Ask → List Mark → World → Type 0) (f
   pub sound : IsSound now
   pub is_ask : IsAsk ask
   pub told : Told from done marks None w.reports now
+  pub timely : IsTimely ask.sends moment
   pub linked : IsLinked w
   pub stands : Stood now ask own w
 
--- a download or a listing is under way
+-- a download, a listing or an upload is under way
 abbrev pub IsFetching : Reading → State → List Order → World → Type 0
 IsFetching read from begun w = IsAsked (λ now ask own w. PlacedAt (λ way b. AtFetch now ask read own way b) w) from begun w
 

@@ -1,5 +1,5 @@
--- A world while a download or a listing is under way, of a Peek until it sends ABOR: a stage says what both ends hold of it, how the link stands and
--- what is on its way (RFC 959, sections 3.2 to 3.5 and 4.1.2).
+-- A world while a download, a listing or an upload is under way, of a Peek until it sends ABOR: a stage says what both ends hold of it, how the link stands
+-- and what is on its way (RFC 959, sections 3.2 to 3.5 and 4.1.2).
 use Rattle.std.specs.Prelude.{◌≡◌, ◌≢◌, ◌⊎◌, ℕ, ◌<◌, ◌≤◌, Bool, true, false, not, List, [], ◌∷◌, ◌++◌, length, Some, None}
 use mathlib.Core.Logic.{inl, inr}
 use Rattle.ftp_command.specs.Line.{line_of}
@@ -35,10 +35,11 @@ use Rattle.ftp_settings.specs.declared.representation.Representation.{Representa
 use Rattle.ftp_pair_world.specs.Agreement.{Allows}
 use Rattle.ftp_pair_world.specs.Outcome.{Outcome, CanBe, did}
 use Rattle.ftp_pair_world.specs.World.{World, Link, Gone, Opened, ClosedByFar, Mark, Broken, Refused, counted}
-use Rattle.ftp_pair_dialogues.specs.Dialogue.{Passes, is_aside}
-use Rattle.ftp_pair_dialogues.specs.Fetches.{Ask, IsPlacedAt, busy, fetching, leaving, linked, asked_of, port_reply, rest_reply, giving_of, is_filled, offset_pending, kept, IsSteady, Opens}
+use Rattle.ftp_pair_dialogues.specs.Dialogue.{IsSound, Passes, is_aside}
+use Rattle.ftp_pair_dialogues.specs.Fetches.{Ask, HasAnswer, HasUpload, IsPlacedAt, IsTimely, Rise, Up, busy, carried, fetching, offering, leaving, linked, asked_of, port_reply, rest_reply, giving_of, is_filled, offset_pending, kept, IsSteady, Opens}
 use Rattle.ftp_pair_dialogues.specs.Login.{IsOnWay}
 use Rattle.ftp_pair_dialogues.specs.Stage.{Way, Asking, Answering, rest}
+use Rattle.ftp_pair_agreement.specs.Rising.{Lift, lift_passes, lift_near, lift_far, lift_closing, lift_link, lift_way, lift_queue, lift_state, LiftCame, LiftMarked, LiftFine, FaredTo}
 
 -- ---- the link
 
@@ -265,7 +266,8 @@ link_left LinkParting = Opened
 -- a passive opening: a port was asked for; it was told; the client dials it. An active one: the client wants a port, while the server stands so;
 -- PORT is on its way; it was taken, and the server has an old port to close or not; it was refused, as nobody is logged in. Then REST is under
 -- way, or the own command is on its way, over such an opening; the server was told to connect, and the client has heard the 150 or not; it
--- could not connect; the own command was refused before that; it was acted on over a link; and the client has told its answer
+-- could not connect; the own command was refused before that; it was acted on over a link, and octets fall or rise; and the client has told its
+-- answer, of an upload behind which the server has another state or of any other operation
 pub data Stage : Type 0 where
   PortAsked : (closing : Bool) → Stage
   PortTold : (port : ℕ) → Stage
@@ -280,6 +282,8 @@ pub data Stage : Type 0 where
   Unaccepted : (port : ℕ) → Stage
   Dismissed : (port : ℕ) → (why : Refusal) → Stage
   Carries : (carry : Carry) → Stage
+  Rises : (rise : Rise) → (lift : Lift) → Stage
+  Tells : (rise : Rise) → (said : Said) → (after : State) → Stage
   Answers : (said : Said) → (leaves : Leaving) → Stage
 
 -- stages that do not outlast an event: closes, ports and reports are served behind it
@@ -288,6 +292,8 @@ is_passing (PortAsked closing) = true
 is_passing (PortWanted connection pending) = true
 is_passing (PortTaken port closing) = closing
 is_passing (Carries carry) = is_parting (tie_of carry.course)
+is_passing (Rises rise lift) = lift_passes lift
+is_passing (Tells rise said after) = true
 is_passing (Answers said leaves) = true
 is_passing stage = false
 
@@ -312,11 +318,13 @@ module _ (state : State) (ask : Ask) where
   near_at (PortTaken port closing) n = busy (Doing ask.op Steps.Port) (NearData.Listening port) n
   near_at (PortDenied port connection) n = busy (Doing ask.op Steps.Port) (NearData.Listening port) n
   near_at (Restarts at restart early) n = busy (Doing ask.op Steps.Restart) (early_near early) n
-  near_at (Retrieves early) n = busy (fetching ask.op Replies.Nothing ask.settings []) (early_near early) n
-  near_at (Awaits port begun) n = busy (fetching ask.op (replied_of (heard_by begun)) ask.settings []) (port_near begun port) n
-  near_at (Unaccepted port) n = busy (fetching ask.op Replies.Begun ask.settings []) (NearData.Accepting port) n
-  near_at (Dismissed port why) n = busy (fetching ask.op Replies.Nothing ask.settings []) (NearData.Listening port) n
+  near_at (Retrieves early) n = busy (offering ask Replies.Nothing) (early_near early) n
+  near_at (Awaits port begun) n = busy (offering ask (replied_of (heard_by begun))) (port_near begun port) n
+  near_at (Unaccepted port) n = busy (offering ask Replies.Begun) (NearData.Accepting port) n
+  near_at (Dismissed port why) n = busy (offering ask Replies.Nothing) (NearData.Listening port) n
   near_at (Carries c) n = busy (fetching ask.op (replied_of (heard_of c.course)) ask.settings c.came) (near_link (tie_of c.course)) n
+  near_at (Rises rise lift) n = lift_near state ask rise lift n
+  near_at (Tells rise said after) n = leaving said false n
   near_at (Answers said leaves) n = leaving said (is_to_close leaves) n
 
   -- the server's data connection, by what the client asked for and by its host
@@ -330,10 +338,12 @@ module _ (state : State) (ask : Ask) where
   far_at (PortDenied port connection) extended here = connection
   far_at (Restarts at restart early) extended here = early_far here early
   far_at (Retrieves early) extended here = early_far here early
-  far_at (Awaits port begun) extended here = FarData.Opening (giving_of ask.listed (ask.wire state)) (Ways.Connect (at_port here port))
+  far_at (Awaits port begun) extended here = FarData.Opening (carried ask.sends ask state) (Ways.Connect (at_port here port))
   far_at (Unaccepted port) extended here = FarData.Free
   far_at (Dismissed port why) extended here = FarData.Free
   far_at (Carries c) extended here = far_link (gives_on ask.listed c.course) (tie_of c.course)
+  far_at (Rises rise lift) extended here = lift_far state ask rise lift
+  far_at (Tells rise said after) extended here = FarData.Free
   far_at (Answers said leaves) extended here = far_leaves leaves
 
   -- whether it is to be closed
@@ -341,6 +351,7 @@ module _ (state : State) (ask : Ask) where
   closing_at (PortAsked closing) = closing
   closing_at (PortTaken port closing) = closing
   closing_at (Carries c) = is_parting (tie_of c.course)
+  closing_at (Rises rise lift) = lift_closing lift
   closing_at (Answers said leaves) = far_parting leaves
   closing_at stage = false
 
@@ -358,6 +369,7 @@ module _ (state : State) (ask : Ask) where
   link_at (Restarts at restart early) = early_link early
   link_at (Retrieves early) = early_link early
   link_at (Carries c) = link_of (tie_of c.course)
+  link_at (Rises rise lift) = lift_link lift
   link_at (Answers said leaves) = link_left leaves
   link_at stage = Gone
 
@@ -384,18 +396,30 @@ module _ (state : State) (ask : Ask) where
   way_at (Unaccepted port) extended host here = Answering (fixed_reply Texts.NoConnection ∷ [])
   way_at (Dismissed port why) extended host here = Answering (fixed_reply (refusal_text why) ∷ [])
   way_at (Carries c) extended host here = Answering (replies_in c.course)
+  way_at (Rises rise lift) extended host here = lift_way lift
   way_at stage extended host here = rest
 
-  -- octets of the link
+  -- octets of the link, to the client and to the server
   abbrev pub queue_at : Stage → List ℕ
   queue_at (Carries c) = c.queue
   queue_at stage = []
+
+  abbrev pub rising_at : Stage → List ℕ
+  rising_at (Rises rise lift) = lift_queue lift
+  rising_at stage = []
+
+  -- the state that the server has
+  abbrev pub state_at : Stage → State
+  state_at (Rises rise lift) = lift_state state ask rise lift
+  state_at (Tells rise said after) = after
+  state_at stage = state
 
   -- how many have come, while they can come
   abbrev pub CameAt : Stage → ℕ → Type 0
   CameAt (Restarts at restart early) count = EarlyCame early count
   CameAt (Retrieves early) count = EarlyCame early count
   CameAt (Carries c) count = count ≡ counted (length c.came)
+  CameAt (Rises rise lift) count = LiftCame lift count
   CameAt stage count = Unit {0}
 
   -- the marks of the operation
@@ -404,6 +428,8 @@ module _ (state : State) (ask : Ask) where
   MarkedAt (Retrieves early) own = own ≡ early_marks early
   MarkedAt (Unaccepted port) own = own ≡ Refused ∷ []
   MarkedAt (Carries c) own = own ≡ tie_marks (tie_of c.course) (counted (length c.came))
+  MarkedAt (Rises rise lift) own = LiftMarked lift own
+  MarkedAt (Tells rise said after) own = length own ≤ 1
   MarkedAt (Answers said LinkOpen) own = own ≡ []
   MarkedAt (Answers said leaves) own = length own ≤ 1
   MarkedAt stage own = own ≡ []
@@ -417,9 +443,9 @@ module _ (state : State) (ask : Ask) where
     pub allowed : (index : ℕ) → Allows outcome own None index
     pub did_so : (moment : ℕ) → did outcome state ask.op moment ≡ (said, state)
 
-  -- RETR is not refused, nor the operation in the direct run
+  -- what falls is not refused, nor is the operation in the direct run
   abbrev pub IsTaken : Type 0
-  IsTaken = (ask.why state ≡ None) × (refusal state ask.op ≡ None)
+  IsTaken = (ask.why state ≡ None) × (refusal state ask.op ≡ None) × HasAnswer ask
 
   -- its text
   abbrev pub wire : List ℕ
@@ -473,10 +499,12 @@ module _ (state : State) (ask : Ask) where
   FineAt (PortDenied port connection) own = (is_aside connection ≡ true) × (state.known ≡ false)
   FineAt (Restarts at restart early) own = (ask.offset ≡ Some at) × IsRestarted at restart
   FineAt (Retrieves early) own = IsPlacedAt ask.settings ask.offset
-  FineAt (Awaits port begun) own = IsTaken
+  FineAt (Awaits port begun) own = (ask.why state ≡ None) × IsPlacedAt ask.settings ask.offset
   FineAt (Unaccepted port) own = Unit {0}
   FineAt (Dismissed port why) own = refusal state ask.op ≡ Some why
   FineAt (Carries c) own = Flows c.course c.came c.queue
+  FineAt (Rises rise lift) own = LiftFine state ask rise lift own
+  FineAt (Tells rise said after) own = FaredTo state ask own said after rise.moment × IsSound after × (ask.sends ≡ Up rise)
   FineAt (Answers said LinkOpen) own = (any : List Mark) → Fared any said
   FineAt (Answers said (Aside closes connection pending)) own = Fared own said × (is_aside connection ≡ true)
   FineAt (Answers said leaves) own = Fared own said
@@ -486,6 +514,8 @@ module _ (state : State) (ask : Ask) where
   ReadyAt (PortWanted connection pending) settings = state.known ≡ true → settings ≡ ask.settings
   ReadyAt (PortSaid port connection pending) settings = state.known ≡ true → settings ≡ ask.settings
   ReadyAt (PortDenied port connection) settings = Unit {0}
+  ReadyAt (Rises rise lift) settings = (settings ≡ ask.settings) × (state.known ≡ true) × HasUpload ask rise
+  ReadyAt (Tells rise said after) settings = Unit {0}
   ReadyAt (Answers said leaves) settings = Unit {0}
   ReadyAt stage settings = (settings ≡ ask.settings) × (state.known ≡ true)
 
@@ -493,10 +523,11 @@ module _ (state : State) (ask : Ask) where
   pub record Holds (own : List Mark) (stage : Stage) (way : Way) (b : World) : Type 0 where
     pub near : b.near ≡ near_at stage b.near
     pub session : b.far.session ≡ linked (far_at stage (is_extended b.near ask.op) b.near.here) (closing_at stage) (pending_at stage) b.far.session
-    pub steady : IsSteady state (kept b.near b.far)
+    pub steady : IsSteady (state_at stage) (kept b.near b.far)
+    pub timed : IsTimely ask.sends b.far.footing.moment
     pub ready : ReadyAt stage b.near.settings
     pub link : b.link ≡ link_at stage
-    pub to_server : b.data_to_server ≡ []
+    pub to_server : b.data_to_server ≡ rising_at stage
     pub to_client : b.data_to_client ≡ queue_at stage
     pub came : CameAt stage b.came
     pub marked : MarkedAt stage own
@@ -507,6 +538,7 @@ module _ (state : State) (ask : Ask) where
   pub record Leads (read : Reading) (own : List Mark) (way : Way) (b : World) : Type 0 where
     pub on : IsOnWay read state ask.op (Passes state.table state.table) (Opens state ask) way b.near b.far
     pub some : way ≢ rest
+    pub timed : IsTimely ask.sends b.far.footing.moment
     pub link : b.link ≡ Gone
     pub to_server : b.data_to_server ≡ []
     pub to_client : b.data_to_client ≡ []

@@ -1,4 +1,4 @@
--- A download or a listing: what each end makes of each line and reply.
+-- A download, a listing or an upload: what each end makes of each line and reply.
 use Rattle.std.proofs.Common.{◌≡◌, inl, inr, ℕ, ◌<◌, ◌≤◌, ◌^◌, Bool, true, false, ◌&&◌, ◌||◌, List, [], ◌∷◌, ◌++◌, drop, Option, Some, None, refl, sym, ap, subst, ◌∙◌, append-nil, arith}
 use Rattle.std.specs.Prelude.{nat_le, if◌then◌else◌}
 use Rattle.std.proofs.lemmas.Bool.{le-leb}
@@ -14,17 +14,16 @@ use Rattle.ftp_endpoint.specs.Written.{IsTypedHost, IsV4}
 use Rattle.ftp_endpoint.specs.declared.endpoint.Endpoint.{Endpoint}
 use Rattle.ftp_endpoint.specs.declared.host.Host.{Host}
 use Rattle.ftp_endpoint.specs.declared.host.Host.TheVariants.{V4, V6}
-use Rattle.ftp_wire.specs.Decoder.{decoder_of, no_octets}
+use Rattle.ftp_wire.specs.Decoder.{Decoder, decoder_of, no_octets}
 use Rattle.ftp_ends.specs.Reply.{reply_octets}
 use Rattle.ftp_ends.specs.Link.{same_host, is_v6}
 use Rattle.ftp_operation.specs.Answer.{Said, Foreign, Refused, Unopened}
 use Rattle.ftp_operation.specs.declared.op.How.{How}
 use Rattle.ftp_operation.specs.declared.op.Op.{Op}
-use Rattle.ftp_path.specs.Path.{IsPathText, resolved}
+use Rattle.ftp_path.specs.Path.{IsPathText, Names, resolved}
 use Rattle.ftp_reply.specs.Lines.{Text as ReplyText}
 use Rattle.ftp_settings.specs.declared.representation.Representation.{Representation}
 use Rattle.ftp_direct.specs.declared.refusal.Refusal.{Refusal}
-use Rattle.ftp_direct.specs.declared.refusal.Refusal.TheVariants as Refusals
 use Rattle.ftp_direct.specs.Direct.{State, file_of, offset_refusal, or_refused, place_at, refused_file, refused_there}
 use Rattle.ftp_direct.specs.Refusal.{code_of}
 use Rattle.ftp_client_model.specs.Dialogue.{answered, answers_once_over, endpoint_named, finishes_read, judged, judged_reply, last_job, passive_named, placed, port_named, sends, sends_abort, sends_if}
@@ -45,7 +44,7 @@ use Rattle.ftp_server_model.specs.Act.{act}
 use Rattle.ftp_server_model.specs.Replies.{extended_text, fixed_reply, passive_text, tells}
 use Rattle.ftp_server_model.specs.Texts.{code_of as reply_code}
 use Rattle.ftp_server_model.specs.Transfer.{begin, file_wire, misplaced, place_of, rests, transfer_starts}
-use Rattle.ftp_server_model.specs.View.{View as Far, Session, direct_of, how_in_force}
+use Rattle.ftp_server_model.specs.View.{View as Far, Session, Transfer, direct_of, how_in_force}
 use Rattle.ftp_server_model.specs.Walk.{path_of, refusal_text}
 use Rattle.ftp_server_model.specs.declared.reply.ReplyKind.TheVariants as Kinds
 use Rattle.ftp_server_model.specs.declared.reply.FixedReply.TheVariants as Texts
@@ -57,10 +56,11 @@ use Rattle.ftp_server_model.specs.declared.session.Transfer.TheVariants as Trans
 use Rattle.ftp_server_model.specs.declared.session.Way.TheVariants as Ways
 use Rattle.ftp_pair_world.specs.Outcome.{mark_in}
 use Rattle.ftp_pair_dialogues.specs.Dialogue.{FarWaits, Passes, Stands, doing, resting}
-use Rattle.ftp_pair_dialogues.specs.Fetches.{Ask, HasPlan, HasRow, Opens, busy, fetching, flow_after, is_filled, leaving, opened_command, opened_job, asked_of, port_reply, rest_reply, giving_of, offset_pending, kept, IsSteady, download_ask, place_in_file}
+use Rattle.ftp_pair_dialogues.specs.Fetches.{Ask, HasPlan, HasRow, Opens, busy, carried as offered, fetching, flow_after, is_filled, offering, leaving, opened_command, opened_job, asked_of, port_reply, rest_reply, giving_of, offset_pending, kept, IsSteady, download_ask, place_in_file}
 use Rattle.ftp_pair_dialogues.specs.Operations.{LeadsBy}
 use Rattle.ftp_pair_dialogues.specs.Stage.{calm, still, row_octets, FarTurn}
 use Rattle.ftp_pair_dialogues.proofs.Exchanges.{IsSent, with_session}
+use Rattle.ftp_pair_dialogues.proofs.Offering.{offer_denied, offer_unopened}
 use Rattle.ftp_pair_dialogues.proofs.PortTexts.{passive-reads, extended-reads}
 use Rattle.ftp_pair_dialogues.proofs.Rows.{is_negative, tells_code}
 use Rattle.ftp_pair_dialogues.proofs.ServerTurns.{aside_idle, cleared, decides, decides_known, decides_unknown, far_hears, far_turn_is}
@@ -247,7 +247,7 @@ module _ (op : Op (List ℕ)) (port : ℕ) (n : Near) where
 -- ---- the client: REST
 
 -- the own command is sent
-pub own_sent : (ask : Ask) → HasPlan ask → (v : Near) → placed ask.op Steps.Last v ≡ sends ask.command (record v { job = fetching ask.op Replies.Nothing ask.settings [] })
+pub own_sent : (ask : Ask) → HasPlan ask → (v : Near) → placed ask.op Steps.Last v ≡ sends ask.command (record v { job = offering ask Replies.Nothing })
 own_sent ask plan v =
     ap (λ command. sends command (record v { job = last_job ask.op (flow_of ask.op) })) plan.own
     ∙ ap (λ flow. sends ask.command (record v { job = last_job ask.op flow })) plan.flow
@@ -281,7 +281,7 @@ port_denied op port texts n = refl
 -- behind a 350 to REST the client owes the own command
 pub rest_granted : (ask : Ask) → HasPlan ask → (connection : NearConnection) (texts : List ReplyText) (n : Near)
     → answered 350 texts (calm (busy (Doing ask.op Steps.Restart) connection n))
-    ≡ record (calm (busy (fetching ask.op Replies.Nothing ask.settings []) connection n)) { owed = written_line (line_of ask.command) }
+    ≡ record (calm (busy (offering ask Replies.Nothing) connection n)) { owed = written_line (line_of ask.command) }
 unfolding answered
 rest_granted ask plan connection texts n = own_sent ask plan (calm (busy (Doing ask.op Steps.Restart) connection n))
 
@@ -320,43 +320,16 @@ module _ (op : Op (List ℕ)) (settings : Representation) (came : List ℕ) (n :
   breaks_over said texts is =
       ap (λ o. finishes_read o (calm (busy (fetching op (Replies.Final 426) settings came) (NearData.Over Endings.Broken) n))) is
 
-  -- the link that it gave up is no other to close
-  as_it_stood : (said : Said) (b : Bool) → record (calm (leaving said (b || false) n)) { owed = [] } ≡ record (calm (leaving said b n)) { owed = [] }
-  as_it_stood said true = refl
-  as_it_stood said false = refl
-
   -- a refusal of the own command finishes as refused, and the link is to be closed if one stands
   pub denied : (why : Refusal) (connection : NearConnection) (texts : List ReplyText)
       → answered (reply_code (refusal_text why)) texts (calm (busy (fetching op Replies.Nothing settings came) connection n))
       ≡ record (calm (leaving (Refused (code_of why)) (stands connection) n)) { owed = [] }
-  unfolding answered
-  denied Refusals.LocalFault connection texts = as_it_stood (Refused (code_of Refusals.LocalFault)) (stands connection)
-  denied Refusals.NoRoom connection texts = as_it_stood (Refused (code_of Refusals.NoRoom)) (stands connection)
-  denied Refusals.BadArgument connection texts = as_it_stood (Refused (code_of Refusals.BadArgument)) (stands connection)
-  denied Refusals.BadParameter connection texts = as_it_stood (Refused (code_of Refusals.BadParameter)) (stands connection)
-  denied Refusals.NotLoggedIn connection texts = as_it_stood (Refused (code_of Refusals.NotLoggedIn)) (stands connection)
-  denied Refusals.Unavailable connection texts = as_it_stood (Refused (code_of Refusals.Unavailable)) (stands connection)
-  denied Refusals.TooMuch connection texts = as_it_stood (Refused (code_of Refusals.TooMuch)) (stands connection)
-  denied Refusals.BadName connection texts = as_it_stood (Refused (code_of Refusals.BadName)) (stands connection)
+  denied why connection texts = offer_denied op (Receiving (decoder_of settings came) (mark_in (no_octets settings) None came)) n why connection texts
 
   -- a 425 to the own command finishes as not opened, and the link is to be closed if one stands
   pub unopened : (connection : NearConnection) (texts : List ReplyText)
       → answered 425 texts (calm (busy (fetching op Replies.Nothing settings came) connection n)) ≡ record (calm (leaving Unopened (stands connection) n)) { owed = [] }
-  unfolding answered
-  unopened connection texts = as_it_stood Unopened (stands connection)
-
--- at the client's port: the server is awaited behind the 150, and 425 tells that it could not connect
-pub begins_awaited : (op : Op (List ℕ)) (settings : Representation) (came : List ℕ) (port : ℕ) (n : Near) (texts : List ReplyText)
-    → answered 150 texts (calm (busy (fetching op Replies.Nothing settings came) (NearData.Listening port) n))
-    ≡ record (calm (busy (fetching op Replies.Begun settings came) (NearData.Accepting port) n)) { owed = [] }
-unfolding answered
-begins_awaited op settings came port n texts = refl
-
--- a 425 while the server is awaited at the port finishes as not opened, and the port is to be closed
-pub unaccepted : (op : Op (List ℕ)) (settings : Representation) (came : List ℕ) (port : ℕ) (n : Near) (texts : List ReplyText)
-    → answered 425 texts (calm (busy (fetching op Replies.Begun settings came) (NearData.Accepting port) n)) ≡ record (calm (leaving Unopened true n)) { owed = [] }
-unfolding answered
-unaccepted op settings came port n texts = refl
+  unopened connection texts = offer_unopened op (Receiving (decoder_of settings came) (mark_in (no_octets settings) None came)) n connection texts
 
 -- while the link is open, and a Peek has not enough
 pub begins_open : (op : Op (List ℕ)) (settings : Representation) (came : List ℕ) → is_filled op settings came ≡ false → (n : Near) (texts : List ReplyText)
@@ -449,13 +422,16 @@ module _ (read : Reading) (reads : IsReading read) (state : State) (op : Op (Lis
 
 -- ---- the server: REST
 
+-- its session while a transfer is under way, and while it connects to an endpoint for one
+abbrev pub transferring : Transfer → Far → Session
+transferring transfer f = record (cleared f) { connection = FarData.Transferring transfer }
+
+abbrev pub connecting : Transfer → Endpoint → Far → Session
+connecting transfer endpoint f = record (cleared f) { connection = FarData.Opening transfer (Ways.Connect endpoint) }
+
 -- its session while these octets are to be given
 abbrev pub giving : Bool → List ℕ → Far → Session
-giving listed wire f = record (cleared f) { connection = FarData.Transferring (giving_of listed wire) }
-
--- its session while it connects to an endpoint
-abbrev pub connecting : Bool → List ℕ → Endpoint → Far → Session
-connecting listed wire endpoint f = record (cleared f) { connection = FarData.Opening (giving_of listed wire) (Ways.Connect endpoint) }
+giving listed wire f = transferring (giving_of listed wire) f
 
 -- while octets are left nothing more is said; behind the last the transfer is over
 pub giving_on : (listed : Bool) (octet : ℕ) (more : List ℕ) (v : Far) → given_out (FarData.Transferring (giving_of listed (octet ∷ more))) v ≡ v
@@ -468,7 +444,7 @@ given_all false v = refl
 given_all true v = refl
 
 -- what the direct run sees of a steady session
-same_direct : (state : State) (n : Near) (f : Far) → IsSteady state (kept n f) → state.known ≡ true → direct_of (cleared f) ≡ state
+pub same_direct : (state : State) (n : Near) (f : Far) → IsSteady state (kept n f) → state.known ≡ true → direct_of (cleared f) ≡ state
 same_direct state n f steady known = λ i. record { table = steady.table i; root = steady.root known i; cwd = steady.cwd i; known = sym known i }
 
 module _ (read : Reading) (reads : IsReading read) (state : State) (ask : Ask) (row : HasRow ask) (n : Near) (f : Far) (steady : IsSteady state (kept n f))
@@ -497,15 +473,19 @@ module _ (read : Reading) (reads : IsReading read) (state : State) (ask : Ask) (
 
   -- ---- the server: the own command
 
+  -- the transfer that it begins
+  abbrev offer : Transfer
+  offer = offered ask.sends ask state
+
   module _ (pending : f.session.pending ≡ offset_pending ask.offset) where
     -- the own command is decided as its row of transfers says
-    own_decided : (why : Option Refusal) → ask.why state ≡ why → decides ask.command f ≡ transfer_starts why (giving_of ask.listed (ask.wire state)) (cleared f)
+    own_decided : (why : Option Refusal) → ask.why state ≡ why → decides ask.command f ≡ transfer_starts why offer (cleared f)
     own_decided why is =
         decides_known ask.command f (steady.access ∙ known)
         ∙ ap (λ p. act f.footing ask.command p (cleared f)) pending
         ∙ row.acts f.footing (cleared f) (steady.settings ∙ set) steady.facts
-        ∙ ap (λ s. transfer_starts (ask.why s) (giving_of ask.listed (ask.wire s)) (cleared f)) (same_direct state n f steady known)
-        ∙ ap (λ w. transfer_starts w (giving_of ask.listed (ask.wire state)) (cleared f)) is
+        ∙ ap (λ s. transfer_starts (ask.why s) (offered ask.sends ask s) (cleared f)) (same_direct state n f steady known)
+        ∙ ap (λ w. transfer_starts w offer (cleared f)) is
 
     -- where the server refuses the own command, it owes that refusal
     pub refuses_turn : (why : Refusal) → ask.why state ≡ Some why
@@ -520,41 +500,47 @@ module _ (read : Reading) (reads : IsReading read) (state : State) (ask : Ask) (
     unopens_turn none free =
         far_turn_is read ask.command f (cleared f) (Kinds.Fixed Texts.NoConnection) (fixed_reply Texts.NoConnection)
         reads row.typed row.stated row.other idle
-        (own_decided None none ∙ ap (λ c. begin c (giving_of ask.listed (ask.wire state)) (cleared f)) free) idle refl
+        (own_decided None none ∙ ap (λ c. begin c offer (cleared f)) free) idle refl
 
     -- the server connects to the client's port
     pub awaits_turn : (endpoint : Endpoint) → ask.why state ≡ None → f.session.connection ≡ FarData.Active endpoint
         → heard_line (read (line_of ask.command)) (still f)
-        ≡ record (still (with_session (connecting ask.listed (ask.wire state) endpoint f) f)) { owed = row_octets (fixed_reply Texts.Opens ∷ []) }
+        ≡ record (still (with_session (connecting offer endpoint f) f)) { owed = row_octets (fixed_reply Texts.Opens ∷ []) }
     awaits_turn endpoint none active =
-        far_hears read ask.command f (connecting ask.listed (ask.wire state) endpoint f, Kinds.Fixed Texts.Opens) reads row.typed row.stated row.other idle
-        (own_decided None none ∙ ap (λ c. begin c (giving_of ask.listed (ask.wire state)) (cleared f)) active)
-        ∙ ap (λ l. record (still (with_session (connecting ask.listed (ask.wire state) endpoint f) f)) { owed = l }) (sym (append-nil _))
+        far_hears read ask.command f (connecting offer endpoint f, Kinds.Fixed Texts.Opens) reads row.typed row.stated row.other idle
+        (own_decided None none ∙ ap (λ c. begin c offer (cleared f)) active)
+        ∙ ap (λ l. record (still (with_session (connecting offer endpoint f) f)) { owed = l }) (sym (append-nil _))
 
     -- with a link that is open the transfer begins
-    begins_by : ask.why state ≡ None → f.session.connection ≡ FarData.Ready
+    begins_by : (transfer : Transfer) → offer ≡ transfer → ask.why state ≡ None → f.session.connection ≡ FarData.Ready
+        → heard_line (read (line_of ask.command)) (still f) ≡ given_out (FarData.Transferring transfer) (turned (transferring transfer f, Kinds.Fixed Texts.Opens) (still f))
+    begins_by transfer is none ready =
+        far_hears read ask.command f (transferring offer f, Kinds.Fixed Texts.Opens) reads row.typed row.stated row.other idle
+        (own_decided None none ∙ ap (λ c. begin c offer (cleared f)) ready)
+        ∙ ap (λ t. given_out (FarData.Transferring t) (turned (transferring t f, Kinds.Fixed Texts.Opens) (still f))) is
+
+    -- of an upload, it owes 150 and waits for octets
+    pub takes_turn : (path : Names) (keep : ℕ) (d : Decoder) → offer ≡ Transfers.Upload path keep d → ask.why state ≡ None → f.session.connection ≡ FarData.Ready
         → heard_line (read (line_of ask.command)) (still f)
-        ≡ given_out (FarData.Transferring (giving_of ask.listed (ask.wire state))) (turned (giving ask.listed (ask.wire state) f, Kinds.Fixed Texts.Opens) (still f))
-    begins_by none ready =
-        far_hears read ask.command f (giving ask.listed (ask.wire state) f, Kinds.Fixed Texts.Opens) reads row.typed row.stated row.other idle
-        (own_decided None none ∙ ap (λ c. begin c (giving_of ask.listed (ask.wire state)) (cleared f)) ready)
+        ≡ record (still (with_session (transferring (Transfers.Upload path keep d) f) f)) { owed = row_octets (fixed_reply Texts.Opens ∷ []) }
+    takes_turn path keep d is none ready =
+        begins_by (Transfers.Upload path keep d) is none ready
+        ∙ ap (λ l. record (still (with_session (transferring (Transfers.Upload path keep d) f) f)) { owed = l }) (sym (append-nil _))
 
     -- with a link that is open and an octet to give, it owes 150 and gives
-    pub gives_turn : (octet : ℕ) (more : List ℕ) → ask.why state ≡ None → f.session.connection ≡ FarData.Ready → ask.wire state ≡ octet ∷ more
+    pub gives_turn : (octet : ℕ) (more : List ℕ) → offer ≡ giving_of ask.listed (octet ∷ more) → ask.why state ≡ None → f.session.connection ≡ FarData.Ready
         → heard_line (read (line_of ask.command)) (still f) ≡ record (still (with_session (giving ask.listed (octet ∷ more) f) f)) { owed = row_octets (fixed_reply Texts.Opens ∷ []) }
-    gives_turn octet more none ready some =
-        begins_by none ready
-        ∙ ap (λ l. given_out (FarData.Transferring (giving_of ask.listed l)) (turned (giving ask.listed l f, Kinds.Fixed Texts.Opens) (still f))) some
+    gives_turn octet more is none ready =
+        begins_by (giving_of ask.listed (octet ∷ more)) is none ready
         ∙ giving_on ask.listed octet more (turned (giving ask.listed (octet ∷ more) f, Kinds.Fixed Texts.Opens) (still f))
         ∙ ap (λ l. record (still (with_session (giving ask.listed (octet ∷ more) f) f)) { owed = l }) (sym (append-nil _))
 
     -- with a link that is open and no octet to give, it owes 150 and 226
-    pub gave_turn : ask.why state ≡ None → f.session.connection ≡ FarData.Ready → ask.wire state ≡ []
+    pub gave_turn : offer ≡ giving_of ask.listed [] → ask.why state ≡ None → f.session.connection ≡ FarData.Ready
         → heard_line (read (line_of ask.command)) (still f)
         ≡ record (still (with_session (forgotten (giving ask.listed [] f)) f)) { owed = row_octets (fixed_reply Texts.Opens ∷ fixed_reply Texts.Complete ∷ []) }
-    gave_turn none ready empty =
-        begins_by none ready
-        ∙ ap (λ l. given_out (FarData.Transferring (giving_of ask.listed l)) (turned (giving ask.listed l f, Kinds.Fixed Texts.Opens) (still f))) empty
+    gave_turn is none ready =
+        begins_by (giving_of ask.listed []) is none ready
         ∙ given_all ask.listed (turned (giving ask.listed [] f, Kinds.Fixed Texts.Opens) (still f))
         ∙ ap (λ l. record (still (with_session (forgotten (giving ask.listed [] f)) f)) { owed = reply_octets (fixed_reply Texts.Opens) ++ l }) (sym (append-nil _))
 

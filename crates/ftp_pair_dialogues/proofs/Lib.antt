@@ -18,3 +18,8 @@ pub mod PeekTurns
 pub mod Refusing
 pub mod ListingTexts
 pub mod Listings
+pub mod Offering
+pub mod Uploads
+pub mod Footing
+pub mod Sending
+pub mod Wires

@@ -51,9 +51,7 @@ list_row text how can = record {
 -- a listing of entries that can be sent is refused or answered so, and the client reads that answer out of the octets
 list_answer : (text : List ℕ) (how : How) → can_be_sent (Ops.List text how) ≡ true → HasAnswer (list_ask text how)
 list_answer text how can = record {
-  can = can;
   refused = λ state placed. refl;
-  unplaced = λ state at why is some. absurd (cc);
   done_so = λ state moment. refl;
   whole = λ state mark sound known none.
       let settings : Representation = listing_settings how.representation.mode in
@@ -72,7 +70,8 @@ pub list_is_ask : (text : List ℕ) (how : How) → can_be_sent (Ops.List text h
 list_is_ask text how can = record {
   plan = record { how_is = refl; asks = refl; offset_is = refl; own = refl; flow = refl };
   row = list_row text how can;
-  answer = list_answer text how can;
+  refuses = record { can = can; refused = λ state why placed is. is; unplaced = λ state at why is some. absurd (cc) };
+  way = list_answer text how can;
 }
 
 -- ---- names
@@ -112,9 +111,7 @@ here_is_dir state text sound known none = ap (λ text. is_file (node_at (part st
 -- a listing of names that can be sent is refused or answered so, and the client reads that answer out of the octets
 names_answer : (text : List ℕ) (how : How) → can_be_sent (Ops.Names text how) ≡ true → HasAnswer (names_ask text how)
 names_answer text how can = record {
-  can = can;
   refused = λ state placed. refl;
-  unplaced = λ state at why is some. absurd (cc);
   done_so = λ state moment. refl;
   whole = λ state mark sound known none.
       let settings : Representation = listing_settings how.representation.mode in
@@ -134,5 +131,6 @@ pub names_is_ask : (text : List ℕ) (how : How) → can_be_sent (Ops.Names text
 names_is_ask text how can = record {
   plan = record { how_is = refl; asks = refl; offset_is = refl; own = refl; flow = refl };
   row = names_row text how can;
-  answer = names_answer text how can;
+  refuses = record { can = can; refused = λ state why placed is. is; unplaced = λ state at why is some. absurd (cc) };
+  way = names_answer text how can;
 }

@@ -30,11 +30,11 @@ use Rattle.ftp_pair_dialogues.proofs.Renaming.{none_there, none_limited, none_na
 
 -- ---- files of a map
 
-abbrev HasFineFiles : Table → Type 0
+abbrev pub HasFineFiles : Table → Type 0
 HasFineFiles table = (path : Names) (octets : List ℕ) (moment : ℕ) → node_at table path ≡ Some (File octets moment) → IsFine octets moment
 
 -- what follows from each of both values of a boolean holds
-by_bool : {P : Type 0} (b : Bool) → (b ≡ true → P) → (b ≡ false → P) → P
+pub by_bool : {P : Type 0} (b : Bool) → (b ≡ true → P) → (b ≡ false → P) → P
 by_bool true one other = one refl
 by_bool false one other = other refl
 
@@ -69,7 +69,7 @@ files-moved table from to tree none have other octets moment is =
 
 -- ---- names of a map
 
-abbrev HasNames : Table → Type 0
+abbrev pub HasNames : Table → Type 0
 HasNames table = (path : Names) → IsSome (node_at table path) → list_all is_name path ≡ true
 
 -- paths of names are so when a directory is made at a path of names
@@ -143,7 +143,7 @@ second-none (Some fault) other none = absurd (cc)
 -- ---- a change of what the account sees
 
 -- a sound state is so with another tree for what the account sees, if files and names are fine and the current directory is there
-change-sound : (state : State) (new : Table) → IsSound state → IsTree new → HasFineFiles new → HasNames new → node_at new state.cwd ≡ Some Dir → IsSound (changed state new)
+pub change-sound : (state : State) (new : Table) → IsSound state → IsTree new → HasFineFiles new → HasNames new → node_at new state.cwd ≡ Some Dir → IsSound (changed state new)
 change-sound state new sound tree have named here =
     let same : part (changed state new) ≡ new = (parts-put state.table state.root new).taken in
     record {

@@ -1,6 +1,6 @@
--- A download, a Peek among them, or a listing: what both ends hold while it is under way (RFC 959, sections 3.2 to 3.5 and 4.1.2; RFC 2428; RFC 3659,
+-- A download, a Peek among them, a listing or an upload: what both ends hold while it is under way (RFC 959, sections 3.2 to 3.5 and 4.1.2; RFC 2428; RFC 3659,
 -- sections 5 and 7).
-use Rattle.std.specs.Prelude.{◌≡◌, ◌⊎◌, ℕ, ◌<◌, ◌^◌, Bool, true, false, drop, List, [], ◌++◌, codes, decimal, Option, Some, None, if◌then◌else◌}
+use Rattle.std.specs.Prelude.{◌≡◌, ◌⊎◌, ℕ, ◌<◌, ◌≤◌, ◌+◌, ◌^◌, ◌&&◌, Bool, true, false, drop, take, length, List, ◌++◌, codes, decimal, Option, Some, None, if◌then◌else◌}
 use Rattle.std.specs.Option.{unwrap_or}
 use Rattle.ftp_command.specs.Line.{IsStated, IsTyped}
 use Rattle.ftp_command.specs.declared.command.Command.{Command}
@@ -11,21 +11,23 @@ use Rattle.ftp_endpoint.specs.declared.host.Host.{Host}
 use Rattle.ftp_wire.specs.Decoder.{no_octets, decoder_of}
 use Rattle.ftp_ends.specs.Link.{is_v6}
 use Rattle.ftp_ends.specs.Reply.{Reply, reply_of}
-use Rattle.ftp_operation.specs.Answer.{Said, Octets, Refused, Entries, Names as NameList}
+use Rattle.ftp_mode.specs.Wire.{wire as wire_of}
+use Rattle.ftp_operation.specs.Answer.{Said, Done, Octets, Refused, Entries, Names as NameList}
 use Rattle.ftp_operation.specs.Operation.{can_be_sent}
 use Rattle.ftp_operation.specs.declared.op.How.{How}
 use Rattle.ftp_operation.specs.declared.op.Op.{Op}
 use Rattle.ftp_operation.specs.declared.op.Op.TheVariants as Ops
 use Rattle.ftp_path.specs.Path.{Names}
-use Rattle.ftp_settings.specs.Representation.{has_markers}
+use Rattle.ftp_settings.specs.Representation.{form_of, has_markers}
 use Rattle.ftp_settings.specs.declared.representation.Representation.{Representation}
-use Rattle.ftp_tree.specs.Tree.{Table}
+use Rattle.ftp_tree.specs.Tree.{Table, installed, octets_or_none, octets_refusal}
+use Rattle.ftp_tree.specs.declared.fault.TreeFault.{TreeFault}
 use Rattle.ftp_direct.specs.declared.refusal.Refusal.{Refusal}
-use Rattle.ftp_direct.specs.Direct.{State, done, entries_in, file_of, named, named_or_here, names_for, offset_refusal, or_refused, part, place_at, refusal, refused_file, refused_there}
+use Rattle.ftp_direct.specs.Direct.{State, changed, done, entries_in, file_of, named, named_or_here, names_for, offset_refusal, or_refused, part, place_at, refusal, refused_file, refused_octets, refused_there}
 use Rattle.ftp_client_model.specs.Dialogue.{judged}
-use Rattle.ftp_client_model.specs.Octets.{content_answer, download_flow, flow_of, has_enough, written}
-use Rattle.ftp_client_model.specs.Plan.{asked_settings, count_of, how_of, is_extended, listing_settings, offset_of, optional, own_command}
-use Rattle.ftp_client_model.specs.View.{View as Near, Job, Doing, Transferring, Told, Flow, Receiving}
+use Rattle.ftp_client_model.specs.Octets.{content_answer, download_flow, flow_of, has_enough, upload_text, written}
+use Rattle.ftp_client_model.specs.Plan.{asked_settings, count_of, how_of, is_extended, listing_settings, offset_of, optional, own_command, settings_of}
+use Rattle.ftp_client_model.specs.View.{View as Near, Flow, Sending, Receiving, Job, Doing, Transferring, Told}
 use Rattle.ftp_client_model.specs.declared.client.Abort.TheVariants as Aborts
 use Rattle.ftp_client_model.specs.declared.client.ClientLink.{ClientLink as NearConnection}
 use Rattle.ftp_client_model.specs.declared.client.ClientLink.TheVariants as NearData
@@ -65,8 +67,34 @@ IsFetch (Ops.List text how) = Unit {0}
 IsFetch (Ops.Names text how) = Unit {0}
 IsFetch other = ⊥
 
--- what an operation asks for whose octets come to the client: how its link is opened, the settings that it goes in, the offset of REST,
--- its own command, why the server refuses that, whether the octets are those of a listing, the octets, and the answer where they come whole
+-- an upload sends restart markers of its own where they are asked for and its settings have them
+abbrev pub sends_markers : How → Bool
+sends_markers how = how.marks && has_markers (settings_of how)
+
+-- an upload that sends none
+abbrev pub IsStore : Op (List ℕ) → Type 0
+IsStore (Ops.Put text octets how) = sends_markers how ≡ false
+IsStore (Ops.Append text octets how) = sends_markers how ≡ false
+IsStore (Ops.PutFrom text offset octets how) = sends_markers how ≡ false
+IsStore other = ⊥
+
+-- octets that rise to the server: the path at which they are put, how many octets of the file there are kept before them, their text on the link, and
+-- the moment at which the upload was begun
+pub record Rise : Type 0 where
+  pub path : State → Names
+  pub keep : State → ℕ
+  pub octets : List ℕ
+  pub text : List ℕ
+  pub moment : ℕ
+
+-- which way the octets go: to the client, or to the server
+pub data Direction : Type 0 where
+  Down : Direction
+  Up : (rise : Rise) → Direction
+
+-- what an operation asks for that has a link: how that is opened, the settings that it goes in, the offset of REST, its own command, why the server
+-- refuses that, and which way octets go; of those that come to the client whether they are those of a listing, the octets, and the answer where they
+-- come whole
 pub record Ask : Type 0 where
   pub op : Op (List ℕ)
   pub how : How
@@ -74,6 +102,7 @@ pub record Ask : Type 0 where
   pub offset : Option ℕ
   pub command : Command (List ℕ)
   pub why : State → Option Refusal
+  pub sends : Direction
   pub listed : Bool
   pub wire : State → List ℕ
   pub said : State → Said
@@ -97,13 +126,22 @@ abbrev pub fetching : Op (List ℕ) → Replied → Representation → List ℕ 
 fetching op replied settings came =
     Transferring op (record { replied = replied; abort = Aborts.Unsent; flow = flow_after settings came })
 
+-- what goes over the link, before an octet has moved
+abbrev pub carrying : Direction → Representation → Flow
+carrying Down settings = download_flow settings
+carrying (Up rise) settings = Sending rise.text None
+
+-- the job whose command was sent, before an octet has moved
+abbrev pub offering : Ask → Replied → Job
+offering ask replied = Transferring ask.op (record { replied = replied; abort = Aborts.Unsent; flow = carrying ask.sends ask.settings })
+
 -- it has told this, and its link is to be closed or not
 abbrev pub leaving : Said → Bool → Near → Near
 leaving said closing n = record n { standing = Standings.Entered; job = Told said; run = None; connection = NearData.Free; closing = closing }
 
 -- the first job and the first command behind the opening: REST where there is an offset, else the own command
 abbrev pub opened_job : Option ℕ → Ask → Job
-opened_job None ask = fetching ask.op Replies.Nothing ask.settings []
+opened_job None ask = offering ask Replies.Nothing
 opened_job (Some offset) ask = Doing ask.op Steps.Restart
 
 -- the command of that job
@@ -134,6 +172,11 @@ rest_reply offset = reply_of 350 (codes "Restarting at " ++ decimal offset)
 abbrev pub giving_of : Bool → List ℕ → Transfer
 giving_of false octets = Transfers.Download octets
 giving_of true octets = Transfers.Listing octets
+
+-- the transfer that the own command begins
+abbrev pub carried : Direction → Ask → State → Transfer
+carried Down ask state = giving_of ask.listed (ask.wire state)
+carried (Up rise) ask state = Transfers.Upload (rise.path state) (rise.keep state) (no_octets ask.settings)
 
 -- what REST left for the own command
 abbrev pub offset_pending : Option ℕ → Pending Names
@@ -248,6 +291,7 @@ download_ask offset text how = record {
   offset = offset;
   command = Commands.Retr text;
   why = λ state. why_not state offset text how;
+  sends = Down;
   listed = false;
   wire = λ state. fetched_wire state offset text how;
   said = λ state. Octets (content_from state offset text how);
@@ -264,6 +308,7 @@ list_ask text how = record {
   offset = None;
   command = Commands.Mlsd (optional text);
   why = λ state. refusal state (Ops.List text how);
+  sends = Down;
   listed = true;
   wire = λ state. listing_wire how.representation.mode (entry_lines all_facts (part state) (named_or_here state text));
   said = λ state. Entries (entries_in (part state) (named_or_here state text));
@@ -278,6 +323,7 @@ names_ask text how = record {
   offset = None;
   command = Commands.Nlst (optional text);
   why = λ state. refusal state (Ops.Names text how);
+  sends = Down;
   listed = true;
   wire = λ state. listing_wire how.representation.mode (name_lines (part state) (named_or_here state text) text);
   said = λ state. NameList (names_for (part state) (named_or_here state text) text);
@@ -291,7 +337,7 @@ pub record HasPlan (ask : Ask) : Type 0 where
   pub asks : asked_settings ask.op ≡ Some ask.settings
   pub offset_is : offset_of ask.op ≡ ask.offset
   pub own : own_command ask.op ≡ ask.command
-  pub flow : flow_of ask.op ≡ Some (download_flow ask.settings)
+  pub flow : flow_of ask.op ≡ Some (carrying ask.sends ask.settings)
 
 -- the server reads its commands, and acts on the own one so in these settings
 pub record HasRow (ask : Ask) : Type 0 where
@@ -300,7 +346,7 @@ pub record HasRow (ask : Ask) : Type 0 where
   pub other : is_abor (Asks ask.command) ≡ false
   pub few : (at : ℕ) → ask.offset ≡ Some at → at < 10 ^ 18
   pub acts : (footing : Footing) (s : Session) → s.settings ≡ ask.settings → s.facts ≡ all_facts
-      → act footing ask.command (offset_pending ask.offset) s ≡ transfer_starts (ask.why (direct_of s)) (giving_of ask.listed (ask.wire (direct_of s))) s
+      → act footing ask.command (offset_pending ask.offset) s ≡ transfer_starts (ask.why (direct_of s)) (carried ask.sends ask (direct_of s)) s
 
 -- REST is not refused
 abbrev pub IsPlacedAt : Representation → Option ℕ → Type 0
@@ -314,12 +360,17 @@ pub record IsKnownText (ask : Ask) (state : State) : Type 0 where
   pub down : download_of state ask.op ≡ Some (record (fetched ask.settings start octets) { asked = count_of ask.op })
   pub text : written (has_markers ask.settings) ask.settings start octets ≡ ask.wire state
 
--- the direct run refuses it or answers so, and the client reads that answer out of the whole octets, and a Peek out of a front of them that is enough
-pub record HasAnswer (ask : Ask) : Type 0 where
+-- it can be sent, and the direct run refuses it where the server does
+pub record HasRefusals (ask : Ask) : Type 0 where
   pub can : can_be_sent ask.op ≡ true
-  pub refused : (state : State) → IsPlacedAt ask.settings ask.offset → refusal state ask.op ≡ ask.why state
+  pub refused : (state : State) (why : Refusal) → IsPlacedAt ask.settings ask.offset → ask.why state ≡ Some why → refusal state ask.op ≡ Some why
   pub unplaced : (state : State) (at : ℕ) (why : Refusal) → ask.offset ≡ Some at → offset_refusal at (how_in_force ask.settings) ≡ Some why
       → refusal state ask.op ≡ Some why
+
+-- of what falls: the direct run refuses it or answers so, and the client reads that answer out of the whole octets, and a Peek out of a front
+-- of them that is enough
+pub record HasAnswer (ask : Ask) : Type 0 where
+  pub refused : (state : State) → IsPlacedAt ask.settings ask.offset → refusal state ask.op ≡ ask.why state
   pub done_so : (state : State) (moment : ℕ) → done state ask.op moment ≡ (ask.said state, state)
   pub whole : (state : State) (mark : Option ℕ) → IsSound state → state.known ≡ true → ask.why state ≡ None
       → judged Endings.Clean Aborts.Unsent 226 ask.op (Receiving (decoder_of ask.settings (ask.wire state)) mark) ≡ Some (ask.said state)
@@ -328,8 +379,52 @@ pub record HasAnswer (ask : Ask) : Type 0 where
   pub no_upload : (state : State) → upload_of state ask.op ≡ None
   pub sent_so : (state : State) → ask.why state ≡ None → IsKnownText ask state
 
+-- ---- uploads
+
+-- the octets of the file that are kept
+abbrev pub kept_of : Rise → State → List ℕ
+kept_of rise state = take (rise.keep state) (octets_or_none (part state) (rise.path state))
+
+-- the state with these octets behind those
+abbrev pub stored : Rise → State → List ℕ → State
+stored rise state content = changed state (installed (part state) (rise.path state) (kept_of rise state ++ content) rise.moment)
+
+-- why so many octets behind those that are kept are too many
+abbrev pub over : Rise → State → ℕ → Option TreeFault
+over rise state count = octets_refusal (part state) (rise.path state) (rise.keep state + count)
+
+-- it is an upload that the world knows
+pub record IsKnownUpload (ask : Ask) (rise : Rise) (state : State) : Type 0 where
+  pub start : ℕ
+  pub set : settings_of ask.how ≡ ask.settings
+  pub up : upload_of state ask.op ≡ Some (record { path = rise.path state; kept = kept_of rise state; start = start; octets = rise.octets; how = ask.how })
+  pub text : upload_text ask.how start rise.octets ≡ rise.text
+
+-- of what rises: what the direct run makes of it, and the one text of an upload that the world knows
+pub record HasUpload (ask : Ask) (rise : Rise) : Type 0 where
+  pub sends_is : ask.sends ≡ Up rise
+  pub all : count_of ask.op ≡ None
+  pub text_is : rise.text ≡ wire_of ask.settings.mode (form_of ask.settings) rise.octets
+  pub within : (state : State) → rise.keep state ≤ length (octets_or_none (part state) (rise.path state))
+  pub refused : (state : State) → IsPlacedAt ask.settings ask.offset → ask.why state ≡ None → refusal state ask.op ≡ refused_octets (over rise state (length rise.octets))
+  pub done_so : (state : State) → done state ask.op rise.moment ≡ (Done, stored rise state rise.octets)
+  pub known_so : (state : State) → IsKnownUpload ask rise state
+  pub sound : (state : State) (content : List ℕ) → IsSound state → state.known ≡ true → ask.why state ≡ None → over rise state (length content) ≡ None
+      → IsSound (stored rise state content)
+
+-- by which way its octets go
+abbrev pub IsOf : Ask → Direction → Type 0
+IsOf ask Down = HasAnswer ask
+IsOf ask (Up rise) = HasUpload ask rise
+
+-- of an upload, it was begun at this moment
+abbrev pub IsTimely : Direction → ℕ → Type 0
+IsTimely Down moment = Unit {0}
+IsTimely (Up rise) moment = rise.moment ≡ moment
+
 -- all of these
 pub record IsAsk (ask : Ask) : Type 0 where
   pub plan : HasPlan ask
   pub row : HasRow ask
-  pub answer : HasAnswer ask
+  pub refuses : HasRefusals ask
+  pub way : IsOf ask ask.sends

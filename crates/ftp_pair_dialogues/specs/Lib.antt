@@ -7,3 +7,4 @@ pub mod Laws
 pub mod Downloads
 pub mod Fetches
 pub mod Peeks
+pub mod Uploads

@@ -1,0 +1,143 @@
+-- How an upload fares: installed, too much, or cut, as its client tells it, and the state that it leaves.
+use Rattle.std.proofs.Common.{◌≡◌, ◌⊎◌, inl, inr, ℕ, ◌+◌, ◌≤◌, Bool, true, false, List, [], ◌∷◌, ◌++◌, length, Option, Some, None, refl, sym, ap, subst, ◌∙◌, arith, length-append}
+use Rattle.std.specs.Prelude.{if◌then◌else◌}
+use Rattle.std.specs.Option.{is_some}
+use Rattle.std.proofs.lemmas.List.{length-take-le}
+use Rattle.ftp_cutting.specs.Machine.{IsFront}
+use Rattle.ftp_mode.specs.Laws.{settled_content}
+use Rattle.ftp_operation.specs.Answer.{Done, Refused, Broken as BrokenOff}
+use Rattle.ftp_operation.specs.declared.op.Op.{Op}
+use Rattle.ftp_settings.specs.Representation.{form_of}
+use Rattle.ftp_tree.specs.Tree.{octets_or_none, octets_refusal}
+use Rattle.ftp_tree.specs.declared.fault.TreeFault.{TreeFault}
+use Rattle.ftp_wire.specs.Decoder.{decoder_of, no_octets}
+use Rattle.ftp_wire.proofs.DecoderLemmas.{front_gives, what_is_settled}
+use Rattle.ftp_direct.specs.declared.refusal.Refusal.TheVariants as Refusals
+use Rattle.ftp_direct.specs.Direct.{State, first_refusal, part, refusal, refused_octets}
+use Rattle.ftp_direct.specs.Refusal.{code_of}
+use Rattle.ftp_pair_world.specs.Outcome.{Whole, Cut, CanBeCut, IsCutOf, Stored, cut_by, download_of, mmmm_in, upload_of}
+use Rattle.ftp_pair_world.specs.World.{Mark, Broken, counted}
+use Rattle.ftp_pair_dialogues.specs.Fetches.{Ask, HasUpload, IsAsk, IsPlacedAt, Rise, kept_of, over, stored}
+use Rattle.ftp_pair_dialogues.proofs.Rows.{answer_known}
+use Rattle.ftp_pair_dialogues.proofs.Wires.{IsPlain, no_mark, plain_both, wire_plain}
+use Rattle.ftp_pair_agreement.specs.Rising.{FaredTo}
+use Rattle.ftp_pair_agreement.proofs.Fates.{among_one}
+use Rattle.ftp_pair_agreement.proofs.UploadServer.{too_many_more}
+
+-- what is not some is none
+none_of : (why : Option TreeFault) → is_some why ≡ false → why ≡ None
+none_of None is = refl
+none_of (Some fault) is = absurd (cc)
+
+-- some fault of octets is a refusal for too much
+some_of : (why : Option TreeFault) → is_some why ≡ true → refused_octets why ≡ Some Refusals.TooMuch
+some_of None is = absurd (cc)
+some_of (Some fault) is = refl
+
+-- whatever is found of octets, it is no refusal or one for too much
+either_of : (why : Option TreeFault) → (refused_octets why ≡ None) ⊎ (refused_octets why ≡ Some Refusals.TooMuch)
+either_of None = inl refl
+either_of (Some fault) = inr refl
+
+module _ (state : State) (ask : Ask) (good : IsAsk ask) (rise : Rise) (upload : HasUpload ask rise) (known : state.known ≡ true)
+    (taken : (ask.why state ≡ None) × IsPlacedAt ask.settings ask.offset) where
+  abbrev op : Op (List ℕ)
+  op = ask.op
+
+  -- the direct run refuses it for its octets alone
+  refusal_is : refusal state op ≡ refused_octets (over rise state (length rise.octets))
+  refusal_is = upload.refused state taken.1 taken.0
+
+  -- within the limits it is done
+  pub installed_fares : (own : List Mark) → is_some (over rise state (length rise.octets)) ≡ false → FaredTo state ask own Done (stored rise state rise.octets) rise.moment
+  installed_fares own small = record {
+    outcome = Whole;
+    can_be = tt;
+    allowed = λ index. tt;
+    did_so = sym (answer_known state op rise.moment None good.refuses.can known (refusal_is ∙ ap refused_octets (none_of _ small))) ∙ upload.done_so state;
+  }
+
+  -- past them it is refused
+  pub overfull_fares : (own : List Mark) → is_some (over rise state (length rise.octets)) ≡ true → FaredTo state ask own (Refused (code_of Refusals.TooMuch)) state rise.moment
+  overfull_fares own big = record {
+    outcome = Whole;
+    can_be = tt;
+    allowed = λ index. tt;
+    did_so = sym (answer_known state op rise.moment (Some Refusals.TooMuch) good.refuses.can known (refusal_is ∙ some_of _ big));
+  }
+
+  -- a front of the text is one of the wire
+  front_is : (came : List ℕ) → IsFront came rise.text → IsFront (decoder_of ask.settings came).content rise.octets
+  front_is came front = front_gives ask.settings rise.octets came (subst (IsFront came) upload.text_is front)
+
+  -- what came settles no more octets than there are
+  shorter : (came : List ℕ) → IsFront came rise.text → length (decoder_of ask.settings came).content ≤ length rise.octets
+  shorter came front =
+      let f = front_is came front in
+      omega (arith, length-append (decoder_of ask.settings came).content f.0, ap length f.1)
+
+  -- where what came is too much, the whole is
+  pub whole_over : (came : List ℕ) → IsFront came rise.text → is_some (over rise state (length (decoder_of ask.settings came).content)) ≡ true
+      → is_some (over rise state (length rise.octets)) ≡ true
+  whole_over came front some =
+      too_many_more (part state) (rise.path state) (rise.keep state + length (decoder_of ask.settings came).content) (rise.keep state + length rise.octets)
+      (omega (arith, shorter came front)) some
+
+  -- no marker stands in what came
+  plain_front : (came : List ℕ) → IsFront came rise.text → IsPlain (no_octets ask.settings) came
+  plain_front came front =
+      (plain_both (no_octets ask.settings) came front.0 (subst (IsPlain (no_octets ask.settings)) (sym (front.1 ∙ upload.text_is)) (wire_plain ask.settings rise.octets))).0
+
+  -- the upload that the world knows
+  abbrev known_upload : Stored
+  known_upload = record { path = rise.path state; kept = kept_of rise state; start = (upload.known_so state).start; octets = rise.octets; how = ask.how }
+
+  -- what is kept and came is as long as both
+  kept_long : (content : List ℕ) → length (kept_of rise state ++ content) ≡ rise.keep state + length content
+  kept_long content =
+      length-append (kept_of rise state) content
+      ∙ ap (λ n. n + length content) (length-take-le (rise.keep state) (octets_or_none (part state) (rise.path state)) (upload.within state))
+
+  -- it can be cut at each front that passes no limit
+  can_be_cut : (came : List ℕ) → IsFront came rise.text → is_some (over rise state (length (decoder_of ask.settings came).content)) ≡ false → CanBeCut state op came
+  can_be_cut came front small =
+      let k = upload.known_so state in
+      let first : first_refusal state op ≡ refusal state op = ap (λ (b : Bool). if b then refusal state op else Some Refusals.NotLoggedIn) known in
+      let either : (first_refusal state op ≡ None) ⊎ (first_refusal state op ≡ Some Refusals.TooMuch) =
+      subst (λ why. (why ≡ None) ⊎ (why ≡ Some Refusals.TooMuch)) (sym (first ∙ refusal_is)) (either_of (over rise state (length rise.octets))) in
+      let limit : octets_refusal (part state) (rise.path state) (length (kept_of rise state ++ settled_content ask.settings.mode (form_of ask.settings) came)) ≡ None =
+      ap (λ content. octets_refusal (part state) (rise.path state) (length (kept_of rise state ++ content))) (sym (what_is_settled ask.settings came))
+      ∙ ap (octets_refusal (part state) (rise.path state)) (kept_long (decoder_of ask.settings came).content) ∙ none_of _ small in
+      let cut : IsCutOf (Some known_upload) (download_of state op) state came = (
+        subst (IsFront came) (sym k.text) front,
+        subst (λ settings. octets_refusal (part state) (rise.path state) (length (kept_of rise state ++ settled_content settings.mode (form_of settings) came)) ≡ None) (sym k.set) limit,
+      ) in
+      ((good.refuses.can, either), subst (λ up. IsCutOf up (download_of state op) state came) (sym k.up) cut)
+
+  -- what it leaves then
+  cut_is : (came : List ℕ) → IsFront came rise.text
+      → cut_by (upload_of state op) (download_of state op) state rise.moment came ≡ (BrokenOff [] None, stored rise state (decoder_of ask.settings came).content)
+  cut_is came front =
+      let k = upload.known_so state in
+      ap (λ up. cut_by up (download_of state op) state rise.moment came) k.up
+      ∙ ap (λ settings. (
+        BrokenOff [] (mmmm_in (length (kept_of rise state)) (no_octets settings) None came),
+        stored rise state (settled_content settings.mode (form_of settings) came),
+      )) k.set
+      ∙ ap (λ mark. (BrokenOff [] mark, stored rise state (settled_content ask.settings.mode (form_of ask.settings) came)))
+      (no_mark (length (kept_of rise state)) (no_octets ask.settings) None came (plain_front came front))
+      ∙ ap (λ content. (BrokenOff [] None, stored rise state content)) (sym (what_is_settled ask.settings came))
+
+  -- with the mark of a break it fares as broken off, and leaves what was settled
+  pub cut_off_fares : (own : List Mark) (came : List ℕ) → IsFront came rise.text → is_some (over rise state (length (decoder_of ask.settings came).content)) ≡ false
+      → own ≡ Broken (counted (length came)) ∷ [] → FaredTo state ask own (BrokenOff [] None) (stored rise state (decoder_of ask.settings came).content) rise.moment
+  cut_off_fares own came front small marked = record {
+    outcome = Cut came;
+    can_be = can_be_cut came front small;
+    allowed = λ index. (tt, among_one state ask good own (Broken (counted (length came))) marked);
+    did_so = cut_is came front;
+  }
+
+  -- the limit passes nothing that it is not some of
+  pub within_limit : (count : ℕ) → is_some (over rise state count) ≡ false → over rise state count ≡ None
+  within_limit count small = none_of (over rise state count) small
