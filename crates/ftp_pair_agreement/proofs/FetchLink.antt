@@ -109,6 +109,15 @@ fits_more rows reply c fine fits = (
   subst (FlowsRow (rows ++ reply ∷ []) c.held) (append_assoc c.moving c.owed (reply_octets reply)) (row_more rows reply c.held (coming c) fine fits.1),
 )
 
+-- so it does with a row of written replies more
+pub fits_rows : (rows more : List Reply) (c : Cut) → AreWritten more → Fits (Answering rows) c → Fits (Answering (rows ++ more)) (record c { owed = c.owed ++ row_octets more })
+fits_rows rows [] c fine fits =
+    subst (λ rows. Fits (Answering rows) (record c { owed = c.owed ++ [] })) (sym (append-nil rows)) (subst (λ owed. Fits (Answering rows) (record c { owed = owed })) (sym (append-nil c.owed)) fits)
+fits_rows rows (reply ∷ more) c fine fits =
+    let all = fits_rows (rows ++ reply ∷ []) more (record c { owed = c.owed ++ reply_octets reply }) fine.1 (fits_more rows reply c fine.0 fits) in
+    subst (λ rows. Fits (Answering rows) (record c { owed = c.owed ++ row_octets (reply ∷ more) })) (append_assoc rows (reply ∷ []) more)
+    (subst (λ owed. Fits (Answering ((rows ++ reply ∷ []) ++ more)) (record c { owed = owed })) (append_assoc c.owed (reply_octets reply) (row_octets more)) all)
+
 -- ---- the client's calls
 
 -- the link breaks at a client that has sent REST: it is over, and broken

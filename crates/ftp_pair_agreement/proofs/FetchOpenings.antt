@@ -353,7 +353,7 @@ module _ (read : Reading) (state : State) (ask : Ask) (good : IsAsk ask) (sound 
 
         by_way : (d : Direction) → ask.sends ≡ d → IsOf ask d → PlacedAt (At own) (link_opens w) ⊎ AtHalt state ask own (link_opens w)
         by_way Down down answers = by_enough down answers (is_filled op ask.settings []) refl (ask.wire state) refl
-        by_way (Up rise) up upload = inl (upload_accepted read state ask own rise upload port w b way is h)
+        by_way (Up rise) up upload = inl (upload_accepted read state ask good sound own rise upload port w b way is h)
 
     -- the client does not want to connect: it waits at its port
     accepting : is_connecting (near.wants (calm b.near)) ≡ false

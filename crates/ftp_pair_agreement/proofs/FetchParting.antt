@@ -273,16 +273,16 @@ module _ (read : Reading) (from : State) (begun : List Order) (w : World) (on : 
   -- at each lift that lasts both ends part
   lift_parts : (rise : Rise) (lift : Lift) → Stood (Rises rise lift) → lift_passes lift ≡ false → Parts
   lift_parts rise Offered h lasts = record { after = parts_as _ h _ _ h.near refl _ _ h.session _ _ h.link h.to_client tt; table = inl (table_of _ h); few = none_few h.marked }
-  lift_parts rise (Rising false octet more came queue) h lasts =
+  lift_parts rise (Rising false octet more came queue mark notes) h lasts =
       record { after = parts_as _ h _ _ h.near refl _ _ h.session _ _ h.link h.to_client tt; table = inl (table_of _ h); few = none_few h.marked }
-  lift_parts rise (Rising true octet more came queue) h lasts =
+  lift_parts rise (Rising true octet more came queue mark notes) h lasts =
       record { after = parts_as _ h _ _ h.near refl _ _ h.session _ _ h.link h.to_client tt; table = inl (table_of _ h); few = none_few h.marked }
-  lift_parts rise (Risen past false came queue) h lasts = absurd (cc)
-  lift_parts rise (Risen false true came queue) h lasts =
+  lift_parts rise (Risen past false came queue mark notes) h lasts = absurd (cc)
+  lift_parts rise (Risen false true came queue mark notes) h lasts =
       record { after = parts_as _ h _ _ h.near refl _ _ h.session _ _ h.link h.to_client tt; table = inl (table_of _ h); few = none_few h.marked }
-  lift_parts rise (Risen true true came queue) h lasts =
+  lift_parts rise (Risen true true came queue mark notes) h lasts =
       record { after = parts_as _ h _ _ h.near refl _ _ h.session _ _ h.link h.to_client tt; table = inl (table_of _ h); few = none_few h.marked }
-  lift_parts rise (Settled started fate left after) h lasts = record {
+  lift_parts rise (Settled started mark notes fate left after) h lasts = record {
     after = parts_as _ h _ _ h.near refl _ _ h.session _ _ h.link h.to_client (refl, refl);
     table = inr (record {
       said = fate_said fate;

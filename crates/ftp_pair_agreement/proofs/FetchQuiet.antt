@@ -1,5 +1,5 @@
 -- While what was asked for is under way something can happen: octets can move, a link can open, or an end is still to be told.
-use Rattle.std.proofs.Common.{◌≡◌, ◌≢◌, inl, inr, ℕ, Bool, true, false, not, ◌&&◌, ◌||◌, List, [], ◌∷◌, length, refl, sym, ap, subst, ◌∙◌, arith}
+use Rattle.std.proofs.Common.{◌≡◌, ◌≢◌, inl, inr, ℕ, Bool, true, false, not, ◌&&◌, ◌||◌, List, [], ◌∷◌, length, Option, refl, sym, ap, subst, ◌∙◌, arith}
 use Rattle.std.specs.Prelude.{nat_lt}
 use Rattle.ftp_ends.specs.Link.{is_wanted}
 use Rattle.ftp_ends.specs.Reply.{Reply}
@@ -180,8 +180,8 @@ module _ (read : Reading) (from : State) (begun : List Order) (w : World) (on : 
   none_owed way = ap (λ u. u.far.owed) (rest_placed At w s way)
 
   -- the client gives
-  rising_moves : (rise : Rise) (past : Bool) (octet : ℕ) (more came queue : List ℕ) → Stood (Rises rise (Rising past octet more came queue)) → ⊥
-  rising_moves rise past octet more came queue h = by_queue queue (up_is _ h)
+  rising_moves : (rise : Rise) (past : Bool) (octet : ℕ) (more came queue : List ℕ) (mark : Option ℕ) → Stood (Rises rise (Rising past octet more came queue mark [])) → ⊥
+  rising_moves rise past octet more came queue mark h = by_queue queue (up_is _ h)
     where
       due : near.to_give w.near ≡ octet ∷ more
       due = ap near.to_give (near_form s.base w seen _ _ h.near)
@@ -192,8 +192,8 @@ module _ (read : Reading) (from : State) (begun : List Order) (w : World) (on : 
       by_queue (x ∷ more) is = taken_up x more is (held_receives past _ _ _ w.far (far_form s.base w seen _ false _ h.session) (none_owed h.way_is))
 
   -- all was given, and the server is to be told of the end
-  risen_moves : (rise : Rise) (past : Bool) (came queue : List ℕ) → Stood (Rises rise (Risen past true came queue)) → ⊥
-  risen_moves rise past came queue h = by_queue queue (up_is _ h)
+  risen_moves : (rise : Rise) (past : Bool) (came queue : List ℕ) (mark : Option ℕ) → Stood (Rises rise (Risen past true came queue mark [])) → ⊥
+  risen_moves rise past came queue mark h = by_queue queue (up_is _ h)
     where
       none : near.to_give w.near ≡ []
       none = ap near.to_give (near_form s.base w seen _ _ h.near)
@@ -207,11 +207,14 @@ module _ (read : Reading) (from : State) (begun : List Order) (w : World) (on : 
   -- while an upload is under way and its lift is not passing, the world is not still
   lift_moves : (rise : Rise) (lift : Lift) → Stood (Rises rise lift) → lift_passes lift ≡ false → ⊥
   lift_moves rise Offered h lasts = moves _ h (ap (λ v. is_sound v.standing) h.near) (rows_some _ _ h.way_is)
-  lift_moves rise (Rising past octet more came queue) h lasts = rising_moves rise past octet more came queue h
-  lift_moves rise (Risen past false came queue) h lasts = absurd (cc)
-  lift_moves rise (Risen past true came queue) h lasts = risen_moves rise past came queue h
-  lift_moves rise (Settled false fate left after) h lasts = moves _ h (ap (λ v. is_sound v.standing) h.near) (rows_some _ _ h.way_is)
-  lift_moves rise (Settled true fate left after) h lasts = moves _ h (ap (λ v. is_sound v.standing) h.near) (rows_some _ _ h.way_is)
+  lift_moves rise (Rising past octet more came queue mark []) h lasts = rising_moves rise past octet more came queue mark h
+  lift_moves rise (Rising past octet more came queue mark (note ∷ notes)) h lasts = moves _ h (ap (λ v. is_sound v.standing) h.near) (rows_some _ _ h.way_is)
+  lift_moves rise (Risen past false came queue mark notes) h lasts = absurd (cc)
+  lift_moves rise (Risen past true came queue mark []) h lasts = risen_moves rise past came queue mark h
+  lift_moves rise (Risen past true came queue mark (note ∷ notes)) h lasts = moves _ h (ap (λ v. is_sound v.standing) h.near) (rows_some _ _ h.way_is)
+  lift_moves rise (Settled false mark notes fate left after) h lasts = moves _ h (ap (λ v. is_sound v.standing) h.near) (rows_some _ _ h.way_is)
+  lift_moves rise (Settled true mark [] fate left after) h lasts = moves _ h (ap (λ v. is_sound v.standing) h.near) (rows_some _ _ h.way_is)
+  lift_moves rise (Settled true mark (note ∷ notes) fate left after) h lasts = moves _ h (ap (λ v. is_sound v.standing) h.near) (rows_some _ _ h.way_is)
   lift_moves rise (Declined why Closing) h lasts = absurd (cc)
   lift_moves rise (Declined why Shut) h lasts = moves _ h (ap (λ v. is_sound v.standing) h.near) (rows_some _ _ h.way_is)
   lift_moves rise (Declined why (Vanished broken)) h lasts = moves _ h (ap (λ v. is_sound v.standing) h.near) (rows_some _ _ h.way_is)

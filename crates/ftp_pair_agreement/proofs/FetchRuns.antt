@@ -120,10 +120,10 @@ module _ (read : Reading) (reads : IsReading read) (from : State) (begun : List 
 
       by_lift : (rise : Rise) (lift : Lift) → (h : Holds f.now f.ask f.own (Rises rise lift) f.stands.way f.stands.base) → f.stands.here ≡ inr (Rises rise lift, h) → Runs read from begun (after_event w)
       by_lift rise Offered h e = lasting _ e refl
-      by_lift rise (Rising past octet more came queue) h e = lasting _ e refl
-      by_lift rise (Risen past false came queue) h e = served_on w f (risen_closes read f.now f.ask f.is_ask.plan f.own rise past came queue w f.stands h)
-      by_lift rise (Risen past true came queue) h e = lasting _ e refl
-      by_lift rise (Settled started fate left after) h e = lasting _ e refl
+      by_lift rise (Rising past octet more came queue mark notes) h e = lasting _ e refl
+      by_lift rise (Risen past false came queue mark notes) h e = served_on w f (risen_closes read f.now f.ask f.is_ask.plan f.own rise past came queue mark notes w f.stands h)
+      by_lift rise (Risen past true came queue mark notes) h e = lasting _ e refl
+      by_lift rise (Settled started mark notes fate left after) h e = lasting _ e refl
       by_lift rise (Declined why Closing) h e = served_on w f (declined_closes read f.now f.ask f.is_ask.plan f.own rise why w f.stands h)
       by_lift rise (Declined why Shut) h e = lasting _ e refl
       by_lift rise (Declined why (Vanished broken)) h e = lasting _ e refl

@@ -487,7 +487,7 @@ module _ (read : Reading) (reads : IsReading read) (state : State) (ask : Ask) (
       (offer_denied op (carrying ask.sends ask.settings) b.near why (NearData.Listening port) (fixed_reply (refusal_text why)).lines) h.session h.link h.to_client (none_more own h.marked)
       (refused_fares state ask good own why h.ready.1 h.fine) refl))
   told_at (Carries c) reply more b h served = carry_heard read state ask good sound own c.course c.came c.queue (Answering (reply ∷ more)) b reply more h h.way_is
-  told_at (Rises rise lift) reply more b h served = inl (lift_heard read state ask good own rise lift (Answering (reply ∷ more)) b reply more h h.way_is)
+  told_at (Rises rise lift) reply more b h served = inl (lift_heard read state ask good sound own rise lift (Answering (reply ∷ more)) b reply more h h.way_is)
   told_at (Tells rise said after) reply more b h served = absurd (no_reply reply more h.way_is)
   told_at (Answers said leaves) reply more b h served = absurd (no_reply reply more h.way_is)
 

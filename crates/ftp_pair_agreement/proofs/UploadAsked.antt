@@ -31,10 +31,10 @@ use Rattle.ftp_pair_agreement.proofs.Sessions.{fixed, forgotten_on, idle_at, lin
 -- no line is on its way
 pub no_line : (lift : Lift) (line : List ℕ) → Asking line ≡ lift_way lift → ⊥
 no_line Offered line is = no_asking line _ is
-no_line (Rising past octet more came queue) line is = no_asking line _ is
-no_line (Risen past closed came queue) line is = no_asking line _ is
-no_line (Settled false fate left after) line is = no_asking line _ is
-no_line (Settled true fate left after) line is = no_asking line _ is
+no_line (Rising past octet more came queue mark notes) line is = no_asking line _ is
+no_line (Risen past closed came queue mark notes) line is = no_asking line _ is
+no_line (Settled false mark notes fate left after) line is = no_asking line _ is
+no_line (Settled true mark notes fate left after) line is = no_asking line _ is
 no_line (Declined why door) line is = no_asking line _ is
 no_line Unjoined line is = no_asking line _ is
 

@@ -1,5 +1,5 @@
 -- Breaks of the link, and the end that the client is told, lead an upload from a stage to a stage.
-use Rattle.std.proofs.Common.{◌≡◌, inr, ℕ, ◌≤◌, Bool, true, false, List, [], ◌∷◌, ◌++◌, length, None, refl, sym, ap, subst, ◌∙◌, arith}
+use Rattle.std.proofs.Common.{◌≡◌, inr, ℕ, ◌≤◌, Bool, true, false, List, [], ◌∷◌, ◌++◌, length, Option, None, refl, sym, ap, subst, ◌∙◌, arith}
 use Rattle.std.specs.Option.{is_some}
 use Rattle.ftp_cutting.specs.Machine.{IsFront}
 use Rattle.ftp_wire.specs.Decoder.{decoder_of}
@@ -24,7 +24,8 @@ use Rattle.ftp_pair_world.specs.Events.{DataToClient, is_gone, is_closed_by_far,
 use Rattle.ftp_pair_world.specs.World.{World, Link, Gone, Mark, Broken, counted}
 use Rattle.ftp_pair_dialogues.specs.Dialogue.{IsSound}
 use Rattle.ftp_pair_dialogues.specs.Fetches.{Ask, HasUpload, IsAsk, IsSteady, IsTimely, Rise, busy, kept, linked, over, stored}
-use Rattle.ftp_pair_dialogues.specs.Stage.{still, Way, Answering, rest}
+use Rattle.ftp_pair_dialogues.specs.Stage.{still, Way, Answering}
+use Rattle.ftp_pair_dialogues.specs.Uploads.{Note, last_held, note_replies}
 use Rattle.ftp_pair_dialogues.proofs.Offering.{with_flow}
 use Rattle.ftp_pair_dialogues.proofs.Sending.{over_at}
 use Rattle.ftp_pair_dialogues.proofs.Sound.{by_bool}
@@ -34,7 +35,7 @@ use Rattle.ftp_pair_agreement.specs.Stages.{Stage, Rises, Holds, AtFetch}
 use Rattle.ftp_pair_agreement.proofs.Breaks.{behind_break, closed_break, giving_break, left_breaks, left_ends}
 use Rattle.ftp_pair_agreement.proofs.FetchLink.{Leads, far_linked, fits_more, offer_breaks}
 use Rattle.ftp_pair_agreement.proofs.Sessions.{fixed}
-use Rattle.ftp_pair_agreement.proofs.UploadFates.{cut_off_fares, overfull_fares, whole_over, within_limit}
+use Rattle.ftp_pair_agreement.proofs.UploadFates.{cut_off_fares, keep_few, overfull_fares, whole_over, within_limit}
 use Rattle.ftp_pair_agreement.proofs.UploadServer.{far_by, stored_far, stored_steady, text_by, upload_breaks, upload_far}
 
 -- a link that broke breaks no more
@@ -50,11 +51,11 @@ one_mark : (own : List Mark) (mark : Mark) → own ≡ [] → own ++ mark ∷ []
 one_mark own mark is = ap (λ l. l ++ mark ∷ []) is
 
 -- the client's link breaks while it gives
-pub sending_breaks : (op : Op (List ℕ)) (left : List ℕ) (n : Near)
-    → Leads near.data_fault (busy (with_flow op Replies.Begun (Sending left None)) NearData.Open n) (busy (with_flow op Replies.Begun (Sending left None)) (NearData.Over Endings.Broken) n)
+pub sending_breaks : (op : Op (List ℕ)) (left : List ℕ) (mark : Option ℕ) (n : Near)
+    → Leads near.data_fault (busy (with_flow op Replies.Begun (Sending left mark)) NearData.Open n) (busy (with_flow op Replies.Begun (Sending left mark)) (NearData.Over Endings.Broken) n)
 unfolding near.data_fault
-sending_breaks op [] n ear gathered owed = refl
-sending_breaks op (octet ∷ left) n ear gathered owed = refl
+sending_breaks op [] mark n ear gathered owed = refl
+sending_breaks op (octet ∷ left) mark n ear gathered owed = refl
 
 -- an upload waits for the 150, or is under way: the end is a break to it
 refused_ends : (op : Op (List ℕ)) (left : List ℕ) (n : Near)
@@ -84,19 +85,19 @@ module _ (read : Reading) (state : State) (ask : Ask) (good : IsAsk ask) (sound 
   timely m upload timed = subst (λ d. IsTimely d m) upload.sends_is timed
 
   -- an upload is under way, so many octets came, and these are still to come
-  pub record Going (b : World) (past : Bool) (came coming : List ℕ) : Type 0 where
+  pub record Going (b : World) (past : Bool) (came coming : List ℕ) (mark : Option ℕ) (notes : List Note) : Type 0 where
     pub upload : HasUpload ask rise
     pub set : b.near.settings ≡ ask.settings
     pub known : state.known ≡ true
     pub steady : IsSteady state (kept b.near b.far)
     pub timed : IsTimely ask.sends b.far.footing.moment
-    pub climbs : Climbs state ask rise past came coming
+    pub climbs : Climbs state ask rise past came coming mark notes
     pub none : own ≡ []
     pub count : b.came ≡ counted (length came)
     pub session : b.far.session ≡ linked (held past (rise.path state) (rise.keep state) (decoder_of ask.settings came)) false Pendings.Nothing b.far.session
     pub to_client : b.data_to_client ≡ []
 
-  module _ (b : World) (past : Bool) (came coming : List ℕ) (g : Going b past came coming) where
+  module _ (b : World) (past : Bool) (came coming : List ℕ) (mark : Option ℕ) (notes : List Note) (g : Going b past came coming mark notes) where
     -- what came is a front of the text
     pub came_front : IsFront came rise.text
     came_front = (coming, g.climbs.1)
@@ -110,12 +111,12 @@ module _ (read : Reading) (state : State) (ask : Ask) (good : IsAsk ask) (sound 
     came_over = is_some (over rise state (length (decoder_of ask.settings came).content))
 
   -- a break where so many octets came leads to where the server is done with the upload
-  broken_to : (begun ours past : Bool) (left came coming : List ℕ) (b : World) (rows : List Reply) (c : Cut) → (g : Going b past came coming)
-      → ((fate : Fate) → rows ++ fixed_reply (fate_text fate) ∷ [] ≡ fate_rows begun fate) → Fits (Answering rows) c
-      → BreakIs b rows c (over_at ask.op g.upload.all b.near (ours_or_broken ours) (replied_by begun) left) → Breaks (Answering rows) b c
+  broken_to : (begun ours past : Bool) (left came coming : List ℕ) (mark : Option ℕ) (notes : List Note) (b : World) (rows : List Reply) (c : Cut) → (g : Going b past came coming mark notes)
+      → ((fate : Fate) → rows ++ fixed_reply (fate_text fate) ∷ [] ≡ fate_rows begun notes fate) → Fits (Answering rows) c
+      → BreakIs b rows c (over_at ask.op g.upload.all b.near (ours_or_broken ours) (replied_by begun) left mark) → Breaks (Answering rows) b c
   unfolding came_over
-  broken_to begun ours past left came coming b rows c g owes fits breaks =
-      by_bool (came_over b past came coming g) big small
+  broken_to begun ours past left came coming mark notes b rows c g owes fits breaks =
+      by_bool (came_over b past came coming mark notes g) big small
     where
       marked : own ++ Broken b.came ∷ [] ≡ Broken (counted (length came)) ∷ []
       marked = one_mark own (Broken b.came) g.none ∙ ap (λ n. Broken n ∷ []) g.count
@@ -124,32 +125,32 @@ module _ (read : Reading) (state : State) (ask : Ask) (good : IsAsk ask) (sound 
       few = subst (λ l. length l ≤ 1) (sym marked) (omega arith)
 
       -- the server behind it
-      serves : (b' : Bool) → came_over b past came coming g ≡ b'
+      serves : (b' : Bool) → came_over b past came coming mark notes g ≡ b'
           → far.data_fault (record (still b.far) { owed = c.owed })
           ≡ record (still (far_by state rise b.near b.far g.steady g.known b' (decoder_of ask.settings came).content)) { owed = c.owed ++ reply_octets (fixed_reply (text_by state rise b.near b.far g.steady g.known b' Texts.Broken)) }
       serves b' is =
           ap (λ s. far.data_fault (record (still (far_linked s b.far)) { owed = c.owed })) g.session
-          ∙ upload_breaks state rise b.near b.far g.steady g.known past b' (decoder_of ask.settings came) c.owed (moment_is b past came coming g)
+          ∙ upload_breaks state rise b.near b.far g.steady g.known past b' (decoder_of ask.settings came) c.owed (moment_is b past came coming mark notes g)
           (λ e. sym is ∙ g.climbs.2 e) is
 
       -- a world placed behind it
       placed : (fate : Fate) (after : State) (f : Far) → far.data_fault (record (still b.far) { owed = c.owed }) ≡ record (still f) { owed = c.owed ++ reply_octets (fixed_reply (fate_text fate)) }
-          → Holds state ask (own ++ Broken b.came ∷ []) (Rises rise (Settled begun fate left after)) (Answering (fate_rows begun fate))
-          (behind_break (over_at ask.op g.upload.all b.near (ours_or_broken ours) (replied_by begun) left) f b) → Breaks (Answering rows) b c
+          → Holds state ask (own ++ Broken b.came ∷ []) (Rises rise (Settled begun mark notes fate left after)) (Answering (fate_rows begun notes fate))
+          (behind_break (over_at ask.op g.upload.all b.near (ours_or_broken ours) (replied_by begun) left mark) f b) → Breaks (Answering rows) b c
       placed fate after f serves holds = record {
-        base = behind_break (over_at ask.op g.upload.all b.near (ours_or_broken ours) (replied_by begun) left) f b;
+        base = behind_break (over_at ask.op g.upload.all b.near (ours_or_broken ours) (replied_by begun) left mark) f b;
         way = Answering (rows ++ fixed_reply (fate_text fate) ∷ []);
         cut = record c { owed = c.owed ++ reply_octets (fixed_reply (fate_text fate)) };
         is = breaks f (fate_text fate) serves;
         fits = fits_more rows (fixed_reply (fate_text fate)) c (fixed b.far.session (fate_text fate)) fits;
         here = inr (
-          Rises rise (Settled begun fate left after),
-          subst (λ l. Holds state ask (own ++ Broken b.came ∷ []) (Rises rise (Settled begun fate left after)) (Answering l)
-              (behind_break (over_at ask.op g.upload.all b.near (ours_or_broken ours) (replied_by begun) left) f b)) (sym (owes fate)) holds,
+          Rises rise (Settled begun mark notes fate left after),
+          subst (λ l. Holds state ask (own ++ Broken b.came ∷ []) (Rises rise (Settled begun mark notes fate left after)) (Answering l)
+              (behind_break (over_at ask.op g.upload.all b.near (ours_or_broken ours) (replied_by begun) left mark) f b)) (sym (owes fate)) holds,
         );
       }
 
-      big : came_over b past came coming g ≡ true → Breaks (Answering rows) b c
+      big : came_over b past came coming mark notes g ≡ true → Breaks (Answering rows) b c
       big e = placed (Overfilled ours) state (upload_far FarData.Free b.far) (serves true e) (record {
         near = refl;
         session = refl;
@@ -164,16 +165,22 @@ module _ (read : Reading) (state : State) (ask : Ask) (good : IsAsk ask) (sound 
         way_is = refl;
         fine = (
           overfull_fares state ask good rise g.upload g.known g.climbs.0 (own ++ Broken b.came ∷ [])
-              (whole_over state ask good rise g.upload g.known g.climbs.0 came (came_front b past came coming g) e),
+              (whole_over state ask good rise g.upload g.known g.climbs.0 came (came_front b past came coming mark notes g) e),
           sound,
+          g.climbs.3.0,
+          tt,
         );
       })
 
-      small : came_over b past came coming g ≡ false → Breaks (Answering rows) b c
+      -- no limit was passed where none is by what came
+      within : came_over b past came coming mark notes g ≡ false → past ≡ false
+      within e = by_bool past (λ yes. absurd (let f : false ≡ true = sym e ∙ g.climbs.2 yes in cc)) (λ none. none)
+
+      small : came_over b past came coming mark notes g ≡ false → Breaks (Answering rows) b c
       small e =
           let content : List ℕ = (decoder_of ask.settings came).content in
           let after : State = stored rise state content in
-          placed (CutOff ours) after (stored_far after.table b.far) (serves false e) (record {
+          placed (CutOff ours (last_held mark notes)) after (stored_far after.table b.far) (serves false e) (record {
             near = refl;
             session = refl;
             steady = stored_steady state rise b.near b.far g.steady g.known content;
@@ -186,22 +193,25 @@ module _ (read : Reading) (state : State) (ask : Ask) (good : IsAsk ask) (sound 
             marked = few;
             way_is = refl;
             fine = (
-              cut_off_fares state ask good rise g.upload g.known g.climbs.0 (own ++ Broken b.came ∷ []) came (came_front b past came coming g) e marked,
+              cut_off_fares state ask good rise g.upload g.known g.climbs.0 (own ++ Broken b.came ∷ []) came (last_held mark notes) (came_front b past came coming mark notes g) e marked
+                  (g.climbs.3.1 (within e)).1,
               g.upload.sound state content sound g.known g.climbs.0.0 (within_limit state ask good rise g.upload g.known g.climbs.0 (length content) e),
+              g.climbs.3.0,
+              refl,
             );
           })
 
   -- before the 150 is heard
   offered_breaks : (b : World) (c : Cut) → Fits (lift_way Offered) c → Stands (Rises rise Offered) (lift_way Offered) b → Breaks (lift_way Offered) b c
   offered_breaks b c fits h =
-      let n : Near = over_at ask.op h.ready.2.all b.near Endings.Broken Replies.Nothing rise.text in
-      broken_to false false false rise.text [] rise.text b (fixed_reply Texts.Opens ∷ []) c (record {
+      let n : Near = over_at ask.op h.ready.2.all b.near Endings.Broken Replies.Nothing rise.text None in
+      broken_to false false false rise.text [] rise.text None [] b (fixed_reply Texts.Opens ∷ []) c (record {
         upload = h.ready.2;
         set = h.ready.0;
         known = h.ready.1;
         steady = h.steady;
         timed = h.timed;
-        climbs = (h.fine, refl, λ e. absurd (cc));
+        climbs = (h.fine, refl, λ e. absurd (cc), (tt, λ e. (omega (arith, keep_few state ask good rise h.ready.2 h.ready.1 h.fine sound), refl)));
         none = h.marked;
         count = h.came;
         session = h.session;
@@ -211,10 +221,11 @@ module _ (read : Reading) (state : State) (ask : Ask) (good : IsAsk ask) (sound 
       (subst (λ v. Leads near.data_fault v n) (sym h.near) (offer_breaks ask.op (Sending rise.text None) b.near)))
 
   -- while octets are given
-  rising_breaks : (past : Bool) (octet : ℕ) (more came queue : List ℕ) (b : World) (c : Cut) → Fits rest c → Stands (Rises rise (Rising past octet more came queue)) rest b → Breaks rest b c
-  rising_breaks past octet more came queue b c fits h =
-      let n : Near = over_at ask.op h.ready.2.all b.near Endings.Broken Replies.Begun (octet ∷ more) in
-      broken_to true false past (octet ∷ more) came (queue ++ octet ∷ more) b [] c (record {
+  rising_breaks : (past : Bool) (octet : ℕ) (more came queue : List ℕ) (mark : Option ℕ) (notes : List Note) (b : World) (c : Cut) → Fits (Answering (note_replies notes)) c
+      → Stands (Rises rise (Rising past octet more came queue mark notes)) (Answering (note_replies notes)) b → Breaks (Answering (note_replies notes)) b c
+  rising_breaks past octet more came queue mark notes b c fits h =
+      let n : Near = over_at ask.op h.ready.2.all b.near Endings.Broken Replies.Begun (octet ∷ more) mark in
+      broken_to true false past (octet ∷ more) came (queue ++ octet ∷ more) mark notes b (note_replies notes) c (record {
         upload = h.ready.2;
         set = h.ready.0;
         known = h.ready.1;
@@ -226,13 +237,15 @@ module _ (read : Reading) (state : State) (ask : Ask) (good : IsAsk ask) (sound 
         session = h.session;
         to_client = h.to_client;
       }) (λ fate. refl) fits
-      (λ f text. giving_break text b [] (fixed_reply text ∷ []) c n f fits h.link (subst (λ v. Leads near.data_fault v n) (sym h.near) (sending_breaks ask.op (octet ∷ more) b.near)))
+      (λ f text. giving_break text b (note_replies notes) (note_replies notes ++ fixed_reply text ∷ []) c n f fits h.link
+      (subst (λ v. Leads near.data_fault v n) (sym h.near) (sending_breaks ask.op (octet ∷ more) mark b.near)))
 
   -- behind the client's close
-  risen_breaks : (past : Bool) (came queue : List ℕ) (b : World) (c : Cut) → Fits rest c → Stands (Rises rise (Risen past true came queue)) rest b → Breaks rest b c
-  risen_breaks past came queue b c fits h =
-      let n : Near = over_at ask.op h.ready.2.all b.near Endings.Ours Replies.Begun [] in
-      broken_to true true past [] came queue b [] c (record {
+  risen_breaks : (past : Bool) (came queue : List ℕ) (mark : Option ℕ) (notes : List Note) (b : World) (c : Cut) → Fits (Answering (note_replies notes)) c
+      → Stands (Rises rise (Risen past true came queue mark notes)) (Answering (note_replies notes)) b → Breaks (Answering (note_replies notes)) b c
+  risen_breaks past came queue mark notes b c fits h =
+      let n : Near = over_at ask.op h.ready.2.all b.near Endings.Ours Replies.Begun [] mark in
+      broken_to true true past [] came queue mark notes b (note_replies notes) c (record {
         upload = h.ready.2;
         set = h.ready.0;
         known = h.ready.1;
@@ -244,13 +257,13 @@ module _ (read : Reading) (state : State) (ask : Ask) (good : IsAsk ask) (sound 
         session = h.session;
         to_client = h.to_client;
       }) (λ fate. refl) fits
-      (λ f text serves. closed_break text b [] (fixed_reply text ∷ []) c f h.link serves
-      ∙ ap (λ v. world_at (behind_break v f b) (Answering (fixed_reply text ∷ [])) (record c { owed = c.owed ++ reply_octets (fixed_reply text) })) h.near)
+      (λ f text serves. closed_break text b (note_replies notes) (note_replies notes ++ fixed_reply text ∷ []) c f h.link serves
+      ∙ ap (λ v. world_at (behind_break v f b) (Answering (note_replies notes ++ fixed_reply text ∷ [])) (record c { owed = c.owed ++ reply_octets (fixed_reply text) })) h.near)
 
   -- a refused upload whose link the server has closed
   declined_breaks : (why : Refusal) (way : Way) (b : World) (c : Cut) → Fits way c → Stands (Rises rise (Declined why Shut)) way b → Breaks way b c
   declined_breaks why way b c fits h =
-      let n : Near = over_at ask.op h.ready.2.all b.near Endings.Broken Replies.Nothing rise.text in
+      let n : Near = over_at ask.op h.ready.2.all b.near Endings.Broken Replies.Nothing rise.text None in
       record {
         base = behind_break n b.far b;
         way = way;
@@ -280,14 +293,14 @@ module _ (read : Reading) (state : State) (ask : Ask) (good : IsAsk ask) (sound 
   pub lift_breaks : (lift : Lift) (way : Way) (b : World) (c : Cut) → Fits way c → Stands (Rises rise lift) way b → lift_passes lift ≡ false → is_gone b.link ≡ false → Breaks way b c
   lift_breaks Offered way b c fits h stays some =
       let T : Way → Type 0 = λ way. Fits way c → Stands (Rises rise Offered) way b → Breaks way b c in subst T (sym h.way_is) (offered_breaks b c) fits h
-  lift_breaks (Rising past octet more came queue) way b c fits h stays some =
-      let T : Way → Type 0 = λ way. Fits way c → Stands (Rises rise (Rising past octet more came queue)) way b → Breaks way b c in
-      subst T (sym h.way_is) (rising_breaks past octet more came queue b c) fits h
-  lift_breaks (Risen past false came queue) way b c fits h stays some = absurd (cc)
-  lift_breaks (Risen past true came queue) way b c fits h stays some =
-      let T : Way → Type 0 = λ way. Fits way c → Stands (Rises rise (Risen past true came queue)) way b → Breaks way b c in
-      subst T (sym h.way_is) (risen_breaks past came queue b c) fits h
-  lift_breaks (Settled begun fate left after) way b c fits h stays some = absurd (no_link_stands b.link h.link some)
+  lift_breaks (Rising past octet more came queue mark notes) way b c fits h stays some =
+      let T : Way → Type 0 = λ way. Fits way c → Stands (Rises rise (Rising past octet more came queue mark notes)) way b → Breaks way b c in
+      subst T (sym h.way_is) (rising_breaks past octet more came queue mark notes b c) fits h
+  lift_breaks (Risen past false came queue mark notes) way b c fits h stays some = absurd (cc)
+  lift_breaks (Risen past true came queue mark notes) way b c fits h stays some =
+      let T : Way → Type 0 = λ way. Fits way c → Stands (Rises rise (Risen past true came queue mark notes)) way b → Breaks way b c in
+      subst T (sym h.way_is) (risen_breaks past came queue mark notes b c) fits h
+  lift_breaks (Settled begun mark notes fate left after) way b c fits h stays some = absurd (no_link_stands b.link h.link some)
   lift_breaks (Declined why Closing) way b c fits h stays some = absurd (cc)
   lift_breaks (Declined why Shut) way b c fits h stays some = declined_breaks why way b c fits h
   lift_breaks (Declined why (Vanished broken)) way b c fits h stays some = absurd (no_link_stands b.link h.link some)
@@ -301,7 +314,7 @@ module _ (read : Reading) (state : State) (ask : Ask) (good : IsAsk ask) (sound 
   -- the end of the link of a refused upload
   declined_ends : (why : Refusal) (way : Way) (b : World) (c : Cut) → Fits way c → Stands (Rises rise (Declined why Shut)) way b → EndsAt way b c
   declined_ends why way b c fits h =
-      let n : Near = over_at ask.op h.ready.2.all b.near Endings.Broken Replies.Nothing rise.text in
+      let n : Near = over_at ask.op h.ready.2.all b.near Endings.Broken Replies.Nothing rise.text None in
       record {
         base = record b { near = n; link = Gone; data_to_server = []; data_to_client = [] };
         way = way;
@@ -330,10 +343,10 @@ module _ (read : Reading) (state : State) (ask : Ask) (good : IsAsk ask) (sound 
   -- the end of the link that the server has closed leads each lift that does not pass to a lift
   pub lift_ends : (lift : Lift) (way : Way) (b : World) (c : Cut) → Fits way c → Stands (Rises rise lift) way b → is_closed_by_far b.link ≡ true → lift_passes lift ≡ false → EndsAt way b c
   lift_ends Offered way b c fits h left stays = absurd (not_left b.link _ h.link refl left)
-  lift_ends (Rising past octet more came queue) way b c fits h left stays = absurd (not_left b.link _ h.link refl left)
-  lift_ends (Risen past false came queue) way b c fits h left stays = absurd (cc)
-  lift_ends (Risen past true came queue) way b c fits h left stays = absurd (not_left b.link _ h.link refl left)
-  lift_ends (Settled begun fate remains after) way b c fits h left stays = absurd (not_left b.link _ h.link refl left)
+  lift_ends (Rising past octet more came queue mark notes) way b c fits h left stays = absurd (not_left b.link _ h.link refl left)
+  lift_ends (Risen past false came queue mark notes) way b c fits h left stays = absurd (cc)
+  lift_ends (Risen past true came queue mark notes) way b c fits h left stays = absurd (not_left b.link _ h.link refl left)
+  lift_ends (Settled begun mark notes fate remains after) way b c fits h left stays = absurd (not_left b.link _ h.link refl left)
   lift_ends (Declined why Closing) way b c fits h left stays = absurd (cc)
   lift_ends (Declined why Shut) way b c fits h left stays = declined_ends why way b c fits h
   lift_ends (Declined why (Vanished broken)) way b c fits h left stays = absurd (not_left b.link _ h.link refl left)

@@ -1,25 +1,26 @@
 -- How an upload fares: installed, too much, or cut, as its client tells it, and the state that it leaves.
-use Rattle.std.proofs.Common.{◌≡◌, ◌⊎◌, inl, inr, ℕ, ◌+◌, ◌≤◌, Bool, true, false, List, [], ◌∷◌, ◌++◌, length, Option, Some, None, refl, sym, ap, subst, ◌∙◌, arith, length-append}
+use Rattle.std.proofs.Common.{◌≡◌, ◌⊎◌, inl, inr, ℕ, ◌+◌, ◌<◌, ◌≤◌, ◌^◌, Bool, true, false, List, [], ◌∷◌, ◌++◌, length, Option, Some, None, refl, sym, ap, subst, ◌∙◌, arith, length-append}
 use Rattle.std.specs.Prelude.{if◌then◌else◌}
-use Rattle.std.specs.Option.{is_some}
+use Rattle.std.specs.Option.{is_some, unwrap_or}
 use Rattle.std.proofs.lemmas.List.{length-take-le}
 use Rattle.ftp_cutting.specs.Machine.{IsFront}
 use Rattle.ftp_mode.specs.Laws.{settled_content}
 use Rattle.ftp_operation.specs.Answer.{Done, Refused, Broken as BrokenOff}
 use Rattle.ftp_operation.specs.declared.op.Op.{Op}
 use Rattle.ftp_settings.specs.Representation.{form_of}
-use Rattle.ftp_tree.specs.Tree.{octets_or_none, octets_refusal}
+use Rattle.ftp_tree.specs.Tree.{Node, Dir, File, node_at, octets_at, octets_of, octets_or_none, octets_refusal, of_node, total_limit}
 use Rattle.ftp_tree.specs.declared.fault.TreeFault.{TreeFault}
 use Rattle.ftp_wire.specs.Decoder.{decoder_of, no_octets}
-use Rattle.ftp_wire.proofs.DecoderLemmas.{front_gives, what_is_settled}
+use Rattle.ftp_wire.proofs.DecoderLemmas.{what_is_settled}
 use Rattle.ftp_direct.specs.declared.refusal.Refusal.TheVariants as Refusals
 use Rattle.ftp_direct.specs.Direct.{State, first_refusal, part, refusal, refused_octets}
 use Rattle.ftp_direct.specs.Refusal.{code_of}
 use Rattle.ftp_pair_world.specs.Outcome.{Whole, Cut, CanBeCut, IsCutOf, Stored, cut_by, download_of, mmmm_in, upload_of}
 use Rattle.ftp_pair_world.specs.World.{Mark, Broken, counted}
+use Rattle.ftp_pair_dialogues.specs.Dialogue.{IsSound}
 use Rattle.ftp_pair_dialogues.specs.Fetches.{Ask, HasUpload, IsAsk, IsPlacedAt, Rise, kept_of, over, stored}
 use Rattle.ftp_pair_dialogues.proofs.Rows.{answer_known}
-use Rattle.ftp_pair_dialogues.proofs.Wires.{IsPlain, no_mark, plain_both, wire_plain}
+use Rattle.ftp_pair_dialogues.proofs.Wires.{text_front}
 use Rattle.ftp_pair_agreement.specs.Rising.{FaredTo}
 use Rattle.ftp_pair_agreement.proofs.Fates.{among_one}
 use Rattle.ftp_pair_agreement.proofs.UploadServer.{too_many_more}
@@ -68,7 +69,7 @@ module _ (state : State) (ask : Ask) (good : IsAsk ask) (rise : Rise) (upload : 
 
   -- a front of the text is one of the wire
   front_is : (came : List ℕ) → IsFront came rise.text → IsFront (decoder_of ask.settings came).content rise.octets
-  front_is came front = front_gives ask.settings rise.octets came (subst (IsFront came) upload.text_is front)
+  front_is came front = text_front ask.settings rise.octets rise.text came upload.text_is front
 
   -- what came settles no more octets than there are
   shorter : (came : List ℕ) → IsFront came rise.text → length (decoder_of ask.settings came).content ≤ length rise.octets
@@ -82,11 +83,6 @@ module _ (state : State) (ask : Ask) (good : IsAsk ask) (rise : Rise) (upload : 
   whole_over came front some =
       too_many_more (part state) (rise.path state) (rise.keep state + length (decoder_of ask.settings came).content) (rise.keep state + length rise.octets)
       (omega (arith, shorter came front)) some
-
-  -- no marker stands in what came
-  plain_front : (came : List ℕ) → IsFront came rise.text → IsPlain (no_octets ask.settings) came
-  plain_front came front =
-      (plain_both (no_octets ask.settings) came front.0 (subst (IsPlain (no_octets ask.settings)) (sym (front.1 ∙ upload.text_is)) (wire_plain ask.settings rise.octets))).0
 
   -- the upload that the world knows
   abbrev known_upload : Stored
@@ -114,29 +110,49 @@ module _ (state : State) (ask : Ask) (good : IsAsk ask) (rise : Rise) (upload : 
       ) in
       ((good.refuses.can, either), subst (λ up. IsCutOf up (download_of state op) state came) (sym k.up) cut)
 
+  -- the octets held at the last marker that came
+  abbrev pub held_at : List ℕ → Option ℕ
+  held_at came = mmmm_in (rise.keep state) (no_octets ask.settings) None came
+
   -- what it leaves then
-  cut_is : (came : List ℕ) → IsFront came rise.text
-      → cut_by (upload_of state op) (download_of state op) state rise.moment came ≡ (BrokenOff [] None, stored rise state (decoder_of ask.settings came).content)
-  cut_is came front =
+  cut_is : (came : List ℕ) → cut_by (upload_of state op) (download_of state op) state rise.moment came ≡ (BrokenOff [] (held_at came), stored rise state (decoder_of ask.settings came).content)
+  cut_is came =
       let k = upload.known_so state in
       ap (λ up. cut_by up (download_of state op) state rise.moment came) k.up
       ∙ ap (λ settings. (
         BrokenOff [] (mmmm_in (length (kept_of rise state)) (no_octets settings) None came),
         stored rise state (settled_content settings.mode (form_of settings) came),
       )) k.set
-      ∙ ap (λ mark. (BrokenOff [] mark, stored rise state (settled_content ask.settings.mode (form_of ask.settings) came)))
-      (no_mark (length (kept_of rise state)) (no_octets ask.settings) None came (plain_front came front))
-      ∙ ap (λ content. (BrokenOff [] None, stored rise state content)) (sym (what_is_settled ask.settings came))
+      ∙ ap (λ kept. (BrokenOff [] (mmmm_in kept (no_octets ask.settings) None came), stored rise state (settled_content ask.settings.mode (form_of ask.settings) came)))
+      (length-take-le (rise.keep state) (octets_or_none (part state) (rise.path state)) (upload.within state))
+      ∙ ap (λ content. (BrokenOff [] (held_at came), stored rise state content)) (sym (what_is_settled ask.settings came))
 
-  -- with the mark of a break it fares as broken off, and leaves what was settled
-  pub cut_off_fares : (own : List Mark) (came : List ℕ) → IsFront came rise.text → is_some (over rise state (length (decoder_of ask.settings came).content)) ≡ false
-      → own ≡ Broken (counted (length came)) ∷ [] → FaredTo state ask own (BrokenOff [] None) (stored rise state (decoder_of ask.settings came).content) rise.moment
-  cut_off_fares own came front small marked = record {
+  -- with the mark of a break it fares as broken off, with the octets held at the last marker that came, and leaves what was settled
+  pub cut_off_fares : (own : List Mark) (came : List ℕ) (held : Option ℕ) → IsFront came rise.text → is_some (over rise state (length (decoder_of ask.settings came).content)) ≡ false
+      → own ≡ Broken (counted (length came)) ∷ [] → held ≡ held_at came
+      → FaredTo state ask own (BrokenOff [] held) (stored rise state (decoder_of ask.settings came).content) rise.moment
+  cut_off_fares own came held front small marked heard = record {
     outcome = Cut came;
     can_be = can_be_cut came front small;
     allowed = λ index. (tt, among_one state ask good own (Broken (counted (length came))) marked);
-    did_so = cut_is came front;
+    did_so = cut_is came ∙ ap (λ mark. (BrokenOff [] mark, stored rise state (decoder_of ask.settings came).content)) (sym heard);
   }
+
+  -- in a sound state what is kept of the file can be said
+  pub keep_few : IsSound state → rise.keep state < 10 ^ 18
+  unfolding octets_at
+  keep_few sound = by_node (node_at (part state) (rise.path state)) refl
+    where
+      found_in : Option Node → List ℕ
+      found_in node = unwrap_or (of_node octets_of node) []
+
+      few_of : (found : List ℕ) → octets_or_none (part state) (rise.path state) ≡ found → length found ≤ total_limit → rise.keep state < 10 ^ 18
+      few_of found is few = omega (arith, upload.within state, ap length is, few)
+
+      by_node : (node : Option Node) → node_at (part state) (rise.path state) ≡ node → rise.keep state < 10 ^ 18
+      by_node None is = few_of [] (ap found_in is) (omega arith)
+      by_node (Some Dir) is = few_of [] (ap found_in is) (omega arith)
+      by_node (Some (File octets moment)) is = few_of octets (ap found_in is) (sound.files (rise.path state) octets moment is).1
 
   -- the limit passes nothing that it is not some of
   pub within_limit : (count : ℕ) → is_some (over rise state count) ≡ false → over rise state count ≡ None

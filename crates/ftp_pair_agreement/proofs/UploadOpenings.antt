@@ -1,5 +1,5 @@
 -- The server has connected to the client's port for an upload.
-use Rattle.std.proofs.Common.{◌≡◌, inr, ℕ, true, false, List, [], ◌∷◌, None, refl, sym, ap, ◌∙◌}
+use Rattle.std.proofs.Common.{◌≡◌, inr, ℕ, true, false, List, [], ◌∷◌, None, refl, sym, ap, ◌∙◌, arith}
 use Rattle.std.specs.Prelude.{if◌then◌else◌}
 use Rattle.ftp_ends.specs.Link.{same_host}
 use Rattle.ftp_wire.specs.Decoder.{no_octets}
@@ -19,7 +19,8 @@ use Rattle.ftp_server_model.specs.declared.session.ServerLink.TheVariants as Far
 use Rattle.ftp_server_model.specs.declared.session.Way.TheVariants as Ways
 use Rattle.ftp_pair_world.specs.Events.{link_opens}
 use Rattle.ftp_pair_world.specs.World.{World, Opened, Mark}
-use Rattle.ftp_pair_dialogues.specs.Fetches.{Ask, HasUpload, Rise, busy, carried, linked}
+use Rattle.ftp_pair_dialogues.specs.Dialogue.{IsSound}
+use Rattle.ftp_pair_dialogues.specs.Fetches.{Ask, HasUpload, IsAsk, Rise, busy, carried, linked}
 use Rattle.ftp_pair_dialogues.specs.Stage.{calm, still, Way, rest}
 use Rattle.ftp_pair_dialogues.proofs.Fetching.{own_host}
 use Rattle.ftp_pair_dialogues.proofs.Offering.{up_job}
@@ -29,15 +30,16 @@ use Rattle.ftp_pair_agreement.specs.Rising.{Lift, Rising, Risen, held, sending}
 use Rattle.ftp_pair_agreement.specs.Stages.{Awaits, Rises, Holds, AtFetch, at_port}
 use Rattle.ftp_pair_agreement.proofs.FetchLink.{far_linked}
 use Rattle.ftp_pair_agreement.proofs.Still.{no_octets as no_cut}
+use Rattle.ftp_pair_agreement.proofs.UploadFates.{keep_few}
 
-module _ (read : Reading) (state : State) (ask : Ask) (own : List Mark) (rise : Rise) (upload : HasUpload ask rise) (port : ℕ) (w b : World) (way : Way)
+module _ (read : Reading) (state : State) (ask : Ask) (good : IsAsk ask) (sound : IsSound state) (own : List Mark) (rise : Rise) (upload : HasUpload ask rise) (port : ℕ) (w b : World) (way : Way)
     (is : w ≡ world_at b rest no_cut) (h : Holds state ask own (Awaits port true) way b) where
   abbrev At : Way → World → Type 0
   At way b = AtFetch state ask read own way b
 
   -- the client, with this text to give, waits at its port
   abbrev waits_with : List ℕ → Near
-  waits_with text = busy (sending ask.op Replies.Begun text) (NearData.Accepting port) b.near
+  waits_with text = busy (sending ask.op Replies.Begun text None) (NearData.Accepting port) b.near
 
   -- it waits so
   waits : (text : List ℕ) → rise.text ≡ text → b.near ≡ waits_with text
@@ -49,10 +51,10 @@ module _ (read : Reading) (state : State) (ask : Ask) (own : List Mark) (rise : 
 
   -- a client with octets gives them over the link
   some_near : (octet : ℕ) (more : List ℕ) → rise.text ≡ octet ∷ more
-      → near.data_opened b.far.footing.here (calm b.near) ≡ calm (giving_at ask.op upload.all b.near Replies.Begun (octet ∷ more))
+      → near.data_opened b.far.footing.here (calm b.near) ≡ calm (giving_at ask.op upload.all b.near Replies.Begun (octet ∷ more) None)
   unfolding near.data_opened
   some_near octet more e =
-      let v : Near = calm (giving_at ask.op upload.all b.near Replies.Begun (octet ∷ more)) in
+      let v : Near = calm (giving_at ask.op upload.all b.near Replies.Begun (octet ∷ more) None) in
       let flow : Flow = Sending (octet ∷ more) None in
       let transfer : ClientTransfer = record { replied = Replies.Begun; abort = Aborts.Unsent; flow = flow } in
       ap (λ n. near.data_opened b.far.footing.here (calm n)) (waits (octet ∷ more) e)
@@ -60,7 +62,7 @@ module _ (read : Reading) (state : State) (ask : Ask) (own : List Mark) (rise : 
       ∙ ap (λ count. answers_once_over (if has_settled count flow then sends_abort ask.op transfer v else v)) upload.all
 
   -- one without any closes it
-  none_near : rise.text ≡ [] → near.data_opened b.far.footing.here (calm b.near) ≡ calm (gave_at ask.op upload.all b.near)
+  none_near : rise.text ≡ [] → near.data_opened b.far.footing.here (calm b.near) ≡ calm (gave_at ask.op upload.all b.near None)
   unfolding near.data_opened
   none_near e =
       ap (λ n. near.data_opened b.far.footing.here (calm n)) (waits [] e) ∙ ap (λ same. near.accepted same (calm (waits_with []))) peer_is
@@ -97,7 +99,7 @@ module _ (read : Reading) (state : State) (ask : Ask) (own : List Mark) (rise : 
   upload_accepted = by_text rise.text refl
     where
       by_text : (text : List ℕ) → rise.text ≡ text → PlacedAt At (link_opens w)
-      by_text [] e = accepts (gave_at ask.op upload.all b.near) (Risen false false [] []) (none_near e) (record {
+      by_text [] e = accepts (gave_at ask.op upload.all b.near None) (Risen false false [] [] None []) (none_near e) (record {
         near = refl;
         session = refl;
         steady = h.steady;
@@ -109,9 +111,9 @@ module _ (read : Reading) (state : State) (ask : Ask) (own : List Mark) (rise : 
         came = refl;
         marked = h.marked;
         way_is = refl;
-        fine = (h.fine, sym e, λ past. absurd (cc));
+        fine = (h.fine, sym e, λ past. absurd (cc), (tt, λ past. (omega (arith, keep_few state ask good rise upload h.ready.1 h.fine sound), refl)));
       })
-      by_text (octet ∷ more) e = accepts (giving_at ask.op upload.all b.near Replies.Begun (octet ∷ more)) (Rising false octet more [] []) (some_near octet more e) (record {
+      by_text (octet ∷ more) e = accepts (giving_at ask.op upload.all b.near Replies.Begun (octet ∷ more) None) (Rising false octet more [] [] None []) (some_near octet more e) (record {
         near = refl;
         session = refl;
         steady = h.steady;
@@ -123,5 +125,5 @@ module _ (read : Reading) (state : State) (ask : Ask) (own : List Mark) (rise : 
         came = refl;
         marked = h.marked;
         way_is = refl;
-        fine = (h.fine, sym e, λ past. absurd (cc));
+        fine = (h.fine, sym e, λ past. absurd (cc), (tt, λ past. (omega (arith, keep_few state ask good rise upload h.ready.1 h.fine sound), refl)));
       })

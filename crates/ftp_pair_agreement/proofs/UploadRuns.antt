@@ -6,14 +6,14 @@ use Rattle.ftp_pair_world.specs.Agreement.{Order}
 use Rattle.ftp_pair_world.specs.Events.{DataToServer, pulled, pushed, filled, DeliversBy, told, is_closed_by_near}
 use Rattle.ftp_pair_world.specs.Serving.{after_event}
 use Rattle.ftp_pair_world.specs.World.{World, Link}
-use Rattle.ftp_pair_dialogues.specs.Stage.{rest}
-use Rattle.ftp_pair_agreement.specs.Cut.{PlacedAt}
+use Rattle.ftp_pair_dialogues.specs.Stage.{Way, Asking, Answering}
+use Rattle.ftp_pair_dialogues.specs.Uploads.{note_replies}
+use Rattle.ftp_pair_agreement.specs.Cut.{Cut, Fits, PlacedAt, world_at}
 use Rattle.ftp_pair_agreement.specs.Rising.{Lift, Offered, Rising, Risen, Settled, Declined, Unjoined, lifts}
 use Rattle.ftp_pair_agreement.specs.Runs.{IsFetching, Runs}
-use Rattle.ftp_pair_agreement.specs.Stages.{Rises, Holds}
+use Rattle.ftp_pair_agreement.specs.Stages.{AtFetch, Rises, Holds}
 use Rattle.ftp_pair_agreement.proofs.Deliveries.{taken_at}
 use Rattle.ftp_pair_agreement.proofs.FetchRuns.{IsKept, fetch_after, fetching_moved, holds_taken, no_change}
-use Rattle.ftp_pair_agreement.proofs.Still.{rest_placed}
 use Rattle.ftp_pair_agreement.proofs.UploadData.{AtRise, rise_ends, rise_is, rise_pulls, rise_pushes}
 
 module _ (read : Reading) (reads : IsReading read) (from : State) (begun : List Order) where
@@ -92,21 +92,29 @@ module _ (read : Reading) (reads : IsReading read) (from : State) (begun : List 
   pub upload_ends : (w : World) (f : Fetching w) → Climbing w f w → is_closed_by_near w.link ≡ true → w.data_to_server ≡ [] → Runs read from begun (after_event (told DataToServer w))
   upload_ends w f s closed empty = by_lift s.here.lift s.here.rises s.here.holds
     where
-      link_is : s.way ≡ rest → w.link ≡ s.base.link
-      link_is way = ap (λ u. u.link) (rest_placed _ w s way)
+      by_way : (way : Way) (c : Cut) → ((world_at s.base way c).link ≡ s.base.link) × ((world_at s.base way c).data_to_server ≡ s.base.data_to_server)
+      by_way (Asking line) c = (refl, refl)
+      by_way (Answering rows) c = (refl, refl)
+
+      link_is : w.link ≡ s.base.link
+      link_is = ap (λ u. u.link) s.is ∙ (by_way s.way s.cut).0
 
       by_lift : (lift : Lift) → lifts lift ≡ true → Holds f.now f.ask f.own (Rises s.here.rise lift) s.way s.base → Runs read from begun (after_event (told DataToServer w))
-      by_lift (Rising past octet more came queue) rises h = absurd (not_closed w.link _ (link_is h.way_is ∙ h.link) refl closed)
-      by_lift (Risen past false came queue) rises h = absurd (not_closed w.link _ (link_is h.way_is ∙ h.link) refl closed)
-      by_lift (Risen past true came queue) rises h =
-          let none : queue ≡ [] = sym (ap (λ u. u.data_to_server) (rest_placed _ w s h.way_is) ∙ h.to_server) ∙ empty in
-          let at_rest : Holds f.now f.ask f.own (Rises s.here.rise (Risen past true came queue)) rest s.base =
-          subst (λ way. Holds f.now f.ask f.own (Rises s.here.rise (Risen past true came queue)) way s.base) h.way_is h in
-          let ended = rise_ends read f.now f.ask f.is_ask f.sound f.own s.here.rise past came w s.base (rest_placed _ w s h.way_is)
-          (subst (λ q. Holds f.now f.ask f.own (Rises s.here.rise (Risen past true came q)) rest s.base) none at_rest) in
+      by_lift (Rising past octet more came queue mark notes) rises h = absurd (not_closed w.link _ (link_is ∙ h.link) refl closed)
+      by_lift (Risen past false came queue mark notes) rises h = absurd (not_closed w.link _ (link_is ∙ h.link) refl closed)
+      by_lift (Risen past true came queue mark notes) rises h =
+          let none : queue ≡ [] = sym (ap (λ u. u.data_to_server) s.is ∙ (by_way s.way s.cut).1 ∙ h.to_server) ∙ empty in
+          let way : Way = Answering (note_replies notes) in
+          let fits : Fits way s.cut = subst (λ way. Fits way s.cut) h.way_is s.fits in
+          let is : w ≡ world_at s.base way s.cut = s.is ∙ ap (λ way. world_at s.base way s.cut) h.way_is in
+          let stands : Holds f.now f.ask f.own (Rises s.here.rise (Risen past true came queue mark notes)) way s.base =
+          subst (λ way. Holds f.now f.ask f.own (Rises s.here.rise (Risen past true came queue mark notes)) way s.base) h.way_is h in
+          let ended = rise_ends read f.now f.ask f.is_ask f.sound f.own s.here.rise past came mark notes s.base s.cut fits
+          (subst (λ q. Holds f.now f.ask f.own (Rises s.here.rise (Risen past true came q mark notes)) way s.base) none stands) in
           fetch_after read reads from begun (told DataToServer w)
-          (fetching_moved read reads from begun w (told DataToServer w) f (record { marks = refl; reports = refl; control = refl; cutoff = refl }) ended)
+          (fetching_moved read reads from begun w (told DataToServer w) f (record { marks = refl; reports = refl; control = refl; cutoff = refl })
+          (subst (λ u. PlacedAt (λ way b. AtFetch f.now f.ask read f.own way b) (told DataToServer u)) (sym is) ended))
       by_lift Offered rises h = absurd (cc)
-      by_lift (Settled started fate left after) rises h = absurd (cc)
+      by_lift (Settled started mark notes fate left after) rises h = absurd (cc)
       by_lift (Declined why door) rises h = absurd (cc)
       by_lift Unjoined rises h = absurd (cc)

@@ -1,11 +1,12 @@
 -- The server of an upload: the octets that it takes, and what it makes of the link's end and of a break.
-use Rattle.std.proofs.Common.{◌≡◌, ℕ, ◌+◌, ◌≤◌, Bool, true, false, not, nat_le, List, [], ◌∷◌, ◌++◌, length, take, None, refl, sym, ap, ◌∙◌, arith}
+use Rattle.std.proofs.Common.{◌≡◌, ◌⊎◌, inl, inr, ℕ, ◌+◌, ◌<◌, ◌≤◌, ◌^◌, Bool, true, false, not, nat_le, List, [], ◌∷◌, ◌++◌, length, take, Option, Some, None, refl, sym, ap, subst, ◌∙◌, arith, append-nil, append_assoc}
 use Rattle.std.specs.Prelude.{if◌then◌else◌}
 use Rattle.std.specs.Option.{is_some}
 use Rattle.std.proofs.lemmas.Bool.{le-leb, leb-true}
 use Rattle.ftp_ends.specs.Reply.{reply_octets}
 use Rattle.ftp_mode.specs.Said.{Said, says, marker}
 use Rattle.ftp_path.specs.Path.{Names}
+use Rattle.ftp_reply.specs.Values.{is_marker}
 use Rattle.ftp_tree.specs.Tree.{Table, file_limit, installed, octets_or_none, octets_refusal, or_else, room_at, whenever}
 use Rattle.ftp_tree.specs.declared.fault.TreeFault.TheVariants as Faults
 use Rattle.ftp_wire.specs.Decoder.{Decoder, with_sign, with_all, read_on, octet_says, decoded, decoded_octet, ended, fault_of, is_whole}
@@ -23,10 +24,13 @@ use Rattle.ftp_server_model.specs.declared.session.ServerLink.{ServerLink as Far
 use Rattle.ftp_server_model.specs.declared.session.ServerLink.TheVariants as FarData
 use Rattle.ftp_server_model.specs.declared.session.Transfer.TheVariants as Transfers
 use Rattle.ftp_pair_dialogues.specs.Fetches.{Rise, IsSteady, kept, linked, over, stored}
-use Rattle.ftp_pair_dialogues.specs.Stage.{still}
+use Rattle.ftp_pair_world.specs.Outcome.{mmmm_in, reached}
+use Rattle.ftp_pair_dialogues.specs.Stage.{row_octets, still}
+use Rattle.ftp_pair_dialogues.specs.Uploads.{AreNotes, Note, last_held, note_replies, note_reply}
 use Rattle.ftp_pair_dialogues.proofs.Fetching.{same_direct}
+use Rattle.ftp_pair_dialogues.proofs.Notes.{last_held-append, notes_both}
 use Rattle.ftp_pair_dialogues.proofs.Sound.{by_bool}
-use Rattle.ftp_pair_dialogues.proofs.Wires.{IsPlain, IsSigns, grows}
+use Rattle.ftp_pair_dialogues.proofs.Wires.{IsMarked, IsSigns, ReadsWell, grows, reached_none}
 use Rattle.ftp_pair_agreement.specs.Rising.{held}
 use Rattle.ftp_pair_agreement.proofs.FetchLink.{far_linked}
 
@@ -52,6 +56,13 @@ too_many_more table path few many le some =
     ap (λ (b : Bool). is_some (or_else (whenever (not b) Faults.TooBig) (whenever (not (nat_le many (room_at table path))) Faults.Full))) small
     ∙ ap (λ (b : Bool). is_some (whenever (not b) Faults.Full)) full))
     (λ big. ap (λ (b : Bool). is_some (or_else (whenever (not b) Faults.TooBig) (whenever (not (nat_le many (room_at table path))) Faults.Full))) big)
+
+-- what is not too many can be said
+clear_few : (table : Table) (path : Names) (count : ℕ) → is_some (octets_refusal table path count) ≡ false → count < 10 ^ 18
+clear_few table path count none =
+    by_bool (nat_le count file_limit) (λ e. omega (arith, leb-true count file_limit e))
+    (λ e. absurd (let f : true ≡ false =
+    sym (ap (λ (b : Bool). is_some (or_else (whenever (not b) Faults.TooBig) (whenever (not (nat_le count (room_at table path))) Faults.Full))) e) ∙ none in cc))
 
 -- ---- the server
 
@@ -104,70 +115,159 @@ module _ (state : State) (rise : Rise) (n : Near) (f : Far) (steady : IsSteady s
 
   -- ---- octets
 
-  -- the server has taken what makes this decoder, past a limit or not
-  pub record Taken (v : Far) (d : Decoder) : Type 0 where
+  -- it takes octets, past a limit or not, and owes these
+  abbrev pub taking_at : Bool → Decoder → List ℕ → Far
+  taking_at past d owed = record (still (upload_far (held past path keep d) f)) { owed = owed }
+
+  -- the server, past a limit before or not, has taken what makes this decoder, past a limit or not, and has answered markers; the last number that it
+  -- says follows so on one that was said before
+  pub record Taken (before : Bool) (v : Far) (owed : List ℕ) (d : Decoder) (says_last : Option ℕ → Option ℕ) : Type 0 where
     pub past : Bool
-    pub is : v ≡ still (upload_far (held past path keep d) f)
+    pub notes : List Note
+    pub is : v ≡ taking_at past d (owed ++ row_octets (note_replies notes))
+    pub since : past ≡ false → before ≡ false
     pub over : past ≡ true → is_some (over rise state (length d.content)) ≡ true
+    pub few : past ≡ false → keep + length d.content < 10 ^ 18
+    pub fine : AreNotes notes
+    pub last : (mark : Option ℕ) → past ≡ false → last_held mark notes ≡ says_last mark
 
   -- past a limit nothing changes
-  past_stays : (d : Decoder) (said : List Said) → takes_all said (still (upload_far (held true path keep d) f)) ≡ still (upload_far (held true path keep d) f)
-  past_stays d [] = refl
-  past_stays d (one ∷ more) = past_stays d more
+  past_stays : (d : Decoder) (owed : List ℕ) (said : List Said) → takes_all said (taking_at true d owed) ≡ taking_at true d owed
+  past_stays d owed [] = refl
+  past_stays d owed (one ∷ more) = past_stays d owed more
+
+  -- nothing more is owed where no marker came
+  none_owed : (past : Bool) (d : Decoder) (owed : List ℕ) → taking_at past d owed ≡ taking_at past d (owed ++ row_octets (note_replies []))
+  none_owed past d owed = ap (taking_at past d) (sym (append-nil owed))
 
   -- signs are taken
-  signs_taken : (d : Decoder) (said : List Said) → IsSigns said → Taken (takes_all said (still (upload_far (held false path keep d) f))) (with_all d said)
-  signs_taken d [] signs = record { past = false; is = refl; over = λ e. absurd (cc) }
-  signs_taken d (marker text ∷ more) signs = absurd signs
-  signs_taken d (says sign ∷ more) signs =
-      by_bool (is_some (over rise state (length (with_sign d sign).content))) past (on (signs_taken (with_sign d sign) more signs))
+  signs_taken : (owed : List ℕ) (d : Decoder) (said : List Said) → IsSigns said → keep + length d.content < 10 ^ 18
+      → Taken false (takes_all said (taking_at false d owed)) owed (with_all d said) (λ mark. mark)
+  signs_taken owed d [] signs few =
+      record { past = false; notes = []; is = none_owed false d owed; since = λ e. refl; over = λ e. absurd (cc); few = λ e. few; fine = tt; last = λ mark e. refl }
+  signs_taken owed d (marker text ∷ more) signs few = absurd signs
+  signs_taken owed d (says sign ∷ more) signs few =
+      by_bool (is_some (over rise state (length (with_sign d sign).content))) past
+      (λ e. on (signs_taken owed (with_sign d sign) more signs (clear_few (part state) path (keep + length (with_sign d sign).content) e)) e)
     where
       step : (b : Bool) → is_some (over rise state (length (with_sign d sign).content)) ≡ b
-          → takes_all (says sign ∷ more) (still (upload_far (held false path keep d) f)) ≡ takes_all more (still (upload_far (held b path keep (with_sign d sign)) f))
+          → takes_all (says sign ∷ more) (taking_at false d owed) ≡ takes_all more (taking_at b (with_sign d sign) owed)
       step true e =
-          ap (λ (b : Bool). takes_all more (still (upload_far (if b then FarData.Transferring Transfers.OverLimit else FarData.Transferring (Transfers.Upload path keep (with_sign d sign))) f)))
+          ap (λ (b : Bool). takes_all more (record (still (upload_far (if b then FarData.Transferring Transfers.OverLimit else FarData.Transferring (Transfers.Upload path keep (with_sign d sign))) f)) { owed = owed }))
           (over_is (with_sign d sign) (held false path keep d) ∙ e)
       step false e =
-          ap (λ (b : Bool). takes_all more (still (upload_far (if b then FarData.Transferring Transfers.OverLimit else FarData.Transferring (Transfers.Upload path keep (with_sign d sign))) f)))
+          ap (λ (b : Bool). takes_all more (record (still (upload_far (if b then FarData.Transferring Transfers.OverLimit else FarData.Transferring (Transfers.Upload path keep (with_sign d sign))) f)) { owed = owed }))
           (over_is (with_sign d sign) (held false path keep d) ∙ e)
 
-      past : is_some (over rise state (length (with_sign d sign).content)) ≡ true → Taken (takes_all (says sign ∷ more) (still (upload_far (held false path keep d) f))) (with_all d (says sign ∷ more))
+      past : is_some (over rise state (length (with_sign d sign).content)) ≡ true
+          → Taken false (takes_all (says sign ∷ more) (taking_at false d owed)) owed (with_all d (says sign ∷ more)) (λ mark. mark)
       past e = record {
         past = true;
-        is = step true e ∙ past_stays (with_sign d sign) more;
+        notes = [];
+        is = step true e ∙ past_stays (with_sign d sign) owed more ∙ none_owed true (with_all d (says sign ∷ more)) owed;
+        since = λ no_more. refl;
         over = λ yes. too_many_more (part state) path (keep + length (with_sign d sign).content) (keep + length (with_all (with_sign d sign) more).content)
             (omega (arith, grows (with_sign d sign) more)) e;
+        few = λ no_more. absurd (cc);
+        fine = tt;
+        last = λ mark no_more. refl;
       }
 
-      on : Taken (takes_all more (still (upload_far (held false path keep (with_sign d sign)) f))) (with_all (with_sign d sign) more)
-          → is_some (over rise state (length (with_sign d sign).content)) ≡ false → Taken (takes_all (says sign ∷ more) (still (upload_far (held false path keep d) f))) (with_all d (says sign ∷ more))
-      on t e = record { past = t.past; is = step false e ∙ t.is; over = t.over }
+      on : Taken false (takes_all more (taking_at false (with_sign d sign) owed)) owed (with_all (with_sign d sign) more) (λ mark. mark)
+          → is_some (over rise state (length (with_sign d sign).content)) ≡ false
+          → Taken false (takes_all (says sign ∷ more) (taking_at false d owed)) owed (with_all d (says sign ∷ more)) (λ mark. mark)
+      on t e = record { past = t.past; notes = t.notes; is = step false e ∙ t.is; since = t.since; over = t.over; few = t.few; fine = t.fine; last = t.last }
 
-  -- an octet is taken
-  octet_taken : (past : Bool) (d : Decoder) (octet : ℕ) → (past ≡ true → is_some (over rise state (length d.content)) ≡ true) → fault_of (read_on d octet) ≡ None → IsSigns (octet_says d octet)
-      → Taken (far.receives_octet (still (upload_far (held past path keep d) f)) octet) (decoded_octet d octet)
-  unfolding far.receives_octet
-  octet_taken false d octet over none signs =
-      let t = signs_taken (read_on d octet) (octet_says d octet) signs in
+  -- a marker is answered by the octets held, and then signs are taken
+  marker_taken : (owed : List ℕ) (d : Decoder) (text : List ℕ) (more : List Said) → is_marker text ≡ true → IsSigns more → keep + length d.content < 10 ^ 18
+      → Taken false (takes_all (marker text ∷ more) (taking_at false d owed)) owed (with_all d (marker text ∷ more)) (λ mark. Some (keep + length d.content))
+  marker_taken owed d text more marks signs few =
+      let note : Note = record { theirs = text; held = keep + length d.content } in
+      let t = signs_taken (owed ++ reply_octets (note_reply note)) d more signs few in
       record {
         past = t.past;
-        is = ap (λ fault. later (takes_octet fault path keep (read_on d octet) (octet_says d octet) (still (upload_far (held false path keep d) f)))) none ∙ ap later t.is;
+        notes = note ∷ t.notes;
+        is = t.is ∙ ap (taking_at t.past (with_all d more)) (append_assoc owed (reply_octets (note_reply note)) (row_octets (note_replies t.notes)));
+        since = t.since;
         over = t.over;
+        few = t.few;
+        fine = ((marks, few), t.fine);
+        last = λ mark e. t.last (Some note.held) e;
       }
-  octet_taken true d octet over none signs = record {
+
+  -- all that an octet says is taken
+  said_taken : (owed : List ℕ) (d : Decoder) (said : List Said) → IsSigns said ⊎ IsMarked said → keep + length d.content < 10 ^ 18
+      → Taken false (takes_all said (taking_at false d owed)) owed (with_all d said) (λ mark. reached (keep + length d.content) mark said)
+  said_taken owed d said (inl signs) few =
+      let t = signs_taken owed d said signs few in
+      record {
+        past = t.past;
+        notes = t.notes;
+        is = t.is;
+        since = t.since;
+        over = t.over;
+        few = t.few;
+        fine = t.fine;
+        last = λ mark e. t.last mark e ∙ sym (reached_none (keep + length d.content) mark said signs);
+      }
+  said_taken owed d said (inr marked) few =
+      subst (λ said. Taken false (takes_all said (taking_at false d owed)) owed (with_all d said) (λ mark. reached (keep + length d.content) mark said)) (sym marked.is)
+      (marker_taken owed d marked.text marked.more marked.fine marked.signs few)
+
+  -- an octet is taken
+  octet_taken : (owed : List ℕ) (past : Bool) (d : Decoder) (octet : ℕ) → (past ≡ true → is_some (over rise state (length d.content)) ≡ true) → (past ≡ false → keep + length d.content < 10 ^ 18)
+      → fault_of (read_on d octet) ≡ None → IsSigns (octet_says d octet) ⊎ IsMarked (octet_says d octet)
+      → Taken past (far.receives_octet (taking_at past d owed) octet) owed (decoded_octet d octet) (λ mark. reached (keep + length d.content) mark (octet_says d octet))
+  unfolding far.receives_octet
+  octet_taken owed false d octet over few none said =
+      let t = said_taken owed (read_on d octet) (octet_says d octet) said (few refl) in
+      record {
+        past = t.past;
+        notes = t.notes;
+        is = ap (λ fault. later (takes_octet fault path keep (read_on d octet) (octet_says d octet) (taking_at false d owed))) none ∙ ap later t.is;
+        since = t.since;
+        over = t.over;
+        few = t.few;
+        fine = t.fine;
+        last = t.last;
+      }
+  octet_taken owed true d octet over few none said = record {
     past = true;
-    is = refl;
+    notes = [];
+    is = none_owed true d owed;
+    since = λ e. e;
     over = λ yes. too_many_more (part state) path (keep + length d.content) (keep + length (decoded_octet d octet).content) (omega (arith, grows (read_on d octet) (octet_says d octet))) (over refl);
+    few = λ e. absurd (cc);
+    fine = tt;
+    last = λ mark e. absurd (cc);
   }
 
+  -- the octets of two rows of answers
+  answers_octets : (owed : List ℕ) (xs ys : List Note) → (owed ++ row_octets (note_replies xs)) ++ row_octets (note_replies ys) ≡ owed ++ row_octets (note_replies (xs ++ ys))
+  answers_octets owed xs ys = append_assoc owed (row_octets (note_replies xs)) (row_octets (note_replies ys)) ∙ ap (λ l. owed ++ l) (both xs)
+    where
+      both : (xs : List Note) → row_octets (note_replies xs) ++ row_octets (note_replies ys) ≡ row_octets (note_replies (xs ++ ys))
+      both [] = refl
+      both (x ∷ xs) = append_assoc (reply_octets (note_reply x)) (row_octets (note_replies xs)) (row_octets (note_replies ys)) ∙ ap (λ l. reply_octets (note_reply x) ++ l) (both xs)
+
   -- octets are taken
-  pub octets_taken : (past : Bool) (d : Decoder) (octets : List ℕ) → (past ≡ true → is_some (over rise state (length d.content)) ≡ true) → IsPlain d octets
-      → Taken (far.receives (still (upload_far (held past path keep d) f)) octets) (decoded d octets)
-  octets_taken past d [] over plain = record { past = past; is = refl; over = over }
-  octets_taken past d (octet ∷ octets) over plain =
-      let one = octet_taken past d octet over plain.0 plain.1 in
-      let t = octets_taken one.past (decoded_octet d octet) octets one.over plain.2 in
-      record { past = t.past; is = ap (λ v. far.receives v octets) one.is ∙ t.is; over = t.over }
+  pub octets_taken : (owed : List ℕ) (past : Bool) (d : Decoder) (octets : List ℕ) → (past ≡ true → is_some (over rise state (length d.content)) ≡ true)
+      → (past ≡ false → keep + length d.content < 10 ^ 18) → ReadsWell d octets
+      → Taken past (far.receives (taking_at past d owed) octets) owed (decoded d octets) (λ mark. mmmm_in keep d mark octets)
+  octets_taken owed past d [] over few reads = record { past = past; notes = []; is = none_owed past d owed; since = λ e. e; over = over; few = few; fine = tt; last = λ mark e. refl }
+  octets_taken owed past d (octet ∷ octets) over few reads =
+      let one = octet_taken owed past d octet over few reads.0 reads.1 in
+      let t = octets_taken (owed ++ row_octets (note_replies one.notes)) one.past (decoded_octet d octet) octets one.over one.few reads.2 in
+      record {
+        past = t.past;
+        notes = one.notes ++ t.notes;
+        is = ap (λ v. far.receives v octets) one.is ∙ t.is ∙ ap (taking_at t.past (decoded d (octet ∷ octets))) (answers_octets owed one.notes t.notes);
+        since = λ e. one.since (t.since e);
+        over = t.over;
+        few = t.few;
+        fine = notes_both one.notes t.notes one.fine t.fine;
+        last = λ mark e. last_held-append mark one.notes t.notes ∙ ap (λ m. last_held m t.notes) (one.last mark (t.since e)) ∙ t.last (reached (keep + length d.content) mark (octet_says d octet)) e;
+      }
 
   -- ---- the end and a break
 
@@ -204,15 +304,15 @@ module _ (state : State) (rise : Rise) (n : Near) (f : Far) (steady : IsSteady s
       ∙ ends_by b d.content Texts.Broken (held false path keep d) owed timed
 
   -- the client's close behind the whole text: the file is installed, where no limit is passed
-  pub upload_ends : (past b : Bool) (d : Decoder) → rise.moment ≡ f.footing.moment → is_whole d ≡ true → (past ≡ true → b ≡ true)
+  pub upload_ends : (past b : Bool) (d : Decoder) (owed : List ℕ) → rise.moment ≡ f.footing.moment → is_whole d ≡ true → (past ≡ true → b ≡ true)
       → is_some (over rise state (length (ended d).content)) ≡ b
-      → far.data_end (still (upload_far (held past path keep d) f))
-      ≡ record (still (far_by b (ended d).content)) { owed = reply_octets (fixed_reply (text_by b Texts.Complete)) }
+      → far.data_end (record (still (upload_far (held past path keep d) f)) { owed = owed })
+      ≡ record (still (far_by b (ended d).content)) { owed = owed ++ reply_octets (fixed_reply (text_by b Texts.Complete)) }
   unfolding far.data_end
-  upload_ends true b d timed whole past is = ap (λ b. record (still (far_by b (ended d).content)) { owed = reply_octets (fixed_reply (text_by b Texts.Complete)) }) (sym (past refl))
-  upload_ends false b d timed whole past is =
-      let v : Far = still (upload_far (held false path keep d) f) in
+  upload_ends true b d owed timed whole past is = ap (λ b. record (still (far_by b (ended d).content)) { owed = owed ++ reply_octets (fixed_reply (text_by b Texts.Complete)) }) (sym (past refl))
+  upload_ends false b d owed timed whole past is =
+      let v : Far = taking_at false d owed in
       ap (λ (w : Bool). concluded (if w then ending_by (is_over path keep (ended d) (session_with FarData.Free)) (ended d).content Texts.Complete
       else at_break f.footing.moment (Transfers.Upload path keep d) (session_with FarData.Free)) v) whole
       ∙ ap (λ b. concluded (ending_by b (ended d).content Texts.Complete) v) (over_is (ended d) FarData.Free ∙ is)
-      ∙ ends_by b (ended d).content Texts.Complete (held false path keep d) [] timed
+      ∙ ends_by b (ended d).content Texts.Complete (held false path keep d) owed timed

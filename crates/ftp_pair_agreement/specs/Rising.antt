@@ -1,5 +1,5 @@
 -- An upload whose own command was acted on over a link: how far it is, and what both ends hold of it (RFC 959, sections 3.2 to 3.5 and 4.1.3).
-use Rattle.std.specs.Prelude.{◌≡◌, ℕ, ◌≤◌, Bool, true, false, not, List, [], ◌∷◌, ◌++◌, length, None, Some}
+use Rattle.std.specs.Prelude.{◌≡◌, ℕ, ◌+◌, ◌<◌, ◌≤◌, ◌^◌, Bool, true, false, not, List, [], ◌∷◌, ◌++◌, length, Option, None, Some}
 use Rattle.std.specs.Option.{is_some}
 use Rattle.ftp_wire.specs.Decoder.{Decoder, decoder_of, no_octets}
 use Rattle.ftp_ends.specs.Reply.{Reply}
@@ -27,31 +27,33 @@ use Rattle.ftp_server_model.specs.declared.session.ServerLink.{ServerLink as Far
 use Rattle.ftp_server_model.specs.declared.session.ServerLink.TheVariants as FarData
 use Rattle.ftp_server_model.specs.declared.session.Transfer.TheVariants as Transfers
 use Rattle.ftp_pair_world.specs.Agreement.{Allows}
-use Rattle.ftp_pair_world.specs.Outcome.{Outcome, CanBe, did}
+use Rattle.ftp_pair_world.specs.Outcome.{Outcome, CanBe, did, mmmm_in}
 use Rattle.ftp_pair_world.specs.World.{Link, Gone, Opened, ClosedByNear, ClosedByFar, Mark, Broken, counted}
 use Rattle.ftp_pair_dialogues.specs.Dialogue.{IsSound}
 use Rattle.ftp_pair_dialogues.specs.Fetches.{Ask, IsPlacedAt, Rise, busy, over}
-use Rattle.ftp_pair_dialogues.specs.Stage.{Way, Answering, rest}
+use Rattle.ftp_pair_dialogues.specs.Stage.{Way, Answering}
+use Rattle.ftp_pair_dialogues.specs.Uploads.{AreNotes, Note, last_held, note_replies}
 
 -- ---- how it ends at the server
 
 -- the file is installed, behind the client's close; its octets were too many; or the link broke, and what came is installed. Of the latter two, the
--- client had closed the link before or not
+-- client had closed the link before or not; and of the last these octets of the file were held at the last marker
 pub data Fate : Type 0 where
   Installed : Fate
-  Overfilled CutOff : (ours : Bool) → Fate
+  Overfilled : (ours : Bool) → Fate
+  CutOff : (ours : Bool) → (held : Option ℕ) → Fate
 
 -- the server's last reply
 abbrev pub fate_text : Fate → FixedReply
 fate_text Installed = Texts.Complete
 fate_text (Overfilled ours) = Texts.TooMuch
-fate_text (CutOff ours) = Texts.Broken
+fate_text (CutOff ours held) = Texts.Broken
 
 -- the client's answer
 abbrev pub fate_said : Fate → Said
 fate_said Installed = Done
 fate_said (Overfilled ours) = Refused (code_of Refusals.TooMuch)
-fate_said (CutOff ours) = BrokenOff [] None
+fate_said (CutOff ours held) = BrokenOff [] held
 
 -- the link's end, as the client saw it
 abbrev pub ours_or_broken : Bool → Ending
@@ -61,7 +63,7 @@ ours_or_broken false = Endings.Broken
 abbrev pub fate_ending : Fate → Ending
 fate_ending Installed = Endings.Ours
 fate_ending (Overfilled ours) = ours_or_broken ours
-fate_ending (CutOff ours) = ours_or_broken ours
+fate_ending (CutOff ours held) = ours_or_broken ours
 
 -- ---- how far it is
 
@@ -72,18 +74,19 @@ pub data Door : Type 0 where
 
 -- the 150 is on its way; the client has octets to give, one at least; it has given all, and is to close the link or has closed it; the server is done
 -- with it, the client has heard the 150 or not, has so many octets left, and the server has this state; it is refused; or the server had no link. The
--- server has passed a limit of octets or not; so many came, and so many are on their way
+-- server has passed a limit of octets or not; so many came, and so many are on their way; and the client has heard so many to be held, and these answers
+-- to markers are on their way
 pub data Lift : Type 0 where
   Offered : Lift
-  Rising : (past : Bool) → (octet : ℕ) → (more : List ℕ) → (came : List ℕ) → (queue : List ℕ) → Lift
-  Risen : (past : Bool) → (closed : Bool) → (came : List ℕ) → (queue : List ℕ) → Lift
-  Settled : (begun : Bool) → (fate : Fate) → (left : List ℕ) → (after : State) → Lift
+  Rising : (past : Bool) → (octet : ℕ) → (more : List ℕ) → (came : List ℕ) → (queue : List ℕ) → (mark : Option ℕ) → (notes : List Note) → Lift
+  Risen : (past : Bool) → (closed : Bool) → (came : List ℕ) → (queue : List ℕ) → (mark : Option ℕ) → (notes : List Note) → Lift
+  Settled : (begun : Bool) → (mark : Option ℕ) → (notes : List Note) → (fate : Fate) → (left : List ℕ) → (after : State) → Lift
   Declined : (why : Refusal) → (door : Door) → Lift
   Unjoined : Lift
 
--- the client's job, with so many octets to give
-abbrev pub sending : Op (List ℕ) → Replied → List ℕ → Job
-sending op replied left = Transferring op (record { replied = replied; abort = Aborts.Unsent; flow = Sending left None })
+-- the client's job, with so many octets to give, and so many that it has heard to be held
+abbrev pub sending : Op (List ℕ) → Replied → List ℕ → Option ℕ → Job
+sending op replied left mark = Transferring op (record { replied = replied; abort = Aborts.Unsent; flow = Sending left mark })
 
 -- which replies it has heard
 abbrev pub replied_by : Bool → Replied
@@ -119,22 +122,22 @@ closed_link true = ClosedByNear
 
 -- one end has something to close
 abbrev pub lift_passes : Lift → Bool
-lift_passes (Risen past closed came queue) = not closed
+lift_passes (Risen past closed came queue mark notes) = not closed
 lift_passes (Declined why door) = is_closing door
 lift_passes lift = false
 
 -- octets are given or taken
 abbrev pub lifts : Lift → Bool
-lifts (Rising past octet more came queue) = true
-lifts (Risen past closed came queue) = true
+lifts (Rising past octet more came queue mark notes) = true
+lifts (Risen past closed came queue mark notes) = true
 lifts lift = false
 
 -- the link of the world
 abbrev pub lift_link : Lift → Link
 lift_link Offered = Opened
-lift_link (Rising past octet more came queue) = Opened
-lift_link (Risen past closed came queue) = closed_link closed
-lift_link (Settled begun fate left after) = Gone
+lift_link (Rising past octet more came queue mark notes) = Opened
+lift_link (Risen past closed came queue mark notes) = closed_link closed
+lift_link (Settled begun mark notes fate left after) = Gone
 lift_link (Declined why door) = door_link door
 lift_link Unjoined = Gone
 
@@ -145,34 +148,34 @@ lift_closing lift = false
 
 -- octets on their way to the server
 abbrev pub lift_queue : Lift → List ℕ
-lift_queue (Rising past octet more came queue) = queue
-lift_queue (Risen past closed came queue) = queue
+lift_queue (Rising past octet more came queue mark notes) = queue
+lift_queue (Risen past closed came queue mark notes) = queue
 lift_queue lift = []
 
--- a 150 where it was not heard, and the last reply
-abbrev pub fate_rows : Bool → Fate → List Reply
-fate_rows false fate = fixed_reply Texts.Opens ∷ fixed_reply (fate_text fate) ∷ []
-fate_rows true fate = fixed_reply (fate_text fate) ∷ []
+-- a 150 where it was not heard, answers to markers, and the last reply
+abbrev pub fate_rows : Bool → List Note → Fate → List Reply
+fate_rows false notes fate = fixed_reply Texts.Opens ∷ (note_replies notes ++ fixed_reply (fate_text fate) ∷ [])
+fate_rows true notes fate = note_replies notes ++ fixed_reply (fate_text fate) ∷ []
 
 -- what is on its way over the control connection
 abbrev pub lift_way : Lift → Way
 lift_way Offered = Answering (fixed_reply Texts.Opens ∷ [])
-lift_way (Rising past octet more came queue) = rest
-lift_way (Risen past closed came queue) = rest
-lift_way (Settled begun fate left after) = Answering (fate_rows begun fate)
+lift_way (Rising past octet more came queue mark notes) = Answering (note_replies notes)
+lift_way (Risen past closed came queue mark notes) = Answering (note_replies notes)
+lift_way (Settled begun mark notes fate left after) = Answering (fate_rows begun notes fate)
 lift_way (Declined why door) = Answering (fixed_reply (refusal_text why) ∷ [])
 lift_way Unjoined = Answering (fixed_reply Texts.NoConnection ∷ [])
 
 -- how many octets have come, while they can come
 abbrev pub LiftCame : Lift → ℕ → Type 0
 LiftCame Offered count = count ≡ 0
-LiftCame (Rising past octet more came queue) count = count ≡ counted (length came)
-LiftCame (Risen past closed came queue) count = count ≡ counted (length came)
+LiftCame (Rising past octet more came queue mark notes) count = count ≡ counted (length came)
+LiftCame (Risen past closed came queue mark notes) count = count ≡ counted (length came)
 LiftCame lift count = Unit {0}
 
 -- the marks of the operation
 abbrev pub LiftMarked : Lift → List Mark → Type 0
-LiftMarked (Settled begun fate left after) own = length own ≤ 1
+LiftMarked (Settled begun mark notes fate left after) own = length own ≤ 1
 LiftMarked (Declined why (Vanished broken)) own = length own ≤ 1
 LiftMarked Unjoined own = own ≡ Broken 0 ∷ []
 LiftMarked lift own = own ≡ []
@@ -188,23 +191,23 @@ module _ (state : State) (ask : Ask) where
   module _ (rise : Rise) where
     -- the client
     abbrev pub lift_near : Lift → Near → Near
-    lift_near Offered n = busy (sending ask.op Replies.Nothing rise.text) NearData.Open n
-    lift_near (Rising past octet more came queue) n = busy (sending ask.op Replies.Begun (octet ∷ more)) NearData.Open n
-    lift_near (Risen past closed came queue) n = record (busy (sending ask.op Replies.Begun []) (NearData.Over Endings.Ours) n) { closing = not closed }
-    lift_near (Settled begun fate left after) n = busy (sending ask.op (replied_by begun) left) (NearData.Over (fate_ending fate)) n
-    lift_near (Declined why door) n = busy (sending ask.op Replies.Nothing rise.text) (door_near door) n
-    lift_near Unjoined n = busy (sending ask.op Replies.Nothing rise.text) (NearData.Over Endings.Broken) n
+    lift_near Offered n = busy (sending ask.op Replies.Nothing rise.text None) NearData.Open n
+    lift_near (Rising past octet more came queue mark notes) n = busy (sending ask.op Replies.Begun (octet ∷ more) mark) NearData.Open n
+    lift_near (Risen past closed came queue mark notes) n = record (busy (sending ask.op Replies.Begun [] mark) (NearData.Over Endings.Ours) n) { closing = not closed }
+    lift_near (Settled begun mark notes fate left after) n = busy (sending ask.op (replied_by begun) left mark) (NearData.Over (fate_ending fate)) n
+    lift_near (Declined why door) n = busy (sending ask.op Replies.Nothing rise.text None) (door_near door) n
+    lift_near Unjoined n = busy (sending ask.op Replies.Nothing rise.text None) (NearData.Over Endings.Broken) n
 
     -- the server's data connection
     abbrev pub lift_far : Lift → FarConnection Transfer
     lift_far Offered = held false (rise.path state) (rise.keep state) (no_octets ask.settings)
-    lift_far (Rising past octet more came queue) = held past (rise.path state) (rise.keep state) (decoder_of ask.settings came)
-    lift_far (Risen past closed came queue) = held past (rise.path state) (rise.keep state) (decoder_of ask.settings came)
+    lift_far (Rising past octet more came queue mark notes) = held past (rise.path state) (rise.keep state) (decoder_of ask.settings came)
+    lift_far (Risen past closed came queue mark notes) = held past (rise.path state) (rise.keep state) (decoder_of ask.settings came)
     lift_far lift = FarData.Free
 
     -- the state that the server has
     abbrev pub lift_state : Lift → State
-    lift_state (Settled begun fate left after) = after
+    lift_state (Settled begun mark notes fate left after) = after
     lift_state lift = state
 
     -- a limit was passed with what came
@@ -215,15 +218,29 @@ module _ (state : State) (ask : Ask) where
     abbrev pub IsOpen : Type 0
     IsOpen = (ask.why state ≡ None) × IsPlacedAt ask.settings ask.offset
 
+    -- the answers to markers can be said; and where no limit was passed the number of octets held is one that can be, and the last that is said is
+    -- that of the last marker that came, with the octets that are kept of the file
+    abbrev pub IsNoted : Bool → (came : List ℕ) → Option ℕ → List Note → Type 0
+    IsNoted past came mark notes =
+        AreNotes notes
+        × (past ≡ false
+        → (rise.keep state + length (decoder_of ask.settings came).content < 10 ^ 18)
+        × (last_held mark notes ≡ mmmm_in (rise.keep state) (no_octets ask.settings) None came))
+
     -- the octets that came and those that are still to come are the text
-    abbrev pub Climbs : Bool → (came coming : List ℕ) → Type 0
-    Climbs past came coming = IsOpen × (came ++ coming ≡ rise.text) × IsPast past came
+    abbrev pub Climbs : Bool → (came coming : List ℕ) → Option ℕ → List Note → Type 0
+    Climbs past came coming mark notes = IsOpen × (came ++ coming ≡ rise.text) × IsPast past came × IsNoted past came mark notes
+
+    -- what is told of a break is what is still to be heard
+    abbrev pub IsHeard : Fate → Option ℕ → List Note → Type 0
+    IsHeard (CutOff ours held) mark notes = last_held mark notes ≡ held
+    IsHeard fate mark notes = Unit {0}
 
     -- what is so of each
     abbrev pub LiftFine : Lift → List Mark → Type 0
     LiftFine Offered own = IsOpen
-    LiftFine (Rising past octet more came queue) own = Climbs past came (queue ++ octet ∷ more)
-    LiftFine (Risen past closed came queue) own = Climbs past came queue
-    LiftFine (Settled begun fate left after) own = FaredTo own (fate_said fate) after rise.moment × IsSound after
+    LiftFine (Rising past octet more came queue mark notes) own = Climbs past came (queue ++ octet ∷ more) mark notes
+    LiftFine (Risen past closed came queue mark notes) own = Climbs past came queue mark notes
+    LiftFine (Settled begun mark notes fate left after) own = FaredTo own (fate_said fate) after rise.moment × IsSound after × AreNotes notes × IsHeard fate mark notes
     LiftFine (Declined why door) own = refusal state ask.op ≡ Some why
     LiftFine Unjoined own = Unit {0}

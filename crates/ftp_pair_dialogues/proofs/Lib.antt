@@ -23,3 +23,4 @@ pub mod Uploads
 pub mod Footing
 pub mod Sending
 pub mod Wires
+pub mod Notes

@@ -1,5 +1,5 @@
 -- What is asked for by an upload: its place in the file, its refusals, and what the direct run makes of it.
-use Rattle.std.proofs.Common.{◌≡◌, ℕ, ◌+◌, ◌<◌, ◌≤◌, ◌^◌, Bool, true, false, ◌&&◌, not, nat_le, List, ◌++◌, length, Option, Some, None, refl, sym, ap, subst, ◌∙◌, arith, cond}
+use Rattle.std.proofs.Common.{◌≡◌, ℕ, ◌+◌, ◌<◌, ◌≤◌, ◌^◌, Bool, true, not, nat_le, List, ◌++◌, length, Option, Some, None, refl, sym, ap, subst, ◌∙◌, arith, cond}
 use Rattle.std.specs.Prelude.{if◌then◌else◌, IsTrue}
 use Rattle.std.specs.List.{list_all}
 use Rattle.std.specs.Option.{is_some, unwrap_or}
@@ -21,19 +21,19 @@ use Rattle.ftp_tree.proofs.LawLemmas.{same}
 use Rattle.ftp_direct.specs.declared.refusal.Refusal.{Refusal}
 use Rattle.ftp_direct.specs.Direct.{State, changed, done, file_of, limited, named, offset_refusal, or_refused, part, place_at, put_refusal, refusal, refused_name, refused_octets, refused_room}
 use Rattle.ftp_direct.proofs.PlaceLemmas.{led}
-use Rattle.ftp_client_model.specs.Octets.{written}
+use Rattle.ftp_client_model.specs.Octets.{upload_text}
 use Rattle.ftp_client_model.specs.Plan.{count_of}
-use Rattle.ftp_client_model.specs.View.{Sending}
 use Rattle.ftp_server_model.specs.Transfer.{misplaced, transfer_starts}
 use Rattle.ftp_server_model.specs.View.{direct_of, how_in_force}
 use Rattle.ftp_server_model.specs.declared.session.Transfer.TheVariants as Transfers
 use Rattle.ftp_wire.specs.Decoder.{no_octets}
 use Rattle.ftp_server_model.proofs.PathTexts.{is_path-led}
 use Rattle.ftp_pair_dialogues.specs.Dialogue.{IsFine, IsSound}
-use Rattle.ftp_pair_dialogues.specs.Fetches.{HasPlan, HasRow, IsAsk, IsKnownUpload, IsPlacedAt, over, stored, kept_of, sends_markers}
-use Rattle.ftp_pair_dialogues.specs.Uploads.{Place, Anew, Behind, From, room_why, store, store_offset, store_place, store_rise, store_why, upload_ask}
+use Rattle.ftp_pair_dialogues.specs.Fetches.{HasPlan, HasRow, IsAsk, IsCounted, IsKnownUpload, IsPlacedAt, IsTextOf, over, stored, kept_of, sends_markers}
+use Rattle.ftp_pair_dialogues.specs.Uploads.{Place, Anew, Behind, From, room_why, store, store_offset, store_place, store_rise, store_start, store_why, upload_ask}
 use Rattle.ftp_pair_dialogues.proofs.Renaming.{none_limited}
 use Rattle.ftp_pair_dialogues.proofs.Sound.{HasFineFiles, HasNames, by_bool, change-sound}
+use Rattle.ftp_pair_dialogues.proofs.Wires.{written_text}
 
 -- ---- refusals, one behind the other
 
@@ -105,24 +105,24 @@ installs : (table : Table) (path : Names) (count : ℕ) → room_refusal table p
 unfolding install_refusal
 installs table path count room few = ap (λ r. or_else r (octets_refusal table path count)) room ∙ few
 
-module _ (place : Place) (text octets : List ℕ) (how : How) (moment : ℕ) (plain : sends_markers how ≡ false) where
+module _ (place : Place) (text octets : List ℕ) (how : How) (moment : ℕ) (counted : IsCounted how (store_start place) octets) where
   abbrev op : Op (List ℕ)
   op = store place text octets how
 
   -- ---- the plan
 
-  -- without markers what is written is the wire
-  plain_text : (start : ℕ) → written (how.marks && has_markers how.representation) how.representation start octets ≡ (store_rise place text octets how moment).text
-  plain_text start = ap (λ (b : Bool). written b how.representation start octets) plain
+  -- its text is the one text of its octets
+  store_text_is : IsTextOf how.representation octets (upload_text how (store_start place) octets)
+  store_text_is = written_text how.representation (store_start place) octets (sends_markers how) (λ sends. (and_parts how.marks (has_markers how.representation) sends).1) counted
 
   -- an upload has a plan
   upload_plan : HasPlan (upload_ask place text octets how moment)
   upload_plan = by_place place
     where
       by_place : (place : Place) → HasPlan (upload_ask place text octets how moment)
-      by_place Anew = record { how_is = refl; asks = refl; offset_is = refl; own = refl; flow = ap (λ l. Some (Sending l None)) (plain_text 0) }
-      by_place Behind = record { how_is = refl; asks = refl; offset_is = refl; own = refl; flow = ap (λ l. Some (Sending l None)) (plain_text 0) }
-      by_place (From offset) = record { how_is = refl; asks = refl; offset_is = refl; own = refl; flow = ap (λ l. Some (Sending l None)) (plain_text offset) }
+      by_place Anew = record { how_is = refl; asks = refl; offset_is = refl; own = refl; flow = refl }
+      by_place Behind = record { how_is = refl; asks = refl; offset_is = refl; own = refl; flow = refl }
+      by_place (From offset) = record { how_is = refl; asks = refl; offset_is = refl; own = refl; flow = refl }
 
   -- ---- the server
 
@@ -202,14 +202,14 @@ module _ (place : Place) (text octets : List ℕ) (how : How) (moment : ℕ) (pl
   known_is state = by_place place
     where
       by_place : (place : Place) → IsKnownUpload (upload_ask place text octets how moment) (store_rise place text octets how moment) state
-      by_place Anew = record { start = 0; set = refl; up = refl; text = plain_text 0 }
+      by_place Anew = record { start = 0; set = refl; up = refl; text = refl }
       by_place Behind = record {
         start = 0;
         set = refl;
         up = ap (λ kept. Some (record { path = named state text; kept = kept; start = 0; octets = octets; how = how })) (sym (take_all (length (file_of state text)) (file_of state text) (omega arith)));
-        text = plain_text 0;
+        text = refl;
       }
-      by_place (From offset) = record { start = offset; set = refl; up = refl; text = plain_text offset }
+      by_place (From offset) = record { start = offset; set = refl; up = refl; text = refl }
 
   -- ---- a state stays sound
 
@@ -266,7 +266,7 @@ module _ (place : Place) (text octets : List ℕ) (how : How) (moment : ℕ) (pl
           (put_refusal state (named state text) (unwrap_or (place_at state (named state text) how offset) 0 + length octets))))
           (subst (λ n. offset_refusal n (how_in_force how.representation) ≡ Some why) one some)
 
-  -- all that is so of an upload without own markers
+  -- all that is so of an upload
   pub upload_is_ask : can_be_sent op ≡ true → moment ≤ last_second → IsAsk (upload_ask place text octets how moment)
   upload_is_ask can dated = record {
     plan = upload_plan;
@@ -280,7 +280,7 @@ module _ (place : Place) (text octets : List ℕ) (how : How) (moment : ℕ) (pl
     way = record {
       sends_is = refl;
       all = by_place place;
-      text_is = refl;
+      text_is = store_text_is;
       within = within_file;
       refused = λ state placed none.
           refusal_is state placed ∙ ap (λ o. or_refused o (refused_octets (over (store_rise place text octets how moment) state (length octets)))) none;

@@ -8,9 +8,10 @@ use Rattle.ftp_command.specs.declared.command.Command.TheVariants as Commands
 use Rattle.ftp_cutting.specs.Machine.{IsFront}
 use Rattle.ftp_endpoint.specs.Written.{IsTypedHost}
 use Rattle.ftp_endpoint.specs.declared.host.Host.{Host}
-use Rattle.ftp_wire.specs.Decoder.{no_octets, decoder_of}
+use Rattle.ftp_wire.specs.Decoder.{no_octets, decoder_of, image_blocks}
 use Rattle.ftp_ends.specs.Link.{is_v6}
 use Rattle.ftp_ends.specs.Reply.{Reply, reply_of}
+use Rattle.ftp_mode.specs.Block.{marked_text}
 use Rattle.ftp_mode.specs.Wire.{wire as wire_of}
 use Rattle.ftp_operation.specs.Answer.{Said, Done, Octets, Refused, Entries, Names as NameList}
 use Rattle.ftp_operation.specs.Operation.{can_be_sent}
@@ -71,11 +72,15 @@ IsFetch other = ⊥
 abbrev pub sends_markers : How → Bool
 sends_markers how = how.marks && has_markers (settings_of how)
 
--- an upload that sends none
+-- each of its markers, which count octets from a start, is a number of 64 bits
+abbrev pub IsCounted : How → ℕ → List ℕ → Type 0
+IsCounted how start octets = sends_markers how ≡ true → start + length octets < 2 ^ 64
+
+-- an upload, whose markers are such
 abbrev pub IsStore : Op (List ℕ) → Type 0
-IsStore (Ops.Put text octets how) = sends_markers how ≡ false
-IsStore (Ops.Append text octets how) = sends_markers how ≡ false
-IsStore (Ops.PutFrom text offset octets how) = sends_markers how ≡ false
+IsStore (Ops.Put text octets how) = IsCounted how 0 octets
+IsStore (Ops.Append text octets how) = IsCounted how 0 octets
+IsStore (Ops.PutFrom text offset octets how) = IsCounted how offset octets
 IsStore other = ⊥
 
 -- octets that rise to the server: the path at which they are put, how many octets of the file there are kept before them, their text on the link, and
@@ -393,6 +398,12 @@ stored rise state content = changed state (installed (part state) (rise.path sta
 abbrev pub over : Rise → State → ℕ → Option TreeFault
 over rise state count = octets_refusal (part state) (rise.path state) (rise.keep state + count)
 
+-- the one text of octets in some settings: plain, or with markers, which count octets from a start (RFC 959, section 3.5)
+abbrev pub IsTextOf : Representation → List ℕ → List ℕ → Type 0
+IsTextOf settings octets text =
+    (text ≡ wire_of settings.mode (form_of settings) octets)
+    ⊎ ((start : ℕ) × (settings ≡ image_blocks) × (start + length octets < 2 ^ 64) × (text ≡ marked_text start octets))
+
 -- it is an upload that the world knows
 pub record IsKnownUpload (ask : Ask) (rise : Rise) (state : State) : Type 0 where
   pub start : ℕ
@@ -404,7 +415,7 @@ pub record IsKnownUpload (ask : Ask) (rise : Rise) (state : State) : Type 0 wher
 pub record HasUpload (ask : Ask) (rise : Rise) : Type 0 where
   pub sends_is : ask.sends ≡ Up rise
   pub all : count_of ask.op ≡ None
-  pub text_is : rise.text ≡ wire_of ask.settings.mode (form_of ask.settings) rise.octets
+  pub text_is : IsTextOf ask.settings rise.octets rise.text
   pub within : (state : State) → rise.keep state ≤ length (octets_or_none (part state) (rise.path state))
   pub refused : (state : State) → IsPlacedAt ask.settings ask.offset → ask.why state ≡ None → refusal state ask.op ≡ refused_octets (over rise state (length rise.octets))
   pub done_so : (state : State) → done state ask.op rise.moment ≡ (Done, stored rise state rise.octets)

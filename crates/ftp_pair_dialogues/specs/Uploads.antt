@@ -1,17 +1,20 @@
 -- Uploads as what is asked for: anew, behind the file that is there, or from an offset on (RFC 959, section 4.1.3; RFC 3659, section 5).
-use Rattle.std.specs.Prelude.{ℕ, false, List, [], length, Option, Some, None}
+use Rattle.std.specs.Prelude.{◌≡◌, ℕ, ◌<◌, ◌^◌, true, false, List, [], ◌∷◌, length, map, Option, Some, None}
+use Rattle.std.specs.List.{AllByRecursion}
 use Rattle.std.specs.Option.{unwrap_or}
 use Rattle.ftp_command.specs.declared.command.Command.{Command}
 use Rattle.ftp_command.specs.declared.command.Command.TheVariants as Commands
-use Rattle.ftp_mode.specs.Wire.{wire as wire_of}
+use Rattle.ftp_ends.specs.Reply.{Reply}
 use Rattle.ftp_operation.specs.Answer.{Done}
 use Rattle.ftp_operation.specs.declared.op.How.{How}
 use Rattle.ftp_operation.specs.declared.op.Op.{Op}
 use Rattle.ftp_operation.specs.declared.op.Op.TheVariants as Ops
-use Rattle.ftp_settings.specs.Representation.{form_of}
+use Rattle.ftp_reply.specs.Values.{is_marker}
 use Rattle.ftp_tree.specs.Tree.{room_refusal}
 use Rattle.ftp_direct.specs.declared.refusal.Refusal.{Refusal}
 use Rattle.ftp_direct.specs.Direct.{State, file_of, limited, named, or_refused, part, place_at, refused_name, refused_room}
+use Rattle.ftp_client_model.specs.Octets.{upload_text}
+use Rattle.ftp_server_model.specs.Replies.{mark_reply}
 use Rattle.ftp_server_model.specs.Transfer.{misplaced}
 use Rattle.ftp_pair_dialogues.specs.Fetches.{Ask, Rise, Up}
 
@@ -37,6 +40,11 @@ abbrev pub store_offset : Place → Option ℕ
 store_offset (From offset) = Some offset
 store_offset place = None
 
+-- where its markers begin to count
+abbrev pub store_start : Place → ℕ
+store_start (From offset) = offset
+store_start place = 0
+
 -- how many octets of the file are kept, where the place leads to one
 abbrev pub store_place : State → Place → List ℕ → How → Option ℕ
 store_place state Anew text how = Some 0
@@ -57,7 +65,7 @@ store_rise place text octets how moment = record {
   path = λ state. named state text;
   keep = λ state. unwrap_or (store_place state place text how) 0;
   octets = octets;
-  text = wire_of how.representation.mode (form_of how.representation) octets;
+  text = upload_text how (store_start place) octets;
   moment = moment;
 }
 
@@ -75,3 +83,31 @@ upload_ask place text octets how moment = record {
   wire = λ state. [];
   said = λ state. Done;
 }
+
+-- ---- markers (RFC 959, sections 3.5 and 4.2)
+
+-- how a marker is answered: by itself, and by how many octets of the file are held
+pub record Note : Type 0 where
+  pub theirs : List ℕ
+  pub held : ℕ
+
+-- as a reply, a 110
+abbrev pub note_reply : Note → Reply
+note_reply note = mark_reply note.theirs note.held
+
+-- as replies, in order
+abbrev pub note_replies : List Note → List Reply
+note_replies notes = map note_reply notes
+
+-- the octets held that the last of them says, or what was said before
+abbrev pub last_held : Option ℕ → List Note → Option ℕ
+last_held mark [] = mark
+last_held mark (note ∷ more) = last_held (Some note.held) more
+
+-- it is of a marker, and of a number that a reply can say
+abbrev pub IsNote : Note → Type 0
+IsNote note = (is_marker note.theirs ≡ true) × (note.held < 10 ^ 18)
+
+-- so is each
+abbrev pub AreNotes : List Note → Type 0
+AreNotes notes = AllByRecursion IsNote notes
