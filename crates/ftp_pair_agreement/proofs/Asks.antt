@@ -42,14 +42,14 @@ ask_of (Ops.Facts text) moment fetches can = absurd fetches
 ask_of (Ops.List text how) moment fetches can = record { ask = list_ask text how; good = list_is_ask text how can; op_is = refl; timely = tt }
 ask_of (Ops.Names text how) moment fetches can = record { ask = names_ask text how; good = names_is_ask text how can; op_is = refl; timely = tt }
 
--- so is an upload without markers
+-- so is an upload
 pub store_of : (op : Op (List ℕ)) (moment : ℕ) → IsStore op → can_be_sent op ≡ true → moment ≤ last_second → IsAskOf op moment
 store_of (Ops.Put text octets how) moment plain can dated =
-    record { ask = upload_ask Anew text octets how moment; good = upload_is_ask Anew text octets how moment plain can dated; op_is = refl; timely = refl }
+    record { ask = upload_ask Anew text octets how moment; good = upload_is_ask Anew text octets how moment can dated; op_is = refl; timely = refl }
 store_of (Ops.Append text octets how) moment plain can dated =
-    record { ask = upload_ask Behind text octets how moment; good = upload_is_ask Behind text octets how moment plain can dated; op_is = refl; timely = refl }
+    record { ask = upload_ask Behind text octets how moment; good = upload_is_ask Behind text octets how moment can dated; op_is = refl; timely = refl }
 store_of (Ops.PutFrom text at octets how) moment plain can dated =
-    record { ask = upload_ask (From at) text octets how moment; good = upload_is_ask (From at) text octets how moment plain can dated; op_is = refl; timely = refl }
+    record { ask = upload_ask (From at) text octets how moment; good = upload_is_ask (From at) text octets how moment can dated; op_is = refl; timely = refl }
 store_of Ops.Where moment plain can dated = absurd plain
 store_of (Ops.ChangeDir text) moment plain can dated = absurd plain
 store_of Ops.Up moment plain can dated = absurd plain

@@ -1,9 +1,9 @@
 -- Octets that an upload gives and takes, and the client's close that the server is told, lead it from a stage to a stage.
-use Rattle.std.proofs.Common.{◌≡◌, inr, ℕ, ◌+◌, ◌<◌, ◌≤◌, ◌^◌, Bool, true, false, not, List, [], ◌∷◌, ◌++◌, length, take, drop, Option, None, refl, sym, ap, subst, ◌∙◌, append-nil}
+use Rattle.std.proofs.Common.{◌≡◌, ◌⊎◌, inl, inr, ℕ, ◌+◌, ◌<◌, ◌≤◌, ◌^◌, Bool, true, false, not, List, [], ◌∷◌, ◌++◌, length, take, drop, Option, None, refl, sym, ap, subst, ◌∙◌, append-nil, arith}
 use Rattle.std.proofs.Math.Seq.{take-nil}
 use Rattle.std.proofs.lemmas.List.{take-append-drop}
 use Rattle.std.specs.Option.{is_some}
-use Rattle.ftp_wire.specs.Decoder.{Decoder, decoded, decoder_of, ended, is_whole, no_octets}
+use Rattle.ftp_wire.specs.Decoder.{Decoder, GivesFile, decoded, decoder_of, ended, is_whole, no_octets}
 use Rattle.ftp_ends.specs.Reply.{reply_octets}
 use Rattle.ftp_direct.specs.Direct.{State}
 use Rattle.ftp_client_model.specs.Calls as near
@@ -29,7 +29,8 @@ use Rattle.ftp_pair_dialogues.specs.Uploads.{Note, last_held, note_replies}
 use Rattle.ftp_pair_dialogues.proofs.Notes.{last_held-append, notes_both, notes_written, replies-append}
 use Rattle.ftp_pair_dialogues.proofs.Sending.{gave_at, gives_all, gives_none, gives_some, giving_at}
 use Rattle.ftp_pair_dialogues.proofs.Sound.{by_bool}
-use Rattle.ftp_pair_dialogues.proofs.Wires.{ReadsWell, decoded-append, mmmm-append, reads_both, text_gives, text_reads}
+use Rattle.ftp_pair_dialogues.proofs.Texts.{ReadsFar, far_both, text_gives, text_reads}
+use Rattle.ftp_pair_dialogues.proofs.Wires.{decoded-append, mmmm-append}
 use Rattle.ftp_pair_agreement.specs.Cut.{Cut, Fits, world_at, PlacedAt}
 use Rattle.ftp_pair_agreement.specs.Rising.{Fate, Installed, Overfilled, IsNoted, fate_rows, fate_text, Lift, Offered, Rising, Risen, Settled, Declined, Unjoined, Climbs, held, lifts, sending}
 use Rattle.ftp_pair_agreement.specs.Stages.{Rises, Holds, AtFetch}
@@ -165,13 +166,14 @@ module _ (read : Reading) (state : State) (ask : Ask) (own : List Mark) where
 
   -- ---- octets are taken
 
-  -- what is to come is read well
-  reads_to_come : (rise : Rise) → HasUpload ask rise → (n : ℕ) (came queue others : List ℕ) → came ++ (queue ++ others) ≡ rise.text → ReadsWell (decoder_of ask.settings came) (take n queue)
-  reads_to_come rise upload n came queue others is =
-      let all : ReadsWell (no_octets ask.settings) (came ++ (queue ++ others)) = subst (ReadsWell (no_octets ask.settings)) (sym is) (text_reads ask.settings rise.octets rise.text upload.text_is) in
-      let coming : ReadsWell (decoder_of ask.settings came) (queue ++ others) = (reads_both (no_octets ask.settings) came (queue ++ others) all).1 in
-      let ahead : ReadsWell (decoder_of ask.settings came) queue = (reads_both (decoder_of ask.settings came) queue others coming).0 in
-      (reads_both (decoder_of ask.settings came) (take n queue) (drop n queue) (subst (ReadsWell (decoder_of ask.settings came)) (sym (take-append-drop n queue)) ahead)).0
+  -- what is to come is read well, where no limit was passed
+  reads_to_come : (rise : Rise) → HasUpload ask rise → (n : ℕ) (came queue others : List ℕ) → rise.keep state + length (decoder_of ask.settings came).content < 10 ^ 18
+      → came ++ (queue ++ others) ≡ rise.text → ReadsFar (decoder_of ask.settings came) (take n queue)
+  reads_to_come rise upload n came queue others few is =
+      let all : ReadsFar (no_octets ask.settings) (came ++ (queue ++ others)) = subst (ReadsFar (no_octets ask.settings)) (sym is) (text_reads ask.settings rise.octets rise.text upload.text_is) in
+      let coming : ReadsFar (decoder_of ask.settings came) (queue ++ others) = (far_both (no_octets ask.settings) came (queue ++ others) all).1 (omega (arith, few)) in
+      let ahead : ReadsFar (decoder_of ask.settings came) queue = (far_both (decoder_of ask.settings came) queue others coming).0 in
+      (far_both (decoder_of ask.settings came) (take n queue) (drop n queue) (subst (ReadsFar (decoder_of ask.settings came)) (sym (take-append-drop n queue)) ahead)).0
 
   -- the server behind it
   module _ (n : ℕ) (rise : Rise) (past : Bool) (came queue others : List ℕ) (mark : Option ℕ) (notes : List Note) (b : World) (c : Cut) (fits : Fits (answers notes) c) (upload : HasUpload ask rise)
@@ -181,7 +183,8 @@ module _ (read : Reading) (state : State) (ask : Ask) (own : List Mark) where
     -- it has taken them
     taken : Taken state rise b.near b.far steady known past (far.receives (record (still (upload_far (held past (rise.path state) (rise.keep state) (decoder_of ask.settings came)) b.far)) { owed = c.owed }) (take n queue))
         c.owed (decoded (decoder_of ask.settings came) (take n queue)) (λ mark. mmmm_in (rise.keep state) (decoder_of ask.settings came) mark (take n queue))
-    taken = octets_taken state rise b.near b.far steady known c.owed past (decoder_of ask.settings came) (take n queue) climbs.2 (λ e. (climbs.3.1 e).0) (reads_to_come rise upload n came queue others climbs.1)
+    taken = octets_taken state rise b.near b.far steady known c.owed past (decoder_of ask.settings came) (take n queue) climbs.2 (λ e. (climbs.3.1 e).0)
+        (λ e. reads_to_come rise upload n came queue others (climbs.3.1 e).0 climbs.1)
 
     -- what it has made of them
     same : decoded (decoder_of ask.settings came) (take n queue) ≡ decoder_of ask.settings (came ++ take n queue)
@@ -338,14 +341,14 @@ module _ (read : Reading) (state : State) (ask : Ask) (good : IsAsk ask) (sound 
   abbrev d : Decoder
   d = decoder_of ask.settings came
 
-  -- the file is whole
-  whole_file : (is_whole d ≡ true) × ((ended d).content ≡ rise.octets)
-  whole_file =
-      let gives = text_gives ask.settings rise.octets rise.text h.ready.2.text_is in
-      let text : came ≡ rise.text = all_came in (
-        ap (λ l. is_whole (decoder_of ask.settings l)) text ∙ gives.whole,
-        ap (λ l. (ended (decoder_of ask.settings l)).content) text ∙ gives.content,
-      )
+  -- the file is whole, where no limit was passed
+  whole_file : past ≡ false → (is_whole d ≡ true) × ((ended d).content ≡ rise.octets)
+  whole_file e = by_text (text_gives ask.settings rise.octets rise.text h.ready.2.text_is)
+    where
+      by_text : GivesFile ask.settings rise.text rise.octets ⊎ (10 ^ 18 ≤ length (decoder_of ask.settings rise.text).content) → (is_whole d ≡ true) × ((ended d).content ≡ rise.octets)
+      by_text (inl gives) =
+          (ap (λ l. is_whole (decoder_of ask.settings l)) all_came ∙ gives.whole, ap (λ l. (ended (decoder_of ask.settings l)).content) all_came ∙ gives.content)
+      by_text (inr many) = absurd (omega (arith, (h.fine.3.1 e).0, ap (λ l. length (decoder_of ask.settings l).content) all_came, many))
 
   -- the moment in force is that of the upload
   moment_of : rise.moment ≡ b.far.footing.moment
@@ -361,8 +364,7 @@ module _ (read : Reading) (state : State) (ask : Ask) (good : IsAsk ask) (sound 
       ≡ record (still (far_by state rise b.near b.far h.steady h.ready.1 b' rise.octets)) { owed = c.owed ++ reply_octets (fixed_reply (text_by state rise b.near b.far h.steady h.ready.1 b' Texts.Complete)) }
   serves b' e =
       ap (λ s. far.data_end (record (still (far_linked s b.far)) { owed = c.owed })) h.session
-      ∙ upload_ends state rise b.near b.far h.steady h.ready.1 past b' d c.owed moment_of whole_file.0 (λ yes. sym e ∙ past_all yes) (ap (λ l. is_some (over rise state (length l))) whole_file.1 ∙ e)
-      ∙ ap (λ l. record (still (far_by state rise b.near b.far h.steady h.ready.1 b' l)) { owed = c.owed ++ reply_octets (fixed_reply (text_by state rise b.near b.far h.steady h.ready.1 b' Texts.Complete)) }) whole_file.1
+      ∙ upload_ends state rise b.near b.far h.steady h.ready.1 past b' d rise.octets c.owed moment_of whole_file (λ yes. sym e ∙ past_all yes) e
 
   -- a world placed behind it
   ends_at : (fate : Fate) (after : State) (f : Far) → far.data_end (record (still b.far) { owed = c.owed }) ≡ record (still f) { owed = c.owed ++ reply_octets (fixed_reply (fate_text fate)) }

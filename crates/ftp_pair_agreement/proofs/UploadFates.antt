@@ -20,10 +20,10 @@ use Rattle.ftp_pair_world.specs.World.{Mark, Broken, counted}
 use Rattle.ftp_pair_dialogues.specs.Dialogue.{IsSound}
 use Rattle.ftp_pair_dialogues.specs.Fetches.{Ask, HasUpload, IsAsk, IsPlacedAt, Rise, kept_of, over, stored}
 use Rattle.ftp_pair_dialogues.proofs.Rows.{answer_known}
-use Rattle.ftp_pair_dialogues.proofs.Wires.{text_front}
+use Rattle.ftp_pair_dialogues.proofs.Texts.{text_shorter}
 use Rattle.ftp_pair_agreement.specs.Rising.{FaredTo}
 use Rattle.ftp_pair_agreement.proofs.Fates.{among_one}
-use Rattle.ftp_pair_agreement.proofs.UploadServer.{too_many_more}
+use Rattle.ftp_pair_agreement.proofs.UploadServer.{many_over, too_many_more}
 
 -- what is not some is none
 none_of : (why : Option TreeFault) → is_some why ≡ false → why ≡ None
@@ -67,22 +67,14 @@ module _ (state : State) (ask : Ask) (good : IsAsk ask) (rise : Rise) (upload : 
     did_so = sym (answer_known state op rise.moment (Some Refusals.TooMuch) good.refuses.can known (refusal_is ∙ some_of _ big));
   }
 
-  -- a front of the text is one of the wire
-  front_is : (came : List ℕ) → IsFront came rise.text → IsFront (decoder_of ask.settings came).content rise.octets
-  front_is came front = text_front ask.settings rise.octets rise.text came upload.text_is front
-
-  -- what came settles no more octets than there are
-  shorter : (came : List ℕ) → IsFront came rise.text → length (decoder_of ask.settings came).content ≤ length rise.octets
-  shorter came front =
-      let f = front_is came front in
-      omega (arith, length-append (decoder_of ask.settings came).content f.0, ap length f.1)
-
   -- where what came is too much, the whole is
   pub whole_over : (came : List ℕ) → IsFront came rise.text → is_some (over rise state (length (decoder_of ask.settings came).content)) ≡ true
       → is_some (over rise state (length rise.octets)) ≡ true
-  whole_over came front some =
-      too_many_more (part state) (rise.path state) (rise.keep state + length (decoder_of ask.settings came).content) (rise.keep state + length rise.octets)
-      (omega (arith, shorter came front)) some
+  whole_over came front some = elim (text_shorter ask.settings rise.octets rise.text came upload.text_is front) [
+    | inl few ↦ too_many_more (part state) (rise.path state) (rise.keep state + length (decoder_of ask.settings came).content) (rise.keep state + length rise.octets)
+        (omega (arith, few)) some
+    | inr many ↦ many_over (part state) (rise.path state) (rise.keep state + length rise.octets) (omega (arith, many))
+  ]
 
   -- the upload that the world knows
   abbrev known_upload : Stored

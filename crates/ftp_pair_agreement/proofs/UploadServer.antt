@@ -30,7 +30,8 @@ use Rattle.ftp_pair_dialogues.specs.Uploads.{AreNotes, Note, last_held, note_rep
 use Rattle.ftp_pair_dialogues.proofs.Fetching.{same_direct}
 use Rattle.ftp_pair_dialogues.proofs.Notes.{last_held-append, notes_both}
 use Rattle.ftp_pair_dialogues.proofs.Sound.{by_bool}
-use Rattle.ftp_pair_dialogues.proofs.Wires.{IsMarked, IsSigns, ReadsWell, grows, reached_none}
+use Rattle.ftp_pair_dialogues.proofs.Texts.{ReadsFar, decoded_grows}
+use Rattle.ftp_pair_dialogues.proofs.Wires.{IsMarked, IsSigns, grows, reached_none}
 use Rattle.ftp_pair_agreement.specs.Rising.{held}
 use Rattle.ftp_pair_agreement.proofs.FetchLink.{far_linked}
 
@@ -63,6 +64,12 @@ clear_few table path count none =
     by_bool (nat_le count file_limit) (λ e. omega (arith, leb-true count file_limit e))
     (λ e. absurd (let f : true ≡ false =
     sym (ap (λ (b : Bool). is_some (or_else (whenever (not b) Faults.TooBig) (whenever (not (nat_le count (room_at table path))) Faults.Full))) e) ∙ none in cc))
+
+-- very many are too many
+pub many_over : (table : Table) (path : Names) (count : ℕ) → 10 ^ 18 ≤ count → is_some (octets_refusal table path count) ≡ true
+many_over table path count many =
+    by_bool (nat_le count file_limit) (λ e. absurd (omega (arith, many, leb-true count file_limit e)))
+    (λ e. ap (λ (b : Bool). is_some (or_else (whenever (not b) Faults.TooBig) (whenever (not (nat_le count (room_at table path))) Faults.Full))) e)
 
 -- ---- the server
 
@@ -250,14 +257,42 @@ module _ (state : State) (rise : Rise) (n : Near) (f : Far) (steady : IsSteady s
       both [] = refl
       both (x ∷ xs) = append_assoc (reply_octets (note_reply x)) (row_octets (note_replies xs)) (row_octets (note_replies ys)) ∙ ap (λ l. reply_octets (note_reply x) ++ l) (both xs)
 
+  -- past a limit octets are dropped
+  octets_dropped : (d : Decoder) (owed octets : List ℕ) → far.receives (taking_at true d owed) octets ≡ taking_at true (decoded d octets) owed
+  unfolding far.receives_octet
+  octets_dropped d owed [] = refl
+  octets_dropped d owed (octet ∷ octets) = octets_dropped (decoded_octet d octet) owed octets
+
+  -- and a limit is passed still
+  still_over : (d : Decoder) (octets : List ℕ) → is_some (over rise state (length d.content)) ≡ true → is_some (over rise state (length (decoded d octets).content)) ≡ true
+  still_over d octets some = too_many_more (part state) path (keep + length d.content) (keep + length (decoded d octets).content) (omega (arith, decoded_grows d octets)) some
+
+  -- what is read well once an octet was taken, where no limit was passed with it
+  read_on_far : (count : ℕ) (next : Decoder) (octets : List ℕ) → count < 10 ^ 18 → length next.content ≤ count → (10 ^ 18 ≤ length next.content) ⊎ ReadsFar next octets → ReadsFar next octets
+  read_on_far count next octets few within (inl many) = absurd (omega (arith, few, within, many))
+  read_on_far count next octets few within (inr reads) = reads
+
   -- octets are taken
   pub octets_taken : (owed : List ℕ) (past : Bool) (d : Decoder) (octets : List ℕ) → (past ≡ true → is_some (over rise state (length d.content)) ≡ true)
-      → (past ≡ false → keep + length d.content < 10 ^ 18) → ReadsWell d octets
+      → (past ≡ false → keep + length d.content < 10 ^ 18) → (past ≡ false → ReadsFar d octets)
       → Taken past (far.receives (taking_at past d owed) octets) owed (decoded d octets) (λ mark. mmmm_in keep d mark octets)
-  octets_taken owed past d [] over few reads = record { past = past; notes = []; is = none_owed past d owed; since = λ e. e; over = over; few = few; fine = tt; last = λ mark e. refl }
-  octets_taken owed past d (octet ∷ octets) over few reads =
-      let one = octet_taken owed past d octet over few reads.0 reads.1 in
-      let t = octets_taken (owed ++ row_octets (note_replies one.notes)) one.past (decoded_octet d octet) octets one.over one.few reads.2 in
+  octets_taken owed true d octets over few reads = record {
+    past = true;
+    notes = [];
+    is = octets_dropped d owed octets ∙ none_owed true (decoded d octets) owed;
+    since = λ e. e;
+    over = λ e. still_over d octets (over refl);
+    few = λ e. absurd (cc);
+    fine = tt;
+    last = λ mark e. absurd (cc);
+  }
+  octets_taken owed false d [] over few reads =
+      record { past = false; notes = []; is = none_owed false d owed; since = λ e. e; over = over; few = few; fine = tt; last = λ mark e. refl }
+  octets_taken owed false d (octet ∷ octets) over few reads =
+      let well = reads refl in
+      let one = octet_taken owed false d octet over few well.0 well.1 in
+      let t = octets_taken (owed ++ row_octets (note_replies one.notes)) one.past (decoded_octet d octet) octets one.over one.few
+      (λ e. read_on_far (keep + length (decoded_octet d octet).content) (decoded_octet d octet) octets (one.few e) (omega arith) well.2) in
       record {
         past = t.past;
         notes = one.notes ++ t.notes;
@@ -304,15 +339,18 @@ module _ (state : State) (rise : Rise) (n : Near) (f : Far) (steady : IsSteady s
       ∙ ends_by b d.content Texts.Broken (held false path keep d) owed timed
 
   -- the client's close behind the whole text: the file is installed, where no limit is passed
-  pub upload_ends : (past b : Bool) (d : Decoder) (owed : List ℕ) → rise.moment ≡ f.footing.moment → is_whole d ≡ true → (past ≡ true → b ≡ true)
-      → is_some (over rise state (length (ended d).content)) ≡ b
+  pub upload_ends : (past b : Bool) (d : Decoder) (content owed : List ℕ) → rise.moment ≡ f.footing.moment → (past ≡ false → (is_whole d ≡ true) × ((ended d).content ≡ content))
+      → (past ≡ true → b ≡ true) → is_some (over rise state (length content)) ≡ b
       → far.data_end (record (still (upload_far (held past path keep d) f)) { owed = owed })
-      ≡ record (still (far_by b (ended d).content)) { owed = owed ++ reply_octets (fixed_reply (text_by b Texts.Complete)) }
+      ≡ record (still (far_by b content)) { owed = owed ++ reply_octets (fixed_reply (text_by b Texts.Complete)) }
   unfolding far.data_end
-  upload_ends true b d owed timed whole past is = ap (λ b. record (still (far_by b (ended d).content)) { owed = owed ++ reply_octets (fixed_reply (text_by b Texts.Complete)) }) (sym (past refl))
-  upload_ends false b d owed timed whole past is =
+  upload_ends true b d content owed timed whole past is =
+      ap (λ b. record (still (far_by b content)) { owed = owed ++ reply_octets (fixed_reply (text_by b Texts.Complete)) }) (sym (past refl))
+  upload_ends false b d content owed timed whole past is =
       let v : Far = taking_at false d owed in
+      let all = whole refl in
       ap (λ (w : Bool). concluded (if w then ending_by (is_over path keep (ended d) (session_with FarData.Free)) (ended d).content Texts.Complete
-      else at_break f.footing.moment (Transfers.Upload path keep d) (session_with FarData.Free)) v) whole
-      ∙ ap (λ b. concluded (ending_by b (ended d).content Texts.Complete) v) (over_is (ended d) FarData.Free ∙ is)
-      ∙ ends_by b (ended d).content Texts.Complete (held false path keep d) owed timed
+      else at_break f.footing.moment (Transfers.Upload path keep d) (session_with FarData.Free)) v) all.0
+      ∙ ap (λ b. concluded (ending_by b (ended d).content Texts.Complete) v) (over_is (ended d) FarData.Free ∙ ap (λ l. is_some (over rise state (length l))) all.1 ∙ is)
+      ∙ ap (λ l. concluded (ending_by b l Texts.Complete) v) all.1
+      ∙ ends_by b content Texts.Complete (held false path keep d) owed timed

@@ -24,3 +24,5 @@ pub mod Footing
 pub mod Sending
 pub mod Wires
 pub mod Notes
+pub mod LongTexts
+pub mod Texts

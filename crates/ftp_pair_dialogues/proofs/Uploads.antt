@@ -1,5 +1,5 @@
 -- What is asked for by an upload: its place in the file, its refusals, and what the direct run makes of it.
-use Rattle.std.proofs.Common.{◌≡◌, ℕ, ◌+◌, ◌<◌, ◌≤◌, ◌^◌, Bool, true, not, nat_le, List, ◌++◌, length, Option, Some, None, refl, sym, ap, subst, ◌∙◌, arith, cond}
+use Rattle.std.proofs.Common.{◌≡◌, ℕ, ◌+◌, ◌<◌, ◌≤◌, ◌^◌, Bool, true, ◌&&◌, not, nat_le, List, ◌++◌, length, Option, Some, None, refl, sym, ap, subst, ◌∙◌, arith, cond}
 use Rattle.std.specs.Prelude.{if◌then◌else◌, IsTrue}
 use Rattle.std.specs.List.{list_all}
 use Rattle.std.specs.Option.{is_some, unwrap_or}
@@ -29,11 +29,11 @@ use Rattle.ftp_server_model.specs.declared.session.Transfer.TheVariants as Trans
 use Rattle.ftp_wire.specs.Decoder.{no_octets}
 use Rattle.ftp_server_model.proofs.PathTexts.{is_path-led}
 use Rattle.ftp_pair_dialogues.specs.Dialogue.{IsFine, IsSound}
-use Rattle.ftp_pair_dialogues.specs.Fetches.{HasPlan, HasRow, IsAsk, IsCounted, IsKnownUpload, IsPlacedAt, IsTextOf, over, stored, kept_of, sends_markers}
+use Rattle.ftp_pair_dialogues.specs.Fetches.{HasPlan, HasRow, IsAsk, IsKnownUpload, IsPlacedAt, IsTextOf, over, stored, kept_of}
 use Rattle.ftp_pair_dialogues.specs.Uploads.{Place, Anew, Behind, From, room_why, store, store_offset, store_place, store_rise, store_start, store_why, upload_ask}
 use Rattle.ftp_pair_dialogues.proofs.Renaming.{none_limited}
 use Rattle.ftp_pair_dialogues.proofs.Sound.{HasFineFiles, HasNames, by_bool, change-sound}
-use Rattle.ftp_pair_dialogues.proofs.Wires.{written_text}
+use Rattle.ftp_pair_dialogues.proofs.Texts.{written_text}
 
 -- ---- refusals, one behind the other
 
@@ -105,15 +105,11 @@ installs : (table : Table) (path : Names) (count : ℕ) → room_refusal table p
 unfolding install_refusal
 installs table path count room few = ap (λ r. or_else r (octets_refusal table path count)) room ∙ few
 
-module _ (place : Place) (text octets : List ℕ) (how : How) (moment : ℕ) (counted : IsCounted how (store_start place) octets) where
+module _ (place : Place) (text octets : List ℕ) (how : How) (moment : ℕ) where
   abbrev op : Op (List ℕ)
   op = store place text octets how
 
   -- ---- the plan
-
-  -- its text is the one text of its octets
-  store_text_is : IsTextOf how.representation octets (upload_text how (store_start place) octets)
-  store_text_is = written_text how.representation (store_start place) octets (sends_markers how) (λ sends. (and_parts how.marks (has_markers how.representation) sends).1) counted
 
   -- an upload has a plan
   upload_plan : HasPlan (upload_ask place text octets how moment)
@@ -253,6 +249,17 @@ module _ (place : Place) (text octets : List ℕ) (how : How) (moment : ℕ) (co
       by_place (From offset) can is =
           let one : offset ≡ at = cc in subst (λ n. n < 10 ^ 18) one (ltb-true offset (10 ^ 18) (and_parts (is_path_text text) (is_number offset) can).1)
 
+  -- its text is the one text of its octets
+  store_text_is : can_be_sent op ≡ true → IsTextOf how.representation octets (upload_text how (store_start place) octets)
+  store_text_is can =
+      written_text how.representation (store_start place) octets (how.marks && has_markers how.representation) (λ sends. (and_parts how.marks (has_markers how.representation) sends).1)
+      (by_place place (store_few can))
+    where
+      by_place : (place : Place) → ((at : ℕ) → store_offset place ≡ Some at → at < 10 ^ 18) → store_start place < 10 ^ 18
+      by_place Anew few = omega arith
+      by_place Behind few = omega arith
+      by_place (From offset) few = few offset refl
+
   -- an offset that has no meaning in the representation is the reason of the direct run
   unplaced_is : (state : State) (at : ℕ) (why : Refusal) → store_offset place ≡ Some at → offset_refusal at (how_in_force how.representation) ≡ Some why → refusal state op ≡ Some why
   unplaced_is state at why is some = by_place place is
@@ -280,7 +287,7 @@ module _ (place : Place) (text octets : List ℕ) (how : How) (moment : ℕ) (co
     way = record {
       sends_is = refl;
       all = by_place place;
-      text_is = store_text_is;
+      text_is = store_text_is can;
       within = within_file;
       refused = λ state placed none.
           refusal_is state placed ∙ ap (λ o. or_refused o (refused_octets (over (store_rise place text octets how moment) state (length octets)))) none;

@@ -2,7 +2,7 @@
 use Rattle.std.proofs.Common.{◌≡◌, ◌⊎◌, inl, inr, ℕ, ◌+◌, ◌<◌, ◌≤◌, ◌^◌, List, [], ◌∷◌, ◌++◌, length, Bool, true, false, ◌&&◌, nat_le, Option, None, refl, sym, ap, subst, ◌∙◌, map, arith, le-leb, length-append, append-nil}
 use Rattle.std.specs.Prelude.{if◌then◌else◌, ◌==◌, nat_lt}
 use Rattle.std.specs.List.{AllByRecursion, list_all}
-use Rattle.ftp_cutting.specs.Machine.{IsFront, after, gives}
+use Rattle.ftp_cutting.specs.Machine.{after, gives}
 use Rattle.ftp_mode.specs.Block.{Block, IsBlock, block_said, count_of, ends_of, has, marked_text, octets_of}
 use Rattle.ftp_mode.specs.Laws.{unsaid_end}
 use Rattle.ftp_mode.specs.Reading.{Place, plain, outside, escaped, at_head, at_high, at_low, inside, marking, ended as passed, Reading, going, failed, place_out, read_out, reader, start}
@@ -17,20 +17,14 @@ use Rattle.ftp_reply.specs.Values.{is_marker}
 use Rattle.ftp_repr.specs.Receiving.{receiving}
 use Rattle.ftp_repr.specs.Signs.{Sign, end_record, end_file, signs_of}
 use Rattle.ftp_settings.specs.Marker.{IsMarker, is_marker_octet}
-use Rattle.ftp_settings.specs.Representation.{form_of, has_markers}
-use Rattle.ftp_settings.specs.declared.representation.Kind.{Kind}
-use Rattle.ftp_settings.specs.declared.representation.Kind.TheVariants as Kinds
-use Rattle.ftp_settings.specs.declared.representation.Mode.{Mode}
+use Rattle.ftp_settings.specs.Representation.{form_of}
 use Rattle.ftp_settings.specs.declared.representation.Mode.TheVariants as Modes
 use Rattle.ftp_settings.specs.declared.representation.Representation.{Representation}
-use Rattle.ftp_settings.specs.declared.representation.Structure.{Structure}
 use Rattle.ftp_settings.specs.declared.representation.Structure.TheVariants as Structures
-use Rattle.ftp_wire.specs.Decoder.{Decoder, GivesFile, image_blocks, no_octets, with_sign, with_all, read_on, octet_says, decoded_octet, decoded, decoder_of, fault_in, fault_of, is_ended_in, is_whole}
-use Rattle.ftp_wire.proofs.DecoderLemmas.{decodes, front_gives, marked_front_gives}
+use Rattle.ftp_wire.specs.Decoder.{Decoder, image_blocks, no_octets, with_sign, with_all, read_on, octet_says, decoded_octet, decoded, fault_in, fault_of, is_ended_in, is_whole}
+use Rattle.ftp_wire.proofs.DecoderLemmas.{decodes}
 use Rattle.ftp_wire.proofs.WireLemmas.{marked_wire_gives_file, wire_gives_file}
-use Rattle.ftp_client_model.specs.Octets.{written}
 use Rattle.ftp_pair_world.specs.Outcome.{mmmm_in, reached}
-use Rattle.ftp_pair_dialogues.specs.Fetches.{IsTextOf}
 use Rattle.ftp_pair_dialogues.proofs.Sound.{by_bool}
 
 -- signs alone
@@ -213,7 +207,7 @@ reads_from d (octet ∷ octets) whole markers =
 -- ---- the one text of octets
 
 -- plain it is such
-wire_reads : (settings : Representation) (octets : List ℕ) → ReadsWell (no_octets settings) (wire settings.mode (form_of settings) octets)
+pub wire_reads : (settings : Representation) (octets : List ℕ) → ReadsWell (no_octets settings) (wire settings.mode (form_of settings) octets)
 wire_reads settings octets =
     let m = settings.mode in
     let f = form_of settings in
@@ -222,7 +216,7 @@ wire_reads settings octets =
     (markers_of_both (gives reader (start m settings.structure) (wire m f octets)) (unsaid_end m settings.structure) (subst AreMarkers reads.says (markers_signs (map (λ x. says x) (signs_of f octets)) (signs_said (signs_of f octets))))).0
 
 -- with markers too
-marked_reads_well : (from : ℕ) (octets : List ℕ) → from + length octets < 2 ^ 64 → ReadsWell (no_octets image_blocks) (marked_text from octets)
+pub marked_reads_well : (from : ℕ) (octets : List ℕ) → from + length octets < 2 ^ 64 → ReadsWell (no_octets image_blocks) (marked_text from octets)
 marked_reads_well from octets few =
     let row = marked_reads from octets [] few in
     let text = append-nil (marked_text from octets) in
@@ -231,38 +225,6 @@ marked_reads_well from octets few =
     (markers_of_both (gives reader (start Modes.Block Structures.File) (marked_text from octets)) []
     (subst (λ w. AreMarkers (gives reader (start Modes.Block Structures.File) w ++ [])) text
     (subst AreMarkers reads.says (text_markers (marked_text from octets ++ []) row.0 row.1)))).0
-
--- its octets are read well
-pub text_reads : (settings : Representation) (octets text : List ℕ) → IsTextOf settings octets text → ReadsWell (no_octets settings) text
-text_reads settings octets text (inl is) = subst (ReadsWell (no_octets settings)) (sym is) (wire_reads settings octets)
-text_reads settings octets text (inr (from, set, few, is)) =
-    subst (λ r. ReadsWell (no_octets r) text) (sym set) (subst (ReadsWell (no_octets image_blocks)) (sym is) (marked_reads_well from octets few))
-
--- it gives the file
-pub text_gives : (settings : Representation) (octets text : List ℕ) → IsTextOf settings octets text → GivesFile settings text octets
-text_gives settings octets text (inl is) = subst (λ w. GivesFile settings w octets) (sym is) (wire_gives_file settings octets)
-text_gives settings octets text (inr (from, set, few, is)) =
-    subst (λ r. GivesFile r text octets) (sym set) (subst (λ w. GivesFile image_blocks w octets) (sym is) (marked_wire_gives_file from octets few))
-
--- a front of it settles a front of the file
-pub text_front : (settings : Representation) (octets text came : List ℕ) → IsTextOf settings octets text → IsFront came text → IsFront (decoder_of settings came).content octets
-text_front settings octets text came (inl is) front = front_gives settings octets came (subst (IsFront came) is front)
-text_front settings octets text came (inr (from, set, few, is)) front =
-    subst (λ r. IsFront (decoder_of r came).content octets) (sym set) (marked_front_gives from octets came few (subst (IsFront came) is front))
-
--- of all kinds, structures and modes only image files in blocks have markers
-only_marked : (kind : Kind) (structure : Structure) (mode : Mode) → has_markers (record { kind = kind; structure = structure; mode = mode }) ≡ true
-    → record { kind = kind; structure = structure; mode = mode } ≡ image_blocks
-only_marked Kinds.Image Structures.File Modes.Block is = refl
-only_marked Kinds.Image Structures.File Modes.Stream is = absurd (cc)
-only_marked Kinds.Image Structures.Record mode is = absurd (cc)
-only_marked Kinds.Ascii structure mode is = absurd (cc)
-
--- what is written is the one text of its octets, with markers or without
-pub written_text : (settings : Representation) (from : ℕ) (octets : List ℕ) (b : Bool) → (b ≡ true → has_markers settings ≡ true) → (b ≡ true → from + length octets < 2 ^ 64)
-    → IsTextOf settings octets (written b settings from octets)
-written_text settings from octets false marked few = inl refl
-written_text settings from octets true marked few = inr (from, only_marked settings.kind settings.structure settings.mode (marked refl), few refl, refl)
 
 -- ---- markers
 

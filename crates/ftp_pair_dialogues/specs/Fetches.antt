@@ -1,6 +1,6 @@
 -- A download, a Peek among them, a listing or an upload: what both ends hold while it is under way (RFC 959, sections 3.2 to 3.5 and 4.1.2; RFC 2428; RFC 3659,
 -- sections 5 and 7).
-use Rattle.std.specs.Prelude.{◌≡◌, ◌⊎◌, ℕ, ◌<◌, ◌≤◌, ◌+◌, ◌^◌, ◌&&◌, Bool, true, false, drop, take, length, List, ◌++◌, codes, decimal, Option, Some, None, if◌then◌else◌}
+use Rattle.std.specs.Prelude.{◌≡◌, ◌⊎◌, ℕ, ◌<◌, ◌≤◌, ◌+◌, ◌^◌, Bool, true, false, drop, take, length, List, ◌++◌, codes, decimal, Option, Some, None, if◌then◌else◌}
 use Rattle.std.specs.Option.{unwrap_or}
 use Rattle.ftp_command.specs.Line.{IsStated, IsTyped}
 use Rattle.ftp_command.specs.declared.command.Command.{Command}
@@ -68,19 +68,11 @@ IsFetch (Ops.List text how) = Unit {0}
 IsFetch (Ops.Names text how) = Unit {0}
 IsFetch other = ⊥
 
--- an upload sends restart markers of its own where they are asked for and its settings have them
-abbrev pub sends_markers : How → Bool
-sends_markers how = how.marks && has_markers (settings_of how)
-
--- each of its markers, which count octets from a start, is a number of 64 bits
-abbrev pub IsCounted : How → ℕ → List ℕ → Type 0
-IsCounted how start octets = sends_markers how ≡ true → start + length octets < 2 ^ 64
-
--- an upload, whose markers are such
+-- an upload
 abbrev pub IsStore : Op (List ℕ) → Type 0
-IsStore (Ops.Put text octets how) = IsCounted how 0 octets
-IsStore (Ops.Append text octets how) = IsCounted how 0 octets
-IsStore (Ops.PutFrom text offset octets how) = IsCounted how offset octets
+IsStore (Ops.Put text octets how) = Unit {0}
+IsStore (Ops.Append text octets how) = Unit {0}
+IsStore (Ops.PutFrom text offset octets how) = Unit {0}
 IsStore other = ⊥
 
 -- octets that rise to the server: the path at which they are put, how many octets of the file there are kept before them, their text on the link, and
@@ -398,11 +390,11 @@ stored rise state content = changed state (installed (part state) (rise.path sta
 abbrev pub over : Rise → State → ℕ → Option TreeFault
 over rise state count = octets_refusal (part state) (rise.path state) (rise.keep state + count)
 
--- the one text of octets in some settings: plain, or with markers, which count octets from a start (RFC 959, section 3.5)
+-- the one text of octets in some settings: plain, or with restart markers, which count octets from a start (RFC 959, section 3.5)
 abbrev pub IsTextOf : Representation → List ℕ → List ℕ → Type 0
 IsTextOf settings octets text =
     (text ≡ wire_of settings.mode (form_of settings) octets)
-    ⊎ ((start : ℕ) × (settings ≡ image_blocks) × (start + length octets < 2 ^ 64) × (text ≡ marked_text start octets))
+    ⊎ ((start : ℕ) × (settings ≡ image_blocks) × (start < 10 ^ 18) × (text ≡ marked_text start octets))
 
 -- it is an upload that the world knows
 pub record IsKnownUpload (ask : Ask) (rise : Rise) (state : State) : Type 0 where
