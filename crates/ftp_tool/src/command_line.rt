@@ -14,8 +14,8 @@ use std::alloc::{AllocError, Global};
 /// The subcommands between the standard streams, and those that have both ends.
 const ALONE: &[Subcommand<'static>] = &[DIALOGUE, FACTS, FRAME, LOOP, PAIR];
 
-/// The subcommands of a server or a client over a network.
-const OVER_NETWORKS: &[Subcommand<'static>] = &[SERVE, RUN, GET, PUT, LS];
+/// The subcommands of a client over a network.
+const CLIENTS: &[Subcommand<'static>] = &[RUN, GET, PUT, LS];
 
 const DIALOGUE: Subcommand<'static> = Subcommand {
     name: "dialogue",
@@ -78,7 +78,8 @@ pub fn command<'a>(alloc: Global) -> Result<Command<'a>, AllocError> {
         .about("an FTP server and client, and their parts over standard input and output")
         .subcommand_required(true);
     let program = with_those_alone(alloc, program)?;
-    with_those_over_networks(alloc, program)
+    let program = with_serve(alloc, program)?;
+    with_clients(alloc, program)
 }
 
 /// A command with the subcommands that need no network.
@@ -90,13 +91,15 @@ fn with_those_alone<'a>(alloc: Global, program: Command<'a>) -> Result<Command<'
     Ok(program)
 }
 
-/// A command with the subcommands over a network too.
-fn with_those_over_networks<'a>(
-    alloc: Global,
-    program: Command<'a>,
-) -> Result<Command<'a>, AllocError> {
+/// A command with the subcommand of a server over a network too.
+fn with_serve<'a>(alloc: Global, program: Command<'a>) -> Result<Command<'a>, AllocError> {
+    program.subcommand(subcommand_of(alloc, SERVE)?)
+}
+
+/// A command with the subcommands of a client over a network too.
+fn with_clients<'a>(alloc: Global, program: Command<'a>) -> Result<Command<'a>, AllocError> {
     let mut program = program;
-    for subcommand in OVER_NETWORKS {
+    for subcommand in CLIENTS {
         program = program.subcommand(subcommand_of(alloc, *subcommand)?)?;
     }
     Ok(program)
