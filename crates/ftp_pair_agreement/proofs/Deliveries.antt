@@ -123,7 +123,7 @@ module _ (read : Reading) (reads : IsReading read) (from : State) (begun : List 
   Holds w = HasFollowed read from begun w
 
   -- what has followed holds whatever octets are lent
-  holds_taken : (octets : List ℕ) (w : World) → Holds w → Holds (record w { taken = octets })
+  pub holds_taken : (octets : List ℕ) (w : World) → Holds w → Holds (record w { taken = octets })
   holds_taken octets w h =
       moves_follow read from begun w (record w { taken = octets }) reads
       (record { marks = refl; reports = refl; control = refl; cutoff = refl; link = refl; to_server = refl; to_client = refl })
@@ -132,7 +132,7 @@ module _ (read : Reading) (reads : IsReading read) (from : State) (begun : List 
       h
 
   -- an output call of the client keeps what has followed
-  pulled_server : (n : ℕ) (w : World) → Holds w → Holds (pulled ControlToServer w n)
+  pub pulled_server : (n : ℕ) (w : World) → Holds w → Holds (pulled ControlToServer w n)
   pulled_server n w h =
       moves_follow read from begun w (pulled ControlToServer w n) reads
       (record { marks = refl; reports = refl; control = refl; cutoff = refl; link = refl; to_server = refl; to_client = refl })
@@ -141,7 +141,7 @@ module _ (read : Reading) (reads : IsReading read) (from : State) (begun : List 
       h
 
   -- an output call of the server keeps what has followed
-  pulled_client : (n : ℕ) (w : World) → Holds w → Holds (pulled ControlToClient w n)
+  pub pulled_client : (n : ℕ) (w : World) → Holds w → Holds (pulled ControlToClient w n)
   pulled_client n w h =
       moves_follow read from begun w (pulled ControlToClient w n) reads
       (record { marks = refl; reports = refl; control = refl; cutoff = refl; link = refl; to_server = refl; to_client = refl })
@@ -150,7 +150,7 @@ module _ (read : Reading) (reads : IsReading read) (from : State) (begun : List 
       h
 
   -- octets that the server takes keep what has followed
-  pushed_server : (n : ℕ) (w : World) → Holds w → Holds (pushed read ControlToServer n w)
+  pub pushed_server : (n : ℕ) (w : World) → Holds w → Holds (pushed read ControlToServer n w)
   pushed_server n w h =
       moves_follow read from begun w (pushed read ControlToServer n w) reads
       (record { marks = refl; reports = refl; control = refl; cutoff = refl; link = refl; to_server = refl; to_client = refl })
@@ -159,7 +159,7 @@ module _ (read : Reading) (reads : IsReading read) (from : State) (begun : List 
       h
 
   -- octets that the client takes keep what has followed
-  pushed_client : (n : ℕ) (w : World) → Holds w → Holds (pushed read ControlToClient n w)
+  pub pushed_client : (n : ℕ) (w : World) → Holds w → Holds (pushed read ControlToClient n w)
   pushed_client n w h =
       moves_follow read from begun w (pushed read ControlToClient n w) reads
       (record { marks = refl; reports = refl; control = refl; cutoff = refl; link = refl; to_server = refl; to_client = refl })
@@ -168,12 +168,12 @@ module _ (read : Reading) (reads : IsReading read) (from : State) (begun : List 
       h
 
   -- output calls of the client, one after the other, keep what has followed
-  filled_server : (counts : List ℕ) (w : World) → Holds w → Holds (filled ControlToServer w counts)
+  pub filled_server : (counts : List ℕ) (w : World) → Holds w → Holds (filled ControlToServer w counts)
   filled_server [] w h = h
   filled_server (count ∷ counts) w h = filled_server counts (pulled ControlToServer w count) (pulled_server count w h)
 
   -- output calls of the server, one after the other, keep what has followed
-  filled_client : (counts : List ℕ) (w : World) → Holds w → Holds (filled ControlToClient w counts)
+  pub filled_client : (counts : List ℕ) (w : World) → Holds w → Holds (filled ControlToClient w counts)
   filled_client [] w h = h
   filled_client (count ∷ counts) w h = filled_client counts (pulled ControlToClient w count) (pulled_client count w h)
 

@@ -1,17 +1,15 @@
--- Every event of the link and every delivery keeps what follows of what is asked for.
+-- Every delivery keeps what follows of what is asked for.
 use Rattle.std.proofs.Common.{◌≡◌, ◌⊎◌, inl, inr, ℕ, ◌≤◌, Bool, true, false, List, [], ◌∷◌, ◌++◌, length, take, None, refl, sym, ap, subst, ◌∙◌, arith}
 use Rattle.ftp_direct.specs.Direct.{State}
-use Rattle.ftp_client_model.specs.Calls as near
-use Rattle.ftp_ends.specs.Link.{is_connecting}
 use Rattle.ftp_ends.specs.Reply.{Reply}
 use Rattle.ftp_server_model.specs.Machine.{Reading, IsReading}
 use Rattle.ftp_pair_world.specs.Agreement.{Order}
-use Rattle.ftp_pair_world.specs.Events.{ControlToServer, ControlToClient, DataToClient, pulled, pushed, filled, DeliversBy, link_breaks, link_opens, link_refused, told, broken_by, refused_by, is_asked_for, is_gone, is_closed_by_far}
+use Rattle.ftp_pair_world.specs.Events.{ControlToServer, ControlToClient, DataToClient, pulled, pushed, filled, DeliversBy, told}
 use Rattle.ftp_pair_world.specs.Serving.{after_event}
-use Rattle.ftp_pair_world.specs.World.{World, Link, Gone, Opened, ClosedByNear, ClosedByFar, Mark, Broken, Refused, marked_last, with_mark, gone}
+use Rattle.ftp_pair_world.specs.World.{World, Mark}
 use Rattle.ftp_pair_dialogues.specs.Fetches.{Ask, Rise}
-use Rattle.ftp_pair_dialogues.specs.Stage.{Way, Asking, Answering}
-use Rattle.ftp_pair_agreement.specs.Cut.{Cut, Goes, world_at, PlacedAt}
+use Rattle.ftp_pair_dialogues.specs.Stage.{Way}
+use Rattle.ftp_pair_agreement.specs.Cut.{Goes, PlacedAt}
 use Rattle.ftp_pair_agreement.specs.Follows.{Told}
 use Rattle.ftp_pair_agreement.specs.PeekStages.{AtHalt, IsHaltCross}
 use Rattle.ftp_pair_agreement.specs.Rising.{Lift, Offered, Rising, Risen, Settled, Declined, Unjoined, Closing, Shut, Vanished}
@@ -19,11 +17,8 @@ use Rattle.ftp_pair_agreement.specs.Runs.{IsAsked, IsFetching, IsFetchingOn, IsH
 use Rattle.ftp_pair_agreement.specs.Stages.{Course, Giving, Given, Ended, Severed, Refusing, Unopened, Unclosed, Closed, Lost, Stage, PortAsked, PortTold, Dials, Restarts, Retrieves, Carries, Rises, Tells, Answers, Holds, AtFetch, IsLasting, PortWanted, PortSaid, PortTaken, PortDenied, Awaits, Unaccepted, Dismissed, is_passing, is_served, AtServed, IsServed}
 use Rattle.ftp_pair_agreement.proofs.Deliveries.{taken_at}
 use Rattle.ftp_pair_agreement.proofs.FetchData.{AtFlow, flow_pulls, flow_pushes, flow_is}
-use Rattle.ftp_pair_agreement.proofs.FetchEvents.{stage_breaks, stage_ends}
-use Rattle.ftp_pair_agreement.proofs.FetchOpenings.{accepted_placed, unaccepted_placed, opened_placed, refused_placed}
 use Rattle.ftp_pair_agreement.proofs.FetchServed.{Served, lasting_stays, port_asked_serves, port_taken_closes, port_wanted_serves, given_closes, refusing_closes}
-use Rattle.ftp_pair_agreement.proofs.FetchWants.{dials_or_none}
-use Rattle.ftp_pair_agreement.proofs.FetchTold.{answers_served, marks_last}
+use Rattle.ftp_pair_agreement.proofs.FetchTold.{answers_served}
 use Rattle.ftp_pair_agreement.proofs.FetchTurns.{fetch_goes}
 use Rattle.ftp_pair_agreement.proofs.Keeps.{pulls_to_server, pulls_to_client, pushes_to_server, pushes_to_client}
 use Rattle.ftp_pair_agreement.proofs.PeekHears.{OnOrTold, crossed_halts}
@@ -174,7 +169,7 @@ module _ (read : Reading) (reads : IsReading read) (from : State) (begun : List 
 
   -- ---- octets of the control connection
 
-  abbrev Serves : (w : World) → Fetching w → Way → World → Type 0
+  abbrev pub Serves : (w : World) → Fetching w → Way → World → Type 0
   Serves w f way b = AtServed f.now f.ask read f.own way b
 
   abbrev Crosses : (w : World) → Fetching w → List ℕ → List Reply → World → Type 0
@@ -189,12 +184,12 @@ module _ (read : Reading) (reads : IsReading read) (from : State) (begun : List 
   no_change w = record { marks = refl; reports = refl; control = refl; cutoff = refl }
 
   -- a world whose octets of the control connection have moved
-  record Serving (w : World) (f : Fetching w) (new : World) : Type 0 where
-    placed : PlacedAt (Serves w f) new
-    kept : IsKept w new
+  pub record Serving (w : World) (f : Fetching w) (new : World) : Type 0 where
+    pub placed : PlacedAt (Serves w f) new
+    pub kept : IsKept w new
 
   -- a world whose octets of the control connection have moved still has what was asked for under way
-  serving_is : (w : World) (f : Fetching w) (u : World) → Serving w f u → Fetching u
+  pub serving_is : (w : World) (f : Fetching w) (u : World) → Serving w f u → Fetching u
   serving_is w f u m =
       let s = m.placed in
       fetching_moved w u f m.kept (record { base = s.base; way = s.way; cut = s.cut; is = s.is; fits = s.fits; here = s.here.0 })
@@ -225,7 +220,7 @@ module _ (read : Reading) (reads : IsReading read) (from : State) (begun : List 
   served_here w f way b (inr (stage, h)) lasts = served_of stage lasts
 
   -- between two events the world itself is one from which octets of the control connection may move
-  serving_first : (w : World) (on : IsFetchingOn read from begun w) → Serving w on.fetching w
+  pub serving_first : (w : World) (on : IsFetchingOn read from begun w) → Serving w on.fetching w
   serving_first w on =
       let s = on.fetching.stands in
       record {
@@ -234,42 +229,58 @@ module _ (read : Reading) (reads : IsReading read) (from : State) (begun : List 
       }
 
   -- the client gives octets of its commands, and the world is still served
-  pulled_server : (n : ℕ) (w : World) (f : Fetching w) (u : World) → Serving w f u → Serving w f (pulled ControlToServer u n)
+  pub pulled_server : (n : ℕ) (w : World) (f : Fetching w) (u : World) → Serving w f u → Serving w f (pulled ControlToServer u n)
   pulled_server n w f u m = record {
     placed = pulls_to_server read (Serves w f) (At w f) (Crosses w f) (goes_of w f) n u m.placed;
     kept = record { marks = m.kept.marks; reports = m.kept.reports; control = m.kept.control; cutoff = m.kept.cutoff };
   }
 
   -- the server gives octets of its replies, and the world is still served
-  pulled_client : (n : ℕ) (w : World) (f : Fetching w) (u : World) → Serving w f u → Serving w f (pulled ControlToClient u n)
+  pub pulled_client : (n : ℕ) (w : World) (f : Fetching w) (u : World) → Serving w f u → Serving w f (pulled ControlToClient u n)
   pulled_client n w f u m = record {
     placed = pulls_to_client read (Serves w f) (At w f) (Crosses w f) (goes_of w f) n u m.placed;
     kept = record { marks = m.kept.marks; reports = m.kept.reports; control = m.kept.control; cutoff = m.kept.cutoff };
   }
 
   -- the server takes octets of a command, and what was asked for is still under way
-  pushed_server : (n : ℕ) (w : World) (f : Fetching w) (u : World) → Serving w f u → Fetching (pushed read ControlToServer n u)
+  pub pushed_server : (n : ℕ) (w : World) (f : Fetching w) (u : World) → Serving w f u → Fetching (pushed read ControlToServer n u)
   pushed_server n w f u m =
       fetching_moved w (pushed read ControlToServer n u) f (record { marks = m.kept.marks; reports = m.kept.reports; control = m.kept.control; cutoff = m.kept.cutoff })
       (pushes_to_server read (Serves w f) (At w f) (Crosses w f) (goes_of w f) n u m.placed)
 
-  -- the client takes octets of replies, and the list runs on
-  pushed_client : (n : ℕ) (w : World) (f : Fetching w) (u : World) → Serving w f u → Runs read from begun (after_event (pushed read ControlToClient n u))
+  -- what was asked for is under way, or a Peek has sent ABOR
+  abbrev pub OnOrHalted : (w : World) → Fetching w → World → Type 0
+  OnOrHalted w f new = Fetching new ⊎ AtHalt f.now f.ask f.own new
+
+  -- and so the list runs on
+  pub runs_after : (w new : World) (f : Fetching w) → IsKept w new → OnOrHalted w f new → Runs read from begun (after_event new)
+  runs_after w new f kept (inl on) = fetch_after new on
+  runs_after w new f kept (inr halts) = moved_on Fetches w new f kept (inl halts)
+
+  -- the client takes octets of replies, and it is under way still, or a Peek has sent ABOR
+  pub pushed_client : (n : ℕ) (w : World) (f : Fetching w) (u : World) → Serving w f u → OnOrHalted w f (pushed read ControlToClient n u)
   pushed_client n w f u m = elim (pushes_to_client read (Serves w f) (At w f) (Crosses w f) (goes_of w f) n u m.placed) [
-    | inl placed ↦ fetch_after (pushed read ControlToClient n u) (serving_is w f (pushed read ControlToClient n u) (record { placed = placed; kept = kept }))
-    | inr crossed ↦ moved_on Fetches w (pushed read ControlToClient n u) f kept (crossed_halts read f.now f.ask f.own (pushed read ControlToClient n u) crossed)
+    | inl placed ↦ inl (serving_is w f new (record { placed = placed; kept = kept }))
+    | inr crossed ↦ by_cross (crossed_halts read f.now f.ask f.own new crossed)
   ]
     where
-      kept : IsKept w (pushed read ControlToClient n u)
+      new : World
+      new = pushed read ControlToClient n u
+
+      kept : IsKept w new
       kept = record { marks = m.kept.marks; reports = m.kept.reports; control = m.kept.control; cutoff = m.kept.cutoff }
 
+      by_cross : OnOrTold read f.now f.ask f.own new → OnOrHalted w f new
+      by_cross (inl halts) = inr halts
+      by_cross (inr told) = inl (fetching_moved w new f kept told)
+
   -- the client gives octets call after call, and the world is still served
-  filled_server : (counts : List ℕ) (w : World) (f : Fetching w) (u : World) → Serving w f u → Serving w f (filled ControlToServer u counts)
+  pub filled_server : (counts : List ℕ) (w : World) (f : Fetching w) (u : World) → Serving w f u → Serving w f (filled ControlToServer u counts)
   filled_server [] w f u m = m
   filled_server (count ∷ counts) w f u m = filled_server counts w f (pulled ControlToServer u count) (pulled_server count w f u m)
 
   -- the server gives octets call after call, and the world is still served
-  filled_client : (counts : List ℕ) (w : World) (f : Fetching w) (u : World) → Serving w f u → Serving w f (filled ControlToClient u counts)
+  pub filled_client : (counts : List ℕ) (w : World) (f : Fetching w) (u : World) → Serving w f u → Serving w f (filled ControlToClient u counts)
   filled_client [] w f u m = m
   filled_client (count ∷ counts) w f u m = filled_client counts w f (pulled ControlToClient u count) (pulled_client count w f u m)
 
@@ -330,7 +341,7 @@ module _ (read : Reading) (reads : IsReading read) (from : State) (begun : List 
   served_taken octets w f way b (inr (stage, h)) served = served
 
   -- a world whose octets of the control connection have moved is one also with other octets lent
-  serving_taken : (octets : List ℕ) (w : World) (f : Fetching w) (u : World) → Serving w f u → Serving w f (record u { taken = octets })
+  pub serving_taken : (octets : List ℕ) (w : World) (f : Fetching w) (u : World) → Serving w f u → Serving w f (record u { taken = octets })
   serving_taken octets w f u m =
       let lends : World → World = λ v. record v { taken = octets } in
       let s = m.placed in
@@ -366,32 +377,34 @@ module _ (read : Reading) (reads : IsReading read) (from : State) (begun : List 
       let f = on.fetching in
       let full = filled_client d.counts w f w (serving_first w on) in
       let lent = serving_taken (take d.taken (filled ControlToClient w d.counts).control_to_client) w f (filled ControlToClient w d.counts) full in
-      subst (Runs read from begun) (sym d.is) (pushed_client d.taken w f _ lent)
+      let new : World = pushed read ControlToClient d.taken (record (filled ControlToClient w d.counts) { taken = take d.taken (filled ControlToClient w d.counts).control_to_client }) in
+      subst (Runs read from begun) (sym d.is)
+      (runs_after w new f (record { marks = lent.kept.marks; reports = lent.kept.reports; control = lent.kept.control; cutoff = lent.kept.cutoff }) (pushed_client d.taken w f _ lent))
 
   -- ---- octets of the link
 
-  abbrev Flowing : (w : World) → Fetching w → World → Type 0
+  abbrev pub Flowing : (w : World) → Fetching w → World → Type 0
   Flowing w f new = PlacedAt (AtFlow f.now f.ask f.own) new
 
   -- a world whose octets have moved
-  record Moved (w : World) (f : Fetching w) (new : World) : Type 0 where
-    flowing : Flowing w f new
-    kept : IsKept w new
+  pub record Moved (w : World) (f : Fetching w) (new : World) : Type 0 where
+    pub flowing : Flowing w f new
+    pub kept : IsKept w new
 
   -- the server gives octets of the file to the link, and they still flow
-  moved_pulls : (n : ℕ) (w : World) (f : Fetching w) (u : World) → Moved w f u → Moved w f (pulled DataToClient u n)
+  pub moved_pulls : (n : ℕ) (w : World) (f : Fetching w) (u : World) → Moved w f u → Moved w f (pulled DataToClient u n)
   moved_pulls n w f u m = record {
     flowing = flow_pulls read f.now f.ask f.is_ask f.sound f.own n u m.flowing;
     kept = record { marks = m.kept.marks; reports = m.kept.reports; control = m.kept.control; cutoff = m.kept.cutoff };
   }
 
   -- the server gives octets to the link call after call, and they still flow
-  moved_filled : (counts : List ℕ) (w : World) (f : Fetching w) (u : World) → Moved w f u → Moved w f (filled DataToClient u counts)
+  pub moved_filled : (counts : List ℕ) (w : World) (f : Fetching w) (u : World) → Moved w f u → Moved w f (filled DataToClient u counts)
   moved_filled [] w f u m = m
   moved_filled (count ∷ counts) w f u m = moved_filled counts w f (pulled DataToClient u count) (moved_pulls count w f u m)
 
   -- octets of the link flow also with other octets lent
-  moved_taken : (octets : List ℕ) (w : World) (f : Fetching w) (u : World) → Moved w f u → Moved w f (record u { taken = octets })
+  pub moved_taken : (octets : List ℕ) (w : World) (f : Fetching w) (u : World) → Moved w f u → Moved w f (record u { taken = octets })
   moved_taken octets w f u m =
       let lends : World → World = λ v. record v { taken = octets } in
       let s = m.flowing in
@@ -414,14 +427,14 @@ module _ (read : Reading) (reads : IsReading read) (from : State) (begun : List 
       }
 
   -- a world whose octets of the link have moved still has what was asked for under way
-  moved_is : (w : World) (f : Fetching w) (u : World) → Moved w f u → Fetching u
+  pub moved_is : (w : World) (f : Fetching w) (u : World) → Moved w f u → Fetching u
   moved_is w f u m = fetching_moved w u f m.kept (flow_is read f.now f.ask f.is_ask f.sound f.own u m.flowing)
 
-  -- the client takes octets of those that are on the link, and the list runs on
-  moved_pushes : (n : ℕ) (w : World) (f : Fetching w) (u : World) → n ≤ length u.data_to_client → Moved w f u → Runs read from begun (after_event (pushed read DataToClient n u))
+  -- the client takes octets of those that are on the link, and it is under way still, or a Peek has sent ABOR
+  pub moved_pushes : (n : ℕ) (w : World) (f : Fetching w) (u : World) → n ≤ length u.data_to_client → Moved w f u → OnOrHalted w f (pushed read DataToClient n u)
   moved_pushes n w f u few m = elim (flow_pushes read f.now f.ask f.is_ask f.sound f.own n u few m.flowing) [
-    | inl flowing ↦ fetch_after (pushed read DataToClient n u) (moved_is w f (pushed read DataToClient n u) (record { flowing = flowing; kept = kept }))
-    | inr halts ↦ moved_on Fetches w (pushed read DataToClient n u) f kept (inl halts)
+    | inl flowing ↦ inl (moved_is w f (pushed read DataToClient n u) (record { flowing = flowing; kept = kept }))
+    | inr halts ↦ inr halts
   ]
     where
       kept : IsKept w (pushed read DataToClient n u)
@@ -435,141 +448,6 @@ module _ (read : Reading) (reads : IsReading read) (from : State) (begun : List 
       let full = moved_filled d.counts w f w (record { flowing = flowing; kept = no_change w }) in
       let lent = moved_taken (take d.taken (filled DataToClient w d.counts).data_to_client) w f (filled DataToClient w d.counts) full in
       let few : d.taken ≤ length (filled DataToClient w d.counts).data_to_client = omega (arith, d.takes.within) in
-      subst (Runs read from begun) (sym d.is) (moved_pushes d.taken w f _ few lent)
-
-  -- ---- the link
-
-  -- the base that it stands on has the link of the world
-  base_link : (w : World) (f : Fetching w) → f.stands.base.link ≡ w.link
-  base_link w f = sym (ap (λ u. u.link) f.stands.is ∙ by_way f.stands.way f.stands.cut)
-    where
-      by_way : (way : Way) (c : Cut) → (world_at f.stands.base way c).link ≡ f.stands.base.link
-      by_way (Asking line) c = refl
-      by_way (Answering rows) c = refl
-
-  -- the base that it stands on counts as many octets come over the link as the world
-  base_came : (w : World) (f : Fetching w) → f.stands.base.came ≡ w.came
-  base_came w f = sym (ap (λ u. u.came) f.stands.is ∙ by_way f.stands.way f.stands.cut)
-    where
-      by_way : (way : Way) (c : Cut) → (world_at f.stands.base way c).came ≡ f.stands.base.came
-      by_way (Asking line) c = refl
-      by_way (Answering rows) c = refl
-
-  -- the base that it stands on has the octets that are on the link to the client in the world
-  base_queue : (w : World) (f : Fetching w) → f.stands.base.data_to_client ≡ w.data_to_client
-  base_queue w f = sym (ap (λ u. u.data_to_client) f.stands.is ∙ by_way f.stands.way f.stands.cut)
-    where
-      by_way : (way : Way) (c : Cut) → (world_at f.stands.base way c).data_to_client ≡ f.stands.base.data_to_client
-      by_way (Asking line) c = refl
-      by_way (Answering rows) c = refl
-
-  -- what a break leaves as it is
-  pub record IsBreak (w new : World) : Type 0 where
-    pub marks : new.marks ≡ marked_last (Broken w.came) w.marks
-    pub reports : new.reports ≡ w.reports
-    pub control : new.control ≡ w.control
-    pub cutoff : new.cutoff ≡ w.cutoff
-
-  -- however the link stands, a break adds its mark and keeps reports, control connection and cutoff
-  pub breaks_by : (w : World) (link : Link) → IsBreak w (with_mark (Broken w.came) (gone (broken_by link w)))
-  breaks_by w Gone = record { marks = refl; reports = refl; control = refl; cutoff = refl }
-  breaks_by w Opened = record { marks = refl; reports = refl; control = refl; cutoff = refl }
-  breaks_by w ClosedByNear = record { marks = refl; reports = refl; control = refl; cutoff = refl }
-  breaks_by w ClosedByFar = record { marks = refl; reports = refl; control = refl; cutoff = refl }
-
-  -- a link that stands breaks, and the list runs on
-  pub fetch_breaks : (w : World) → IsFetchingOn read from begun w → is_gone w.link ≡ false → Runs read from begun (after_event (link_breaks w))
-  fetch_breaks w on some = by_here f.stands.here on.lasts
-    where
-      f : Fetching w
-      f = on.fetching
-
-      left : IsBreak w (link_breaks w)
-      left = breaks_by w w.link
-
-      marked : (link_breaks w).marks ≡ f.marks ++ (f.own ++ Broken f.stands.base.came ∷ []) ∷ []
-      marked =
-          left.marks ∙ ap (marked_last (Broken w.came)) f.marks_are ∙ marks_last (Broken w.came) f.marks f.own
-          ∙ ap (λ came. f.marks ++ (f.own ++ Broken came ∷ []) ∷ []) (sym (base_came w f))
-
-      by_here : (here : At w f f.stands.way f.stands.base) → IsLasting f.now f.ask read f.own f.stands.way f.stands.base here → Runs read from begun (after_event (link_breaks w))
-      by_here (inl l) lasts = absurd (let e : true ≡ false = sym (ap is_gone (sym (base_link w f) ∙ l.link)) ∙ some in cc)
-      by_here (inr (stage, h)) lasts =
-          let breaks = stage_breaks read f.now f.ask f.is_ask f.sound f.own stage f.stands.way f.stands.base f.stands.cut f.stands.fits h lasts
-          (ap is_gone (base_link w f) ∙ some) in
-          let own : List Mark = f.own ++ Broken f.stands.base.came ∷ [] in
-          fetch_after (link_breaks w) (fetching_marked w (link_breaks w) f own marked left.reports left.control left.cutoff
-          (subst (λ u. PlacedAt (λ way b. AtFetch f.now f.ask read own way b) (link_breaks u)) (sym f.stands.is) breaks))
-
-  -- the server has closed the link and it is empty, the client is told, and the list runs on
-  pub fetch_ends : (w : World) → IsFetchingOn read from begun w → is_closed_by_far w.link ≡ true → w.data_to_client ≡ [] → Runs read from begun (after_event (told DataToClient w))
-  fetch_ends w on left empty = by_here f.stands.here on.lasts
-    where
-      f : Fetching w
-      f = on.fetching
-
-      by_here : (here : At w f f.stands.way f.stands.base) → IsLasting f.now f.ask read f.own f.stands.way f.stands.base here → Runs read from begun (after_event (told DataToClient w))
-      by_here (inl l) lasts = absurd (let e : false ≡ true = sym (ap is_closed_by_far (sym (base_link w f) ∙ l.link)) ∙ left in cc)
-      by_here (inr (stage, h)) lasts =
-          let ends = stage_ends read f.now f.ask f.is_ask f.sound f.own stage f.stands.way f.stands.base f.stands.cut f.stands.fits h
-          (ap is_closed_by_far (base_link w f) ∙ left) lasts (base_queue w f ∙ empty) in
-          fetch_after (told DataToClient w) (fetching_moved w (told DataToClient w) f (record { marks = refl; reports = refl; control = refl; cutoff = refl })
-          (subst (λ u. PlacedAt (At w f) (told DataToClient u)) (sym f.stands.is) ends))
-
-  -- what a refusal leaves as it is
-  record IsRefusal (w new : World) : Type 0 where
-    marks : new.marks ≡ marked_last Refused w.marks
-    reports : new.reports ≡ w.reports
-    control : new.control ≡ w.control
-    cutoff : new.cutoff ≡ w.cutoff
-
-  -- whichever end connects, a refusal adds its mark and keeps reports, control connection and cutoff
-  refuses_by : (w : World) (connects : Bool) → IsRefusal w (with_mark Refused (refused_by connects w))
-  refuses_by w true = record { marks = refl; reports = refl; control = refl; cutoff = refl }
-  refuses_by w false = record { marks = refl; reports = refl; control = refl; cutoff = refl }
-
-  -- a link that is asked for opens, and the list runs on
-  pub fetch_opens : (w : World) → IsFetchingOn read from begun w → is_asked_for w ≡ true → Runs read from begun (after_event (link_opens w))
-  fetch_opens w on asks = by_dial (dials_or_none read f.now f.ask f.is_ask.plan f.own w f.stands on.lasts)
-    where
-      f : Fetching w
-      f = on.fetching
-
-      by_enough : Fetches f.now f.ask f.own (link_opens w) ⊎ AtHalt f.now f.ask f.own (link_opens w) → Runs read from begun (after_event (link_opens w))
-      by_enough (inl placed) = fetch_after (link_opens w) (fetching_moved w (link_opens w) f (record { marks = refl; reports = refl; control = refl; cutoff = refl }) placed)
-      by_enough (inr halts) = moved_on Fetches w (link_opens w) f (record { marks = refl; reports = refl; control = refl; cutoff = refl }) (inl halts)
-
-      by_dial : ((port : ℕ) × Holds f.now f.ask f.own (Dials port) f.stands.way f.stands.base)
-          ⊎ (((port : ℕ) × Holds f.now f.ask f.own (Awaits port true) f.stands.way f.stands.base) ⊎ (is_asked_for w ≡ false)) → Runs read from begun (after_event (link_opens w))
-      by_dial (inl (port, h)) =
-          let is = rest_placed _ w f.stands h.way_is in
-          fetch_after (link_opens w) (fetching_moved w (link_opens w) f (record { marks = refl; reports = refl; control = refl; cutoff = refl })
-          (opened_placed read f.now f.ask f.is_ask f.sound f.own port w f.stands.base f.stands.way f.stands.cut is h))
-      by_dial (inr (inl (port, h))) =
-          let is = rest_placed _ w f.stands h.way_is in
-          by_enough (accepted_placed read f.now f.ask f.is_ask f.sound f.own port w f.stands.base f.stands.way f.stands.cut is h)
-      by_dial (inr (inr none)) = absurd (let e : true ≡ false = sym asks ∙ none in cc)
-
-  -- a link that is asked for is refused, and the list runs on
-  pub fetch_refuses : (w : World) → IsFetchingOn read from begun w → is_asked_for w ≡ true → Runs read from begun (after_event (link_refused w))
-  fetch_refuses w on asks = by_dial (dials_or_none read f.now f.ask f.is_ask.plan f.own w f.stands on.lasts)
-    where
-      f : Fetching w
-      f = on.fetching
-
-      left : IsRefusal w (link_refused w)
-      left = refuses_by w (is_connecting (near.wants w.near))
-
-      by_dial : ((port : ℕ) × Holds f.now f.ask f.own (Dials port) f.stands.way f.stands.base)
-          ⊎ (((port : ℕ) × Holds f.now f.ask f.own (Awaits port true) f.stands.way f.stands.base) ⊎ (is_asked_for w ≡ false)) → Runs read from begun (after_event (link_refused w))
-      by_dial (inl (port, h)) =
-          let is = rest_placed _ w f.stands h.way_is in
-          fetch_after (link_refused w) (fetching_marked w (link_refused w) f (f.own ++ Refused ∷ [])
-          (left.marks ∙ ap (marked_last Refused) f.marks_are ∙ marks_last Refused f.marks f.own) left.reports left.control left.cutoff
-          (refused_placed read f.now f.ask f.is_ask f.sound f.own port w f.stands.base f.stands.way f.stands.cut is h))
-      by_dial (inr (inl (port, h))) =
-          let is = rest_placed _ w f.stands h.way_is in
-          fetch_after (link_refused w) (fetching_marked w (link_refused w) f (f.own ++ Refused ∷ [])
-          (left.marks ∙ ap (marked_last Refused) f.marks_are ∙ marks_last Refused f.marks f.own) left.reports left.control left.cutoff
-          (unaccepted_placed read f.now f.ask f.is_ask f.sound f.own port w f.stands.base f.stands.way f.stands.cut is h))
-      by_dial (inr (inr none)) = absurd (let e : true ≡ false = sym asks ∙ none in cc)
+      let new : World = pushed read DataToClient d.taken (record (filled DataToClient w d.counts) { taken = take d.taken (filled DataToClient w d.counts).data_to_client }) in
+      subst (Runs read from begun) (sym d.is)
+      (runs_after w new f (record { marks = lent.kept.marks; reports = lent.kept.reports; control = lent.kept.control; cutoff = lent.kept.cutoff }) (moved_pushes d.taken w f _ few lent))

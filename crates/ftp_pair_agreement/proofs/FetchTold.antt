@@ -138,12 +138,12 @@ unfolding near.wants
 open_served said b = refl
 
 -- where the server has left the link already, the report is taken and the link is gone
-left_served : (said : Said) (b : World) → after_event (told_at said LinkLeft b) ≡ world_at (taken_base said FarData.Free Pendings.Nothing Gone b) rest no_octets
+pub left_served : (said : Said) (b : World) → after_event (told_at said LinkLeft b) ≡ world_at (taken_base said FarData.Free Pendings.Nothing Gone b) rest no_octets
 unfolding near.wants
 left_served said b = refl
 
 -- where both ends have the link to close yet, they close it, the report is taken, and the link is gone
-parting_served : (said : Said) (b : World) → after_event (told_at said LinkParting b) ≡ world_at (taken_base said FarData.Free Pendings.Nothing Gone b) rest no_octets
+pub parting_served : (said : Said) (b : World) → after_event (told_at said LinkParting b) ≡ world_at (taken_base said FarData.Free Pendings.Nothing Gone b) rest no_octets
 unfolding near.wants far.data_closed
 parting_served said b = refl
 
@@ -159,7 +159,7 @@ module _ (read : Reading) (from : State) (begun : List Order) (w : World) (f : I
   is_rest leaves h = rest_placed _ w f.stands h.way_is
 
   -- at an answer the world is the one where it was told
-  is_told : (leaves : Leaving) → Stood leaves → w ≡ told_at said leaves b
+  pub is_told : (leaves : Leaving) → Stood leaves → w ≡ told_at said leaves b
   is_told leaves h =
       is_rest leaves h
       ∙ (λ i. record (world_at b rest no_octets) {

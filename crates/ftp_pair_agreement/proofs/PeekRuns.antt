@@ -18,7 +18,8 @@ use Rattle.ftp_pair_agreement.specs.PeekStages.{AtHalt, Gave, Gives, Halt, Halte
 use Rattle.ftp_pair_agreement.specs.Runs.{IsHalting, IsHaltingOn, Runs}
 use Rattle.ftp_pair_agreement.specs.Stages.{Closed, Lost, Unclosed}
 use Rattle.ftp_pair_agreement.proofs.Events.{and_false}
-use Rattle.ftp_pair_agreement.proofs.FetchRuns.{IsKept, asked_marked, breaks_by, halt_after, moved_on, on_or_told}
+use Rattle.ftp_pair_agreement.proofs.FetchEnds.{breaks_by}
+use Rattle.ftp_pair_agreement.proofs.FetchRuns.{IsKept, asked_marked, halt_after, moved_on, on_or_told}
 use Rattle.ftp_pair_agreement.proofs.FetchTold.{marks_last}
 use Rattle.ftp_pair_agreement.proofs.PeekEvents.{halt_breaks, halt_ends, halt_pushes_up}
 use Rattle.ftp_pair_agreement.proofs.PeekHears.{halt_pulls_down, halt_pushes_down}

@@ -8,7 +8,7 @@ use Rattle.ftp_direct.specs.Direct.{State}
 use Rattle.ftp_client_model.specs.Calls as near
 use Rattle.ftp_server_model.specs.Calls as far
 use Rattle.ftp_server_model.specs.Machine.{Reading, IsReading}
-use Rattle.ftp_client_model.specs.Tries.{OverBreaks}
+use Rattle.ftp_client_model.specs.Tries.{OverBreaks, first_try}
 use Rattle.ftp_pair_world.specs.Agreement.{Order, Single, Tries, Leads, begun_by}
 use Rattle.ftp_ends.specs.Octets.{has_octets}
 use Rattle.ftp_pair_world.specs.Claims.{AreTimed, IsTimed}
@@ -27,7 +27,8 @@ use Rattle.ftp_pair_agreement.proofs.Deliveries.{taken_at}
 use Rattle.ftp_pair_agreement.proofs.Events.{IsNoBeginning, both_false, happens, lent_again, never, under_busy}
 use Rattle.ftp_pair_agreement.proofs.FetchBegins.{begins_fetch}
 use Rattle.ftp_pair_agreement.proofs.FetchParting.{fetch_parts, trailing_parts}
-use Rattle.ftp_pair_agreement.proofs.FetchRuns.{fetching_on_taken, fetch_delivers_server, fetch_delivers_client, fetch_delivers_data, fetch_breaks, fetch_ends, fetch_opens, fetch_refuses}
+use Rattle.ftp_pair_agreement.proofs.FetchEnds.{fetch_breaks, fetch_ends, fetch_opens, fetch_refuses}
+use Rattle.ftp_pair_agreement.proofs.FetchRuns.{fetching_on_taken, fetch_delivers_server, fetch_delivers_client, fetch_delivers_data}
 use Rattle.ftp_pair_agreement.proofs.FetchWants.{flows_or_none, rises_or_none, lasting_busy}
 use Rattle.ftp_pair_agreement.proofs.FetchTold.{closed_is, trailing_ends, trailing_breaks}
 use Rattle.ftp_pair_agreement.proofs.Parting.{begins_lost}
@@ -37,7 +38,7 @@ use Rattle.ftp_pair_agreement.proofs.UploadRuns.{upload_delivers, upload_ends}
 use Rattle.ftp_pair_agreement.proofs.Unsendable.{upload_free, upload_lost}
 
 -- what is lent is of no matter
-trailing_taken : (from : State) (begun : List Order) (octets : List ℕ) (w : World) → IsTrailing from begun w → IsTrailing from begun (record w { taken = octets })
+pub trailing_taken : (from : State) (begun : List Order) (octets : List ℕ) (w : World) → IsTrailing from begun w → IsTrailing from begun (record w { taken = octets })
 trailing_taken from begun octets w t =
     let lends : World → World = λ u. record u { taken = octets } in
     let s = t.stands in
@@ -76,21 +77,21 @@ trailing_taken from begun octets w t =
     }
 
 -- where three hold together, the first two hold
-three_parts : (a b c : Bool) → (a && b && c) ≡ true → (a ≡ true) × (b ≡ true)
+pub three_parts : (a b c : Bool) → (a && b && c) ≡ true → (a ≡ true) × (b ≡ true)
 three_parts a b c is = let both = and_parts (a && b) c is in and_parts a b both.0
 
 -- what needs something false does not hold
-none_there : (b c : Bool) → (b && false && c) ≡ false
+pub none_there : (b c : Bool) → (b && false && c) ≡ false
 none_there true c = refl
 none_there false c = refl
 
 -- a list that has no octets is empty
-no_octet : (l : List ℕ) → not (has_octets l) ≡ true → l ≡ []
+pub no_octet : (l : List ℕ) → not (has_octets l) ≡ true → l ≡ []
 no_octet [] is = refl
 no_octet (octet ∷ l) is = absurd (cc)
 
 -- what is not true is false
-not_so : (b : Bool) → not b ≡ true → b ≡ false
+pub not_so : (b : Bool) → not b ≡ true → b ≡ false
 not_so false is = refl
 not_so true is = absurd (cc)
 
@@ -158,7 +159,7 @@ module _ (read : Reading) (reads : IsReading read) (from : State) where
     lets event e = e.0
 
     -- no delivery is possible in a world that trails behind
-    trails_deliver : (queue : Queue) (count : ℕ) → IsTrue (can_happen (Deliver queue count) w) → ⊥
+    pub trails_deliver : (queue : Queue) (count : ℕ) → IsTrue (can_happen (Deliver queue count) w) → ⊥
     trails_deliver ControlToServer count can = never _ (none_there (not (count == 0)) _) (subst (λ u. IsTrue (can_happen (Deliver ControlToServer count) u)) (closed_is read reads from begun w t) can)
     trails_deliver ControlToClient count can = never _ (none_there (not (count == 0)) _) (subst (λ u. IsTrue (can_happen (Deliver ControlToClient count) u)) (closed_is read reads from begun w t) can)
     trails_deliver DataToServer count can = never _ (none_there (not (count == 0)) _) (subst (λ u. IsTrue (can_happen (Deliver DataToServer count) u)) (closed_is read reads from begun w t) can)
@@ -207,7 +208,7 @@ module _ (read : Reading) (reads : IsReading read) (from : State) where
   -- ---- every event
 
   -- an event that begins nothing keeps what was begun running
-  other_happens : (begun : List Order) (event : Event) (w new : World) → IsNoBeginning event → Holds begun w → Happens read event w true new → Holds begun new
+  pub other_happens : (begun : List Order) (event : Event) (w new : World) → IsNoBeginning event → Holds begun w → Happens read event w true new → Holds begun new
   other_happens begun event w new plain (inl h) e = inl (subst (λ l. Follows read from l new) (append-nil begun) (subst (λ l. Follows read from (begun ++ l) new) (nothing_begun event plain) (happens read reads from begun event w new plain h e)))
     where
       nothing_begun : (event : Event) → IsNoBeginning event → begun_by event true ≡ []
@@ -224,7 +225,7 @@ module _ (read : Reading) (reads : IsReading read) (from : State) where
   other_happens begun event w new plain (inr (inr (inr on))) e = halts_happen begun event w new plain on e
 
   -- an operation begins where none is under way
-  free_begins : (begun : List Order) (op : Op (List ℕ)) (moment : ℕ) (u : World) → IsPlain (Next op moment) → moment ≤ last_second → (h : Follows read from begun u) → IsLinked u → IsFree from begun u
+  pub free_begins : (begun : List Order) (op : Op (List ℕ)) (moment : ℕ) (u : World) → IsPlain (Next op moment) → moment ≤ last_second → (h : Follows read from begun u) → IsLinked u → IsFree from begun u
       → Holds (begun ++ Single op moment ∷ []) (after_event (operation_begins op moment u))
   free_begins begun op moment u plain dated h l f = by_sent (can_be_sent op) refl
     where
@@ -243,27 +244,27 @@ module _ (read : Reading) (reads : IsReading read) (from : State) where
       by_sent false cannot = inl (begins_free read reads from begun op moment u h.unlinked l f (λ sent. absurd (let e : true ≡ false = sym sent ∙ cannot in cc)))
 
   -- nothing begins while an operation is under way
-  under_way : (begun : List Order) (u : World) → IsUnder read from begun u → IsTrue (can_begin u) → ⊥
+  pub under_way : (begun : List Order) (u : World) → IsUnder read from begun u → IsTrue (can_begin u) → ⊥
   under_way begun u under can = never (can_begin u) (ap (λ (b : Bool). not b && is_gone u.link && not (is_asked_for u)) (under_busy read from begun u under)) can
 
   -- nothing begins while a fetch is under way
-  fetch_under_way : (begun : List Order) (w : World) → IsFetchingOn read from begun w → IsTrue (can_begin w) → ⊥
+  pub fetch_under_way : (begun : List Order) (w : World) → IsFetchingOn read from begun w → IsTrue (can_begin w) → ⊥
   fetch_under_way begun w on can =
       let f = on.fetching in
       never (can_begin w) (ap (λ (b : Bool). not b && is_gone w.link && not (is_asked_for w)) (lasting_busy read f.now f.ask f.is_ask.plan f.own w f.stands on.lasts)) can
 
   -- nothing begins while a Peek has sent ABOR
-  halts_on : (begun : List Order) (w : World) → IsHaltingOn from begun w → IsTrue (can_begin w) → ⊥
+  pub halts_on : (begun : List Order) (w : World) → IsHaltingOn from begun w → IsTrue (can_begin w) → ⊥
   halts_on begun w on can =
       let f = on.halting in
       never (can_begin w) (ap (λ (b : Bool). not b && is_gone w.link && not (is_asked_for w)) (halt_busy f.now f.ask f.own w f.stands)) can
 
   -- nothing begins while a closed link trails
-  trails_on : (begun : List Order) (w : World) → IsTrailing from begun w → IsTrue (can_begin w) → ⊥
+  pub trails_on : (begun : List Order) (w : World) → IsTrailing from begun w → IsTrue (can_begin w) → ⊥
   trails_on begun w t can = never (can_begin w) (ap can_begin (closed_is read reads from begun w t)) can
 
   -- the next operation begins, and all that was begun runs with it
-  next_runs : (begun : List Order) (op : Op (List ℕ)) (moment : ℕ) (w new : World) → IsPlain (Next op moment) → moment ≤ last_second → Holds begun w → Happens read (Next op moment) w true new
+  pub next_runs : (begun : List Order) (op : Op (List ℕ)) (moment : ℕ) (w new : World) → IsPlain (Next op moment) → moment ≤ last_second → Holds begun w → Happens read (Next op moment) w true new
       → Holds (begun ++ Single op moment ∷ []) new
   next_runs begun op moment w new plain dated (inl h) e =
       let u : World = record w { taken = [] } in
@@ -279,7 +280,7 @@ module _ (read : Reading) (reads : IsReading read) (from : State) where
   next_runs begun op moment w new plain dated (inr (inr (inr on))) e = absurd (halts_on begun w on e.0)
 
   -- an upload over breaks that can't be sent
-  upload_runs : (begun : List Order) (upload : OverBreaks) (moment : ℕ) (w new : World) → IsPlain (Upload upload moment) → Holds begun w → Happens read (Upload upload moment) w true new
+  pub upload_runs : (begun : List Order) (upload : OverBreaks) (moment : ℕ) (w new : World) → can_be_sent (first_try upload) ≡ false → Holds begun w → Happens read (Upload upload moment) w true new
       → Holds (begun ++ Tries upload moment ∷ []) new
   upload_runs begun upload moment w new plain (inl h) e =
       let u : World = record w { taken = [] } in
@@ -294,45 +295,3 @@ module _ (read : Reading) (reads : IsReading read) (from : State) where
   upload_runs begun upload moment w new plain (inr (inl on)) e = absurd (fetch_under_way begun w on e.0)
   upload_runs begun upload moment w new plain (inr (inr (inl t))) e = absurd (trails_on begun w t e.0)
   upload_runs begun upload moment w new plain (inr (inr (inr on))) e = absurd (halts_on begun w on e.0)
-
-  -- what was begun with nothing added is what was begun
-  same : (begun : List Order) (w : World) → Holds begun w → Holds (begun ++ []) w
-  same begun w h = subst (λ l. Holds l w) (sym (append-nil begun)) h
-
-  -- an event that happens keeps what was begun running, with what it begins
-  runs_happen : (begun : List Order) (event : Event) (w new : World) → IsPlain event → IsTimed event → Holds begun w → Happens read event w true new → Holds (begun ++ begun_by event true) new
-  runs_happen begun (Deliver queue count) w new plain timed h e = same begun new (other_happens begun (Deliver queue count) w new tt h e)
-  runs_happen begun Open w new plain timed h e = same begun new (other_happens begun Open w new tt h e)
-  runs_happen begun Refuse w new plain timed h e = same begun new (other_happens begun Refuse w new tt h e)
-  runs_happen begun (End queue) w new plain timed h e = same begun new (other_happens begun (End queue) w new tt h e)
-  runs_happen begun Break w new plain timed h e = same begun new (other_happens begun Break w new tt h e)
-  runs_happen begun EndControl w new plain timed h e = same begun new (other_happens begun EndControl w new tt h e)
-  runs_happen begun (Next op moment) w new plain timed h e = next_runs begun op moment w new plain timed h e
-  runs_happen begun (Upload upload moment) w new plain timed h e = upload_runs begun upload moment w new plain h e
-
-  -- an event that is not possible begins nothing
-  none_begun : (event : Event) → begun_by event false ≡ []
-  none_begun (Deliver queue count) = refl
-  none_begun Open = refl
-  none_begun Refuse = refl
-  none_begun (End queue) = refl
-  none_begun Break = refl
-  none_begun EndControl = refl
-  none_begun (Next op moment) = refl
-  none_begun (Upload upload moment) = refl
-
-  -- an event, possible or not, keeps what was begun running, with what it begins
-  step : (begun : List Order) (event : Event) (possible : Bool) (w new : World) → IsPlain event → IsTimed event → Holds begun w → Happens read event w possible new → Holds (begun ++ begun_by event possible) new
-  step begun event true w new plain timed h e = runs_happen begun event w new plain timed h e
-  step begun event false w new plain timed h e =
-      subst (Holds (begun ++ begun_by event false)) (sym e.1) (subst (λ l. Holds (begun ++ l) w) (sym (none_begun event)) (same begun w h))
-
-  -- every list
-  pub runs_lead : (before : List Order) (events : List Event) (begun : List Order) (w new : World) → ArePlain events → AreTimed events → Holds before w → Leads read w events begun new
-      → Holds (before ++ begun) new
-  runs_lead before [] begun w new plain timed h leads =
-      subst (Holds (before ++ begun)) (sym leads.1) (subst (λ l. Holds (before ++ l) w) (sym leads.0) (same before w h))
-  runs_lead before (event ∷ events) begun w new plain timed h leads =
-      let here = step before event leads.0 w leads.1 plain.0 timed.0 h leads.3 in
-      let behind = runs_lead (before ++ begun_by event leads.0) events leads.2 leads.1 new plain.1 timed.1 here leads.5 in
-      subst (λ l. Holds l new) (append_assoc before (begun_by event leads.0) leads.2 ∙ ap (λ l. before ++ l) (sym leads.4)) behind

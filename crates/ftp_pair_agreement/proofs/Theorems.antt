@@ -8,33 +8,31 @@ use Rattle.ftp_pair_world.specs.World.{World}
 use Rattle.ftp_pair_world.proofs.AgreementLemmas.{unmarked_is_direct}
 use Rattle.ftp_pair_world.proofs.HonestLemmas.{leads_clean}
 use Rattle.ftp_pair_world.proofs.StillLemmas.{quiet_is_still}
-use Rattle.ftp_pair_agreement.specs.Runs.{Runs}
+use Rattle.ftp_pair_agreement.specs.Over.{OverRuns}
 use Rattle.ftp_pair_agreement.specs.Laws.{ArePlain, PlainAgrees, PlainIsAnswered, PlainHeadline, PlainStillIsQuiet}
-use Rattle.ftp_pair_agreement.proofs.Agreeing.{runs_agree}
 use Rattle.ftp_pair_agreement.proofs.Beginning.{begins_follow}
-use Rattle.ftp_pair_agreement.proofs.FetchQuiet.{runs_answered, runs_quiet}
-use Rattle.ftp_pair_agreement.proofs.Running.{runs_lead}
+use Rattle.ftp_pair_agreement.proofs.OverRunning.{over_agree, over_answered, over_lead, over_quiet}
 
 -- the world to which plain events lead from a fair beginning runs with the operations begun
 plain_runs : (read : Reading) → IsReading read → (b : Beginning) → IsFair b → (events : List Event) (begun : List Order) (w : World)
-    → AreTimed events → Leads read (world_of b) events begun w → ArePlain events → Runs read (state_of b) begun w
+    → AreTimed events → Leads read (world_of b) events begun w → ArePlain events → OverRuns read (state_of b) begun w
 plain_runs read reads b fair events begun w timed leads plain =
-    runs_lead read reads (state_of b) [] events begun (world_of b) w plain timed (inl (begins_follow read b fair)) leads
+    over_lead read reads (state_of b) [] events begun (world_of b) w plain timed (inl (inl (begins_follow read b fair))) leads
 
 -- after every list of plain events there is agreement
 pub plain-agrees : PlainAgrees
 plain-agrees read reads b fair events begun w timed leads plain =
-    runs_agree read reads (state_of b) begun w (plain_runs read reads b fair events begun w timed leads plain)
+    over_agree read reads (state_of b) begun w (plain_runs read reads b fair events begun w timed leads plain)
 
 -- where nothing is in flight behind plain events, nothing is left open
 pub plain-is-answered : PlainIsAnswered
 plain-is-answered read reads b fair events begun w timed leads plain quiet =
-    runs_answered read reads (state_of b) begun w (plain_runs read reads b fair events begun w timed leads plain) (quiet_is_still w quiet)
+    over_answered read reads (state_of b) begun w (plain_runs read reads b fair events begun w timed leads plain) (quiet_is_still w quiet)
 
 -- where nothing moves behind plain events that takes no memory, nothing is in flight
 pub plain-still-is-quiet : PlainStillIsQuiet
 plain-still-is-quiet read reads b fair events begun w timed leads plain still =
-    runs_quiet read reads (state_of b) begun w (plain_runs read reads b fair events begun w timed leads plain) still
+    over_quiet read reads (state_of b) begun w (plain_runs read reads b fair events begun w timed leads plain) still
 
 -- ---- the headline
 

@@ -20,28 +20,28 @@ module _ (read : Reading) (reads : IsReading read) (from : State) (begun : List 
   abbrev Fetching : World → Type 0
   Fetching w = IsFetching read from begun w
 
-  abbrev Climbing : (w : World) → Fetching w → World → Type 0
+  abbrev pub Climbing : (w : World) → Fetching w → World → Type 0
   Climbing w f new = PlacedAt (AtRise read f.now f.ask f.own) new
 
   -- a world whose octets have moved
-  record Moved (w : World) (f : Fetching w) (new : World) : Type 0 where
-    climbing : Climbing w f new
-    kept : IsKept w new
+  pub record Moved (w : World) (f : Fetching w) (new : World) : Type 0 where
+    pub climbing : Climbing w f new
+    pub kept : IsKept w new
 
   -- the client gives octets
-  moved_pulls : (n : ℕ) (w : World) (f : Fetching w) (u : World) → Moved w f u → Moved w f (pulled DataToServer u n)
+  pub moved_pulls : (n : ℕ) (w : World) (f : Fetching w) (u : World) → Moved w f u → Moved w f (pulled DataToServer u n)
   moved_pulls n w f u m = record {
     climbing = rise_pulls read f.now f.ask f.own n u m.climbing;
     kept = record { marks = m.kept.marks; reports = m.kept.reports; control = m.kept.control; cutoff = m.kept.cutoff };
   }
 
   -- call after call
-  moved_filled : (counts : List ℕ) (w : World) (f : Fetching w) (u : World) → Moved w f u → Moved w f (filled DataToServer u counts)
+  pub moved_filled : (counts : List ℕ) (w : World) (f : Fetching w) (u : World) → Moved w f u → Moved w f (filled DataToServer u counts)
   moved_filled [] w f u m = m
   moved_filled (count ∷ counts) w f u m = moved_filled counts w f (pulled DataToServer u count) (moved_pulls count w f u m)
 
   -- what is lent is of no matter
-  moved_taken : (octets : List ℕ) (w : World) (f : Fetching w) (u : World) → Moved w f u → Moved w f (record u { taken = octets })
+  pub moved_taken : (octets : List ℕ) (w : World) (f : Fetching w) (u : World) → Moved w f u → Moved w f (record u { taken = octets })
   moved_taken octets w f u m =
       let lends : World → World = λ v. record v { taken = octets } in
       let s = m.climbing in
@@ -63,14 +63,14 @@ module _ (read : Reading) (reads : IsReading read) (from : State) (begun : List 
       }
 
   -- the server takes octets
-  moved_pushes : (n : ℕ) (w : World) (f : Fetching w) (u : World) → n ≤ length u.data_to_server → Moved w f u → Moved w f (pushed read DataToServer n u)
+  pub moved_pushes : (n : ℕ) (w : World) (f : Fetching w) (u : World) → n ≤ length u.data_to_server → Moved w f u → Moved w f (pushed read DataToServer n u)
   moved_pushes n w f u few m = record {
     climbing = rise_pushes read f.now f.ask f.own n u few m.climbing;
     kept = record { marks = m.kept.marks; reports = m.kept.reports; control = m.kept.control; cutoff = m.kept.cutoff };
   }
 
   -- the upload is under way still
-  moved_is : (w : World) (f : Fetching w) (u : World) → Moved w f u → Fetching u
+  pub moved_is : (w : World) (f : Fetching w) (u : World) → Moved w f u → Fetching u
   moved_is w f u m = fetching_moved read reads from begun w u f m.kept (rise_is read f.now f.ask f.own u m.climbing)
 
   -- a delivery of octets of the link to the server

@@ -30,7 +30,7 @@ module _ (read : Reading) (from : State) (begun : List Order) (w : World) (f : I
   is_rest = rest_placed _ w f.stands h.way_is
 
   -- the world is the one where it was told
-  is_told : w ≡ told_at said no_link b
+  pub is_told : w ≡ told_at said no_link b
   is_told =
       is_rest
       ∙ (λ i. record (world_at b rest no_octets) {

@@ -1,20 +1,18 @@
 -- The claims of `ftp_pair_world` for lists of events whose operations have no transfer or are downloads, Peek among them, listings or uploads, in every
--- type, structure and mode, with restart markers and without, over passive and active data connections: deliveries, openings, breaks, refusals and ends of
--- every kind, and operations that can't be sent, among them.
-use Rattle.std.specs.Prelude.{◌≡◌, ◌⊎◌, true, false, List, [], ◌∷◌}
+-- type, structure and mode, with restart markers and without, over passive and active data connections, and for uploads over breaks: deliveries,
+-- openings, breaks, refusals and ends of every kind, and operations that can't be sent, among them.
+use Rattle.std.specs.Prelude.{◌≡◌, ◌⊎◌, true, List, [], ◌∷◌}
 use Rattle.ftp_operation.specs.Operation.{can_be_sent}
-use Rattle.ftp_client_model.specs.Tries.{first_try}
 use Rattle.ftp_pair_world.specs.Agreement.{WorldAgrees, IsDirect, AreHonest, AreSingle}
 use Rattle.ftp_pair_world.specs.Claims.{state_of, Always, IsAnswered}
-use Rattle.ftp_pair_world.specs.Events.{Event, Next, Upload, IsQuiet}
+use Rattle.ftp_pair_world.specs.Events.{Event, Next, IsQuiet}
 use Rattle.ftp_pair_world.specs.Still.{IsStill}
 use Rattle.ftp_pair_dialogues.specs.Dialogue.{HasNoTransfer}
 use Rattle.ftp_pair_dialogues.specs.Fetches.{IsFetch, IsStore}
 
--- what an event begins has no transfer, is a download, a Peek too, a listing or an upload, or can't be sent, an upload over breaks too
+-- what an event begins is any upload over breaks, or has no transfer, is a download, a Peek too, a listing or an upload, or can't be sent
 abbrev pub IsPlain : Event → Type 0
 IsPlain (Next op moment) = can_be_sent op ≡ true → HasNoTransfer op ⊎ IsFetch op ⊎ IsStore op
-IsPlain (Upload upload moment) = can_be_sent (first_try upload) ≡ false
 IsPlain event = Unit {0}
 
 -- so it is of each event

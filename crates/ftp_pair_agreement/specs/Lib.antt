@@ -7,3 +7,5 @@ pub mod Stages
 pub mod Crossing
 pub mod PeekStages
 pub mod Runs
+pub mod Tried
+pub mod Over

@@ -1,9 +1,9 @@
 //! Laws of a session: functions that do nothing, whose contracts are the claims of `ftp_pair_world` for operations without a transfer,
-//! downloads, listings and uploads.
+//! downloads, listings, uploads, and uploads over breaks.
 ghost use Rattle.ftp_pair_agreement.specs.Laws.{PlainAgrees, PlainHeadline, PlainIsAnswered, PlainStillIsQuiet};
 
-/// After every event of every list whose operations have no transfer or are downloads, listings or uploads, reports and map agree with the
-/// operations that were begun.
+/// After every event of every list whose operations have no transfer or are downloads, listings, uploads, or uploads over breaks, reports and
+/// map agree with the operations that were begun.
 pub fn plain_lists_agree()
     ensures { PlainAgrees }
 {}

@@ -53,7 +53,7 @@ aborts_footing (Data.Opening transfer way) v = refl
 aborts_footing (Data.Transferring transfer) v = refl
 
 -- so does each line
-line_footing : (heard : HeardLine (List ℕ)) (v : Far) → (heard_line heard v).footing ≡ v.footing
+pub line_footing : (heard : HeardLine (List ℕ)) (v : Far) → (heard_line heard v).footing ≡ v.footing
 line_footing heard v = by_abort (is_abort heard v)
   where
     by_abort : (b : Bool) → (if b then aborted v else later (record v { waiting = Some heard })).footing ≡ v.footing
