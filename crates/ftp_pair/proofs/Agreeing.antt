@@ -1,9 +1,8 @@
--- What is known of a session, by the laws for the class that is proved.
+-- What is known of a session, by the laws of agreement.
 use Rattle.std.proofs.Common.{◌≡◌, ◌∙◌, Bool, true, List, [], ◌∷◌, ◌++◌, map, refl, sym, ap, subst, append-nil, append_assoc, Ok, Err}
 use Rattle.std.specs.Prelude.{IfOk, OnOk}
 use Rattle.std.specs.declared.result.Result.{Result}
-use Rattle.ftp_pair_agreement.specs.Laws.{ArePlain, IsPlain}
-use Rattle.ftp_pair_agreement.proofs.Theorems.{plain-agrees, plain-headline, plain-is-answered, plain-still-is-quiet}
+use Rattle.ftp_pair_agreement.proofs.Theorems.{agrees-always, headline, quiet-is-answered, rest-is-quiet}
 use Rattle.ftp_server_model.specs.Machine.{Reading}
 use Rattle.ftp_pair_world.specs.Agreement.{AreHonest, IsHonest, Leads, Order, begun_by}
 use Rattle.ftp_pair_world.specs.Claims.{AreTimed, Beginning, IsTimed, world_of}
@@ -38,11 +37,6 @@ timed_on : (front given : List Event) → AreTimed front → AreTimed given → 
 timed_on [] given one other = other
 timed_on (event ∷ front) given one other = (one.0, timed_on front given one.1 other)
 
--- each is of the class
-plain_on : (front given : List Event) → ArePlain front → ArePlain given → ArePlain (front ++ given)
-plain_on [] given one other = other
-plain_on (event ∷ front) given one other = (one.0, plain_on front given one.1 other)
-
 -- each is honest
 honest_on : (front given : List Event) → AreHonest front → AreHonest given → AreHonest (front ++ given)
 honest_on [] given one other = other
@@ -50,11 +44,11 @@ honest_on (event ∷ front) given one other = (one.0, honest_on front given one.
 
 -- ---- events by which a world comes to rest
 
--- a small event is timed, is of the class, and is honest
-small_is : (event : Event) → IsSmall event → IsTimed event × IsPlain event × IsHonest event
-small_is (events.Deliver queue count) small = (tt, tt, tt)
-small_is events.Open small = (tt, tt, tt)
-small_is (events.End queue) small = (tt, tt, tt)
+-- a small event is timed and honest
+small_is : (event : Event) → IsSmall event → IsTimed event × IsHonest event
+small_is (events.Deliver queue count) small = (tt, tt)
+small_is events.Open small = (tt, tt)
+small_is (events.End queue) small = (tt, tt)
 small_is other small = absurd small
 
 -- so is each of them
@@ -62,13 +56,9 @@ small_timed : (turns : List Event) → AreSmall turns → AreTimed turns
 small_timed [] small = tt
 small_timed (event ∷ turns) small = ((small_is event small.0).0, small_timed turns small.1)
 
-small_plain : (turns : List Event) → AreSmall turns → ArePlain turns
-small_plain [] small = tt
-small_plain (event ∷ turns) small = ((small_is event small.0).1, small_plain turns small.1)
-
 small_honest : (turns : List Event) → AreSmall turns → AreHonest turns
 small_honest [] small = tt
-small_honest (event ∷ turns) small = ((small_is event small.0).2, small_honest turns small.1)
+small_honest (event ∷ turns) small = ((small_is event small.0).1, small_honest turns small.1)
 
 -- ---- a session goes on
 
@@ -86,7 +76,7 @@ pub agrees_after : (given : List Event) (old new : Seen) → AreTimed given → 
 agrees_after given old new in_time leads calm read reads from before begun session =
     let so = (leads calm).1 read reads in
     let on = session_on read from before given begun so.0 old.world new.world session in_time so.1 in
-    (so.0, on, λ plain. plain-agrees read reads from on.fair (before ++ given) (begun ++ so.0) new.world on.timed on.leads plain)
+    (so.0, on, agrees-always read reads from on.fair (before ++ given) (begun ++ so.0) new.world on.timed on.leads)
 
 -- by turns to rest
 pub settles : (old new : Seen) → LeadsSmall old new → (new.calm ≡ true → IsStill new.world) → Settles old new
@@ -96,17 +86,17 @@ settles old new leads still calm read reads from before begun session =
     let on : Session read from (before ++ turns) begun new.world =
     subst (λ b. Session read from (before ++ turns) b new.world) (append-nil begun)
     (session_on read from before turns begun [] old.world new.world session (small_timed turns so.1) so.2) in
-    (turns, so.1, on, λ plain. at_rest turns so.1 on (plain_on before turns plain (small_plain turns so.1)))
+    (turns, so.1, on, at_rest turns so.1 on)
   where
-    at_rest : (turns : List Event) → AreSmall turns → Session read from (before ++ turns) begun new.world → ArePlain (before ++ turns) → IsSettled from before begun new.world
-    at_rest turns small on plain =
-        let quiet = plain-still-is-quiet read reads from on.fair (before ++ turns) begun new.world on.timed on.leads plain (still calm) in
+    at_rest : (turns : List Event) → AreSmall turns → Session read from (before ++ turns) begun new.world → IsSettled from before begun new.world
+    at_rest turns small on =
+        let quiet = rest-is-quiet read reads from on.fair (before ++ turns) begun new.world on.timed on.leads (still calm) in
         record {
-          agrees = plain-agrees read reads from on.fair (before ++ turns) begun new.world on.timed on.leads plain;
+          agrees = agrees-always read reads from on.fair (before ++ turns) begun new.world on.timed on.leads;
           quiet = quiet;
-          answered = plain-is-answered read reads from on.fair (before ++ turns) begun new.world on.timed on.leads plain quiet;
+          answered = quiet-is-answered read reads from on.fair (before ++ turns) begun new.world on.timed on.leads quiet;
           direct = λ honest single.
-              plain-headline read reads from on.fair (before ++ turns) begun new.world on.timed on.leads plain (honest_on before turns honest (small_honest turns small)) single quiet;
+              headline read reads from on.fair (before ++ turns) begun new.world on.timed on.leads (honest_on before turns honest (small_honest turns small)) single quiet;
         }
 
 -- each event that a world is given is timed

@@ -15,7 +15,7 @@ use Rattle.ftp_pair_settling.proofs.Steady.{stays_steady}
 use Rattle.ftp_pair_settling.specs.Steady.{IsSteady}
 use Rattle.ftp_pair.specs.Session.{AgreesHere, Seen, Reached, IsReached}
 use Rattle.ftp_server_model.proofs.LinesDecided.{reading_exists}
-use Rattle.ftp_pair_agreement.proofs.Theorems.{plain-agrees}
+use Rattle.ftp_pair_agreement.proofs.Theorems.{agrees-always}
 use Rattle.ftp_pair.proofs.Running.{leads_last}
 
 -- every event has a moment in range
@@ -82,7 +82,7 @@ reached_steady w was = ∥∥₁_elim was ∥∥₁_prop
     let so = reached.leads reading_exists.0 reading_exists.1 in
     ∣ stays_steady reading_exists.0 reading_exists.1 reached.from reached.fair reached.given so.0 w reached.timed so.1 ∣₁)
 
--- in every world that is reached there is agreement, by the law for the class that is proved
+-- in every world that is reached there is agreement, by the law of agreement
 pub agrees_here : (w : World) → ∥ Reached w ∥₁ → ∥ AgreesHere w ∥₁
 agrees_here w was = ∥∥₁_elim was ∥∥₁_prop
     (λ reached. ∣ record {
@@ -90,5 +90,5 @@ agrees_here w was = ∥∥₁_elim was ∥∥₁_prop
       given = reached.given;
       agrees = λ read reads.
           let so = reached.leads read reads in
-          (so.0, record { fair = reached.fair; timed = reached.timed; leads = so.1 }, λ plain. plain-agrees read reads reached.from reached.fair reached.given so.0 w reached.timed so.1 plain);
+          (so.0, record { fair = reached.fair; timed = reached.timed; leads = so.1 }, agrees-always read reads reached.from reached.fair reached.given so.0 w reached.timed so.1);
     } ∣₁)

@@ -1,6 +1,5 @@
 -- What a session in a world of two ends has come to: from which ends, by which events, and what is known of it then.
 use Rattle.std.specs.Prelude.{◌≡◌, ℕ, Bool, true, List, [], ◌∷◌, ◌++◌, take}
-use Rattle.ftp_pair_agreement.specs.Laws.{ArePlain}
 use Rattle.ftp_client_model.specs.Failing.{Client}
 use Rattle.ftp_server_model.specs.Far.{Server}
 use Rattle.ftp_server_model.specs.Machine.{Reading, IsReading}
@@ -63,13 +62,12 @@ IsReached s = s.calm ≡ true → Reached s.world
 
 -- ---- what is known then
 
--- a session that comes to the first world comes to the other by these events, and where each of its events is of the class that is proved, reports
--- and map agree with what was begun
+-- a session that comes to the first world comes to the other by these events, and reports and map agree with what was begun
 abbrev pub AgreesAfter : List Event → Seen → Seen → Type 0
 AgreesAfter given old new =
     new.calm ≡ true → (read : Reading) → IsReading read → (from : Beginning) (before : List Event) (begun : List Order) → Session read from before begun old.world
     → (more : List Order) × Session read from (before ++ given) (begun ++ more) new.world
-    × (ArePlain (before ++ given) → WorldAgrees (state_of from) (begun ++ more) new.world)
+    × WorldAgrees (state_of from) (begun ++ more) new.world
 
 -- a session at rest: nothing is in flight, each operation begun has its report, and on honest connections, where none is an upload over breaks, all
 -- is as in the direct run
@@ -79,16 +77,15 @@ pub record IsSettled (from : Beginning) (given : List Event) (begun : List Order
   pub answered : IsAnswered begun w
   pub direct : AreHonest given → AreSingle begun → IsDirect (state_of from) begun w
 
--- a session that comes to the first world comes to the other with no operation more, and where each of its events is of the class that is proved,
--- it is at rest there
+-- a session that comes to the first world comes to the other with no operation more, and is at rest there
 abbrev pub Settles : Seen → Seen → Type 0
 Settles old new =
     new.calm ≡ true → (read : Reading) → IsReading read → (from : Beginning) (before : List Event) (begun : List Order) → Session read from before begun old.world
     → (turns : List Event) × AreSmall turns × Session read from (before ++ turns) begun new.world
-    × (ArePlain before → IsSettled from before begun new.world)
+    × IsSettled from before begun new.world
 
--- the reports and the map agree with what was begun, from where it began, where each event was of the class that is proved
+-- the reports and the map agree with what was begun, from where it began
 pub record AgreesHere (w : World) : Type 0 where
   pub from : Beginning
   pub given : List Event
-  pub agrees : (read : Reading) → IsReading read → (begun : List Order) × Session read from given begun w × (ArePlain given → WorldAgrees (state_of from) begun w)
+  pub agrees : (read : Reading) → IsReading read → (begun : List Order) × Session read from given begun w × WorldAgrees (state_of from) begun w

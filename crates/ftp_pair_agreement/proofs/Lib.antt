@@ -78,3 +78,4 @@ pub mod OverHappens
 pub mod OverBegins
 pub mod OverTails
 pub mod OverRunning
+pub mod Everything

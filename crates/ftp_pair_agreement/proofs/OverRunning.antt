@@ -14,7 +14,7 @@ use Rattle.ftp_pair_world.specs.Serving.{after_event}
 use Rattle.ftp_pair_world.specs.Still.{IsStill}
 use Rattle.ftp_pair_world.specs.World.{World}
 use Rattle.ftp_pair_agreement.specs.Follows.{IsFree, Phase, Follows}
-use Rattle.ftp_pair_agreement.specs.Laws.{IsPlain, ArePlain}
+use Rattle.ftp_pair_agreement.specs.Class.{IsPlain, ArePlain}
 use Rattle.ftp_pair_agreement.specs.Over.{marks_of, orders_of, IsTrying, IsTailing, OverRuns}
 use Rattle.ftp_pair_agreement.specs.Runs.{Runs}
 use Rattle.ftp_pair_agreement.specs.Tried.{all_marks, tried_said}

@@ -19,7 +19,7 @@ use Rattle.ftp_pair_world.specs.World.{World}
 use Rattle.ftp_pair_dialogues.specs.Dialogue.{HasNoTransfer}
 use Rattle.ftp_pair_dialogues.specs.Fetches.{IsFetch, IsStore}
 use Rattle.ftp_pair_agreement.specs.Follows.{IsFree, IsUnder, IsLinked, Phase, Follows}
-use Rattle.ftp_pair_agreement.specs.Laws.{IsPlain, ArePlain}
+use Rattle.ftp_pair_agreement.specs.Class.{IsPlain, ArePlain}
 use Rattle.ftp_pair_agreement.specs.Runs.{IsFetchingOn, IsHaltingOn, IsTrailing, Runs}
 use Rattle.ftp_pair_agreement.proofs.Asks.{IsAskOf, ask_of, store_of}
 use Rattle.ftp_pair_agreement.proofs.Begins.{begins_free}

@@ -9,3 +9,4 @@ pub mod PeekStages
 pub mod Runs
 pub mod Tried
 pub mod Over
+pub mod Class

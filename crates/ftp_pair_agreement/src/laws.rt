@@ -1,25 +1,24 @@
-//! Laws of a session: functions that do nothing, whose contracts are the claims of `ftp_pair_world` for operations without a transfer,
-//! downloads, listings, uploads, and uploads over breaks.
-ghost use Rattle.ftp_pair_agreement.specs.Laws.{PlainAgrees, PlainHeadline, PlainIsAnswered, PlainStillIsQuiet};
+//! Laws of a session: functions that do nothing, whose contracts are the claims of `ftp_pair_world`, of every operation and every list of events.
+ghost use Rattle.ftp_pair_agreement.specs.Laws.{RestIsQuiet};
+ghost use Rattle.ftp_pair_world.specs.Claims.{AgreesAlways, Headline, QuietIsAnswered};
 
-/// After every event of every list whose operations have no transfer or are downloads, listings, uploads, or uploads over breaks, reports and
-/// map agree with the operations that were begun.
-pub fn plain_lists_agree()
-    ensures { PlainAgrees }
+/// Any moment, any break: after every event of every list reports and map agree with the operations that were begun.
+pub fn sessions_agree()
+    ensures { AgreesAlways }
 {}
 
 /// Where nothing is in flight, each of them has its report, and another can be begun.
-pub fn plain_lists_are_answered()
-    ensures { PlainIsAnswered }
+pub fn sessions_are_answered()
+    ensures { QuietIsAnswered }
 {}
 
-/// On honest connections, where no upload over breaks was begun and once nothing is in flight, reports and map are those of the operations run
-/// directly.
-pub fn plain_lists_are_the_direct_run()
-    ensures { PlainHeadline }
+/// The headline: on honest connections, where no upload over breaks was begun and once nothing is in flight, reports and map are those of the
+/// operations run directly.
+pub fn sessions_are_the_direct_run()
+    ensures { Headline }
 {}
 
 /// Where no delivery of 1 to 4,096 octets, no opening and no end is possible, nothing is in flight.
-pub fn plain_lists_that_are_still_are_quiet()
-    ensures { PlainStillIsQuiet }
+pub fn sessions_at_rest_are_quiet()
+    ensures { RestIsQuiet }
 {}
