@@ -1,23 +1,13 @@
-//! For tests alone: plays the script that standard input has, as the program `pair` does by seven octets a turn, with its transcript (RFC 959).
+//! For tests alone: scripts, as the program `pair` plays them with both real ends in one world over memory (RFC 959).
 #![tactic(auto)]
 
-use ftp_tool_pair::PairSettings;
+mod scripts;
+
 use std::io;
-use std::process::ExitCode;
+use std::io::{Read, Write};
 
-const SETTINGS: PairSettings = PairSettings {
-    piece: 7,
-    transcript: true,
-    roots: false,
-};
-
-fn main(rt: HostRuntime) -> ExitCode {
-    let status = ftp_tool_pair::play(
-        rt.alloc(),
-        SETTINGS,
-        &mut rt.reader(),
-        &mut io::writer(&rt),
-        &mut rt.stderr(),
-    );
-    ExitCode::from(status.number())
+fn main(rt: HostRuntime) -> io::Result<()> {
+    let mut rows = Vec::new(rt.alloc());
+    rt.reader().read_to_end(&mut rows)?;
+    io::writer(&rt).write_all(scripts::play_all(rt.alloc(), rows.as_slice()).text())
 }
