@@ -1,4 +1,7 @@
 // A script, read whole.
+ghost use Rattle.std.specs.Prelude.{IfOk};
+ghost use Rattle.ftp_tool_reports.specs.Reading.{GivesAll, ReadsScript};
+
 use ftp_tool_script::{Script, ScriptFault, script_of};
 use std::alloc::Allocator;
 use std::fmt::{Display, Formatter};
@@ -27,7 +30,9 @@ impl Display for NoScript {
 pub fn read_script<A: Allocator + Copy, R: Read>(
     alloc: A,
     reader: &mut R,
-) -> Result<Script<A>, NoScript> {
+) -> Result<Script<A>, NoScript>
+    ensures { ReadsScript (R.remaining reader.old) (R.remaining reader.new) result }
+{
     let text = match text_of(alloc, reader) {
         Ok(text) => text,
         Err(error) => return Err(NoScript::Failed(error)),
@@ -40,7 +45,9 @@ pub fn read_script<A: Allocator + Copy, R: Read>(
 }
 
 /// All that a reader gives.
-fn text_of<A: Allocator, R: Read>(alloc: A, reader: &mut R) -> io::Result<Vec<u8, A>> {
+fn text_of<A: Allocator, R: Read>(alloc: A, reader: &mut R) -> io::Result<Vec<u8, A>>
+    ensures { IfOk result (λ text. GivesAll (R.remaining reader.old) (R.remaining reader.new) text.items) }
+{
     let mut text = Vec::new(alloc);
     let _count = reader.read_to_end(&mut text)?;
     Ok(text)
