@@ -1,2 +1,3 @@
--- What is written where a script is played.
+-- What a script leads to, and what is written where one is played.
+pub mod Leading
 pub mod Played

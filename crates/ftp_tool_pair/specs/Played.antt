@@ -1,13 +1,19 @@
 -- What is written where a script is played.
-use Rattle.std.specs.Prelude.{◌≡◌, ◌++◌, ◌⊎◌, ℕ, true, List, Option, map, flat_map}
+use Rattle.std.specs.Prelude.{◌≡◌, ◌++◌, ◌⊎◌, ℕ, true, List, Option, Ok, Err, map, flat_map}
 use Rattle.std.specs.Io.KnownBytes.{Appends}
 use Rattle.ftp_operation.specs.Answer.{Said, said_of}
 use Rattle.ftp_operation.specs.declared.answer.Answer.{Answer}
-use Rattle.ftp_pair.specs.Session.{Reached, Seen}
+use Rattle.ftp_pair.specs.Session.{Seen}
 use Rattle.ftp_tool_script.specs.Report.{report}
+use Rattle.ftp_tool_script.specs.Script.{script_value}
+use Rattle.ftp_tool_script.specs.declared.order.Order.{Order}
+use Rattle.ftp_tool_reports.specs.Reading.{GivesAll}
 use Rattle.ftp_tool_reports.specs.Status.{worst_of}
+use Rattle.ftp_tool_reports.specs.declared.reading.NoScript.{NoScript}
+use Rattle.ftp_tool_reports.specs.declared.reading.NoScript.TheVariants as Nones
 use Rattle.ftp_tool_status.specs.declared.status.Status.{Status}
 use Rattle.ftp_tool_status.specs.declared.status.Status.TheVariants.{BadWords, Failed}
+use Rattle.ftp_tool_pair.specs.Leading.{Led}
 
 -- a text was written, and after it the report of each of these answers; the status is their worst. A is the type of an allocator, and says nothing
 pub record Reports (A : Type 0) (said : List Said) (old new : Option (List ℕ)) (status : Status) : Type 0 where
@@ -17,12 +23,35 @@ pub record Reports (A : Type 0) (said : List Said) (old new : Option (List ℕ))
   pub wrote : Appends old new (front ++ flat_map report answers)
   pub worst : status ≡ worst_of answers
 
--- the reports are those of a world; where no end was refused memory, timed events lead there from two ends that begin fairly
-pub record Plays (A : Type 0) (old new : Option (List ℕ)) (status : Status) : Type 0 where
+-- the reports are those of a world, to which a login and orders led where no end was refused memory
+pub record Plays (A : Type 0) (login : List ℕ × List ℕ) (orders : List (Order (List ℕ))) (old new : Option (List ℕ)) (status : Status) : Type 0 where
   pub world : Seen
   pub reports : Reports A world.world.reports old new status
-  pub reached : world.calm ≡ true → ∥ Reached world.world ∥₁
+  pub led : world.calm ≡ true → Led login orders world.world
 
--- a script was played; or it is none, and nothing was written; or something failed
-abbrev pub Tells : (A : Type 0) (old new : Option (List ℕ)) (status : Status) → Type 0
-Tells A old new status = Plays A old new status ⊎ ((status ≡ BadWords) × (new ≡ old) ⊎ (status ≡ Failed))
+-- a reader gave a script, which was played
+pub record PlaysAll (A : Type 0) (known left old new : Option (List ℕ)) (status : Status) : Type 0 where
+  pub text : List ℕ
+  pub gave : GivesAll known left text
+  pub login : List ℕ × List ℕ
+  pub orders : List (Order (List ℕ))
+  pub said : script_value text ≡ Ok (login, orders)
+  pub plays : Plays A login orders old new status
+
+-- a reader gave a text that is no script, and nothing was written
+pub record IsUnfit (known left old new : Option (List ℕ)) (status : Status) : Type 0 where
+  pub text : List ℕ
+  pub gave : GivesAll known left text
+  pub line : ℕ
+  pub fault : script_value text ≡ Err line
+  pub same : new ≡ old
+  pub told : status ≡ BadWords
+
+-- how a program ends that finds no script
+abbrev pub status_without : NoScript → Status
+status_without (Nones.Line number) = BadWords
+status_without (Nones.Failed error) = Failed
+
+-- a script was played; or it is none; or something failed
+abbrev pub Tells : (A : Type 0) (known left old new : Option (List ℕ)) (status : Status) → Type 0
+Tells A known left old new status = PlaysAll A known left old new status ⊎ (IsUnfit known left old new status ⊎ (status ≡ Failed))

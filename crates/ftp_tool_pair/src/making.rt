@@ -1,4 +1,6 @@
 // What a script begins with: a new tree, and who may log in.
+ghost use Rattle.std.specs.Prelude.{◌≡◌, IfOk};
+
 use ftp_endpoint::Host;
 use ftp_facts::Text;
 use ftp_operation::{Account, Login};
@@ -17,7 +19,9 @@ pub fn beginning_of<A: Allocator + Copy>(
     alloc: A,
     login: Login<A>,
     roots: bool,
-) -> io::Result<Beginning<A, MemTree<A>>> {
+) -> io::Result<Beginning<A, MemTree<A>>>
+    ensures { IfOk result (λ of. (of.login.user ≡ login.user) × (of.login.pass ≡ login.pass)) }
+{
     let mut tree = MemTree::new(alloc);
     let mut guest = Path::root(alloc);
     let mut anonymous = Path::root(alloc);

@@ -1,4 +1,8 @@
 // The orders of a script, one after another.
+ghost use Rattle.std.specs.Prelude.{◌≡◌, ◌+◌, ◌∷◌, [], true, IfOk, OnOk};
+ghost use Rattle.ftp_pair_world.specs.Events.{IsQuiet};
+ghost use Rattle.ftp_tool_pair.specs.Leading.{LeadsTo, first_second, order_at, orders_at};
+
 use crate::rounds::round;
 use crate::transcript::Transcript;
 use ftp_client_model::Near;
@@ -25,6 +29,8 @@ where
     T: Tree<A>,
     N: Near<A>,
     S: Far<A, T>,
+    ensures leads { OnOk result (LeadsTo (orders_at first_second orders.items) world.old world.new) }
+    ensures quiet { OnOk result (IsQuiet world.new.world) }
 {
     let mut number = 0u64;
     for order in orders {
@@ -35,7 +41,7 @@ where
         number = number.saturating_add(1);
     }
     until_still(world, piece, transcript)?;
-    if world.finished() {
+    if world.finished() && world.is_quiet() {
         Ok(())
     } else {
         Err(unreported())
@@ -43,7 +49,9 @@ where
 }
 
 /// The moment of the order with this number.
-fn moment_at(number: u64) -> io::Result<Moment> {
+fn moment_at(number: u64) -> io::Result<Moment>
+    ensures { IfOk result (λ moment. moment.seconds ≡ first_second + number) }
+{
     match moment_of(number) {
         Some(moment) => Ok(moment),
         None => Err(Error::new(ErrorKind::Other, "an order is past the year 9999")),
@@ -53,7 +61,7 @@ fn moment_at(number: u64) -> io::Result<Moment> {
 fn unreported() -> Error {
     Error::new(
         ErrorKind::Other,
-        "nothing moves any more, and an operation has no report",
+        "nothing moves any more, and not all is done",
     )
 }
 
@@ -68,6 +76,7 @@ where
     T: Tree<A>,
     N: Near<A>,
     S: Far<A, T>,
+    ensures { IfOk result (λ possible. possible ≡ true → LeadsTo (order_at moment.seconds order ∷ []) world.old world.new) }
 {
     match order.into_parts() {
         Ok(op) => world.step(Event::Next(op, moment)),
@@ -76,6 +85,7 @@ where
 }
 
 /// Rounds until each order that began has its report, or nothing moves any more; one at least.
+#[tactic(auto, using(crate::proofs::Leading::nothing))]
 fn until_finished<A, T, N, S>(
     world: &mut World<A, T, N, S>,
     piece: u32,
@@ -86,6 +96,7 @@ where
     T: Tree<A>,
     N: Near<A>,
     S: Far<A, T>,
+    ensures { OnOk result (LeadsTo [] world.old world.new) }
 {
     for _ in 0..TURNS {
         if !round(world, piece, transcript)? || world.finished() {
@@ -96,6 +107,7 @@ where
 }
 
 /// Rounds until nothing moves any more.
+#[tactic(auto, using(crate::proofs::Leading::nothing))]
 fn until_still<A, T, N, S>(
     world: &mut World<A, T, N, S>,
     piece: u32,
@@ -106,6 +118,7 @@ where
     T: Tree<A>,
     N: Near<A>,
     S: Far<A, T>,
+    ensures { OnOk result (LeadsTo [] world.old world.new) }
 {
     for _ in 0..TURNS {
         if !round(world, piece, transcript)? {

@@ -1,8 +1,9 @@
 // A script between a reader and a writer.
-ghost use Rattle.std.specs.Prelude.{◌≡◌, ◌⊎◌, true, IfOk, OnOk};
-ghost use Rattle.ftp_pair.specs.Session.{Reached};
-ghost use Rattle.ftp_tool_status.specs.declared.status.Status.TheVariants.{BadWords, Failed};
-ghost use Rattle.ftp_tool_pair.specs.Played.{Plays, Reports, Tells};
+ghost use Rattle.std.specs.Prelude.{◌≡◌, IfOk, OnOk};
+ghost use Rattle.ftp_pair_world.specs.Events.{IsQuiet};
+ghost use Rattle.ftp_tool_status.specs.declared.status.Status.TheVariants.{Failed};
+ghost use Rattle.ftp_tool_pair.specs.Leading.{LeadsTo, first_second, orders_at};
+ghost use Rattle.ftp_tool_pair.specs.Played.{Plays, Reports, Tells, status_without};
 
 use crate::making::beginning_of;
 use crate::orders::obey;
@@ -39,6 +40,7 @@ pub struct PairSettings {
 /// in; what lies between them is the world of `ftp_pair`. The first order has the first second of the year 2000, each other the next one. `Done`: each
 /// order was answered as wanted. `Refused`: an order was refused or failed. `BadWords`: a line of the script fits no form, and nothing was done.
 /// `Failed`: a read or a write failed, or memory was refused outside of the ends. `faults` is told of the last two.
+#[tactic(auto, using(crate::proofs::Reporting::tells_none, crate::proofs::Reporting::tells_script))]
 pub fn play<A, R, W, F>(
     alloc: A,
     settings: PairSettings,
@@ -51,7 +53,7 @@ where
     R: Read,
     W: Write,
     F: Write,
-    ensures { Tells A (W.contents writer.old) (W.contents writer.new) result }
+    ensures { Tells A (R.remaining reader.old) (R.remaining reader.new) (W.contents writer.old) (W.contents writer.new) result }
 {
     let script = match read_script(alloc, reader) {
         Ok(script) => script,
@@ -65,7 +67,7 @@ where
 
 /// Tells why there is no script.
 fn no_script<A: Allocator, F: Write>(alloc: A, fault: NoScript, faults: &mut F) -> Status
-    ensures { (result ≡ BadWords) ⊎ (result ≡ Failed) }
+    ensures { result ≡ status_without fault }
 {
     match fault {
         NoScript::Line(number) => {
@@ -95,7 +97,7 @@ fn play_script<A: Allocator + Copy, W: Write>(
     script: Script<A>,
     writer: &mut W,
 ) -> io::Result<Status>
-    ensures { IfOk result (λ status. Plays A (W.contents writer.old) (W.contents writer.new) status) }
+    ensures { IfOk result (λ status. Plays A (script.login.user, script.login.pass) script.orders.items (W.contents writer.old) (W.contents writer.new) status) }
 {
     let Script { login, orders } = script;
     let of = beginning_of(alloc, login, settings.roots)?;
@@ -111,7 +113,7 @@ fn play_from<A: Allocator + Copy, W: Write>(
     orders: Vec<Order<Text<A>>, A>,
     writer: &mut W,
 ) -> io::Result<Status>
-    ensures { IfOk result (λ status. Plays A (W.contents writer.old) (W.contents writer.new) status) }
+    ensures { IfOk result (λ status. Plays A (of.login.user, of.login.pass) orders.items (W.contents writer.old) (W.contents writer.new) status) }
 {
     let mut world = world_of::<A, MemTree<A>, OperationTransfer<A>, TreeTransfer<A>>(alloc, of)?;
     play_in(alloc, settings, &mut world, orders, writer)
@@ -132,11 +134,11 @@ where
     S: Far<A, T>,
     W: Write,
     ensures reports { IfOk result (λ status. Reports A world.new.world.reports (W.contents writer.old) (W.contents writer.new) status) }
-    ensures reached { OnOk result (world.new.calm ≡ true → ∥ Reached world.new.world ∥₁) }
+    ensures leads { OnOk result (LeadsTo (orders_at first_second orders.items) world.old world.new) }
+    ensures quiet { OnOk result (IsQuiet world.new.world) }
 {
     let mut transcript = Transcript::new(alloc, settings.transcript);
     obey(world, settings.piece, orders, &mut transcript)?;
-    let _calm = world.is_calm();
     writer.write_all(transcript.lines())?;
     write_reports(alloc, world.reports(), writer)
 }

@@ -1,4 +1,7 @@
 // Rounds of a world.
+ghost use Rattle.std.specs.Prelude.{OnOk, []};
+ghost use Rattle.ftp_tool_pair.specs.Leading.{LeadsTo};
+
 use crate::transcript::Transcript;
 use ftp_client_model::Near;
 use ftp_control::TURNS;
@@ -12,6 +15,7 @@ const DELIVERY: usize = 4096;
 
 /// One round: octets of the control connection to the server and to the client, data to the server and to the client, at most so many of each
 /// (0: all), and then openings and ends; says whether anything moved.
+#[tactic(auto, using(crate::proofs::Leading::nothing))]
 pub(crate) fn round<A, T, N, S>(
     world: &mut World<A, T, N, S>,
     piece: u32,
@@ -22,32 +26,77 @@ where
     T: Tree<A>,
     N: Near<A>,
     S: Far<A, T>,
+    ensures { OnOk result (LeadsTo [] world.old world.new) }
 {
     let asked = flow(world, Queue::ControlToServer, piece, transcript)?;
     let answered = flow(world, Queue::ControlToClient, piece, transcript)?;
     let up = flow(world, Queue::DataToServer, piece, transcript)?;
     let down = flow(world, Queue::DataToClient, piece, transcript)?;
-    let opened = world.step(Event::Open)?;
+    let opened = open(world)?;
     let ended = end(world)?;
     Ok(asked || answered || up || down || opened || ended)
 }
 
 /// The receivers of queues are told of their ends, each where it is possible; says whether one was.
+#[tactic(auto, using(crate::proofs::Leading::nothing))]
 fn end<A, T, N, S>(world: &mut World<A, T, N, S>) -> Result<bool, AllocError>
 where
     A: Allocator + Copy,
     T: Tree<A>,
     N: Near<A>,
     S: Far<A, T>,
+    ensures { OnOk result (LeadsTo [] world.old world.new) }
 {
-    let left = world.step(Event::End(Queue::ControlToServer))?;
-    let parted = world.step(Event::End(Queue::ControlToClient))?;
-    let up = world.step(Event::End(Queue::DataToServer))?;
-    let down = world.step(Event::End(Queue::DataToClient))?;
+    let left = tell(world, Queue::ControlToServer)?;
+    let parted = tell(world, Queue::ControlToClient)?;
+    let up = tell(world, Queue::DataToServer)?;
+    let down = tell(world, Queue::DataToClient)?;
     Ok(left || parted || up || down)
 }
 
+/// The receiver of a queue is told of its end, where it is possible; says whether it was.
+fn tell<A, T, N, S>(world: &mut World<A, T, N, S>, queue: Queue) -> Result<bool, AllocError>
+where
+    A: Allocator + Copy,
+    T: Tree<A>,
+    N: Near<A>,
+    S: Far<A, T>,
+    ensures { OnOk result (LeadsTo [] world.old world.new) }
+{
+    world.step(Event::End(queue))
+}
+
+/// A wanted link opens, where it is possible; says whether it was.
+#[tactic(auto, using(crate::proofs::Leading::open_leads))]
+fn open<A, T, N, S>(world: &mut World<A, T, N, S>) -> Result<bool, AllocError>
+where
+    A: Allocator + Copy,
+    T: Tree<A>,
+    N: Near<A>,
+    S: Far<A, T>,
+    ensures { OnOk result (LeadsTo [] world.old world.new) }
+{
+    world.step(Event::Open)
+}
+
+/// Octets go over a queue, where it is possible; says whether it was.
+fn carry<A, T, N, S>(
+    world: &mut World<A, T, N, S>,
+    queue: Queue,
+    count: usize,
+) -> Result<bool, AllocError>
+where
+    A: Allocator + Copy,
+    T: Tree<A>,
+    N: Near<A>,
+    S: Far<A, T>,
+    ensures { OnOk result (LeadsTo [] world.old world.new) }
+{
+    world.step(Event::Deliver(queue, count))
+}
+
 /// Octets go over a queue, at most so many (0: all); says whether any moved.
+#[tactic(auto, using(crate::proofs::Leading::nothing))]
 fn flow<A, T, N, S>(
     world: &mut World<A, T, N, S>,
     queue: Queue,
@@ -59,6 +108,7 @@ where
     T: Tree<A>,
     N: Near<A>,
     S: Far<A, T>,
+    ensures { OnOk result (LeadsTo [] world.old world.new) }
 {
     let mut left = most_of(piece);
     let mut moved = false;
@@ -95,8 +145,9 @@ where
     T: Tree<A>,
     N: Near<A>,
     S: Far<A, T>,
+    ensures { OnOk result (LeadsTo [] world.old world.new) }
 {
-    if !world.step(Event::Deliver(queue, count))? {
+    if !carry(world, queue, count)? {
         return Ok(None);
     }
     let taken = world.taken();

@@ -1,0 +1,12 @@
+use Rattle.std.proofs.Common.{[]}
+use Rattle.ftp_tool_pair.proofs.Leading.{then_none}
+use Rattle.ftp_tool_pair.proofs.rounds.flow.Goals as goal
+
+pub returns-in_default : goal.returns-in_default
+returns-in_default g c = then_none [] c.args.world.now c.loop.world c.deliver.new.world c.loop.invariant c.in_ok-taken.ensures
+
+pub returns-then-taken-eq0 : goal.returns-then-taken-eq0
+returns-then-taken-eq0 g c = then_none [] c.args.world.now c.loop.world c.deliver.new.world c.loop.invariant c.in_ok-taken.ensures
+
+pub loop-preserved : goal.loop-preserved
+loop-preserved g c = then_none [] c.args.world.now c.loop.world c.deliver.new.world c.loop.invariant c.in_ok-taken.ensures

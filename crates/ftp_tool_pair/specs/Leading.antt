@@ -1,0 +1,43 @@
+-- What a script leads to, in a world of two ends.
+use Rattle.std.specs.Prelude.{◌≡◌, ◌+◌, ℕ, true, List, [], ◌∷◌}
+use Rattle.ftp_client_model.specs.Tries.{over_breaks}
+use Rattle.ftp_pair.specs.Session.{Seen}
+use Rattle.ftp_pair_world.specs.Agreement.{AreHonest, Leads}
+use Rattle.ftp_pair_world.specs.Agreement as worlds
+use Rattle.ftp_pair_world.specs.Claims.{AreTimed, Beginning, IsFair, world_of}
+use Rattle.ftp_pair_world.specs.Events.{Event, IsQuiet}
+use Rattle.ftp_pair_world.specs.World.{World}
+use Rattle.ftp_server_model.specs.Machine.{Reading, IsReading}
+use Rattle.ftp_tool_script.specs.declared.order.Order.{Order}
+use Rattle.ftp_tool_script.specs.declared.order.Order.TheVariants.{Once, Tries}
+
+-- the first second of the year 2000, counted from the start of 1970 (own choice)
+abbrev pub first_second : ℕ
+first_second = 946684800
+
+-- an order of a script, as it is begun in a world at a moment
+abbrev pub order_at : ℕ → Order (List ℕ) → worlds.Order
+order_at moment (Once op) = worlds.Single op moment
+order_at moment (Tries path octets how) = worlds.Tries (over_breaks path octets how) moment
+
+-- the orders of a script: the first at this moment, each other a second later (own choice)
+abbrev pub orders_at : ℕ → List (Order (List ℕ)) → List worlds.Order
+orders_at moment [] = []
+orders_at moment (order ∷ orders) = order_at moment order ∷ orders_at (moment + 1) orders
+
+-- deliveries, openings, ends and these operations lead from one to the other, where nothing failed, however the server reads its lines
+abbrev pub LeadsTo : List worlds.Order → Seen → Seen → Type 0
+LeadsTo begun old new =
+    new.calm ≡ true → (old.calm ≡ true)
+    × ((read : Reading) → IsReading read → (given : List Event) × AreHonest given × AreTimed given × Leads read old.world given begun new.world)
+
+-- two ends that begin fairly, whose client logs in so; deliveries, openings, ends and the orders of a script, each begun at its moment, lead from
+-- them to this world, in which nothing is in flight
+pub record Led (login : List ℕ × List ℕ) (orders : List (Order (List ℕ))) (w : World) : Type 0 where
+  pub from : Beginning
+  pub fair : IsFair from
+  pub user : from.user ≡ login.0
+  pub pass : from.pass ≡ login.1
+  pub leads : (read : Reading) → IsReading read
+      → (given : List Event) × AreHonest given × AreTimed given × Leads read (world_of from) given (orders_at first_second orders) w
+  pub quiet : IsQuiet w
