@@ -134,12 +134,12 @@ impl<'a, R: Net<Listener = TcpListener, Stream = TcpStream> + Clock + Eprint> Po
         Some(CountedLink { inner, journal })
     }
 
+    /// Where patience is over while the control connection stands, the next read or write of the data connection says so.
     fn wait(&mut self, stream: &mut CountedLink<'a, R>, what: For, hears: bool) -> Ready {
-        let ready = self.inner.wait(&mut stream.inner, what, hears);
-        if ready == Ready::Lost {
-            self.journal.give_up();
+        match self.inner.wait(&mut stream.inner, what, hears) {
+            Ready::Lost if self.inner.spoken() != Spoken::Ended => Ready::Data,
+            ready => ready,
         }
-        ready
     }
 
     fn spoken(&mut self) -> Spoken {
