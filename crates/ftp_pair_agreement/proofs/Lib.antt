@@ -39,6 +39,7 @@ pub mod FetchParting
 pub mod PeekParting
 pub mod PeekQuiet
 pub mod FetchBegins
+pub mod ThreeKinds
 pub mod Running
 pub mod FetchQuiet
 pub mod Unsendable
@@ -78,4 +79,3 @@ pub mod OverHappens
 pub mod OverBegins
 pub mod OverTails
 pub mod OverRunning
-pub mod Everything

@@ -23,8 +23,6 @@ use Rattle.ftp_pair_world.specs.Events.{begun_at, operation_begins, upload_begin
 use Rattle.ftp_pair_world.specs.Outcome.{Nothing}
 use Rattle.ftp_pair_world.specs.Serving.{after_event}
 use Rattle.ftp_pair_world.specs.World.{World, Mark}
-use Rattle.ftp_pair_dialogues.specs.Dialogue.{HasNoTransfer}
-use Rattle.ftp_pair_dialogues.specs.Fetches.{IsFetch, IsStore}
 use Rattle.ftp_pair_agreement.specs.Follows.{Told, IsFree, IsLost, IsLinked, IsUnlinked, Follows}
 use Rattle.ftp_pair_agreement.specs.Over.{Going, orders_of, marks_of, IsTrying, OverRuns}
 use Rattle.ftp_pair_agreement.specs.Runs.{Runs}
@@ -103,7 +101,7 @@ module _ (read : Reading) (reads : IsReading read) (from : State) (begun : List 
       let by_reports : List Said → World = λ r. after_event (record (operation_begins (first_try upload) moment w) { reports = r }) in
       let runs : Runs read from (begun ++ Single (first_try upload) moment ∷ []) (after_event b) =
       subst (Runs read from (begun ++ Single (first_try upload) moment ∷ [])) (sym (ap by_reports (append-nil w.reports)))
-      (free_begins read reads from begun (first_try upload) moment w (λ sent. inr (inr (subst IsStore (sym first.0) tt))) dated h l f) in
+      (free_begins read reads from begun (first_try upload) moment w dated h l f) in
       let g : Going (begun ++ Tries upload moment ∷ []) a = record {
         done = begun;
         marks = w.marks;

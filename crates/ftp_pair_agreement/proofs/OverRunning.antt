@@ -14,7 +14,6 @@ use Rattle.ftp_pair_world.specs.Serving.{after_event}
 use Rattle.ftp_pair_world.specs.Still.{IsStill}
 use Rattle.ftp_pair_world.specs.World.{World}
 use Rattle.ftp_pair_agreement.specs.Follows.{IsFree, Phase, Follows}
-use Rattle.ftp_pair_agreement.specs.Class.{IsPlain, ArePlain}
 use Rattle.ftp_pair_agreement.specs.Over.{marks_of, orders_of, IsTrying, IsTailing, OverRuns}
 use Rattle.ftp_pair_agreement.specs.Runs.{Runs}
 use Rattle.ftp_pair_agreement.specs.Tried.{all_marks, tried_said}
@@ -41,11 +40,11 @@ module _ (read : Reading) (reads : IsReading read) (from : State) where
   nothing_begins begun event w new plain (inr (inr t)) e = inl (inl (tail_happens read reads from begun w t event new plain e))
 
   -- an operation
-  next_begins : (begun : List Order) (op : Op (List ℕ)) (moment : ℕ) (w new : World) → IsPlain (Next op moment) → moment ≤ last_second → Holds begun w → Happens read (Next op moment) w true new
+  next_begins : (begun : List Order) (op : Op (List ℕ)) (moment : ℕ) (w new : World) → moment ≤ last_second → Holds begun w → Happens read (Next op moment) w true new
       → Holds (begun ++ Single op moment ∷ []) new
-  next_begins begun op moment w new plain dated (inl h) e = inl (next_runs read reads from begun op moment w new plain dated h e)
-  next_begins begun op moment w new plain dated (inr (inl t)) e = absurd (trying_begins read reads from begun w t e.0)
-  next_begins begun op moment w new plain dated (inr (inr t)) e = absurd (tail_begins read reads from begun w t e.0)
+  next_begins begun op moment w new dated (inl h) e = inl (next_runs read reads from begun op moment w new dated h e)
+  next_begins begun op moment w new dated (inr (inl t)) e = absurd (trying_begins read reads from begun w t e.0)
+  next_begins begun op moment w new dated (inr (inr t)) e = absurd (tail_begins read reads from begun w t e.0)
 
   -- an upload over breaks that can be sent
   sent_begins : (begun : List Order) (upload : OverBreaks) (moment : ℕ) (w new : World) → can_be_sent (first_try upload) ≡ true → moment ≤ last_second → Runs read from begun w
@@ -79,15 +78,15 @@ module _ (read : Reading) (reads : IsReading read) (from : State) where
   same begun w h = subst (λ l. Holds l w) (sym (append-nil begun)) h
 
   -- an event that happens keeps what was begun running, with what it begins
-  runs_happen : (begun : List Order) (event : Event) (w new : World) → IsPlain event → IsTimed event → Holds begun w → Happens read event w true new → Holds (begun ++ begun_by event true) new
-  runs_happen begun (Deliver queue count) w new plain timed h e = same begun new (nothing_begins begun (Deliver queue count) w new tt h e)
-  runs_happen begun Open w new plain timed h e = same begun new (nothing_begins begun Open w new tt h e)
-  runs_happen begun Refuse w new plain timed h e = same begun new (nothing_begins begun Refuse w new tt h e)
-  runs_happen begun (End queue) w new plain timed h e = same begun new (nothing_begins begun (End queue) w new tt h e)
-  runs_happen begun Break w new plain timed h e = same begun new (nothing_begins begun Break w new tt h e)
-  runs_happen begun EndControl w new plain timed h e = same begun new (nothing_begins begun EndControl w new tt h e)
-  runs_happen begun (Next op moment) w new plain timed h e = next_begins begun op moment w new plain timed h e
-  runs_happen begun (Upload upload moment) w new plain timed h e = upload_happens begun upload moment w new timed h e
+  runs_happen : (begun : List Order) (event : Event) (w new : World) → IsTimed event → Holds begun w → Happens read event w true new → Holds (begun ++ begun_by event true) new
+  runs_happen begun (Deliver queue count) w new timed h e = same begun new (nothing_begins begun (Deliver queue count) w new tt h e)
+  runs_happen begun Open w new timed h e = same begun new (nothing_begins begun Open w new tt h e)
+  runs_happen begun Refuse w new timed h e = same begun new (nothing_begins begun Refuse w new tt h e)
+  runs_happen begun (End queue) w new timed h e = same begun new (nothing_begins begun (End queue) w new tt h e)
+  runs_happen begun Break w new timed h e = same begun new (nothing_begins begun Break w new tt h e)
+  runs_happen begun EndControl w new timed h e = same begun new (nothing_begins begun EndControl w new tt h e)
+  runs_happen begun (Next op moment) w new timed h e = next_begins begun op moment w new timed h e
+  runs_happen begun (Upload upload moment) w new timed h e = upload_happens begun upload moment w new timed h e
 
   -- an event that is not possible begins nothing
   none_begun : (event : Event) → begun_by event false ≡ []
@@ -101,19 +100,19 @@ module _ (read : Reading) (reads : IsReading read) (from : State) where
   none_begun (Upload upload moment) = refl
 
   -- an event, possible or not, keeps what was begun running, with what it begins
-  step : (begun : List Order) (event : Event) (possible : Bool) (w new : World) → IsPlain event → IsTimed event → Holds begun w → Happens read event w possible new → Holds (begun ++ begun_by event possible) new
-  step begun event true w new plain timed h e = runs_happen begun event w new plain timed h e
-  step begun event false w new plain timed h e =
+  step : (begun : List Order) (event : Event) (possible : Bool) (w new : World) → IsTimed event → Holds begun w → Happens read event w possible new → Holds (begun ++ begun_by event possible) new
+  step begun event true w new timed h e = runs_happen begun event w new timed h e
+  step begun event false w new timed h e =
       subst (Holds (begun ++ begun_by event false)) (sym e.1) (subst (λ l. Holds (begun ++ l) w) (sym (none_begun event)) (same begun w h))
 
   -- every list
-  pub over_lead : (before : List Order) (events : List Event) (begun : List Order) (w new : World) → ArePlain events → AreTimed events → Holds before w → Leads read w events begun new
+  pub over_lead : (before : List Order) (events : List Event) (begun : List Order) (w new : World) → AreTimed events → Holds before w → Leads read w events begun new
       → Holds (before ++ begun) new
-  over_lead before [] begun w new plain timed h leads =
+  over_lead before [] begun w new timed h leads =
       subst (Holds (before ++ begun)) (sym leads.1) (subst (λ l. Holds (before ++ l) w) (sym leads.0) (same before w h))
-  over_lead before (event ∷ events) begun w new plain timed h leads =
-      let here = step before event leads.0 w leads.1 plain.0 timed.0 h leads.3 in
-      let behind = over_lead (before ++ begun_by event leads.0) events leads.2 leads.1 new plain.1 timed.1 here leads.5 in
+  over_lead before (event ∷ events) begun w new timed h leads =
+      let here = step before event leads.0 w leads.1 timed.0 h leads.3 in
+      let behind = over_lead (before ++ begun_by event leads.0) events leads.2 leads.1 new timed.1 here leads.5 in
       subst (λ l. Holds l new) (append_assoc before (begun_by event leads.0) leads.2 ∙ ap (λ l. before ++ l) (sym leads.4)) behind
 
   -- ---- what holds then

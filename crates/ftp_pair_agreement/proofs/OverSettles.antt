@@ -22,8 +22,7 @@ use Rattle.ftp_pair_world.specs.Events.{is_gone, operation_begins}
 use Rattle.ftp_pair_world.specs.Outcome.{Outcome, did, Whole, Cut, Unopened, Lost, Nothing, All, Front}
 use Rattle.ftp_pair_world.specs.Serving.{after_event}
 use Rattle.ftp_pair_world.specs.World.{World, Link, Gone, ClosedByNear, Mark}
-use Rattle.ftp_pair_dialogues.specs.Dialogue.{HasNoTransfer}
-use Rattle.ftp_pair_dialogues.specs.Fetches.{Ask, Direction, Down, Up, IsFetch, IsStore, IsTimely, carrying}
+use Rattle.ftp_pair_dialogues.specs.Fetches.{Ask, Direction, Down, Up, IsStore, IsTimely, carrying}
 use Rattle.ftp_pair_agreement.specs.Follows.{IsFree, IsUnder, IsLinked, Phase, Follows}
 use Rattle.ftp_pair_agreement.specs.Over.{Going, orders_of, marks_of, IsTrying, IsTailing, OverRuns}
 use Rattle.ftp_pair_agreement.specs.Runs.{IsFetching, IsFetchingOn, IsTrailing, Runs}
@@ -301,16 +300,16 @@ module _ (read : Reading) (reads : IsReading read) (from : State) (begun : List 
 
   -- by itself it begins where all that was begun is answered
   begun_next : (orders : List Order) (v : World) (next : Op (List ℕ)) (moment : ℕ) → v.near.job ≡ Idle → is_sound v.near.standing ≡ true → is_gone v.link ≡ true → moment ≤ last_second
-      → HasNoTransfer next ⊎ IsFetch next ⊎ IsStore next → Runs read from orders v → Runs read from (orders ++ Single next moment ∷ []) (after_event (operation_begins next moment v))
-  begun_next orders v next moment idle sound gone dated plain (inl h) = by_phase h.phase
+      → Runs read from orders v → Runs read from (orders ++ Single next moment ∷ []) (after_event (operation_begins next moment v))
+  begun_next orders v next moment idle sound gone dated (inl h) = by_phase h.phase
     where
       by_phase : Phase read from orders v → Runs read from (orders ++ Single next moment ∷ []) (after_event (operation_begins next moment v))
-      by_phase (inl (l, inl f)) = free_begins read reads from orders next moment v (λ can. plain) dated h l f
+      by_phase (inl (l, inl f)) = free_begins read reads from orders next moment v dated h l f
       by_phase (inl (l, inr u)) = idle_busy v idle (under_busy read from orders v u)
       by_phase (inr l) = absurd (let e : true ≡ false = sym sound ∙ ap is_sound l.near.standing in cc)
-  begun_next orders v next moment idle sound gone dated plain (inr (inl on)) = idle_busy v idle (on_busy orders v on)
-  begun_next orders v next moment idle sound gone dated plain (inr (inr (inr on))) = let f = on.halting in idle_busy v idle (halt_busy f.now f.ask f.own v f.stands)
-  begun_next orders v next moment idle sound gone dated plain (inr (inr (inl trails))) =
+  begun_next orders v next moment idle sound gone dated (inr (inl on)) = idle_busy v idle (on_busy orders v on)
+  begun_next orders v next moment idle sound gone dated (inr (inr (inr on))) = let f = on.halting in idle_busy v idle (halt_busy f.now f.ask f.own v f.stands)
+  begun_next orders v next moment idle sound gone dated (inr (inr (inl trails))) =
       absurd (let e : true ≡ false = sym gone ∙ ap (λ u. is_gone u.link) (closed_is read reads from orders v trails) in cc)
 
   -- it goes on with the next
@@ -336,14 +335,9 @@ module _ (read : Reading) (reads : IsReading read) (from : State) (begun : List 
       begins : BeginsNext b said next g.moment
       begins = begins_next b said answers.at next g.moment answers.shut can answers.moment_is
 
-      kinds : (IsStore next × (is_size next ≡ false)) ⊎ (next ≡ Ops.Size g.upload.path g.upload.how) → HasNoTransfer next ⊎ IsFetch next ⊎ IsStore next
-      kinds (inl store) = inr (inr store.0)
-      kinds (inr size) = inl (ap how_of size)
-
       begun_now : Runs read from (orders_of g ++ Single next g.moment ∷ []) (after_event (operation_begins next g.moment (after_event b)))
       begun_now =
-          begun_next (orders_of g) (after_event b) next g.moment (ap (λ u. u.near.job) begins.free_is) (ap (λ u. is_sound u.near.standing) begins.free_is) (ap (λ u. is_gone u.link) begins.free_is) g.dated
-          (kinds (kind_of g.upload next answers.one)) runs
+          begun_next (orders_of g) (after_event b) next g.moment (ap (λ u. u.near.job) begins.free_is) (ap (λ u. is_sound u.near.standing) begins.free_is) (ap (λ u. is_gone u.link) begins.free_is) g.dated runs
 
       z : World
       z = record b { near = Dialogue.begins next b.near; marks = b.marks ++ [] ∷ []; reports = b.reports ++ said ∷ [] }

@@ -19,7 +19,6 @@ use Rattle.ftp_pair_world.specs.World.{World}
 use Rattle.ftp_pair_dialogues.specs.Dialogue.{HasNoTransfer}
 use Rattle.ftp_pair_dialogues.specs.Fetches.{IsFetch, IsStore}
 use Rattle.ftp_pair_agreement.specs.Follows.{IsFree, IsUnder, IsLinked, Phase, Follows}
-use Rattle.ftp_pair_agreement.specs.Class.{IsPlain, ArePlain}
 use Rattle.ftp_pair_agreement.specs.Runs.{IsFetchingOn, IsHaltingOn, IsTrailing, Runs}
 use Rattle.ftp_pair_agreement.proofs.Asks.{IsAskOf, ask_of, store_of}
 use Rattle.ftp_pair_agreement.proofs.Begins.{begins_free}
@@ -31,6 +30,7 @@ use Rattle.ftp_pair_agreement.proofs.FetchEnds.{fetch_breaks, fetch_ends, fetch_
 use Rattle.ftp_pair_agreement.proofs.FetchRuns.{fetching_on_taken, fetch_delivers_server, fetch_delivers_client, fetch_delivers_data}
 use Rattle.ftp_pair_agreement.proofs.FetchWants.{flows_or_none, rises_or_none, lasting_busy}
 use Rattle.ftp_pair_agreement.proofs.FetchTold.{closed_is, trailing_ends, trailing_breaks}
+use Rattle.ftp_pair_agreement.proofs.ThreeKinds.{three_kinds}
 use Rattle.ftp_pair_agreement.proofs.Parting.{begins_lost}
 use Rattle.ftp_pair_agreement.proofs.PeekParting.{halting_parts}
 use Rattle.ftp_pair_agreement.proofs.PeekRuns.{halt_asks_none, halt_busy, halt_delivers_client, halt_delivers_data, halt_delivers_server, halt_gives_none, halting_breaks, halting_ends, halting_on_taken, halting_taken}
@@ -225,22 +225,22 @@ module _ (read : Reading) (reads : IsReading read) (from : State) where
   other_happens begun event w new plain (inr (inr (inr on))) e = halts_happen begun event w new plain on e
 
   -- an operation begins where none is under way
-  pub free_begins : (begun : List Order) (op : Op (List ℕ)) (moment : ℕ) (u : World) → IsPlain (Next op moment) → moment ≤ last_second → (h : Follows read from begun u) → IsLinked u → IsFree from begun u
+  pub free_begins : (begun : List Order) (op : Op (List ℕ)) (moment : ℕ) (u : World) → moment ≤ last_second → (h : Follows read from begun u) → IsLinked u → IsFree from begun u
       → Holds (begun ++ Single op moment ∷ []) (after_event (operation_begins op moment u))
-  free_begins begun op moment u plain dated h l f = by_sent (can_be_sent op) refl
+  free_begins begun op moment u dated h l f = by_sent (can_be_sent op) refl
     where
       by_ask : IsAskOf op moment → Holds (begun ++ Single op moment ∷ []) (after_event (operation_begins op moment u))
       by_ask o =
           subst (λ op. Holds (begun ++ Single op moment ∷ []) (after_event (operation_begins op moment u))) (sym o.op_is)
           (begins_fetch read reads from begun o.ask moment o.good o.timely u h.unlinked l f)
 
-      by_plain : can_be_sent op ≡ true → HasNoTransfer op ⊎ IsFetch op ⊎ IsStore op → Holds (begun ++ Single op moment ∷ []) (after_event (operation_begins op moment u))
-      by_plain can (inl alone) = inl (begins_free read reads from begun op moment u h.unlinked l f (λ sent. alone))
-      by_plain can (inr (inl fetches)) = by_ask (ask_of op moment fetches can)
-      by_plain can (inr (inr stores)) = by_ask (store_of op moment stores can dated)
+      by_kind : can_be_sent op ≡ true → HasNoTransfer op ⊎ IsFetch op ⊎ IsStore op → Holds (begun ++ Single op moment ∷ []) (after_event (operation_begins op moment u))
+      by_kind can (inl alone) = inl (begins_free read reads from begun op moment u h.unlinked l f (λ sent. alone))
+      by_kind can (inr (inl fetches)) = by_ask (ask_of op moment fetches can)
+      by_kind can (inr (inr stores)) = by_ask (store_of op moment stores can dated)
 
       by_sent : (b : Bool) → can_be_sent op ≡ b → Holds (begun ++ Single op moment ∷ []) (after_event (operation_begins op moment u))
-      by_sent true can = by_plain can (plain can)
+      by_sent true can = by_kind can (three_kinds op)
       by_sent false cannot = inl (begins_free read reads from begun op moment u h.unlinked l f (λ sent. absurd (let e : true ≡ false = sym sent ∙ cannot in cc)))
 
   -- nothing begins while an operation is under way
@@ -264,20 +264,20 @@ module _ (read : Reading) (reads : IsReading read) (from : State) where
   trails_on begun w t can = never (can_begin w) (ap can_begin (closed_is read reads from begun w t)) can
 
   -- the next operation begins, and all that was begun runs with it
-  pub next_runs : (begun : List Order) (op : Op (List ℕ)) (moment : ℕ) (w new : World) → IsPlain (Next op moment) → moment ≤ last_second → Holds begun w → Happens read (Next op moment) w true new
+  pub next_runs : (begun : List Order) (op : Op (List ℕ)) (moment : ℕ) (w new : World) → moment ≤ last_second → Holds begun w → Happens read (Next op moment) w true new
       → Holds (begun ++ Single op moment ∷ []) new
-  next_runs begun op moment w new plain dated (inl h) e =
+  next_runs begun op moment w new dated (inl h) e =
       let u : World = record w { taken = [] } in
       let hu = lent_again read reads from begun w h in
       subst (Holds (begun ++ Single op moment ∷ [])) (sym e.1) (by_phase u hu e.0 hu.phase)
     where
       by_phase : (u : World) → Follows read from begun u → IsTrue (can_begin u) → Phase read from begun u → Holds (begun ++ Single op moment ∷ []) (after_event (operation_begins op moment u))
-      by_phase u h can (inl (l, inl f)) = free_begins begun op moment u plain dated h l f
+      by_phase u h can (inl (l, inl f)) = free_begins begun op moment u dated h l f
       by_phase u h can (inl (l, inr under)) = absurd (under_way begun u under can)
       by_phase u h can (inr l) = inl (begins_lost read from begun op moment u h.unlinked l)
-  next_runs begun op moment w new plain dated (inr (inl on)) e = absurd (fetch_under_way begun w on e.0)
-  next_runs begun op moment w new plain dated (inr (inr (inl t))) e = absurd (trails_on begun w t e.0)
-  next_runs begun op moment w new plain dated (inr (inr (inr on))) e = absurd (halts_on begun w on e.0)
+  next_runs begun op moment w new dated (inr (inl on)) e = absurd (fetch_under_way begun w on e.0)
+  next_runs begun op moment w new dated (inr (inr (inl t))) e = absurd (trails_on begun w t e.0)
+  next_runs begun op moment w new dated (inr (inr (inr on))) e = absurd (halts_on begun w on e.0)
 
   -- an upload over breaks that can't be sent
   pub upload_runs : (begun : List Order) (upload : OverBreaks) (moment : ℕ) (w new : World) → can_be_sent (first_try upload) ≡ false → Holds begun w → Happens read (Upload upload moment) w true new

@@ -11,14 +11,13 @@ use Rattle.ftp_pair_world.proofs.StillLemmas.{quiet_is_still}
 use Rattle.ftp_pair_agreement.specs.Over.{OverRuns}
 use Rattle.ftp_pair_agreement.specs.Laws.{RestIsQuiet}
 use Rattle.ftp_pair_agreement.proofs.Beginning.{begins_follow}
-use Rattle.ftp_pair_agreement.proofs.Everything.{every_list}
 use Rattle.ftp_pair_agreement.proofs.OverRunning.{over_agree, over_answered, over_lead, over_quiet}
 
 -- the world to which events lead from a fair beginning runs with the operations begun
 all_runs : (read : Reading) → IsReading read → (b : Beginning) → IsFair b → (events : List Event) (begun : List Order) (w : World)
     → AreTimed events → Leads read (world_of b) events begun w → OverRuns read (state_of b) begun w
 all_runs read reads b fair events begun w timed leads =
-    over_lead read reads (state_of b) [] events begun (world_of b) w (every_list events) timed (inl (inl (begins_follow read b fair))) leads
+    over_lead read reads (state_of b) [] events begun (world_of b) w timed (inl (inl (begins_follow read b fair))) leads
 
 -- after every list of events there is agreement
 pub agrees-always : AgreesAlways

@@ -9,4 +9,3 @@ pub mod PeekStages
 pub mod Runs
 pub mod Tried
 pub mod Over
-pub mod Class

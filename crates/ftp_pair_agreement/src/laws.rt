@@ -1,4 +1,5 @@
-//! Laws of a session: functions that do nothing, whose contracts are the claims of `ftp_pair_world`, of every operation and every list of events.
+//! Laws of a session: functions that do nothing, whose contracts are the claims of `ftp_pair_world`, of every list of events, operations and
+//! uploads over breaks among them.
 ghost use Rattle.ftp_pair_agreement.specs.Laws.{RestIsQuiet};
 ghost use Rattle.ftp_pair_world.specs.Claims.{AgreesAlways, Headline, QuietIsAnswered};
 
@@ -12,8 +13,8 @@ pub fn sessions_are_answered()
     ensures { QuietIsAnswered }
 {}
 
-/// The headline: on honest connections, where no upload over breaks was begun and once nothing is in flight, reports and map are those of the
-/// operations run directly.
+/// The headline: where no link was refused or broke, the control connection did not end and no upload over breaks was begun, once nothing is in
+/// flight, reports and map are those of the operations run directly. The direct run knows none of what is left out; `sessions_agree` has it.
 pub fn sessions_are_the_direct_run()
     ensures { Headline }
 {}
