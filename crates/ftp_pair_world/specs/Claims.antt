@@ -1,7 +1,8 @@
--- What is claimed of a session, in words that a reader can check: after every event the reports and the map agree with the
--- operations that were begun; where nothing is in flight each of them has its report, and another can be begun; and without
--- breaks, refusals and an end of the control connection that is the direct run. Want of memory and failures of a device are no
--- events here: the ends' clauses hold where neither count changed.
+-- What is claimed of a session, in words that a reader can check, of every list of events: deliveries of any counts over each of the
+-- four queues, openings, refusals, ends, breaks, ends of the control connection, all eighteen operations, and uploads over breaks. After
+-- every event the reports and the map agree with what was begun; where nothing is in flight each has its report, and another can be
+-- begun; and where no link was refused or broke, the control connection did not end and no upload over breaks was begun, that is the
+-- direct run. Want of memory and failures of a device are no events here: the ends' clauses hold where neither count changed.
 use Rattle.std.specs.Prelude.{◌≡◌, ◌⊎◌, ℕ, ◌<◌, ◌≤◌, true, List, [], ◌∷◌, length, Option, None, IsTrue}
 use Rattle.ftp_endpoint.specs.declared.host.Host.{Host}
 use Rattle.ftp_endpoint.specs.declared.host.Host.TheVariants.{V4, V6}
@@ -114,7 +115,7 @@ abbrev pub AreSettling : List Event → Type 0
 AreSettling [] = Unit {0}
 AreSettling (event ∷ events) = IsSettling event × AreSettling events
 
--- from every world such events lead to one in which nothing is in flight
+-- from a world such events lead to one in which nothing is in flight
 abbrev pub Settles : Reading → World → Type 0
 Settles read w = (events : List Event) × (new : World) × AreSettling events × Leads read w events [] new × IsQuiet new
 
@@ -127,7 +128,9 @@ abbrev pub SettlingFalls : Type 0
 SettlingFalls =
     Always (λ read b events begun w. (event : Event) (new : World) → IsSettling event → Happens read event w true new → Falls (left_in new) (left_in w))
 
--- the headline: on honest connections, once nothing is in flight, the reports and the map are those of the operations begun, run directly
+-- the headline: on honest connections, once nothing is in flight, the reports and the map are those of the operations begun, run directly.
+-- Breaks, refusals and an end of the control connection are left out, since the direct run has no connection that could fail, and an
+-- upload over breaks, since it is no operation of that run; of these there is agreement.
 abbrev pub Headline : Type 0
 Headline = Always (λ read b events begun w. AreHonest events → AreSingle begun → IsQuiet w → IsDirect (state_of b) begun w)
 

@@ -2,12 +2,14 @@
 ghost use Rattle.ftp_pair_world.specs.Claims.{DoneIsWhole, HeadlineFollows, PeekIsDirect, TriesAreFew, UnmarkedIsDirect};
 ghost use Rattle.ftp_pair_world.specs.Still.{BlockedIsNotQuiet, QuietIsStill, RestingIsStill, StillIsQuiet};
 
-/// Without breaks, refusals and an end of the control connection, agreement is the direct run.
+/// Where no link was refused or broke, the control connection has not ended, no upload over breaks was begun and each operation has its
+/// report, agreement is the direct run.
 pub fn unmarked_agreement_is_the_direct_run()
     ensures { UnmarkedIsDirect }
 {}
 
-/// The headline follows from agreement after every event, and from what holds where nothing is in flight.
+/// The headline follows from agreement after every event, and from what holds where nothing is in flight: breaks, refusals, an end of the
+/// control connection and uploads over breaks are in both, and left out of it, since the direct run knows none of them.
 pub fn headline_follows_from_agreement()
     ensures { HeadlineFollows }
 {}
