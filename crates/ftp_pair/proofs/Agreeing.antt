@@ -13,7 +13,7 @@ use Rattle.ftp_pair_world.specs.World.{World}
 use Rattle.ftp_pair_parts.specs.Happening.{IsSmall, event_of}
 use Rattle.ftp_pair_parts.specs.Shown.{Steps}
 use Rattle.ftp_pair_parts.specs.declared.event.Event.{Event as Given}
-use Rattle.ftp_pair.specs.Session.{AgreesAfter, AreSmall, IsSettled, LeadsCalmly, LeadsSmall, Seen, Session, Settles}
+use Rattle.ftp_pair.specs.Session.{AgreesAfter, AreSmall, IsSettled, LeadsCalmly, LeadsSmall, Seen, Session, SettlesAfter}
 use Rattle.ftp_pair.proofs.Reaching.{timed}
 
 -- ---- events behind events
@@ -79,7 +79,7 @@ agrees_after given old new in_time leads calm read reads from before begun sessi
     (so.0, on, agrees-always read reads from on.fair (before ++ given) (begun ++ so.0) new.world on.timed on.leads)
 
 -- by turns to rest
-pub settles : (old new : Seen) → LeadsSmall old new → (new.calm ≡ true → IsStill new.world) → Settles old new
+pub settles : (old new : Seen) → LeadsSmall old new → (new.calm ≡ true → IsStill new.world) → SettlesAfter old new
 settles old new leads still calm read reads from before begun session =
     let so = (leads calm).1 read reads in
     let turns : List Event = so.0 in

@@ -78,8 +78,8 @@ pub record IsSettled (from : Beginning) (given : List Event) (begun : List Order
   pub direct : AreHonest given → AreSingle begun → IsDirect (state_of from) begun w
 
 -- a session that comes to the first world comes to the other with no operation more, and is at rest there
-abbrev pub Settles : Seen → Seen → Type 0
-Settles old new =
+abbrev pub SettlesAfter : Seen → Seen → Type 0
+SettlesAfter old new =
     new.calm ≡ true → (read : Reading) → IsReading read → (from : Beginning) (before : List Event) (begun : List Order) → Session read from before begun old.world
     → (turns : List Event) × AreSmall turns × Session read from (before ++ turns) begun new.world
     × IsSettled from before begun new.world

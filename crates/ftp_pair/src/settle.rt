@@ -3,7 +3,7 @@ ghost use Rattle.std.specs.Prelude.{◌≡◌, ◌<◌, ◌-◌, true, false, if
 ghost use Rattle.ftp_pair_settling.specs.Steady.{IsSteady};
 ghost use Rattle.ftp_pair_world.specs.Still.{IsStill};
 ghost use Rattle.ftp_pair_parts.specs.Happening.{Stirs};
-ghost use Rattle.ftp_pair.specs.Session.{LeadsSmall, Settles};
+ghost use Rattle.ftp_pair.specs.Session.{LeadsSmall, SettlesAfter};
 
 use crate::world::World;
 use ftp_client_model::Near;
@@ -29,7 +29,7 @@ impl<A: Allocator + Copy, T: Tree<A>, N: Near<A>, F: Far<A, T>> World<A, T, N, F
     pub fn settle(&mut self)
         ensures leads { LeadsSmall self.old self.new }
         ensures still { self.new.calm ≡ true → IsStill self.new.world }
-        ensures settles { Settles self.old self.new }
+        ensures settles { SettlesAfter self.old self.new }
     {
         let mut left = TURNS;
         while left != 0 {
