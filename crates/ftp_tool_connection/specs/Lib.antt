@@ -1,1 +1,2 @@
--- no definitions yet
+-- When a further control connection may bring an answer.
+pub mod Again

@@ -1,4 +1,7 @@
 // What is asked anew where its control connection ends.
+ghost use Rattle.std.specs.Prelude.{◌≡◌};
+ghost use Rattle.ftp_tool_connection.specs.Again.{loss_by};
+
 use crate::fault::{Phase, SessionFault};
 use crate::last_reply::LastReply;
 use crate::live::SessionTask;
@@ -21,7 +24,7 @@ const SECOND_MILLIS: u16 = 1000;
 
 /// Why there is no answer of the server.
 #[derive(Clone, Copy)]
-enum Loss {
+pub(crate) enum Loss {
     /// The control connection ended.
     Ended,
     /// There was none.
@@ -74,7 +77,9 @@ where
 }
 
 /// Why there is no answer, where a further control connection may bring one.
-fn loss_of(answered: &Result<Answer<Global>, SessionFault>) -> Option<Loss> {
+fn loss_of(answered: &Result<Answer<Global>, SessionFault>) -> Option<Loss>
+    ensures { result ≡ loss_by answered.now }
+{
     match answered {
         Ok(Answer::Lost) => Some(Loss::Ended),
         Ok(_) => None,

@@ -1,4 +1,6 @@
 // Why a program stops before it has an answer of the server.
+ghost use Rattle.std.specs.Prelude.{◌≡◌};
+
 use ftp_tool_status::Status;
 use std::io;
 use std::io::{Eprint, Error, ErrorKind};
@@ -48,7 +50,9 @@ impl SessionFault {
     }
 
     /// What was under way.
-    pub(crate) fn stage(&self) -> Phase {
+    pub(crate) fn stage(&self) -> Phase
+        ensures { result ≡ self.now.stage }
+    {
         self.stage
     }
 

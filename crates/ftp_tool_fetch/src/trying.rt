@@ -1,4 +1,7 @@
 // What uploads and downloads that go on have in common.
+ghost use Rattle.std.specs.Prelude.{◌≡◌};
+ghost use Rattle.ftp_tool_fetch.specs.Trying.{ended_by, there_by};
+
 use ftp_facts::Text;
 use ftp_operation::{Answer, How, Op};
 use ftp_settings::{Kind, Structure};
@@ -25,7 +28,9 @@ pub(crate) fn size_request(alloc: Global, path: &str, how: How) -> Result<Reques
 }
 
 /// How a try ended that was answered so, with a data connection or without; none where its answer is told, whatever is there.
-pub(crate) fn ended_of(answer: &Answer<Global>, is_opened: bool) -> Option<Ended> {
+pub(crate) fn ended_of(answer: &Answer<Global>, is_opened: bool) -> Option<Ended>
+    ensures { result ≡ ended_by answer.now is_opened }
+{
     match answer {
         Answer::Done => Some(Ended::Done),
         Answer::Broken { got: _, mark: _ } => Some(Ended::Broken),
@@ -36,7 +41,9 @@ pub(crate) fn ended_of(answer: &Answer<Global>, is_opened: bool) -> Option<Ended
 }
 
 /// What the answer to SIZE tells.
-pub(crate) fn there_of(answer: &Answer<Global>) -> There {
+pub(crate) fn there_of(answer: &Answer<Global>) -> There
+    ensures { result ≡ there_by answer.now }
+{
     match answer {
         Answer::Number(count) => There::Octets(*count),
         Answer::Refused(NO_FILE) => There::Nothing,

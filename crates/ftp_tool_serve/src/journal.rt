@@ -1,7 +1,9 @@
 // What is told of a session on standard error.
+ghost use Rattle.std.specs.Prelude.{◌≤◌, ◌<◌, length};
+
 use crate::line::Line;
 use crate::manner::{Manner, Pace};
-use crate::talk::{Answered, Talk};
+use crate::talk::{Answered, Talk, Told};
 use crate::telling::{Asked, Guest, Quoted, tells};
 use ftp_control::Watch;
 use ftp_facts::moment_text;
@@ -108,34 +110,37 @@ impl<'a, R: Clock + Eprint> Journal<'a, R> {
     /// The client said octets.
     pub(crate) fn hear(&self, octets: &[u8]) {
         if let Ok(mut known) = self.known.try_borrow_mut() {
-            for octet in octets {
-                known.talk.hear(*octet);
-            }
+            known.talk.hear(octets);
         }
     }
 
     /// Octets are to be said to the client.
     pub(crate) fn say(&self, octets: &[u8]) {
-        for octet in octets {
-            if let Some(answered) = self.answered_by(*octet) {
+        let mut taken = 0;
+        while taken < octets.len() {
+            let (_, rest) = octets.split_at(taken);
+            let told = self.told(rest);
+            taken += told.taken;
+            if let Some(answered) = told.answered {
                 self.judge(&answered);
                 self.tell(&answered);
             }
         }
     }
 
-    /// Takes in how a login went; after some that were refused answers wait.
+    /// Takes in how a login went. After some that were refused each answer waits until somebody is logged in, and then that to a refused one.
     fn judge(&self, answered: &Answered) {
         let Some(code) = answered.code else {
             return;
         };
-        let manner = self.manner.get().after(answered.asked.verb, code);
+        let before = self.manner.get();
+        let manner = before.after(answered.asked.verb, code);
         self.manner.set(manner);
         if manner.logged_in {
             self.patience.log_in();
-            return;
         }
-        if manner.pace() != Pace::AtOnce {
+        let waits = !manner.logged_in || before.refused < manner.refused;
+        if waits && manner.pace() != Pace::AtOnce {
             pause(SLOW_MILLIS);
         }
     }
@@ -152,9 +157,18 @@ impl<'a, R: Clock + Eprint> Journal<'a, R> {
         self.patience.stir();
     }
 
-    /// What is answered with an octet that is said.
-    fn answered_by(&self, octet: u8) -> Option<Answered> {
-        self.known.try_borrow_mut().ok()?.talk.say(octet)
+    /// What octets that are said answer, up to the next end of a line.
+    fn told(&self, octets: &[u8]) -> Told
+        ensures within { result.taken ≤ length octets.now }
+        ensures some { 0 < length octets.now → 0 < result.taken }
+    {
+        match self.known.try_borrow_mut() {
+            Ok(mut known) => known.talk.say(octets),
+            Err(_) => Told {
+                taken: octets.len(),
+                answered: None,
+            },
+        }
     }
 
     /// Octets went over a data connection.

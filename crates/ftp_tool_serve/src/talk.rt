@@ -1,5 +1,5 @@
 // The lines of a client beside the replies to them, in their order: each line has one last reply (RFC 959, section 5.4).
-ghost use Rattle.std.specs.Prelude.{◌≤◌};
+ghost use Rattle.std.specs.Prelude.{◌≤◌, ◌<◌, length};
 
 use crate::telling::{Asked, asked_of};
 use ftp_command::LINE_LIMIT;
@@ -9,6 +9,13 @@ use std::alloc::{AllocError, Global};
 
 /// The most octets of a line of a reply, its end included.
 const REPLY_LIMIT: usize = 4096;
+
+/// What octets that are said do: how many of them are taken up to the next answer, and the line that they answer, if they do.
+#[derive(Drop)]
+pub(crate) struct Told {
+    pub(crate) taken: usize,
+    pub(crate) answered: Option<Answered>,
+}
 
 /// A line of a client, and the code of the last reply to it: none where it has no such reply.
 #[derive(Clone, Copy)]
@@ -40,20 +47,40 @@ impl Talk {
         })
     }
 
-    /// The client said an octet. A line that passes the limit is one that says nothing. One for which memory is refused is not told.
-    pub(crate) fn hear(&mut self, octet: u8) {
-        let _kept = match self.heard.feed(&[octet]).event {
-            Event::Line => self.asked.push(asked_of(self.heard.line())),
-            Event::TooLong => self.asked.push(Asked::unread()),
-            Event::More | Event::Owed(_) => Ok(()),
-        };
+    /// The client said octets. A line that passes the limit is one that says nothing. One for which memory is refused is not told.
+    pub(crate) fn hear(&mut self, octets: &[u8]) {
+        let mut taken = 0;
+        while taken < octets.len() {
+            let (_, rest) = octets.split_at(taken);
+            let fed = self.heard.feed(rest);
+            taken += fed.taken;
+            let _kept = match fed.event {
+                Event::Line => self.asked.push(asked_of(self.heard.line())),
+                Event::TooLong => self.asked.push(Asked::unread()),
+                Event::More | Event::Owed(_) => Ok(()),
+            };
+        }
     }
 
-    /// An octet was said to the client; gives the line that is answered now, if one is.
-    pub(crate) fn say(&mut self, octet: u8) -> Option<Answered> {
-        if self.said.feed(&[octet]).event != Event::Line {
-            return None;
+    /// Octets are said to the client: takes them up to the end of a line, and gives the line of the client that is answered by it, if one is.
+    pub(crate) fn say(&mut self, octets: &[u8]) -> Told
+        ensures within { result.taken ≤ length octets.now }
+        ensures some { 0 < length octets.now → 0 < result.taken }
+    {
+        let fed = self.said.feed(octets);
+        let answered = if fed.event == Event::Line {
+            self.answered()
+        } else {
+            None
+        };
+        Told {
+            taken: fed.taken,
+            answered,
         }
+    }
+
+    /// The line that the line of a reply that was said now answers, if it is the end of its last reply.
+    fn answered(&mut self) -> Option<Answered> {
         let code = self.reply()?;
         if code < 200 {
             return None;

@@ -123,7 +123,7 @@ impl<'a> Patience<'a> {
         self.term().is_some_and(|term| term.left == 0)
     }
 
-    /// What is left of the limits.
+    /// What is left of the limits. Whether another client waits is looked at once its limit is over, and not at each wait.
     fn term(&self) -> Option<Term> {
         if let Some(over) = self.over.get() {
             return Some(Term { left: 0, over });
@@ -131,11 +131,9 @@ impl<'a> Patience<'a> {
         let now = monotonic_millis();
         let quiet = now.saturating_sub(self.last.get());
         let idle = term_of(self.limits.idle, quiet, Over::Idle);
-        let term = if self.is_waited() {
-            let waited = term_of(self.limits.idle_while_waited, quiet, Over::Waited);
-            sooner(idle, waited)
-        } else {
-            idle
+        let term = match term_of(self.limits.idle_while_waited, quiet, Over::Waited) {
+            Some(waited) if waited.left == 0 && !self.is_waited() => idle,
+            waited => sooner(idle, waited),
         };
         if self.logged_in.get() {
             return term;

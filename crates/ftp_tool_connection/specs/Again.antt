@@ -1,0 +1,21 @@
+-- When a further control connection may bring an answer (own choice: RFC 959, section 3.5, leaves recovery to the user).
+use Rattle.std.specs.Prelude.{Option, Some, None, Result, Ok, Err}
+use Rattle.ftp_operation.specs.declared.answer.Answer.{Answer}
+use Rattle.ftp_operation.specs.declared.answer.Answer.TheVariants as Answers
+use Rattle.ftp_tool_connection.specs.declared.again.Loss.{Loss}
+use Rattle.ftp_tool_connection.specs.declared.again.Loss.TheVariants as Losses
+use Rattle.ftp_tool_connection.specs.declared.fault.SessionFault.{SessionFault}
+use Rattle.ftp_tool_connection.specs.declared.fault.Phase.{Phase}
+use Rattle.ftp_tool_connection.specs.declared.fault.Phase.TheVariants as Phases
+
+-- one that ended before the answer, or none that could be made, where this was under way
+abbrev pub loss_amid : Phase → Option Loss
+loss_amid Phases.Talking = Some Losses.Ended
+loss_amid Phases.Connection = Some Losses.Unconnected
+loss_amid phase = None
+
+-- why there is no answer, where a further control connection may bring one
+abbrev pub loss_by : {A : Type 0} → Result (Answer A) SessionFault → Option Loss
+loss_by (Ok Answers.Lost) = Some Losses.Ended
+loss_by (Ok answer) = None
+loss_by (Err fault) = loss_amid fault.stage

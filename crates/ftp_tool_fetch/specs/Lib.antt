@@ -1,0 +1,2 @@
+-- What the answers of a server say of a transfer.
+pub mod Trying
