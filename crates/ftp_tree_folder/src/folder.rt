@@ -10,12 +10,13 @@ use crate::{Folder, FolderFault};
 use ftp_facts::Moment;
 use ftp_path::Path;
 use ftp_tree::Content;
+use ftp_tree_rights::{Deed, Rights};
 use std::alloc::{AllocError, Allocator, Global};
 use std::fs::Files;
 use std::{fs, io};
 
 /// The files and directories below a directory of the system. No clause says what files keep: what it keeps is not known. A link on
-/// the way to what is changed is not followed: the call fails.
+/// the way to what is changed is not followed: the call fails. So does a change that the rights of `reasons` do not allow, before the folder is touched.
 #[derive(Drop)]
 pub struct DiskFolder<'a, R: Files + AllocGlobal + Clone + Drop> {
     files: R,
@@ -25,7 +26,8 @@ pub struct DiskFolder<'a, R: Files + AllocGlobal + Clone + Drop> {
 }
 
 impl<'a, R: Files + AllocGlobal + Clone + Drop> DiskFolder<'a, R> {
-    /// The folder below a directory, which is the current one for an empty text. Nothing is looked at. Why a change fails goes to `reasons`.
+    /// The folder below a directory, which is the current one for an empty text. Nothing is looked at. What may be changed is asked of
+    /// `reasons`, and why a change fails goes there.
     pub fn new(files: R, dir: &str, reasons: &'a Reasons) -> Result<DiskFolder<'a, R>, AllocError>
         ensures dir { IfOk result (λ folder. string_bytes folder.dir ≡ folder_text dir.now) }
         ensures failures { IfOk result (λ folder. folder.failures ≡ 0) }
@@ -51,6 +53,7 @@ impl<'a, R: Files + AllocGlobal + Clone + Drop> DiskFolder<'a, R> {
     }
 
     fn made<B: Allocator, C: Allocator>(&self, root: &Path<B>, path: &Path<C>) -> io::Result<()> {
+        self.reasons.check(Deed::Make)?;
         let place = self.place(root, path)?;
         fs::create_dir(&self.files, place.as_str())?;
         let synced = sync_above(&self.files, place.as_str());
@@ -65,6 +68,7 @@ impl<'a, R: Files + AllocGlobal + Clone + Drop> DiskFolder<'a, R> {
         root: &Path<B>,
         path: &Path<C>,
     ) -> io::Result<()> {
+        self.reasons.check(Deed::Change)?;
         let place = self.place(root, path)?;
         fs::remove_dir(&self.files, place.as_str())?;
         sync_above(&self.files, place.as_str())
@@ -75,6 +79,7 @@ impl<'a, R: Files + AllocGlobal + Clone + Drop> DiskFolder<'a, R> {
         root: &Path<B>,
         path: &Path<C>,
     ) -> io::Result<()> {
+        self.reasons.check(Deed::Change)?;
         let place = self.place(root, path)?;
         fs::remove_file(&self.files, place.as_str())?;
         sync_above(&self.files, place.as_str())
@@ -86,6 +91,7 @@ impl<'a, R: Files + AllocGlobal + Clone + Drop> DiskFolder<'a, R> {
         from: &Path<C>,
         to: &Path<D>,
     ) -> io::Result<()> {
+        self.reasons.check(Deed::Change)?;
         let from = self.place(root, from)?;
         let to = self.place(root, to)?;
         check_free(&self.files, to.as_str())?;
@@ -111,7 +117,19 @@ impl<'a, R: Files + AllocGlobal + Clone + Drop> DiskFolder<'a, R> {
         moment: Moment,
     ) -> io::Result<()> {
         let place = self.place(root, path)?;
+        self.check_writing(place.as_str())?;
         write_over(&self.files, place.as_str(), content, moment)
+    }
+
+    /// Fails where the rights do not allow to write a file at a place: where something stands there, that is a change of it.
+    fn check_writing(&self, place: &str) -> io::Result<()> {
+        if self.reasons.rights() == Rights::All {
+            return Ok(());
+        }
+        match check_free(&self.files, place) {
+            Ok(()) => self.reasons.check(Deed::Make),
+            Err(_) => self.reasons.check(Deed::Change),
+        }
     }
 
     /// What a call answers; a failure is counted, and its reason is kept for whoever tells of it.

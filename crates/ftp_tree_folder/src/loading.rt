@@ -273,7 +273,7 @@ impl<'a, R: Files + AllocGlobal + Clone + Drop> Loading<'a, R> {
             && self.old.has(place, Look::of(found))
     }
 
-    /// Reads a file, and installs it.
+    /// Reads a file, and installs it. Of one for which there is no room no octet is read.
     fn read_file(
         &mut self,
         path: &Path<Global>,
@@ -281,6 +281,9 @@ impl<'a, R: Files + AllocGlobal + Clone + Drop> Loading<'a, R> {
         found: &Metadata,
     ) -> Result<(), LoadFault> {
         let alloc = self.files.alloc();
+        if let Some(fault) = self.tree.install_refusal(&self.root, path, found.len()) {
+            return Err(LoadFault::of_tree(alloc, place, fault));
+        }
         let room = match self.tree.room(&self.root, path) {
             Ok(room) => room,
             Err(fault) => return Err(LoadFault::of_tree(alloc, place, fault)),

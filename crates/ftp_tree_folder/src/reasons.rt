@@ -1,30 +1,62 @@
-// Why changes of a folder failed, for whoever tells of them.
-use std::cell::RefCell;
+// What somebody may change of a folder, and why changes of it failed.
+use ftp_tree_rights::{Deed, Rights};
+use std::cell::{Cell, RefCell};
 use std::io;
+use std::io::{Error, ErrorKind};
 
-/// Why the last change failed, if that was not told yet. It is lent to a folder, and asked by whoever tells what was done.
+/// What may be changed of a folder, as whoever serves it says, and why the last change failed, if that was not told yet. It is lent to a folder, and
+/// asked by whoever tells what was done.
 #[derive(Drop)]
 pub struct Reasons {
-    last: RefCell<Option<io::Error>>,
+    rights: Cell<Rights>,
+    /// Whether a change was refused for want of rights.
+    barred: Cell<bool>,
+    last: RefCell<Option<Error>>,
 }
 
 impl Reasons {
-    /// None so far.
+    /// All may be changed, and nothing failed so far.
     pub fn new() -> Reasons {
         Reasons {
+            rights: Cell::new(Rights::All),
+            barred: Cell::new(false),
             last: RefCell::new(None),
         }
     }
 
+    /// From now on so much may be changed.
+    pub fn allow(&self, rights: Rights) {
+        self.rights.set(rights);
+    }
+
+    /// What may be changed.
+    pub(crate) fn rights(&self) -> Rights {
+        self.rights.get()
+    }
+
+    /// Fails where the rights do not allow a change.
+    pub(crate) fn check(&self, deed: Deed) -> io::Result<()> {
+        if self.rights.get().allows(deed) {
+            return Ok(());
+        }
+        self.barred.set(true);
+        Err(Error::new(ErrorKind::PermissionDenied, "the account may not do that"))
+    }
+
+    /// Whether a change was refused for want of rights since this was asked last.
+    pub fn take_barred(&self) -> bool {
+        self.barred.replace(false)
+    }
+
     /// A change failed for this reason.
-    pub(crate) fn put(&self, error: io::Error) {
+    pub(crate) fn put(&self, error: Error) {
         if let Ok(mut last) = self.last.try_borrow_mut() {
             *last = Some(error);
         }
     }
 
     /// The reason of the last change that failed, once.
-    pub fn take(&self) -> Option<io::Error> {
+    pub fn take(&self) -> Option<Error> {
         self.last.try_borrow_mut().ok()?.take()
     }
 }
