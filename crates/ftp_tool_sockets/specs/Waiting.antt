@@ -1,5 +1,5 @@
 -- What a wait for sockets gives, and how long it may be (own choice).
-use Rattle.std.specs.Prelude.{ℕ, zero, suc, ◌-◌, ◌*◌, ◌==◌, nat_le, Option, Some, None, if◌then◌else◌}
+use Rattle.std.specs.Prelude.{ℕ, zero, suc, ◌-◌, ◌*◌, ◌==◌, min, nat_le, Option, Some, None, if◌then◌else◌}
 use Rattle.ftp_tool_sockets.specs.declared.patience.Over.{Over}
 use Rattle.ftp_tool_sockets.specs.declared.patience.Term.{Term}
 use Rattle.ftp_control.specs.declared.ports.Spoken.{Spoken}
@@ -21,6 +21,10 @@ abbrev pub sooner_of : Option Term → Option Term → Option Term
 sooner_of (Some one) (Some other) = if nat_le one.left other.left then Some one else Some other
 sooner_of (Some one) None = Some one
 sooner_of None other = other
+
+-- the shorter of two limits in seconds, of which 0 is none
+abbrev pub stricter : ℕ → ℕ → ℕ
+stricter one other = if one == 0 then other else (if other == 0 then one else min one other)
 
 -- the octet that urgent data hides after another one: LF after CR, the data mark after IAC, and IAC after IAC IP (RFC 854; RFC 959, section 4.1.3)
 abbrev pub hidden : ℕ → Option ℕ

@@ -1,5 +1,5 @@
 // A data connection that does not outlast its control connection.
-use crate::options::drop_connection;
+use crate::options::{drop_connection, limit_untaken};
 use crate::patience::{Patience, monotonic_millis, piece_of};
 use crate::wait::{Heeds, Woke, has_room, wait, wait_millis};
 use ftp_control::{For, Ready, TURNS};
@@ -15,7 +15,8 @@ const LAST_MILLIS: u64 = 30_000;
 
 /// A data connection. A read that would wait ends where the control connection does; one that hears fails as `WouldBlock` where
 /// the control connection has octets or ended, and so does a write. A write that doesn't hear goes on after the end of the control connection
-/// while the peer takes octets within 30 seconds. Where patience is over, what would wait fails.
+/// while the peer takes octets within 30 seconds. Where patience is over, what would wait fails, and so does a connection whose peer takes nothing of what
+/// was written for as long.
 #[derive(Drop)]
 pub struct Link<'a> {
     control: &'a TcpStream,
@@ -66,6 +67,13 @@ impl<'a> Link<'a> {
         }
     }
 
+    /// Limits how long what was written waits for the peer to take it, where room is waited for: octets that only the system took are no sign of life.
+    fn limit(&self, what: For) {
+        if let (Some(patience), For::Room) = (self.patience, what) {
+            let _limited = limit_untaken(&self.stream, patience.untaken_millis());
+        }
+    }
+
     /// Waits until octets can be read or written; where `hears`, octets of the control connection go first.
     pub(crate) fn wait(&self, what: For, hears: bool) -> Ready {
         let heeds = if hears {
@@ -73,6 +81,7 @@ impl<'a> Link<'a> {
         } else {
             Heeds::End
         };
+        self.limit(what);
         match wait(self.control, &self.stream, what, heeds, self.patience) {
             Woke::Ready => Ready::Data,
             Woke::Spoken => Ready::Control,
@@ -163,6 +172,7 @@ impl<'a> Write for Link<'a> {
                 }
                 failed => return failed,
             }
+            self.limit(For::Room);
             match wait(
                 self.control,
                 &self.stream,

@@ -1,6 +1,6 @@
 // How long a server waits for its peer.
 ghost use Rattle.std.specs.Prelude.{◌≡◌};
-ghost use Rattle.ftp_tool_sockets.specs.Waiting.{sooner_of, term_after};
+ghost use Rattle.ftp_tool_sockets.specs.Waiting.{sooner_of, stricter, term_after};
 
 use crate::wait::{Polled, ask, asking};
 use ftp_control::TURNS;
@@ -142,6 +142,16 @@ impl<'a> Patience<'a> {
         sooner(term, term_of(self.limits.login, spent, Over::Login))
     }
 
+    /// How long octets may wait for the peer to take them, in milliseconds: as long as nothing may be said or sent now; 0: without a limit.
+    pub(crate) fn untaken_millis(&self) -> i32 {
+        let seconds = if self.is_waited() {
+            stricter(self.limits.idle, self.limits.idle_while_waited)
+        } else {
+            self.limits.idle
+        };
+        i32::try_from(u64::from(seconds).saturating_mul(1_000)).unwrap_or(i32::MAX)
+    }
+
     /// Whether another client waits to be served.
     fn is_waited(&self) -> bool {
         let Some(door) = self.door else {
@@ -172,6 +182,17 @@ fn term_of(limit: u32, spent: u64, over: Over) -> Option<Term>
     }
     let left = (u64::from(limit) * 1_000).saturating_sub(spent);
     Some(Term { left, over })
+}
+
+/// The shorter of two limits in seconds, of which 0 is none.
+fn stricter(one: u32, other: u32) -> u32
+    ensures { result ≡ stricter one other }
+{
+    match (one, other) {
+        (0, other) => other,
+        (one, 0) => one,
+        (one, other) => one.min(other),
+    }
 }
 
 /// The one of two limits that ends sooner, the first where both do.
