@@ -1,0 +1,77 @@
+// Each row, as it is to be played.
+use crate::beside::play_drawn;
+use crate::desk::{Desk, Manner};
+use crate::each::play_each;
+use crate::making::play;
+use crate::ways::play_ways;
+use rows_base::{Paper, first_other, row_in_front, said};
+use std::alloc::Global;
+
+/// Plays each row of a script. Rows are paragraphs.
+pub fn play_all(alloc: Global, script: &[u8]) -> Paper {
+    let mut paper = Paper::new(alloc);
+    let mut rest = script;
+    for _ in 0..script.len() {
+        if rest.is_empty() {
+            break;
+        }
+        let (row, behind) = row_in_front(rest);
+        play_row(alloc, row, &mut paper);
+        paper.line(b"");
+        rest = behind;
+    }
+    paper
+}
+
+fn play_row(alloc: Global, row: &[u8], paper: &mut Paper) {
+    if said(row, b"each").is_some() {
+        play_each(alloc, row, paper);
+    } else if said(row, b"in").is_some() {
+        play_ways(alloc, row, paper);
+    } else if said(row, b"drawn").is_some() {
+        play_drawn(alloc, row, paper);
+    } else {
+        play_lines(alloc, row, paper);
+    }
+}
+
+/// Line by line; and again with each growth refused in turn, where the row says so.
+fn play_lines(alloc: Global, row: &[u8], paper: &mut Paper) {
+    let mut desk = Desk::new(alloc, Manner::Lines);
+    let growths = play(alloc, row, 0, &mut desk);
+    let whole = desk.paper.text();
+    paper.put(whole);
+    if said(row, b"growths").is_some() {
+        for refused in 1..=growths {
+            compare_growth(alloc, row, whole, refused, paper);
+        }
+    }
+}
+
+/// Says where a refused growth is not told: by a call, or by a world that is calm no more. The first line that goes otherwise tells it.
+fn compare_growth(alloc: Global, row: &[u8], whole: &[u8], refused: u64, paper: &mut Paper) {
+    let mut desk = Desk::new(alloc, Manner::Lines);
+    play(alloc, row, refused, &mut desk);
+    let is_told = match first_other(desk.paper.text(), whole) {
+        Some(line) => tells(line),
+        None => desk.refusals == u64::from(desk.calm),
+    };
+    if !is_told {
+        paper.put(b"! a refused growth is not told: ");
+        paper.number(refused);
+        paper.line(b"");
+        paper.put(desk.paper.text());
+    }
+}
+
+/// Lines that tell it.
+const TOLD: &[&'static [u8]] = &[b"= memory", b"= refused 451", b"! no world", b"! no memory"];
+
+fn tells(line: &[u8]) -> bool {
+    for told in TOLD {
+        if *told == line {
+            return true;
+        }
+    }
+    false
+}
