@@ -1,3 +1,6 @@
--- Lemmas: what leads from one world to another; reports that are written after a text, and the reports of a world.
+-- Lemmas: what a script begins with; what leads from one world to another, and how it comes to rest; reports that are written after a text, and
+-- the reports of a world.
 pub mod Leading
 pub mod Reporting
+pub mod Resting
+pub mod Roots

@@ -2,9 +2,9 @@
 use Rattle.std.specs.Prelude.{◌≡◌, ◌+◌, ℕ, true, List, [], ◌∷◌}
 use Rattle.ftp_client_model.specs.Tries.{over_breaks}
 use Rattle.ftp_pair.specs.Session.{Seen}
-use Rattle.ftp_pair_world.specs.Agreement.{AreHonest, Leads}
+use Rattle.ftp_pair_world.specs.Agreement.{AreHonest, AreSingle, IsDirect, Leads, WorldAgrees}
 use Rattle.ftp_pair_world.specs.Agreement as worlds
-use Rattle.ftp_pair_world.specs.Claims.{AreTimed, Beginning, IsFair, world_of}
+use Rattle.ftp_pair_world.specs.Claims.{AreTimed, Beginning, IsAnswered, IsFair, state_of, world_of}
 use Rattle.ftp_pair_world.specs.Events.{Event, IsQuiet}
 use Rattle.ftp_pair_world.specs.World.{World}
 use Rattle.ftp_server_model.specs.Machine.{Reading, IsReading}
@@ -31,13 +31,22 @@ LeadsTo begun old new =
     new.calm ≡ true → (old.calm ≡ true)
     × ((read : Reading) → IsReading read → (given : List Event) × AreHonest given × AreTimed given × Leads read old.world given begun new.world)
 
--- two ends that begin fairly, whose client logs in so; deliveries, openings, ends and the orders of a script, each begun at its moment, lead from
--- them to this world, in which nothing is in flight
-pub record Led (login : List ℕ × List ℕ) (orders : List (Order (List ℕ))) (w : World) : Type 0 where
-  pub from : Beginning
+-- a world in which these operations have come to rest: reports and map agree with them, nothing is in flight, each has its report, and where none is
+-- an upload over breaks all is as in the direct run
+pub record IsAtRest (from : Beginning) (begun : List worlds.Order) (w : World) : Type 0 where
+  pub agrees : WorldAgrees (state_of from) begun w
+  pub quiet : IsQuiet w
+  pub answered : IsAnswered begun w
+  pub direct : AreSingle begun → IsDirect (state_of from) begun w
+
+-- so it is, where nothing failed, from any fair beginning
+abbrev pub Rests : List worlds.Order → Seen → Seen → Type 0
+Rests begun old new = new.calm ≡ true → (from : Beginning) → IsFair from → old.world ≡ world_of from → IsAtRest from begun new.world
+
+-- two ends begin fairly; deliveries, openings, ends and the orders of a script, each begun at its moment, lead from them to this world, in which they
+-- have come to rest
+pub record Led (from : Beginning) (orders : List (Order (List ℕ))) (w : World) : Type 0 where
   pub fair : IsFair from
-  pub user : from.user ≡ login.0
-  pub pass : from.pass ≡ login.1
   pub leads : (read : Reading) → IsReading read
       → (given : List Event) × AreHonest given × AreTimed given × Leads read (world_of from) given (orders_at first_second orders) w
-  pub quiet : IsQuiet w
+  pub rests : IsAtRest from (orders_at first_second orders) w

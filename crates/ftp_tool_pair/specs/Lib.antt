@@ -1,3 +1,4 @@
--- What a script leads to, and what is written where one is played.
+-- What a script begins with, what it leads to, and what is written where one is played.
 pub mod Leading
+pub mod Making
 pub mod Played

@@ -1,5 +1,9 @@
 // What a script begins with: a new tree, and who may log in.
-ghost use Rattle.std.specs.Prelude.{◌≡◌, IfOk};
+ghost use Rattle.std.specs.Prelude.{◌≡◌, [], true, IfOk};
+ghost use Rattle.ftp_pair_ends.specs.Begun.{begun};
+ghost use Rattle.ftp_path.specs.Path.{resolved};
+ghost use Rattle.ftp_tree.specs.Tree.{made};
+ghost use Rattle.ftp_tool_pair.specs.Making.{own_accounts, own_beginning, own_host};
 
 use ftp_endpoint::Host;
 use ftp_facts::Text;
@@ -20,15 +24,42 @@ pub fn beginning_of<A: Allocator + Copy>(
     login: Login<A>,
     roots: bool,
 ) -> io::Result<Beginning<A, MemTree<A>>>
-    ensures { IfOk result (λ of. (of.login.user ≡ login.user) × (of.login.pass ≡ login.pass)) }
+    ensures { IfOk result (λ of.
+        begun of.login.user of.login.pass of.accounts of.tree of.near_host of.far_host ≡ own_beginning roots (login.user, login.pass)) }
+{
+    if roots {
+        return with_roots(alloc, login);
+    }
+    let tree = MemTree::new(alloc);
+    begin_at(alloc, login, tree, Path::root(alloc), Path::root(alloc))
+}
+
+/// The same with a root for each.
+fn with_roots<A: Allocator + Copy>(
+    alloc: A,
+    login: Login<A>,
+) -> io::Result<Beginning<A, MemTree<A>>>
+    ensures { IfOk result (λ of.
+        begun of.login.user of.login.pass of.accounts of.tree of.near_host of.far_host ≡ own_beginning true (login.user, login.pass)) }
 {
     let mut tree = MemTree::new(alloc);
-    let mut guest = Path::root(alloc);
-    let mut anonymous = Path::root(alloc);
-    if roots {
-        guest = made(alloc, &mut tree, b"/guest")?;
-        anonymous = made(alloc, &mut tree, b"/pub")?;
-    }
+    let guest = made(alloc, &mut tree, b"/guest")?;
+    let anonymous = made(alloc, &mut tree, b"/pub")?;
+    begin_at(alloc, login, tree, guest, anonymous)
+}
+
+/// A login at a tree, where `guest` and `anonymous` are at these paths.
+fn begin_at<A: Allocator + Copy>(
+    alloc: A,
+    login: Login<A>,
+    tree: MemTree<A>,
+    guest: Path<A>,
+    anonymous: Path<A>,
+) -> io::Result<Beginning<A, MemTree<A>>>
+    ensures { IfOk result (λ of.
+        begun of.login.user of.login.pass of.accounts of.tree of.near_host of.far_host
+        ≡ begun login.user login.pass (own_accounts guest anonymous) tree own_host own_host) }
+{
     let list = list_of(alloc, guest, anonymous)?;
     match Beginning::new(alloc, login, list, tree, HERE, HERE) {
         Ok(of) => Ok(of),
@@ -41,7 +72,10 @@ fn made<A: Allocator + Copy>(
     alloc: A,
     tree: &mut MemTree<A>,
     text: &[u8],
-) -> Result<Path<A>, AllocError> {
+) -> Result<Path<A>, AllocError>
+    ensures path { IfOk result (λ path. path ≡ resolved [] text.now) }
+    ensures tree { IfOk result (λ path. tree.new ≡ made tree.old path) }
+{
     let root = Path::root(alloc);
     if !is_path_text(text) {
         return Err(AllocError);
@@ -60,7 +94,9 @@ fn list_of<A: Allocator + Copy>(
     alloc: A,
     guest: Path<A>,
     anonymous: Path<A>,
-) -> Result<Vec<Account<Text<A>, Path<A>>, A>, AllocError> {
+) -> Result<Vec<Account<Text<A>, Path<A>>, A>, AllocError>
+    ensures { IfOk result (λ list. list.items ≡ own_accounts guest anonymous) }
+{
     let mut list = Vec::new(alloc);
     list.push(Account {
         user: Text::copy_of(alloc, b"guest")?,

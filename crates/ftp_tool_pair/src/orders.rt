@@ -1,7 +1,7 @@
 // The orders of a script, one after another.
 ghost use Rattle.std.specs.Prelude.{◌≡◌, ◌+◌, ◌∷◌, [], true, IfOk, OnOk};
-ghost use Rattle.ftp_pair_world.specs.Events.{IsQuiet};
-ghost use Rattle.ftp_tool_pair.specs.Leading.{LeadsTo, first_second, order_at, orders_at};
+ghost use Rattle.ftp_pair.specs.Session.{LeadsSmall, Settles};
+ghost use Rattle.ftp_tool_pair.specs.Leading.{LeadsTo, Rests, first_second, order_at, orders_at};
 
 use crate::rounds::round;
 use crate::transcript::Transcript;
@@ -17,7 +17,8 @@ use std::alloc::{AllocError, Allocator};
 use std::io;
 use std::io::{Error, ErrorKind};
 
-/// Does orders: rounds until one in which nothing moves and no order begins. An order begins once the one before has its report.
+/// Does orders: rounds until one in which nothing moves and no order begins, and then all comes to rest. An order begins once the one before has its
+/// report.
 pub(crate) fn obey<A, T, N, S>(
     world: &mut World<A, T, N, S>,
     piece: u32,
@@ -30,7 +31,7 @@ where
     N: Near<A>,
     S: Far<A, T>,
     ensures leads { OnOk result (LeadsTo (orders_at first_second orders.items) world.old world.new) }
-    ensures quiet { OnOk result (IsQuiet world.new.world) }
+    ensures rests { OnOk result (Rests (orders_at first_second orders.items) world.old world.new) }
 {
     let mut number = 0u64;
     for order in orders {
@@ -41,6 +42,20 @@ where
         number = number.saturating_add(1);
     }
     until_still(world, piece, transcript)?;
+    rest(world)
+}
+
+/// All that is left moves; fails where that is not all that was ordered.
+fn rest<A, T, N, S>(world: &mut World<A, T, N, S>) -> io::Result<()>
+where
+    A: Allocator + Copy,
+    T: Tree<A>,
+    N: Near<A>,
+    S: Far<A, T>,
+    ensures leads { LeadsSmall world.old world.new }
+    ensures settles { Settles world.old world.new }
+{
+    world.settle();
     if world.finished() && world.is_quiet() {
         Ok(())
     } else {

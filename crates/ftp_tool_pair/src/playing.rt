@@ -1,8 +1,9 @@
 // A script between a reader and a writer.
-ghost use Rattle.std.specs.Prelude.{◌≡◌, IfOk, OnOk};
-ghost use Rattle.ftp_pair_world.specs.Events.{IsQuiet};
-ghost use Rattle.ftp_tool_status.specs.declared.status.Status.TheVariants.{Failed};
-ghost use Rattle.ftp_tool_pair.specs.Leading.{LeadsTo, first_second, orders_at};
+ghost use Rattle.std.specs.Prelude.{◌≡◌, true, IfOk, OnOk};
+ghost use Rattle.ftp_pair_ends.specs.Begun.{begun};
+ghost use Rattle.ftp_tool_status.specs.declared.status.Status.TheVariants.{Done, Failed};
+ghost use Rattle.ftp_tool_pair.specs.Leading.{LeadsTo, Rests, first_second, orders_at};
+ghost use Rattle.ftp_tool_pair.specs.Making.{own_beginning};
 ghost use Rattle.ftp_tool_pair.specs.Played.{Plays, Reports, Tells, status_without};
 
 use crate::making::beginning_of;
@@ -21,7 +22,7 @@ use ftp_tool_status::Status;
 use ftp_tree::{MemTree, Tree};
 use std::alloc::Allocator;
 use std::io;
-use std::io::{Read, Write};
+use std::io::{Error, ErrorKind, Read, Write};
 
 /// How a script is played.
 #[derive(Clone, Copy, Debug, PartialEq, Eq)]
@@ -53,7 +54,7 @@ where
     R: Read,
     W: Write,
     F: Write,
-    ensures { Tells A (R.remaining reader.old) (R.remaining reader.new) (W.contents writer.old) (W.contents writer.new) result }
+    ensures { Tells A settings.roots (R.remaining reader.old) (R.remaining reader.new) (W.contents writer.old) (W.contents writer.new) result }
 {
     let script = match read_script(alloc, reader) {
         Ok(script) => script,
@@ -81,7 +82,7 @@ fn no_script<A: Allocator, F: Write>(alloc: A, fault: NoScript, faults: &mut F) 
 }
 
 /// Tells what failed.
-fn failed<A: Allocator, F: Write>(alloc: A, error: io::Error, faults: &mut F) -> Status
+fn failed<A: Allocator, F: Write>(alloc: A, error: Error, faults: &mut F) -> Status
     ensures { result ≡ Failed }
 {
     if let Ok(text) = format!(in alloc; "error: {error}\n") {
@@ -97,7 +98,8 @@ fn play_script<A: Allocator + Copy, W: Write>(
     script: Script<A>,
     writer: &mut W,
 ) -> io::Result<Status>
-    ensures { IfOk result (λ status. Plays A (script.login.user, script.login.pass) script.orders.items (W.contents writer.old) (W.contents writer.new) status) }
+    ensures { IfOk result (λ status. Plays A (own_beginning settings.roots (script.login.user, script.login.pass)) script.orders.items
+        (W.contents writer.old) (W.contents writer.new) status) }
 {
     let Script { login, orders } = script;
     let of = beginning_of(alloc, login, settings.roots)?;
@@ -105,7 +107,6 @@ fn play_script<A: Allocator + Copy, W: Write>(
 }
 
 /// Plays orders from a beginning.
-#[tactic(auto, using(crate::proofs::Reporting::played))]
 fn play_from<A: Allocator + Copy, W: Write>(
     alloc: A,
     settings: PairSettings,
@@ -113,7 +114,8 @@ fn play_from<A: Allocator + Copy, W: Write>(
     orders: Vec<Order<Text<A>>, A>,
     writer: &mut W,
 ) -> io::Result<Status>
-    ensures { IfOk result (λ status. Plays A (of.login.user, of.login.pass) orders.items (W.contents writer.old) (W.contents writer.new) status) }
+    ensures { IfOk result (λ status. Plays A (begun of.login.user of.login.pass of.accounts of.tree of.near_host of.far_host) orders.items
+        (W.contents writer.old) (W.contents writer.new) status) }
 {
     let mut world = world_of::<A, MemTree<A>, OperationTransfer<A>, TreeTransfer<A>>(alloc, of)?;
     play_in(alloc, settings, &mut world, orders, writer)
@@ -135,10 +137,26 @@ where
     W: Write,
     ensures reports { IfOk result (λ status. Reports A world.new.world.reports (W.contents writer.old) (W.contents writer.new) status) }
     ensures leads { OnOk result (LeadsTo (orders_at first_second orders.items) world.old world.new) }
-    ensures quiet { OnOk result (IsQuiet world.new.world) }
+    ensures rests { OnOk result (Rests (orders_at first_second orders.items) world.old world.new) }
+    ensures sure { IfOk result (λ status. status ≡ Done → world.new.calm ≡ true) }
 {
     let mut transcript = Transcript::new(alloc, settings.transcript);
     obey(world, settings.piece, orders, &mut transcript)?;
     writer.write_all(transcript.lines())?;
-    write_reports(alloc, world.reports(), writer)
+    let status = write_reports(alloc, world.reports(), writer)?;
+    surely(status, world.is_calm())
+}
+
+/// That all was done is said only where no end was refused memory.
+fn surely(status: Status, calm: bool) -> io::Result<Status>
+    ensures same { IfOk result (λ said. said ≡ status) }
+    ensures sure { IfOk result (λ said. said ≡ Done → calm ≡ true) }
+{
+    if calm {
+        return Ok(status);
+    }
+    match status {
+        Status::Done => Err(Error::from(ErrorKind::OutOfMemory)),
+        other => Ok(other),
+    }
 }

@@ -1,9 +1,7 @@
-use Rattle.std.proofs.Common.{refl}
 use Rattle.ftp_tool_pair.proofs.Reporting.{played}
 use Rattle.ftp_tool_pair.proofs.playing.play_from.Goals as goal
 
 pub returns : goal.returns
 returns g c =
-    played g.row.A.Denot (c.args.of.login.user, c.args.of.login.pass) c.args.orders.items _ c.in_ok-world.world c.play_in.new.world (g.W.Write.contents c.args.writer.now)
-    (g.W.Write.contents c.play_in.new.writer) c.play_in.result c.args.of.fair refl refl c.in_ok-world.ensures.world c.play_in.ensures.reports c.play_in.ensures.leads
-    c.play_in.ensures.quiet
+    played g.row.A.Denot _ c.args.orders.items c.in_ok-world.world c.play_in.new.world (g.W.Write.contents c.args.writer.now) (g.W.Write.contents c.play_in.new.writer) c.play_in.result
+    c.args.of.fair c.in_ok-world.ensures.world c.play_in.ensures.reports c.play_in.ensures.leads c.play_in.ensures.rests c.play_in.ensures.sure
