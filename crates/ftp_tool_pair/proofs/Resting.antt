@@ -1,6 +1,6 @@
 -- How what orders led to comes to rest.
 use Rattle.std.proofs.Common.{◌≡◌, ◌++◌, true, List, [], ◌∷◌, subst}
-use Rattle.ftp_pair.specs.Session.{AreSmall, LeadsSmall, Seen, Session, Settles}
+use Rattle.ftp_pair.specs.Session.{AreSmall, LeadsSmall, Seen, Session, SettlesAfter}
 use Rattle.ftp_pair_parts.specs.Happening.{IsSmall}
 use Rattle.ftp_pair_world.specs.Agreement as worlds
 use Rattle.ftp_pair_world.specs.Agreement.{AreHonest, IsHonest, Leads}
@@ -36,7 +36,8 @@ pub settled_leads : (begun : List worlds.Order) (old mid new : Seen) → LeadsTo
 settled_leads begun old mid new leads small = then_none begun old mid new leads (small_leads mid new small)
 
 -- a session of these operations that settles, with a reading of lines
-at_rest : (read : Reading) (reads : IsReading read) (begun : List worlds.Order) (old mid new : Seen) → LeadsTo begun old mid → Settles mid new → mid.calm ≡ true → new.calm ≡ true
+at_rest : (read : Reading) (reads : IsReading read) (begun : List worlds.Order) (old mid new : Seen) → LeadsTo begun old mid → SettlesAfter mid new
+    → mid.calm ≡ true → new.calm ≡ true
     → (from : Beginning) → IsFair from → old.world ≡ world_of from → IsAtRest from begun new.world
 at_rest read reads begun old mid new leads settles middle calm from fair is =
     let so = (leads middle).1 read reads in
@@ -54,6 +55,6 @@ at_rest read reads begun old mid new leads settles middle calm from fair is =
     }
 
 -- what orders led to comes to rest
-pub rests : (begun : List worlds.Order) (old mid new : Seen) → LeadsTo begun old mid → LeadsSmall mid new → Settles mid new → Rests begun old new
+pub rests : (begun : List worlds.Order) (old mid new : Seen) → LeadsTo begun old mid → LeadsSmall mid new → SettlesAfter mid new → Rests begun old new
 rests begun old mid new leads small settles calm =
     at_rest reading_exists.0 reading_exists.1 begun old mid new leads settles (small calm).0 calm

@@ -1,6 +1,6 @@
 // The orders of a script, one after another.
 ghost use Rattle.std.specs.Prelude.{◌≡◌, ◌+◌, ◌∷◌, [], true, IfOk, OnOk};
-ghost use Rattle.ftp_pair.specs.Session.{LeadsSmall, Settles};
+ghost use Rattle.ftp_pair.specs.Session.{LeadsSmall, SettlesAfter};
 ghost use Rattle.ftp_tool_pair.specs.Leading.{LeadsTo, Rests, first_second, order_at, orders_at};
 
 use crate::rounds::round;
@@ -53,7 +53,7 @@ where
     N: Near<A>,
     S: Far<A, T>,
     ensures leads { LeadsSmall world.old world.new }
-    ensures settles { Settles world.old world.new }
+    ensures settles { SettlesAfter world.old world.new }
 {
     world.settle();
     if world.finished() && world.is_quiet() {
