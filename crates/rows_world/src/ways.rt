@@ -72,6 +72,9 @@ fn follow_events<P: Plays>(world: &mut P, desk: &mut Desk, events: &[Happening])
     }
     let from = desk.from;
     desk.led = goes_on(world, desk, events, from);
+    if !desk.led {
+        return;
+    }
     for _ in 0..DEEP {
         if !goes_on(world, desk, events, 0) {
             break;
