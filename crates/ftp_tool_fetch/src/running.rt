@@ -5,11 +5,12 @@ use ftp_tool_connection::{
     ClientSession, LastReply, Phase, Request, ServerAddress, SessionFault, SessionTask, at,
     converse,
 };
-use ftp_tool_script::{Order, Script, ScriptFault, report_of, script_of};
+use ftp_tool_reports::{NoScript, read_script, write_report};
+use ftp_tool_script::{Order, Script};
 use ftp_tool_status::Status;
 use std::alloc::Global;
 use std::io;
-use std::io::{Eprint, Read, Write};
+use std::io::Eprint;
 use std::net::{Net, TcpListener, TcpStream};
 use std::time::Clock;
 
@@ -44,32 +45,17 @@ where
         + Clock
         + AllocGlobal,
 {
-    let text = at(Phase::Script, text_of(rt))?;
-    match script_of(rt.alloc(), text.as_slice()) {
+    match read_script(rt.alloc(), &mut rt.reader()) {
         Ok(script) => do_script(rt, host, port, script),
-        Err(fault) => at(Phase::Report, tell_fault(rt, fault)),
+        Err(NoScript::Line(number)) => at(Phase::Report, tell_line(rt, number)),
+        Err(NoScript::Failed(error)) => at(Phase::Script, Err(error)),
     }
 }
 
-/// All of standard input.
-fn text_of<R: Input + AllocGlobal>(rt: &R) -> io::Result<Vec<u8, Global>> {
-    let mut text = Vec::new(rt.alloc());
-    let _count = rt.reader().read_to_end(&mut text)?;
-    Ok(text)
-}
-
-/// Tells why a text is no script.
-fn tell_fault<R: Eprint>(rt: &R, fault: ScriptFault) -> io::Result<Status> {
-    match fault {
-        ScriptFault::Line(number) => {
-            eprintln!(rt; "error: line {number} fits no form")?;
-            Ok(Status::BadWords)
-        }
-        ScriptFault::Memory => {
-            eprintln!(rt; "error: out of memory")?;
-            Ok(Status::Failed)
-        }
-    }
+/// Tells which line of a text makes it no script.
+fn tell_line<R: Eprint>(rt: &R, number: usize) -> io::Result<Status> {
+    eprintln!(rt; "error: {}", NoScript::Line(number))?;
+    Ok(Status::BadWords)
 }
 
 /// Does a script over a control connection.
@@ -148,19 +134,11 @@ fn request_of(order: Order<Text<Global>>) -> Request {
     }
 }
 
-/// Writes the report of an answer, and gives its status.
+/// Writes the report of an answer, and gives its status: failed, where the control connection did.
 fn report<R: Print + AllocGlobal>(rt: &R, answer: &Answer<Global>) -> io::Result<Status> {
-    let text = report_of(rt.alloc(), answer)?;
-    io::writer(rt).write_all(text.as_slice())?;
-    Ok(status_of(answer))
-}
-
-fn status_of(answer: &Answer<Global>) -> Status {
+    let status = write_report(rt.alloc(), answer, &mut io::writer(rt))?;
     match answer {
-        Answer::Lost => Status::Failed,
-        Answer::Refused(_) | Answer::BadOperation | Answer::Broken { got: _, mark: _ } =>
-            Status::Refused,
-        Answer::Unopened | Answer::Foreign | Answer::Strange | Answer::Memory => Status::Refused,
-        _ => Status::Done,
+        Answer::Lost => Ok(Status::Failed),
+        _ => Ok(status),
     }
 }

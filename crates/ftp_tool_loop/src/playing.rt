@@ -8,12 +8,13 @@ use ftp_client_model::Near;
 use ftp_facts::Text;
 use ftp_operation::Login;
 use ftp_server_model::Far;
-use ftp_tool_script::{Order, Script, ScriptFault, script_of};
+use ftp_tool_reports::read_script;
+use ftp_tool_script::{Order, Script};
 use ftp_tool_status::Status;
 use ftp_tree::MemTree;
 use std::alloc::Global;
 use std::io;
-use std::io::{Eprint, Error, ErrorKind, Read, Write};
+use std::io::{Eprint, Error, ErrorKind};
 use std::net::{Net, TcpListener, TcpStream};
 
 /// Plays the script that standard input has, and writes the report of each order to standard output; gives the exit status.
@@ -26,29 +27,26 @@ pub fn play<R>(rt: &R) -> io::Result<Status>
 where
     R: Net<Listener = TcpListener, Stream = TcpStream> + Input + Print + Eprint + AllocGlobal,
 {
-    match played(rt) {
+    match read_script(rt.alloc(), &mut rt.reader()) {
+        Ok(script) => played(rt, script),
+        Err(fault) => {
+            eprintln!(rt; "error: {fault}")?;
+            Ok(fault.status())
+        }
+    }
+}
+
+/// Plays a script, and tells what failed.
+fn played<R>(rt: &R, script: Script<Global>) -> io::Result<Status>
+where
+    R: Net<Listener = TcpListener, Stream = TcpStream> + Print + Eprint + AllocGlobal,
+{
+    match play_script(rt, script) {
         Ok(status) => Ok(status),
         Err(error) => {
             eprintln!(rt; "error: {error}")?;
             Ok(Status::Failed)
         }
-    }
-}
-
-/// Reads the script, and plays it.
-fn played<R>(rt: &R) -> io::Result<Status>
-where
-    R: Net<Listener = TcpListener, Stream = TcpStream> + Input + Print + Eprint + AllocGlobal,
-{
-    let mut text = Vec::new(rt.alloc());
-    let _count = rt.reader().read_to_end(&mut text)?;
-    match script_of(rt.alloc(), text.as_slice()) {
-        Ok(script) => play_script(rt, script),
-        Err(ScriptFault::Line(number)) => {
-            eprintln!(rt; "error: line {number} fits no form")?;
-            Ok(Status::BadWords)
-        }
-        Err(ScriptFault::Memory) => Err(Error::from(ErrorKind::OutOfMemory)),
     }
 }
 
@@ -94,9 +92,5 @@ where
     S: Far<Global, MemTree<Global>>,
 {
     let mut pair = Pair::new(rt, ClientEnd::new(client), ServerEnd::new(server))?;
-    if obey(rt, &mut pair, orders, &mut io::writer(rt))? {
-        Ok(Status::Done)
-    } else {
-        Ok(Status::Refused)
-    }
+    obey(rt, &mut pair, orders, &mut io::writer(rt))
 }

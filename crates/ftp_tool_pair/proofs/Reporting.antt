@@ -12,14 +12,14 @@ use Rattle.ftp_tool_script.specs.Report.{report}
 use Rattle.ftp_tool_script.specs.declared.order.Order.{Order}
 use Rattle.ftp_tool_script.specs.declared.script.Script.{Script}
 use Rattle.ftp_tool_reports.specs.Reading.{ReadsScript}
-use Rattle.ftp_tool_reports.specs.Status.{worst_of}
+use Rattle.ftp_tool_reports.specs.Status.{status_without, worst_of}
 use Rattle.ftp_tool_reports.specs.declared.reading.NoScript.{NoScript}
 use Rattle.ftp_tool_reports.specs.declared.reading.NoScript.TheVariants as Nones
 use Rattle.ftp_tool_status.specs.declared.status.Status.{Status}
 use Rattle.ftp_tool_status.specs.declared.status.Status.TheVariants.{Done}
 use Rattle.ftp_tool_pair.specs.Leading.{Led, LeadsTo, Rests, first_second, orders_at}
 use Rattle.ftp_tool_pair.specs.Making.{own_beginning}
-use Rattle.ftp_tool_pair.specs.Played.{Reports, Plays, Tells, status_without}
+use Rattle.ftp_tool_pair.specs.Played.{Reports, Plays, Tells}
 
 -- a text and then reports, where nothing failed
 pub reported : {E : Type 0} (A : Type 0) (said : List Said) (old mid new : Option (List ℕ)) (front : List ℕ) (answers : List (Answer A)) (status : Status) (r : Result Status E)

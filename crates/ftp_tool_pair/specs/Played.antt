@@ -10,8 +10,6 @@ use Rattle.ftp_tool_script.specs.Script.{script_value}
 use Rattle.ftp_tool_script.specs.declared.order.Order.{Order}
 use Rattle.ftp_tool_reports.specs.Reading.{GivesAll}
 use Rattle.ftp_tool_reports.specs.Status.{worst_of}
-use Rattle.ftp_tool_reports.specs.declared.reading.NoScript.{NoScript}
-use Rattle.ftp_tool_reports.specs.declared.reading.NoScript.TheVariants as Nones
 use Rattle.ftp_tool_status.specs.declared.status.Status.{Status}
 use Rattle.ftp_tool_status.specs.declared.status.Status.TheVariants.{BadWords, Done, Failed}
 use Rattle.ftp_tool_pair.specs.Leading.{Led}
@@ -49,11 +47,6 @@ pub record IsUnfit (known left old new : Option (List ℕ)) (status : Status) : 
   pub fault : script_value text ≡ Err line
   pub same : new ≡ old
   pub told : status ≡ BadWords
-
--- how a program ends that finds no script
-abbrev pub status_without : NoScript → Status
-status_without (Nones.Line number) = BadWords
-status_without (Nones.Failed error) = Failed
 
 -- a script was played; or it is none; or something failed
 abbrev pub Tells : (A : Type 0) (roots : Bool) (known left old new : Option (List ℕ)) (status : Status) → Type 0

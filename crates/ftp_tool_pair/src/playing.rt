@@ -4,7 +4,8 @@ ghost use Rattle.ftp_pair_ends.specs.Begun.{begun};
 ghost use Rattle.ftp_tool_status.specs.declared.status.Status.TheVariants.{Done, Failed};
 ghost use Rattle.ftp_tool_pair.specs.Leading.{LeadsTo, Rests, first_second, orders_at};
 ghost use Rattle.ftp_tool_pair.specs.Making.{own_beginning};
-ghost use Rattle.ftp_tool_pair.specs.Played.{Plays, Reports, Tells, status_without};
+ghost use Rattle.ftp_tool_reports.specs.Status.{status_without};
+ghost use Rattle.ftp_tool_pair.specs.Played.{Plays, Reports, Tells};
 
 use crate::making::beginning_of;
 use crate::orders::obey;
@@ -70,15 +71,10 @@ where
 fn no_script<A: Allocator, F: Write>(alloc: A, fault: NoScript, faults: &mut F) -> Status
     ensures { result ≡ status_without fault }
 {
-    match fault {
-        NoScript::Line(number) => {
-            if let Ok(text) = format!(in alloc; "error: line {number} fits no form\n") {
-                let _told = faults.write_all(text.as_bytes());
-            }
-            Status::BadWords
-        }
-        NoScript::Failed(error) => failed(alloc, error, faults),
+    if let Ok(text) = format!(in alloc; "error: {fault}\n") {
+        let _told = faults.write_all(text.as_bytes());
     }
+    fault.status()
 }
 
 /// Tells what failed.

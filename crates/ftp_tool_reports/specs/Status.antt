@@ -2,6 +2,8 @@
 use Rattle.std.specs.Prelude.{List, [], ◌∷◌}
 use Rattle.ftp_operation.specs.declared.answer.Answer.{Answer}
 use Rattle.ftp_operation.specs.declared.answer.Answer.TheVariants as Answers
+use Rattle.ftp_tool_reports.specs.declared.reading.NoScript.{NoScript}
+use Rattle.ftp_tool_reports.specs.declared.reading.NoScript.TheVariants as Nones
 use Rattle.ftp_tool_status.specs.declared.status.Status.{Status}
 use Rattle.ftp_tool_status.specs.declared.status.Status.TheVariants as Statuses
 use Rattle.ftp_tool_status.specs.Status.{worse}
@@ -33,3 +35,8 @@ worst_after status (answer ∷ answers) = worst_after (worse status (status_of a
 -- the worst status of answers
 abbrev pub worst_of : {A : Type 0} → List (Answer A) → Status
 worst_of answers = worst_after Statuses.Done answers
+
+-- how a program ends that finds no script
+abbrev pub status_without : NoScript → Status
+status_without (Nones.Line number) = Statuses.BadWords
+status_without (Nones.Failed error) = Statuses.Failed

@@ -1,8 +1,10 @@
 // A script, read whole.
-ghost use Rattle.std.specs.Prelude.{IfOk};
+ghost use Rattle.std.specs.Prelude.{◌≡◌, IfOk};
 ghost use Rattle.ftp_tool_reports.specs.Reading.{GivesAll, ReadsScript};
+ghost use Rattle.ftp_tool_reports.specs.Status.{status_without};
 
 use ftp_tool_script::{Script, ScriptFault, script_of};
+use ftp_tool_status::Status;
 use std::alloc::Allocator;
 use std::fmt::{Display, Formatter};
 use std::io::{Error, ErrorKind, Read};
@@ -15,6 +17,18 @@ pub enum NoScript {
     Line(usize),
     /// A read failed, or memory was refused.
     Failed(Error),
+}
+
+impl NoScript {
+    /// How a program ends that has no script.
+    pub fn status(&self) -> Status
+        ensures { result ≡ status_without self.now }
+    {
+        match self {
+            NoScript::Line(_) => Status::BadWords,
+            NoScript::Failed(_) => Status::Failed,
+        }
+    }
 }
 
 impl Display for NoScript {
