@@ -126,6 +126,20 @@ impl<A: Allocator + Copy, T: Tree<A>, N: Near<A>, F: Far<A, T>> World<A, T, N, F
         self.parts.taken.as_slice()
     }
 
+    /// The client.
+    pub fn near(&self) -> &N
+        ensures { (N.client result.now).view ≡ self.now.world.near }
+    {
+        &self.parts.near
+    }
+
+    /// The server.
+    pub fn far(&self) -> &F
+        ensures { (F.server result.now).view ≡ self.now.world.far }
+    {
+        &self.parts.far
+    }
+
     /// The server's tree.
     pub fn tree(&self) -> &T
         ensures { T.table result.now ≡ self.now.world.far.session.table }
