@@ -1,21 +1,26 @@
 // What stands beside a world that is played on.
+use crate::plays::Held;
 use crate::words::Happening;
 use rows_base::Paper;
 use std::alloc::Global;
+use std::mem;
+
+/// The most octets that an end may hold, as the definitions have it.
+const HELD_LIMIT: usize = 24_576;
 
 /// How a row is played.
 #[derive(Clone, Copy)]
 pub enum Manner {
-    /// Line by line, each written with what comes of it.
+    /// Each line is written, with what comes of it.
     Lines,
-    /// Its orders one after another, event by event, and before one of these that.
+    /// What is reported is written, and the tree behind it.
+    Quiet,
+    /// The same, each order event by event; before one of its events that happens.
     Struck(Happening, u64),
-    /// The same without one.
+    /// The same once that is behind.
     Unstruck,
-    /// Line by line, and behind them the events of the row in one order.
+    /// Behind the lines what was kept happens in one order; what is reported from there on is written.
     Way,
-    /// Its orders one after another, each until all is at rest.
-    Settled,
 }
 
 /// What a row writes, and how far it has come.
@@ -28,20 +33,21 @@ pub struct Desk {
     pub begun: u64,
     /// How many events have happened.
     pub happened: u64,
+    /// The most that each end held behind one.
+    pub most: Held,
     /// How many reports were told.
     pub told: usize,
-    /// How often a call was refused memory.
-    pub refusals: u64,
     /// Whether no end was refused memory.
     pub calm: bool,
-    /// Whether events are kept, to happen together.
+    /// Whether events are kept, to happen later.
     pub gathers: bool,
+    /// Those that are kept.
+    pub kept: Vec<Happening>,
     /// Whether what was to happen before one event was possible.
     pub struck: bool,
-    /// Which events happen, by their places in the row; the first of those behind them is none before `from`.
+    /// The places of the events that happen in one order, among those that were kept. Before it is followed: the least place of each of the first.
     pub way: Vec<usize>,
-    pub from: usize,
-    /// Whether an event behind them was possible.
+    /// Whether there is an order from those places on.
     pub led: bool,
 }
 
@@ -53,19 +59,48 @@ impl Desk {
             manner,
             begun: 0,
             happened: 0,
+            most: Held {
+                client: 0,
+                server: 0,
+            },
             told: 0,
-            refusals: 0,
             calm: true,
             gathers: false,
+            kept: Vec::new(alloc),
             struck: false,
             way: Vec::new(alloc),
-            from: 0,
             led: true,
         }
     }
 
-    /// A call was refused memory.
-    pub fn refuse(&mut self) {
-        self.refusals = self.refusals.saturating_add(1);
+    /// An event happened, behind which the ends hold that.
+    pub fn count(&mut self, held: Held) {
+        self.happened = self.happened.saturating_add(1);
+        self.most.client = self.most.client.max(held.client);
+        self.most.server = self.most.server.max(held.server);
+    }
+
+    /// The most that each end held, and whether that is too much.
+    pub fn tell_held(&mut self) {
+        self.paper.put(b"~ at most ");
+        self.paper.number(self.most.client as u64);
+        self.paper.put(b" octets are held by the client, ");
+        self.paper.number(self.most.server as u64);
+        self.paper.line(b" by the server");
+        if self.most.client.max(self.most.server) > HELD_LIMIT {
+            self.paper.line(b"! too much is held");
+        }
+    }
+
+    /// An event is kept.
+    pub fn keep(&mut self, happening: Happening) {
+        if self.kept.push(happening).is_err() {
+            self.paper.fill();
+        }
+    }
+
+    /// What is kept, which is then kept no more.
+    pub fn take_kept(&mut self) -> Vec<Happening> {
+        mem::replace(&mut self.kept, Vec::new(self.alloc))
     }
 }

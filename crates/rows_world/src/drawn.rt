@@ -1,43 +1,16 @@
 // Orders that are drawn.
-use rows_base::{octets_of, split};
+use rows_base::{cut, octets_of, split};
 use std::alloc::{AllocError, Global};
 
 /// How an order is written, by letters behind its verb: a path, another one, how octets go, a number, octets.
-const FORMS: [&'static [u8]; 18] = [
-    b"where",
-    b"up",
-    b"cd P",
-    b"mkdir P",
-    b"rmdir P",
-    b"delete P",
-    b"modified P",
-    b"facts P",
-    b"rename PQ",
-    b"get HP",
-    b"size HP",
-    b"list HP",
-    b"names HP",
-    b"getfrom HPN",
-    b"peek HPN",
-    b"put HPT",
-    b"append HPT",
-    b"putfrom HPNT",
-];
+const FORMS: &'static [u8] = b"where/up/cd P/mkdir P/rmdir P/delete P/modified P/facts P/rename PQ/\
+get HP/size HP/list HP/names HP/getfrom HPN/peek HPN/put HPT/append HPT/putfrom HPNT";
 
-const PATHS: [&'static [u8]; 4] = [b"a", b"b", b"c", b"d"];
+const PATHS: &'static [u8] = b"a/b/c/d";
 
-const NUMBERS: [&'static [u8]; 8] = [b"0", b"1", b"2", b"3", b"5", b"9", b"12", b"40"];
+const NUMBERS: &'static [u8] = b"0/1/2/3/5/9/12/40";
 
-const OCTETS: [&'static [u8]; 8] = [
-    b"\\e",
-    b"x",
-    b"ab\\n",
-    b"\\r\\n",
-    b"\\xff\\xff",
-    b"0123456789",
-    b"\\n\\n",
-    b"a\\rb",
-];
+const OCTETS: &'static [u8] = b"\\e/x/ab\\n/\\r\\n/\\xff\\xff/0123456789/\\n\\n/a\\rb";
 
 /// What an order is drawn from.
 #[derive(Clone, Copy)]
@@ -49,7 +22,7 @@ struct Draw {
     octets: u8,
 }
 
-/// So many orders, a line each, as those of a row; each takes six octets of the drawn sequence.
+/// So many orders, as lines of a row, each with a line behind it by which all settles; each takes six octets of the drawn sequence.
 pub fn drawn_orders(alloc: Global, count: u64) -> Result<Vec<u8>, AllocError> {
     let drawn = octets_of(alloc, b"%100000")?;
     let mut lines = Vec::new(alloc);
@@ -65,7 +38,7 @@ pub fn drawn_orders(alloc: Global, count: u64) -> Result<Vec<u8>, AllocError> {
             number: *number,
             octets: *octets,
         };
-        put_order(FORMS[(*form % 18) as usize], draw, &mut lines)?;
+        put_order(nth(FORMS, *form % 18), draw, &mut lines)?;
         rest = behind;
     }
     Ok(lines)
@@ -79,15 +52,15 @@ fn put_order(form: &[u8], draw: Draw, lines: &mut Vec<u8>) -> Result<(), AllocEr
         lines.extend_from_slice(b" ")?;
         put_field(*letter, draw, lines)?;
     }
-    lines.extend_from_slice(b"\n")
+    lines.extend_from_slice(b"\nsettle\n")
 }
 
 fn put_field(letter: u8, draw: Draw, lines: &mut Vec<u8>) -> Result<(), AllocError> {
     match letter {
-        b'P' => lines.extend_from_slice(PATHS[(draw.path % 4) as usize]),
-        b'Q' => lines.extend_from_slice(PATHS[(draw.other % 4) as usize]),
-        b'N' => lines.extend_from_slice(NUMBERS[(draw.number % 8) as usize]),
-        b'T' => lines.extend_from_slice(OCTETS[(draw.octets % 8) as usize]),
+        b'P' => lines.extend_from_slice(nth(PATHS, draw.path % 4)),
+        b'Q' => lines.extend_from_slice(nth(PATHS, draw.other % 4)),
+        b'N' => lines.extend_from_slice(nth(NUMBERS, draw.number % 8)),
+        b'T' => lines.extend_from_slice(nth(OCTETS, draw.octets % 8)),
         _ => put_how(draw.how, lines),
     }
 }
@@ -109,4 +82,13 @@ fn put_how(how: u8, lines: &mut Vec<u8>) -> Result<(), AllocError> {
 
 fn one_of(bits: u8, even: u8, odd: u8) -> u8 {
     if bits % 2 == 0 { even } else { odd }
+}
+
+/// The word with this number, from 0, of those that `/` parts.
+fn nth(words: &[u8], number: u8) -> &[u8] {
+    let mut rest = words;
+    for _ in 0..number {
+        rest = cut(rest, b'/').1;
+    }
+    cut(rest, b'/').0
 }

@@ -2,7 +2,7 @@
 use crate::desk::{Desk, Manner};
 use crate::making::play;
 use crate::words::{Happening, happening_of};
-use rows_base::{Paper, said};
+use rows_base::Paper;
 use std::alloc::Global;
 use std::mem;
 
@@ -11,18 +11,16 @@ const EVENTS: u64 = 100_000;
 
 /// Plays a row with an event before each of its own, and behind the last; writes what comes of each where it goes otherwise than the one before, and
 /// how many events there are.
-pub fn play_each(alloc: Global, row: &[u8], paper: &mut Paper) {
+pub fn play_each(alloc: Global, row: &[u8], event: &[u8], paper: &mut Paper) {
     paper.line(row);
-    if let Some(happening) = happening_of(said(row, b"each").unwrap_or(b"")) {
-        play_with(alloc, row, happening, paper);
-    }
-}
-
-fn play_with(alloc: Global, row: &[u8], happening: Happening, paper: &mut Paper) {
+    let Some(happening) = happening_of(event) else {
+        return;
+    };
     let mut before = Paper::new(alloc);
     for place in 0..EVENTS {
         let Some(came) = struck(alloc, row, happening, place) else {
-            tell_count(place, paper);
+            paper.number(place.saturating_sub(1));
+            paper.line(b" events");
             return;
         };
         if came.text() != before.text() {
@@ -39,10 +37,10 @@ fn struck(alloc: Global, row: &[u8], happening: Happening, place: u64) -> Option
     if let Manner::Struck(_, _) = desk.manner {
         return None;
     }
-    if desk.struck {
-        return Some(mem::replace(&mut desk.paper, Paper::new(alloc)));
-    }
     let mut came = Paper::new(alloc);
+    if desk.struck {
+        return Some(mem::replace(&mut desk.paper, came));
+    }
     came.line(b"not possible");
     Some(came)
 }
@@ -52,9 +50,4 @@ fn tell(place: u64, text: &[u8], paper: &mut Paper) {
     paper.number(place);
     paper.line(b":");
     paper.put(text);
-}
-
-fn tell_count(places: u64, paper: &mut Paper) {
-    paper.number(places.saturating_sub(1));
-    paper.line(b" events");
 }

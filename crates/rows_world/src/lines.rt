@@ -1,41 +1,92 @@
 // The lines of a row in one world.
-use crate::desk::Desk;
-use crate::heavy::fixed_octets;
-use crate::plays::{Became, Plays};
-use crate::stage::{begin, begin_heavy, happen, pour, settle, talk, tell, tell_reports};
+use crate::desk::{Desk, Manner};
+use crate::plays::Plays;
+use crate::stage::{begin, begin_heavy, happen, repeat, settle, tell, tell_reports};
+use crate::ways::follow;
 use crate::words::{Happening, Word, delivery_of, happening_of, word_of};
-use rows_base::{cut, number};
+use ftp_pair::Queue;
+use rows_base::{cut, number, octets_of};
+use std::alloc::{AllocError, Global};
 
-/// Plays the lines of a row, and writes each with what comes of it.
-pub fn play_lines<P: Plays>(world: &mut P, desk: &mut Desk, row: &[u8]) {
+/// The most octets of a delivery.
+const MOST: usize = 4096;
+
+/// Lines, and openings.
+const TALK: &[Happening] = &[
+    Happening::Deliver(Queue::ControlToServer, MOST),
+    Happening::Deliver(Queue::ControlToClient, MOST),
+    Happening::Open,
+];
+
+/// What moves by itself, in the order in which it is tried.
+const MOVES: &[Happening] = &[
+    Happening::Deliver(Queue::ControlToServer, MOST),
+    Happening::Deliver(Queue::ControlToClient, MOST),
+    Happening::Deliver(Queue::DataToServer, MOST),
+    Happening::Deliver(Queue::DataToClient, MOST),
+    Happening::Open,
+    Happening::End(Queue::ControlToServer),
+    Happening::End(Queue::ControlToClient),
+    Happening::End(Queue::DataToServer),
+    Happening::End(Queue::DataToClient),
+];
+
+/// Behind so many octets the fixed sequence begins again.
+const PERIOD: u64 = 251;
+
+/// Plays a row in a world, in the manner of the desk.
+pub fn play_in<P: Plays>(world: &mut P, desk: &mut Desk, row: &[u8]) {
+    play_lines(world, desk, row);
+    match desk.manner {
+        Manner::Lines => {}
+        Manner::Way => follow(world, desk),
+        Manner::Quiet | Manner::Struck(_, _) | Manner::Unstruck => {
+            world.put_tree(desk.alloc, &mut desk.paper);
+        }
+    }
+    desk.calm = world.is_calm();
+}
+
+fn play_lines<P: Plays>(world: &mut P, desk: &mut Desk, row: &[u8]) {
     let mut rest = row;
     for _ in 0..row.len() {
         if rest.is_empty() {
             break;
         }
         let (line, behind) = cut(rest, b'\n');
-        desk.paper.line(line);
+        if let Manner::Lines = desk.manner {
+            desk.paper.line(line);
+        }
         play_line(world, desk, line);
         tell_reports(world, desk);
         rest = behind;
     }
 }
 
-/// Plays a line.
-pub fn play_line<P: Plays>(world: &mut P, desk: &mut Desk, line: &[u8]) {
+fn play_line<P: Plays>(world: &mut P, desk: &mut Desk, line: &[u8]) {
     let (word, rest) = word_of(line);
     match word {
-        Word::Begin => begin(world, desk, rest),
+        Word::Begin => order(world, desk, rest),
         Word::Heavy => heavy(world, desk, rest),
         Word::Deliver | Word::End | Word::Plain(_) => event(world, desk, line),
         Word::Settle => settle(world, desk),
-        Word::Talk => talk(world, desk),
-        Word::Pour => pour(world, desk, delivery_of(rest)),
+        Word::Talk => repeat(world, desk, TALK),
+        Word::Pour => repeat(world, desk, &[delivery_of(rest)]),
         Word::Gather => desk.gathers = true,
         Word::Run => run(world, desk),
         Word::Tree => world.put_tree(desk.alloc, &mut desk.paper),
         Word::Marks => world.put_marks(desk.begun.saturating_sub(1), &mut desk.paper),
+        Word::Held => desk.tell_held(),
         Word::Nothing => {}
+    }
+}
+
+/// An order begins; where a row is struck, all that it moves moves event by event.
+fn order<P: Plays>(world: &mut P, desk: &mut Desk, line: &[u8]) {
+    begin(world, desk, line);
+    match desk.manner {
+        Manner::Struck(_, _) | Manner::Unstruck => repeat(world, desk, MOVES),
+        Manner::Lines | Manner::Quiet | Manner::Way => {}
     }
 }
 
@@ -45,19 +96,18 @@ fn event<P: Plays>(world: &mut P, desk: &mut Desk, line: &[u8]) {
         return;
     };
     if desk.gathers {
-        tell(world.keeps(happening), desk);
+        desk.keep(happening);
     } else {
-        happen(world, desk, happening);
+        let became = happen(world, desk, happening);
+        tell(became, desk);
     }
 }
 
 /// What was kept happens.
 fn run<P: Plays>(world: &mut P, desk: &mut Desk) {
     desk.gathers = false;
-    let became = world.runs();
-    if let Became::NoMemory = became {
-        desk.refuse();
-    }
+    let kept = desk.take_kept();
+    let became = world.runs(desk.alloc, kept.as_slice());
     tell(became, desk);
 }
 
@@ -67,4 +117,15 @@ fn heavy<P: Plays>(world: &mut P, desk: &mut Desk, count: &[u8]) {
         Ok(octets) => begin_heavy(world, desk, octets.as_slice()),
         Err(_) => desk.paper.fill(),
     }
+}
+
+/// So many octets of the fixed sequence.
+fn fixed_octets(alloc: Global, count: u64) -> Result<Vec<u8>, AllocError> {
+    let front = octets_of(alloc, b"@251")?;
+    let mut octets = Vec::new(alloc);
+    for _ in 0..(count / PERIOD).saturating_add(1) {
+        octets.extend_from_slice(front.as_slice())?;
+    }
+    octets.truncate(count as usize);
+    Ok(octets)
 }

@@ -1,16 +1,13 @@
 //! For tests alone: rows of events, as both real ends live through them in one world over memory (RFC 959).
 #![tactic(auto)]
 
-mod begun;
 mod beside;
 mod desk;
 mod drawn;
 mod each;
-mod heavy;
+mod holds;
 mod lines;
 mod making;
-mod manner;
-mod orders;
 mod plays;
 mod row;
 mod shown;
@@ -18,6 +15,7 @@ mod stage;
 mod tree;
 mod ways;
 mod words;
+mod world;
 
 use std::io;
 use std::io::{Read, Write};

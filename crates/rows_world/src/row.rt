@@ -2,7 +2,8 @@
 use crate::beside::play_drawn;
 use crate::desk::{Desk, Manner};
 use crate::each::play_each;
-use crate::making::play;
+use crate::making::{NO_WORLD, play};
+use crate::stage::NO_MEMORY;
 use crate::ways::play_ways;
 use rows_base::{Paper, first_other, row_in_front, said};
 use std::alloc::Global;
@@ -24,12 +25,12 @@ pub fn play_all(alloc: Global, script: &[u8]) -> Paper {
 }
 
 fn play_row(alloc: Global, row: &[u8], paper: &mut Paper) {
-    if said(row, b"each").is_some() {
-        play_each(alloc, row, paper);
+    if let Some(event) = said(row, b"each") {
+        play_each(alloc, row, event, paper);
     } else if said(row, b"in").is_some() {
         play_ways(alloc, row, paper);
-    } else if said(row, b"drawn").is_some() {
-        play_drawn(alloc, row, paper);
+    } else if let Some(count) = said(row, b"drawn") {
+        play_drawn(alloc, row, count, paper);
     } else {
         play_lines(alloc, row, paper);
     }
@@ -53,7 +54,7 @@ fn compare_growth(alloc: Global, row: &[u8], whole: &[u8], refused: u64, paper: 
     let mut desk = Desk::new(alloc, Manner::Lines);
     play(alloc, row, refused, &mut desk);
     let is_told = match first_other(desk.paper.text(), whole) {
-        Some(line) => !desk.calm || tells(line),
+        Some(line) => !desk.calm || line == NO_WORLD || line == NO_MEMORY,
         None => true,
     };
     if !is_told {
@@ -62,16 +63,4 @@ fn compare_growth(alloc: Global, row: &[u8], whole: &[u8], refused: u64, paper: 
         paper.line(b"");
         paper.put(desk.paper.text());
     }
-}
-
-/// Lines that tell it.
-const TOLD: &[&'static [u8]] = &[b"! no world", b"! no memory"];
-
-fn tells(line: &[u8]) -> bool {
-    for told in TOLD {
-        if *told == line {
-            return true;
-        }
-    }
-    false
 }

@@ -48,14 +48,7 @@ fn put_text<A: Allocator>(alloc: Global, answer: &Answer<A>, paper: &mut Paper) 
 }
 
 /// The marks of an order.
-pub fn put_marks(marks: Option<&[Mark]>, paper: &mut Paper) {
-    match marks {
-        Some(marks) => put_each(marks, paper),
-        None => paper.line(b"! no such order"),
-    }
-}
-
-fn put_each(marks: &[Mark], paper: &mut Paper) {
+pub fn put_marks(marks: &[Mark], paper: &mut Paper) {
     for mark in marks {
         put_mark(*mark, paper);
     }

@@ -1,120 +1,107 @@
 // A world to which something happens, and what comes of it.
-use crate::desk::Desk;
+use crate::desk::{Desk, Manner};
 use crate::plays::{Became, Plays};
 use crate::words::Happening;
-use ftp_pair::Queue;
 
-/// The second of the first order: the first of the year 2000, counted from 1970.
-pub const YEAR_2000: u64 = 946_684_800;
+/// More events than an order takes.
+const EVENTS: u64 = 1_000_000;
 
-/// More rounds than an order takes.
-const ROUNDS: u64 = 1_000_000;
+/// What a line says that was refused memory.
+pub const NO_MEMORY: &'static [u8] = b"! no memory";
 
-/// All octets of a line.
-const LINE: usize = 4096;
-
-/// The reports that came.
+/// The reports that came; those before the events of a way are not written.
 pub fn tell_reports<P: Plays>(world: &P, desk: &mut Desk) {
-    desk.told = world.put_reports(desk.alloc, desk.told, &mut desk.paper);
-}
-
-/// When the next order begins: each a second behind the one before.
-fn second_of(desk: &Desk) -> u64 {
-    YEAR_2000.saturating_add(desk.begun)
+    let from = match desk.manner {
+        Manner::Way if !desk.gathers => usize::MAX,
+        _ => desk.told,
+    };
+    desk.told = world.put_reports(desk.alloc, from, &mut desk.paper);
 }
 
 /// An order begins; once more where it is refused memory.
 pub fn begin<P: Plays>(world: &mut P, desk: &mut Desk, line: &[u8]) {
-    let second = second_of(desk);
-    let became = match world.begins(line, second) {
-        Became::NoMemory => {
-            desk.refuse();
-            world.begins(line, second)
-        }
+    strike(world, desk);
+    let became = match world.begins(line, desk.begun) {
+        Became::NoMemory => world.begins(line, desk.begun),
         became => became,
     };
-    tell_begun(became, desk);
+    tell_begun(world, desk, became);
 }
 
 /// An upload of so many octets begins.
 pub fn begin_heavy<P: Plays>(world: &mut P, desk: &mut Desk, octets: &[u8]) {
-    let became = world.uploads(octets, second_of(desk));
-    tell_begun(became, desk);
+    let became = world.uploads(octets, desk.begun);
+    tell_begun(world, desk, became);
 }
 
-fn tell_begun(became: Became, desk: &mut Desk) {
+fn tell_begun<P: Plays>(world: &P, desk: &mut Desk, became: Became) {
     if let Became::Happened = became {
         desk.begun = desk.begun.saturating_add(1);
+        desk.count(world.held());
     }
-    tell(became, desk);
-}
-
-/// An event happens.
-pub fn happen<P: Plays>(world: &mut P, desk: &mut Desk, happening: Happening) {
-    let became = tried(world, desk, happening);
     tell(became, desk);
 }
 
 /// An event happens; once more where it is refused memory.
-fn tried<P: Plays>(world: &mut P, desk: &mut Desk, happening: Happening) -> Became {
-    match world.happens(happening) {
-        Became::NoMemory => {
-            desk.refuse();
-            world.happens(happening)
-        }
+pub fn happen<P: Plays>(world: &mut P, desk: &mut Desk, happening: Happening) -> Became {
+    strike(world, desk);
+    let became = match world.happens(happening) {
+        Became::NoMemory => world.happens(happening),
         became => became,
+    };
+    if let Became::Happened = became {
+        desk.count(world.held());
     }
+    became
 }
 
-/// Whether an event happened.
-pub fn happened<P: Plays>(world: &mut P, desk: &mut Desk, happening: Happening) -> bool {
-    matches!(tried(world, desk, happening), Became::Happened)
+/// What is to happen before the next event, once.
+fn strike<P: Plays>(world: &mut P, desk: &mut Desk) {
+    let Manner::Struck(happening, place) = desk.manner else {
+        return;
+    };
+    if place == desk.happened {
+        desk.manner = Manner::Unstruck;
+        desk.struck = matches!(world.happens(happening), Became::Happened);
+    }
 }
 
 pub fn tell(became: Became, desk: &mut Desk) {
     match became {
         Became::Happened => {}
         Became::Impossible => desk.paper.line(b"! not possible"),
-        Became::NoMemory => desk.paper.line(b"! no memory"),
+        Became::NoMemory => desk.paper.line(NO_MEMORY),
     }
 }
 
 /// All that moves by itself moves.
 pub fn settle<P: Plays>(world: &mut P, desk: &mut Desk) {
-    world.settles();
-    if !(world.is_quiet() && world.is_finished()) {
+    if !world.settles() {
         desk.paper.line(b"! not at rest");
     }
 }
 
-/// Lines and openings, until none is possible.
-pub fn talk<P: Plays>(world: &mut P, desk: &mut Desk) {
-    for _ in 0..ROUNDS {
-        if !talk_once(world, desk) {
+/// The first of these events that is possible, again and again, until none is.
+pub fn repeat<P: Plays>(world: &mut P, desk: &mut Desk, events: &[Happening]) {
+    for _ in 0..EVENTS {
+        if first_of(world, desk, events, 0).is_none() {
             return;
         }
     }
-    desk.paper.line(b"! it talks on");
+    desk.paper.line(b"! it goes on");
 }
 
-fn talk_once<P: Plays>(world: &mut P, desk: &mut Desk) -> bool {
-    happened(
-        world,
-        desk,
-        Happening::Deliver(Queue::ControlToServer, LINE),
-    ) || happened(
-        world,
-        desk,
-        Happening::Deliver(Queue::ControlToClient, LINE),
-    ) || happened(world, desk, Happening::Open)
-}
-
-/// One delivery after another, until none is possible.
-pub fn pour<P: Plays>(world: &mut P, desk: &mut Desk, delivery: Happening) {
-    for _ in 0..ROUNDS {
-        if !happened(world, desk, delivery) {
-            return;
+/// The first of these events that is possible happens, none before that place; gives its place.
+pub fn first_of<P: Plays>(
+    world: &mut P,
+    desk: &mut Desk,
+    events: &[Happening],
+    from: usize,
+) -> Option<usize> {
+    for place in from..events.len() {
+        if let Became::Happened = happen(world, desk, events[place]) {
+            return Some(place);
         }
     }
-    desk.paper.line(b"! it flows on");
+    None
 }

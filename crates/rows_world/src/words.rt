@@ -38,6 +38,8 @@ pub enum Word {
     Tree,
     /// What became of the links of the last order.
     Marks,
+    /// The most that each end held behind an event.
+    Held,
     /// The name of a row, or what says how it is played.
     Nothing,
 }
@@ -55,9 +57,11 @@ const WORDS: &[(&'static [u8], Word)] = &[
     (b"talk", Word::Talk),
     (b"pour", Word::Pour),
     (b"gather", Word::Gather),
+    (b"in", Word::Gather),
     (b"run", Word::Run),
     (b"tree", Word::Tree),
     (b"marks", Word::Marks),
+    (b"held", Word::Held),
 ];
 
 const QUEUES: &[(&'static [u8], Queue)] = &[
