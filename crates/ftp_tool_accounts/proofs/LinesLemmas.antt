@@ -1,14 +1,21 @@
 -- The accounts that lines say, one after another.
-use Rattle.std.proofs.Common.{◌≡◌, ◌≢◌, ◌==◌, ◌<◌, ◌+◌, suc, ℕ, Bool, true, false, List, [], ◌∷◌, ◌++◌, not, cond, map, refl, sym, ap, subst, ◌∙◌, append_assoc, append-nil, length, length-append, Result, Ok, Err, arith}
+use Rattle.std.proofs.Common.{◌≡◌, ◌≢◌, ◌==◌, ◌<◌, ◌+◌, suc, ℕ, Bool, true, false, List, [], ◌∷◌, ◌++◌, not, cond, map, refl, sym, ap, subst, ◌∙◌, append_assoc, append-nil, inl, inr, length, length-append, arith, Result, Ok, Err, IfOk, IfErr}
 use Rattle.std.specs.List.{All}
-use Rattle.std.specs.Prelude.{IfOk, if◌then◌else◌}
+use Rattle.std.specs.Prelude.{IsTrue, Some, None, nat_le, nat_lt, if◌then◌else◌}
+use Rattle.std.proofs.lemmas.List.{map-append, length-map}
 use Rattle.std.proofs.lemmas.List.Elements.{All-nil, All-cons, All-head, All-tail}
 use Rattle.std.proofs.lemmas.List.Splits.{slice_split_at, slice_split_none}
 use Rattle.ftp_facts.specs.Fact.{Lacks}
 use Rattle.ftp_facts.specs.Listing.{line_feed}
-use Rattle.ftp_operation.specs.Account.{Account}
-use Rattle.ftp_tool_accounts.specs.Line.{is_silent}
-use Rattle.ftp_tool_accounts.specs.Lines.{Adds, SayEach, SaysAll, lines_of, speaking, without_cr}
+use Rattle.ftp_operation.specs.Account.{Account, accounts_refusal}
+use Rattle.ftp_operation.specs.declared.account.AccountsFault.{AccountsFault}
+use Rattle.ftp_tool_accounts.specs.Blame.{HoldsUp, IsBarred, IsBlamed, IsHeld, IsOff, account_limit}
+use Rattle.ftp_tree_rights.specs.declared.rights.Rights.{Rights}
+use Rattle.ftp_tool_accounts.specs.Grants.{Grant}
+use Rattle.ftp_tool_accounts.specs.Line.{Entry, Says, is_silent, of_accounts}
+use Rattle.ftp_tool_accounts.specs.Lines.{Adds, Line, Lists, Say, SayEach, accounts_of, granted, grants_of, lines_of, numbered, speakers, speaking, without_cr}
+use Rattle.ftp_tool_accounts.specs.declared.fault.TextFault.{TextFault}
+use Rattle.ftp_tool_accounts.specs.declared.fault.TextFault.TheVariants as Texts
 
 -- ---- a line
 
@@ -66,49 +73,280 @@ shorter text front more is =
 -- ---- accounts
 
 -- lines and then others say what both say
-say_both : (lines later : List (List ℕ)) (one other : List Account) → SayEach lines one → SayEach later other → SayEach (lines ++ later) (one ++ other)
+say_both : (lines later : List Line) (one other : List Entry) → SayEach lines one → SayEach later other → SayEach (lines ++ later) (one ++ other)
 say_both [] later [] other says behind = behind
-say_both [] later (account ∷ one) other says behind = absurd says
+say_both [] later (entry ∷ one) other says behind = absurd says
 say_both (line ∷ lines) later [] other says behind = absurd says
-say_both (line ∷ lines) later (account ∷ one) other says behind = (says.0, say_both lines later one other says.1 behind)
+say_both (line ∷ lines) later (entry ∷ one) other says behind = (says.0, say_both lines later one other says.1 behind)
+
+-- as many lines say as many entries
+say_length : (lines : List Line) (entries : List Entry) → SayEach lines entries → length lines ≡ length entries
+say_length [] [] says = refl
+say_length [] (entry ∷ entries) says = absurd says
+say_length (line ∷ lines) [] says = absurd says
+say_length (line ∷ lines) (entry ∷ entries) says = ap suc (say_length lines entries says.1)
 
 -- one line and then others
-speaking_both : (line : List ℕ) (lines : List (List ℕ)) → speaking (line ∷ []) ++ speaking lines ≡ speaking (line ∷ lines)
-speaking_both line lines = by (not (is_silent line))
+speaking_both : (line : Line) (lines : List Line) → speaking (line ∷ []) ++ speaking lines ≡ speaking (line ∷ lines)
+speaking_both line lines = by (not (is_silent line.1))
   where
     by : (b : Bool) → cond b (line ∷ []) [] ++ speaking lines ≡ cond b (line ∷ speaking lines) (speaking lines)
     by true = refl
     by false = refl
 
--- with the accounts that what is left says, the accounts so far are those of the text
-abbrev pub AreSoFar : List ℕ → List ℕ → List Account → Type 0
-AreSoFar text rest accounts = (later : List Account) → SayEach (speaking (lines_of rest)) later → SaysAll text (accounts ++ later)
+-- a line that is not silent, and then others
+speaking_first : (line : Line) (lines : List Line) → is_silent line.1 ≡ false → speaking (line ∷ lines) ≡ line ∷ speaking lines
+speaking_first line lines speaks = ap (λ b. cond (not b) (line ∷ speaking lines) (speaking lines)) speaks
+
+-- of all lines these are left, and the others say what stands so far
+pub record Stands (all left : List Line) (now : Lists) : Type 0 where
+  pub above : List Line
+  pub entries : List Entry
+  pub whole : all ≡ above ++ speaking left
+  pub say : SayEach above entries
+  pub accounts : now.0 ≡ accounts_of entries
+  pub grants : now.1 ≡ grants_of entries
+  pub numbers : now.2 ≡ map (λ line. line.0) above
+
+-- before the first line
+pub first_stands : (text : List ℕ) (now : Lists) → now.0 ≡ [] → now.1 ≡ [] → now.2 ≡ [] → Stands (speakers text) (numbered 1 (lines_of text)) now
+first_stands text now accounts grants numbers =
+    record { above = []; entries = []; whole = refl; say = tt; accounts = accounts; grants = grants; numbers = numbers }
+
+-- lists put together twice
+both_mapped : {X Y : Type 0} (f : X → Y) (one other : List X) (old new : List Y) → old ≡ map f one → new ≡ old ++ map f other → new ≡ map f (one ++ other)
+both_mapped f one other old new is behind = behind ∙ ap (λ l. l ++ map f other) is ∙ sym (map-append f one other)
 
 -- one line is read
-after_line : (text : List ℕ) (line : List ℕ) (lines : List (List ℕ)) (old new later : List Account)
-    → ((behind : List Account) → SayEach (speaking (line ∷ lines)) behind → SaysAll text (old ++ behind))
-    → Adds (line ∷ []) old new → SayEach (speaking lines) later → SaysAll text (new ++ later)
-after_line text line lines old new later so_far adds says =
-    let both : SayEach (speaking (line ∷ lines)) (adds.added ++ later) =
-    subst (λ l. SayEach l (adds.added ++ later)) (speaking_both line lines) (say_both (speaking (line ∷ [])) (speaking lines) adds.added later adds.say says) in
-    subst (SaysAll text) (sym (append_assoc old adds.added later) ∙ ap (λ l. l ++ later) (sym adds.behind)) (so_far (adds.added ++ later) both)
+line_stands : (all : List Line) (line : Line) (left : List Line) (old new : Lists) → Stands all (line ∷ left) old → Adds line old new → Stands all left new
+line_stands all line left old new stands adds =
+    record {
+      above = stands.above ++ speaking (line ∷ []);
+      entries = stands.entries ++ adds.entries;
+      whole = stands.whole ∙ ap (λ l. stands.above ++ l) (sym (speaking_both line left)) ∙ sym (append_assoc stands.above (speaking (line ∷ [])) (speaking left));
+      say = say_both stands.above (speaking (line ∷ [])) stands.entries adds.entries stands.say adds.say;
+      accounts = both_mapped (λ entry. entry.0) stands.entries adds.entries old.0 new.0 stands.accounts adds.accounts;
+      grants = both_mapped granted stands.entries adds.entries old.1 new.1 stands.grants adds.grants;
+      numbers = both_mapped (λ line. line.0) stands.above (speaking (line ∷ [])) old.2 new.2 stands.numbers adds.numbers;
+    }
 
 -- a line that ends with LF is read
-pub next_line : (text rest front more : List ℕ) (old new : List Account) → rest ≡ front ++ line_feed ∷ more → Lacks front line_feed → AreSoFar text rest old
-    → Adds (without_cr front ∷ []) old new → AreSoFar text more new
-next_line text rest front more old new is lacks so_far adds later says =
+pub next_line : (all : List Line) (number : ℕ) (rest front more line : List ℕ) (old new : Lists) → rest ≡ front ++ line_feed ∷ more → Lacks front line_feed
+    → line ≡ without_cr front → Stands all (numbered number (lines_of rest)) old → Adds (number, line) old new
+    → Stands all (numbered (number + 1) (lines_of more)) new
+next_line all number rest front more line old new is lacks cut stands adds =
     let e = line_first rest front more is lacks in
-    after_line text (without_cr front) (lines_of more) old new later
-    (λ behind say. so_far behind (subst (λ lines. SayEach (speaking lines) behind) (sym e) say)) adds says
+    line_stands all (number, without_cr front) (numbered (number + 1) (lines_of more)) old new
+    (subst (λ lines. Stands all (numbered number lines) old) e stands) (subst (λ l. Adds (number, l) old new) cut adds)
 
 -- the last line is read
-pub last_line : (text rest : List ℕ) (old new : List Account) → Lacks rest line_feed → AreSoFar text rest old → Adds (without_cr rest ∷ []) old new → SaysAll text new
-last_line text rest old new lacks so_far adds =
+pub last_line : (text : List ℕ) (number : ℕ) (rest line : List ℕ) (old new : Lists) → Lacks rest line_feed → line ≡ without_cr rest
+    → Stands (speakers text) (numbered number (lines_of rest)) old → Adds (number, line) old new → Stands (speakers text) [] new
+last_line text number rest line old new lacks cut stands adds =
     let e = line_last rest lacks in
-    subst (SaysAll text) (append-nil new)
-    (after_line text (without_cr rest) [] old new [] (λ behind say. so_far behind (subst (λ lines. SayEach (speaking lines) behind) (sym e) say)) adds tt)
+    line_stands (speakers text) (number, without_cr rest) [] old new (subst (λ lines. Stands (speakers text) (numbered number lines) old) e stands)
+    (subst (λ l. Adds (number, l) old new) cut adds)
 
--- what is given is the value of which this is known
-pub ok_same : {X E : Type 0} (P : X → Type 0) (result : Result X E) (x : X) → IfOk result (λ y. y ≡ x) → P x → IfOk result P
-ok_same P (Ok y) x same known = subst P (sym same) known
-ok_same P (Err fault) x same known = tt
+-- once all lines were read, they say what stands so far
+pub all_said : (text : List ℕ) (now : Lists) → Stands (speakers text) [] now → Say (speakers text) now.0 now.1
+all_said text now stands =
+    let e : speakers text ≡ stands.above = stands.whole ∙ append-nil stands.above in
+    record {
+      entries = stands.entries;
+      say = subst (λ lines. SayEach lines stands.entries) (sym e) stands.say;
+      accounts_are = stands.accounts;
+      grants_are = stands.grants;
+    }
+
+-- ---- which line is to blame
+
+-- as many accounts as lines so far
+stands_length : (all left : List Line) (now : Lists) (stands : Stands all left now) → length now.0 ≡ length stands.above
+stands_length all left now stands = ap length stands.accounts ∙ length-map stands.entries (λ entry. entry.0) ∙ sym (say_length stands.above stands.entries stands.say)
+
+-- and as many numbers
+pub as_many : (all left : List Line) (now : Lists) → Stands all left now → length now.2 ≡ length now.0
+as_many all left now stands = ap length stands.numbers ∙ length-map stands.above (λ line. line.0) ∙ sym (stands_length all left now stands)
+
+-- one more than so many
+one_more : (above : List Line) (line : Line) (below : List Line) (n : ℕ) → IsTrue (nat_le n (length above)) → IsTrue (nat_lt n (length (above ++ line ∷ below)))
+one_more above line below n most =
+    let e : length (above ++ line ∷ below) ≡ length above + suc (length below) = length-append above (line ∷ below) in
+    grind arith
+
+-- a line is to blame behind those that stand so far
+line_off : (text : List ℕ) (number : ℕ) (line : List ℕ) (left : List Line) (now : Lists) (fault : TextFault)
+    → Stands (speakers text) ((number, line) ∷ left) now → IsOff number line now.0 fault → IsBlamed text fault
+line_off text number line left now (Texts.Line place fault) stands off =
+    inl (record {
+      above = stands.above;
+      line = line;
+      below = speaking left;
+      entries = stands.entries;
+      whole = stands.whole ∙ ap (λ l. stands.above ++ l) (speaking_first (number, line) left off.1)
+          ∙ ap (λ n. stands.above ++ (n, line) ∷ speaking left) (sym off.0);
+      say = stands.say;
+      faulty = off.2;
+    })
+line_off text number line left now Texts.Mark stands off = absurd off
+line_off text number line left now Texts.TooMany stands off =
+    let whole : speakers text ≡ stands.above ++ (number, line) ∷ speaking left =
+    stands.whole ∙ ap (λ l. stands.above ++ l) (speaking_first (number, line) left off.0) in
+    subst (λ lines. IsTrue (nat_lt account_limit (length lines))) (sym whole)
+    (one_more stands.above (number, line) (speaking left) account_limit
+    (subst (λ n. IsTrue (nat_le account_limit n)) (stands_length (speakers text) ((number, line) ∷ left) now stands) off.1))
+line_off text number line left now Texts.Memory stands off = tt
+
+-- the next line is to blame
+pub next_off : (text : List ℕ) (number : ℕ) (rest front more line : List ℕ) (now : Lists) (fault : TextFault) → rest ≡ front ++ line_feed ∷ more
+    → Lacks front line_feed → line ≡ without_cr front → Stands (speakers text) (numbered number (lines_of rest)) now → IsOff number line now.0 fault
+    → IsBlamed text fault
+next_off text number rest front more line now fault is lacks cut stands off =
+    let e = line_first rest front more is lacks in
+    line_off text number (without_cr front) (numbered (number + 1) (lines_of more)) now fault
+    (subst (λ lines. Stands (speakers text) (numbered number lines) now) e stands) (subst (λ l. IsOff number l now.0 fault) cut off)
+
+-- the last line is to blame
+pub last_off : (text : List ℕ) (number : ℕ) (rest line : List ℕ) (now : Lists) (fault : TextFault) → Lacks rest line_feed → line ≡ without_cr rest
+    → Stands (speakers text) (numbered number (lines_of rest)) now → IsOff number line now.0 fault → IsBlamed text fault
+last_off text number rest line now fault lacks cut stands off =
+    let e = line_last rest lacks in
+    line_off text number (without_cr rest) [] now fault (subst (λ lines. Stands (speakers text) (numbered number lines) now) e stands)
+    (subst (λ l. IsOff number l now.0 fault) cut off)
+
+-- a list whose map is parts has these parts
+record Parts {X Y : Type 0} (f : X → Y) (all : List X) (before : List Y) (it : Y) : Type 0 where
+  pub front : List X
+  pub at : X
+  pub back : List X
+  pub whole : all ≡ front ++ at ∷ back
+  pub long : length front ≡ length before
+  pub is : f at ≡ it
+
+parts : {X Y : Type 0} (f : X → Y) (all : List X) (before : List Y) (it : Y) (behind : List Y) → map f all ≡ before ++ it ∷ behind → Parts f all before it
+parts f [] [] it behind is = absurd (cc)
+parts f [] (one ∷ before) it behind is = absurd (cc)
+parts f (x ∷ all) [] it behind is = record { front = []; at = x; back = all; whole = refl; long = refl; is = cc }
+parts f (x ∷ all) (one ∷ before) it behind is =
+    let rest = parts f all before it behind cc in
+    record { front = x ∷ rest.front; at = rest.at; back = rest.back; whole = ap (λ l. x ∷ l) rest.whole; long = ap suc rest.long; is = rest.is }
+
+-- the line whose account those before it do not allow
+barred : (text : List ℕ) (now : Lists) (number : ℕ) (fault : _) → Stands (speakers text) [] now → HoldsUp now.0 now.2 number fault → IsBarred text number fault
+barred text now number fault stands holds =
+    let e : speakers text ≡ stands.above = stands.whole ∙ append-nil stands.above in
+    let cut = parts (λ line. line.0) stands.above holds.early number holds.late (sym stands.numbers ∙ holds.numbers_are) in
+    record {
+      above = cut.front;
+      line = cut.at.1;
+      below = cut.back;
+      entries = stands.entries;
+      before = holds.before;
+      account = holds.account;
+      behind = holds.behind;
+      whole = e ∙ cut.whole ∙ ap (λ n. cut.front ++ (n, cut.at.1) ∷ cut.back) cut.is;
+      say = subst (λ lines. SayEach lines stands.entries) (sym e) stands.say;
+      accounts = sym stands.accounts ∙ holds.accounts_are;
+      place = holds.place ∙ sym cut.long;
+      bars = holds.bars;
+    }
+
+-- accounts that can be no server's: which line is to blame
+pub held_off : (text : List ℕ) (now : Lists) (fault : TextFault) → Stands (speakers text) [] now → IsHeld now.0 now.2 fault → IsBlamed text fault
+held_off text now (Texts.Line number fault) stands held = inr (barred text now number fault stands held)
+held_off text now Texts.Mark stands held = absurd held
+held_off text now Texts.TooMany stands held = absurd held
+held_off text now Texts.Memory stands held = tt
+
+-- ---- the last account that has to go
+
+-- accounts and their numbers that are left of all, which can be no server's for this
+pub record IsLeft (all : List Account) (numbers : List ℕ) (accounts : List Account) (left : List ℕ) (fault : AccountsFault) : Type 0 where
+  pub gone : List Account
+  pub lost : List ℕ
+  pub whole : all ≡ accounts ++ gone
+  pub numbers_are : numbers ≡ left ++ lost
+  pub each : length left ≡ length accounts
+  pub refused : accounts_refusal accounts ≡ Some fault
+
+-- all of them are left at first
+pub left_first : (all : List Account) (numbers : List ℕ) (fault : AccountsFault) → length numbers ≡ length all → accounts_refusal all ≡ Some fault
+    → IsLeft all numbers all numbers fault
+left_first all numbers fault each refused =
+    record { gone = []; lost = []; whole = sym (append-nil all); numbers_are = sym (append-nil numbers); each = each; refused = refused }
+
+-- the last one in front of those that are gone
+next_gone : {X : Type 0} (all left gone fewer : List X) (last : X) → all ≡ left ++ gone → left ≡ fewer ++ last ∷ [] → all ≡ fewer ++ last ∷ gone
+next_gone all left gone fewer last whole is = whole ∙ ap (λ l. l ++ gone) is ∙ append_assoc fewer (last ∷ []) gone
+
+-- without their last ones they are as many as each other
+same_count : {X Y : Type 0} (left fewer : List X) (one : X) (list less : List Y) (other : Y) → length left ≡ length list → left ≡ fewer ++ one ∷ [] → list ≡ less ++ other ∷ []
+    → length fewer ≡ length less
+same_count left fewer one list less other each is also =
+    let a : length left ≡ length fewer + 1 = ap length is ∙ length-append fewer (one ∷ []) in
+    let b : length list ≡ length less + 1 = ap length also ∙ length-append less (other ∷ []) in
+    omega (arith, a, b, each)
+
+-- one is gone, and the others can be no server's either
+pub left_on : (all : List Account) (numbers : List ℕ) (list : List Account) (left : List ℕ) (fault : AccountsFault) (less : List Account) (last : Account) (fewer : List ℕ)
+    (number : ℕ) (still : AccountsFault) → IsLeft all numbers list left fault → left ≡ fewer ++ number ∷ [] → list ≡ less ++ last ∷ []
+    → accounts_refusal less ≡ Some still → IsLeft all numbers less fewer still
+left_on all numbers list left fault less last fewer number still it is also refused =
+    record {
+      gone = last ∷ it.gone;
+      lost = number ∷ it.lost;
+      whole = next_gone all list it.gone less last it.whole also;
+      numbers_are = next_gone numbers left it.lost fewer number it.numbers_are is;
+      each = same_count left fewer number list less last it.each is also;
+      refused = refused;
+    }
+
+-- one is gone, and the others can be a server's
+pub holds_up : (all : List Account) (numbers : List ℕ) (list : List Account) (left : List ℕ) (fault : AccountsFault) (less : List Account) (last : Account) (fewer : List ℕ)
+    (number : ℕ) → IsLeft all numbers list left fault → left ≡ fewer ++ number ∷ [] → list ≡ less ++ last ∷ []
+    → accounts_refusal less ≡ None → HoldsUp all numbers number (of_accounts fault)
+holds_up all numbers list left fault less last fewer number it is also allowed =
+    record {
+      before = less;
+      account = last;
+      behind = it.gone;
+      early = fewer;
+      late = it.lost;
+      accounts_are = next_gone all list it.gone less last it.whole also;
+      numbers_are = next_gone numbers left it.lost fewer number it.numbers_are is;
+      place = sym (same_count left fewer number list less last it.each is also);
+      bars = record { why = fault; allowed = allowed; barred = sym (ap accounts_refusal also) ∙ it.refused; told = refl };
+    }
+
+-- ---- what a call gives
+
+-- a line that is not silent adds what it says
+pub adds_line : {X E : Type 0} (result : Result X E) (number : ℕ) (line : List ℕ) (old new : Lists) (account : Account) (rights : Rights) → is_silent line ≡ false
+    → Says line (account, rights) → IfOk result (λ _. new.0 ≡ old.0 ++ account ∷ []) → IfOk result (λ _. new.1 ≡ old.1 ++ granted (account, rights) ∷ [])
+    → IfOk result (λ _. new.2 ≡ old.2 ++ number ∷ []) → IfOk result (λ _. Adds (number, line) old new)
+adds_line (Ok x) number line old new account rights speaks says accounts grants numbers =
+    let e : speaking ((number, line) ∷ []) ≡ (number, line) ∷ [] = speaking_first (number, line) [] speaks in
+    record {
+      entries = (account, rights) ∷ [];
+      say = subst (λ lines. SayEach lines ((account, rights) ∷ [])) (sym e) (says, tt);
+      accounts = accounts;
+      grants = grants;
+      numbers = numbers ∙ ap (λ lines. old.2 ++ map (λ line. line.0) lines) (sym e);
+    }
+adds_line (Err fault) number line old new account rights speaks says accounts grants numbers = tt
+
+-- of what is given two things are known, from which a third follows
+pub ok_both : {X E : Type 0} (P Q R : X → Type 0) (result : Result X E) → ((x : X) → P x → Q x → R x) → IfOk result P → IfOk result Q → IfOk result R
+ok_both P Q R (Ok x) follows one other = follows x one other
+ok_both P Q R (Err fault) follows one other = tt
+
+-- of a fault something is known, from which more follows
+pub err_more : {X E : Type 0} (P Q : E → Type 0) (result : Result X E) → ((fault : E) → P fault → Q fault) → IfErr result P → IfErr result Q
+err_more P Q (Ok x) follows known = tt
+err_more P Q (Err fault) follows known = follows fault known
+
+-- what lines say, of accounts and grants that are the same
+pub said_same : (lines : List Line) (accounts one : List Account) (grants other : List Grant) → Say lines accounts grants → one ≡ accounts → other ≡ grants
+    → Say lines one other
+said_same lines accounts one grants other says a b =
+    record { entries = says.entries; say = says.say; accounts_are = a ∙ says.accounts_are; grants_are = b ∙ says.grants_are }

@@ -9,7 +9,7 @@ use thiserror::Error;
 /// What is wrong with a line.
 #[derive(Clone, Copy, Debug, PartialEq, Eq, Error)]
 pub enum LineFault {
-    #[error("wanted is user:password:root")]
+    #[error("wanted is user:password:root or user:password:root:rights")]
     Fields,
     /// No octet, or over 255, or CR or NUL.
     #[error("the user is no user name")]
@@ -20,6 +20,8 @@ pub enum LineFault {
     /// It does not begin with `/`, or is no path text, or is past the limits of a path.
     #[error("the root is no path that begins with /")]
     Root,
+    #[error("the rights are none: nothing, r or w is wanted")]
+    Rights,
     #[error("a line above has this user")]
     SameUser,
     #[error("the root is below one of a line above, or above it")]
@@ -39,23 +41,33 @@ impl From<AccountsFault> for LineFault {
     }
 }
 
-/// Why a file says no accounts. Lines count from 1.
+/// Why a text says no accounts. Lines count from 1.
+#[derive(Clone, Copy, Debug, PartialEq, Eq, Error)]
+pub enum TextFault {
+    #[error("line {line}: {fault}")]
+    Line { line: usize, fault: LineFault },
+    /// The octets EF BB BF, which some editors put there.
+    #[error("it begins with a byte order mark, which has to go")]
+    Mark,
+    #[error("more than 1,000 accounts")]
+    TooMany,
+    /// The allocator refused a growth.
+    #[error("out of memory")]
+    Memory,
+}
+
+/// Why a file says no accounts.
 #[derive(Debug, Drop, Error)]
 pub enum AccountsFileFault {
-    #[error("line {line}: {fault}")]
-    Line { line: u32, fault: LineFault },
+    #[error("{0}")]
+    Text(TextFault),
     /// Its mode has a bit for its group or for others.
     #[error("others may use the file (mode {0:o}): its owner alone may")]
     Shared(u32),
     /// A directory, a device or a pipe, or over 1,048,576 octets.
     #[error("no file of accounts: a file of at most 1,048,576 octets is wanted")]
     Kind,
-    #[error("more than 1,000 accounts")]
-    TooMany,
     /// The system refused to read it.
     #[error("{0}")]
     System(io::Error),
-    /// The allocator refused a growth.
-    #[error("out of memory")]
-    Memory,
 }

@@ -3,9 +3,8 @@ ghost use Rattle.std.specs.Prelude.{◌≡◌, None, IfOk};
 ghost use Rattle.ftp_operation.specs.Account.{accounts_refusal};
 
 use crate::fault::AccountsFileFault;
-use crate::reading::read_accounts;
+use crate::reading::{Users, read_users};
 use crate::roots::read_roots;
-use ftp_operation::Accounts;
 use ftp_path::Path;
 use ftp_tool_private::{NotPrivate, read_private};
 use std::alloc::Global;
@@ -14,15 +13,18 @@ use std::fs::Files;
 /// The most octets of a file of accounts (own choice).
 const FILE_LIMIT: u64 = 1_048_576;
 
-/// The accounts that a file says. It has passwords, so its owner alone may use it.
-pub fn load_accounts<R: Files + AllocGlobal>(
+/// The accounts that a file says, and what each may change. It has passwords, so its owner alone may use it.
+pub fn load_users<R: Files + AllocGlobal>(
     files: &R,
     file: &str,
-) -> Result<Accounts<Global>, AccountsFileFault>
-    ensures allowed { IfOk result (λ accounts. accounts_refusal accounts ≡ None) }
+) -> Result<Users<Global>, AccountsFileFault>
+    ensures allowed { IfOk result (λ users. accounts_refusal users.accounts ≡ None) }
 {
     let text = text_of(files, file)?;
-    read_accounts(files.alloc(), text.as_slice())
+    match read_users(files.alloc(), text.as_slice()) {
+        Ok(users) => Ok(users),
+        Err(fault) => Err(AccountsFileFault::Text(fault)),
+    }
 }
 
 /// The roots of the accounts that a file says.
@@ -31,7 +33,10 @@ pub fn load_roots<R: Files + AllocGlobal>(
     file: &str,
 ) -> Result<Vec<Path<Global>, Global>, AccountsFileFault> {
     let text = text_of(files, file)?;
-    read_roots(files.alloc(), text.as_slice())
+    match read_roots(files.alloc(), text.as_slice()) {
+        Ok(roots) => Ok(roots),
+        Err(fault) => Err(AccountsFileFault::Text(fault)),
+    }
 }
 
 /// The octets of a file that its owner alone may use.

@@ -1,13 +1,14 @@
 // One line of an accounts file.
-ghost use Rattle.std.specs.Prelude.{◌≡◌, [], IfOk, IsTrue};
+ghost use Rattle.std.specs.Prelude.{◌≡◌, ◌≢◌, [], IfOk, IfErr, IfSome, IfNone, IsTrue, false};
 ghost use Rattle.std.specs.List.{list_all};
-ghost use Rattle.ftp_path.specs.Path.{IsPathText, is_rooted, resolved};
-ghost use Rattle.ftp_tool_accounts.specs.Line.{Says, is_blank, is_comment, is_silent, needed};
+ghost use Rattle.ftp_path.specs.Path.{resolved};
+ghost use Rattle.ftp_tool_accounts.specs.Line.{EndsIn, HasFewFields, IsCut, IsFaulty, Says, is_blank, is_comment, is_root, is_silent, needed, rights_said};
 
 use crate::fault::LineFault;
 use ftp_facts::{Text, cut_at};
 use ftp_operation::Account;
 use ftp_path::{Path, PathFault, is_password, is_path_text, is_user};
+use ftp_tree_rights::Rights;
 use std::alloc::{AllocError, Allocator};
 
 /// Whether a line says no account: blanks alone, or a comment, which begins with `#`.
@@ -35,36 +36,84 @@ fn is_comment(line: &[u8]) -> bool
     line.starts_with(b"#")
 }
 
-/// The account that a line says: `user:password:root`. An empty password: none is needed.
-pub(crate) fn account_of<A: Allocator + Copy>(
-    alloc: A,
-    line: &[u8],
-) -> Result<Account<Text<A>, Path<A>>, LineFault>
-    ensures { IfOk result (λ account. Says line.now account) }
+/// What a line says: an account, and what it may change.
+#[derive(Drop)]
+pub(crate) struct Entry<A: Allocator> {
+    pub(crate) account: Account<Text<A>, Path<A>>,
+    pub(crate) rights: Rights,
+}
+
+/// The account that a line says: `user:password:root` or `user:password:root:rights`. An empty password: none is needed.
+pub(crate) fn entry_of<A: Allocator + Copy>(alloc: A, line: &[u8]) -> Result<Entry<A>, LineFault>
+    ensures says { IfOk result (λ entry. Says line.now (entry.account, entry.rights)) }
+    ensures fault { IfErr result (λ fault. IsFaulty line.now fault) }
 {
-    let Some((user, rest)) = cut_at(line, b':') else {
+    let Some(fields) = fields_of(line) else {
         return Err(LineFault::Fields);
     };
-    let Some((pass, root)) = cut_at(rest, b':') else {
-        return Err(LineFault::Fields);
-    };
-    if !is_user(user) {
+    if !is_user(fields.user) {
         return Err(LineFault::User);
     }
-    if !is_password(pass) {
+    if !is_password(fields.pass) {
         return Err(LineFault::Password);
     }
-    let root = root_of(alloc, root)?;
-    match account(alloc, user, pass, root) {
-        Ok(account) => Ok(account),
+    let root = match root_of(alloc, fields.root) {
+        Ok(root) => root,
+        Err(fault) => return Err(fault),
+    };
+    let Some(rights) = rights_of(fields.rights) else {
+        return Err(LineFault::Rights);
+    };
+    match account(alloc, fields.user, fields.pass, root) {
+        Ok(account) => Ok(Entry { account, rights }),
         Err(AllocError) => Err(LineFault::Memory),
+    }
+}
+
+/// The fields of a line.
+#[derive(Clone, Copy)]
+struct Fields<'a> {
+    user: &'a [u8],
+    pass: &'a [u8],
+    root: &'a [u8],
+    rights: &'a [u8],
+}
+
+/// The fields of a line, if it has two colons.
+fn fields_of(line: &[u8]) -> Option<Fields<'_>>
+    ensures cut { IfSome result (λ fields. IsCut line.now fields.user.now fields.pass.now fields.root.now fields.rights.now) }
+    ensures few { IfNone result (HasFewFields line.now) }
+{
+    let Some((user, rest)) = cut_at(line, b':') else {
+        return None;
+    };
+    let Some((pass, rest)) = cut_at(rest, b':') else {
+        return None;
+    };
+    let (root, rights) = ends_of(rest);
+    Some(Fields {
+        user,
+        pass,
+        root,
+        rights,
+    })
+}
+
+/// The root and the rights that stand behind the second colon.
+fn ends_of(rest: &[u8]) -> (&[u8], &[u8])
+    ensures { EndsIn rest.now result.0.now result.1.now }
+{
+    match cut_at(rest, b':') {
+        Some(parts) => parts,
+        None => (rest, &[]),
     }
 }
 
 /// The path from `/` that a text names.
 fn root_of<A: Allocator + Copy>(alloc: A, root: &[u8]) -> Result<Path<A>, LineFault>
-    ensures text { IfOk result (λ _. IsPathText root.now × IsTrue (is_rooted root.now)) }
+    ensures root { IfOk result (λ path. IsTrue (is_root root.now)) }
     ensures path { IfOk result (λ path. path ≡ resolved [] root.now) }
+    ensures none { IfErr result (λ fault. fault ≢ LineFault.Memory → (fault ≡ LineFault.Root) × (is_root root.now ≡ false)) }
 {
     if !is_path_text(root) || !root.starts_with(b"/") {
         return Err(LineFault::Root);
@@ -73,6 +122,18 @@ fn root_of<A: Allocator + Copy>(alloc: A, root: &[u8]) -> Result<Path<A>, LineFa
         Ok(path) => Ok(path),
         Err(PathFault::TooBig) => Err(LineFault::Root),
         Err(PathFault::Memory) => Err(LineFault::Memory),
+    }
+}
+
+/// What a field of rights says.
+fn rights_of(field: &[u8]) -> Option<Rights>
+    ensures { result ≡ rights_said field.now }
+{
+    match field {
+        [] => Some(Rights::All),
+        [b'r'] => Some(Rights::Look),
+        [b'w'] => Some(Rights::Put),
+        _ => None,
     }
 }
 

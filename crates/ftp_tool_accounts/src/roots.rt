@@ -1,6 +1,6 @@
 // The roots of the accounts that a text says.
-use crate::fault::AccountsFileFault;
-use crate::line::{account_of, is_silent};
+use crate::fault::TextFault;
+use crate::line::{entry_of, is_silent};
 use crate::reading::without_cr;
 use ftp_facts::cut_at;
 use ftp_path::Path;
@@ -11,10 +11,10 @@ use std::alloc::Allocator;
 pub fn read_roots<A: Allocator + Copy>(
     alloc: A,
     text: &[u8],
-) -> Result<Vec<Path<A>, A>, AccountsFileFault> {
+) -> Result<Vec<Path<A>, A>, TextFault> {
     let mut roots = Vec::new(alloc);
     let mut rest = text;
-    for number in 1..u32::MAX {
+    for number in 1..usize::MAX {
         let (line, more) = match cut_at(rest, b'\n') {
             Some((line, more)) => (line, Some(more)),
             None => (rest, None),
@@ -25,24 +25,25 @@ pub fn read_roots<A: Allocator + Copy>(
             None => return Ok(roots),
         }
     }
-    Err(AccountsFileFault::TooMany)
+    Err(TextFault::TooMany)
 }
 
 /// Puts the root of the account that a line says behind the others, where it says one.
 fn push_root<A: Allocator + Copy>(
     alloc: A,
-    line: u32,
+    line: usize,
     text: &[u8],
     roots: &mut Vec<Path<A>, A>,
-) -> Result<(), AccountsFileFault> {
+) -> Result<(), TextFault> {
     if is_silent(text) {
         return Ok(());
     }
-    match account_of(alloc, text) {
-        Ok(account) => match roots.push(account.root) {
-            Ok(()) => Ok(()),
-            Err(_) => Err(AccountsFileFault::Memory),
-        },
-        Err(fault) => Err(AccountsFileFault::Line { line, fault }),
+    let account = match entry_of(alloc, text) {
+        Ok(entry) => entry.account,
+        Err(fault) => return Err(TextFault::Line { line, fault }),
+    };
+    match roots.push(account.root) {
+        Ok(()) => Ok(()),
+        Err(_) => Err(TextFault::Memory),
     }
 }

@@ -3,7 +3,7 @@ use crate::connection::{Service, session};
 use crate::journal::Log;
 use crate::users::{roots_of, users_of};
 use ftp_control::{TURNS, Watch};
-use ftp_operation::Accounts;
+use ftp_tool_accounts::Users;
 use ftp_tool_sockets::{Limits, PassivePorts, Patience, SystemWatch, pause};
 use ftp_tool_status::Status;
 use ftp_tree_folder::{DiskFolder, LeftOut, Mirror, Reasons, Seen, open, reloaded};
@@ -103,12 +103,12 @@ where
 }
 
 /// Who may log in; where that can't be had, it is told why.
-fn users_told<R>(rt: &R, file: Option<&str>) -> Option<Accounts<Global>>
+fn users_told<R>(rt: &R, file: Option<&str>) -> Option<Users<Global>>
 where
     R: Files + Eprint + AllocGlobal,
 {
     match users_of(rt, file) {
-        Ok(accounts) => Some(accounts),
+        Ok(users) => Some(users),
         Err(fault) => {
             let _told = eprintln!(rt; "error: accounts: {fault}");
             None
@@ -238,7 +238,7 @@ where
     let Some(stream) = next_client(rt, desk.listener) else {
         return (mirror, false);
     };
-    let Some(accounts) = users_told(rt, desk.job.accounts) else {
+    let Some(users) = users_told(rt, desk.job.accounts) else {
         return (mirror, false);
     };
     let mirror = looked_at(rt, mirror, seen, desk.job);
@@ -249,7 +249,7 @@ where
         patience: &patience,
         passive: desk.passive,
     };
-    let (mirror, ended) = session(rt, mirror, accounts, &stream, service);
+    let (mirror, ended) = session(rt, mirror, users.accounts, &stream, service);
     (mirror, ended.is_ok())
 }
 

@@ -109,7 +109,7 @@ where
     let Ok(tree) = open(rt, DIR, &[], reasons) else {
         return Err(io::Error::from(ErrorKind::InvalidData));
     };
-    let Ok(accounts) = users_of(rt, None) else {
+    let Ok(users) = users_of(rt, None) else {
         return Err(io::Error::from(ErrorKind::OutOfMemory));
     };
     let patience = Patience::new(LIMITS, None);
@@ -120,7 +120,7 @@ where
         patience: &patience,
         passive: &passive,
     };
-    let (_tree, ended) = session(&Meeting { rt }, tree, accounts, stream, service);
+    let (_tree, ended) = session(&Meeting { rt }, tree, users.accounts, stream, service);
     Ok(ended.is_ok())
 }
 
