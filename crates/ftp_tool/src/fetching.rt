@@ -3,8 +3,9 @@ use crate::help;
 use crate::words::{Form, Subcommand, Word};
 use clap::ArgMatches;
 use ftp_operation::How;
-use ftp_tool_fetch::{Download, Target, Task, place_of};
+use ftp_tool_fetch::{Download, Target, Task};
 use ftp_tool_files::representation_of;
+use ftp_tool_location::place_of;
 
 /// The words of `get`.
 pub const GET: Subcommand<'static> = Subcommand {

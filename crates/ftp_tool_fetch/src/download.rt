@@ -2,8 +2,8 @@
 use crate::came::Came;
 use crate::downloading::Downloading;
 use crate::file::{write_over, write_part};
-use crate::location::Target;
 use crate::single::{Wish, ask_for};
+use crate::target::Target;
 use crate::telling::tell;
 use ftp_facts::Moment;
 use ftp_operation::{Answer, How};

@@ -1,8 +1,8 @@
 // What the subcommands `get`, `put` and `ls` do.
 use crate::download::{Download, get};
 use crate::listing::{Listing, listing_of};
-use crate::location::Target;
 use crate::single::{Wish, ask_for};
+use crate::target::Target;
 use crate::telling::tell;
 use crate::uploading::put;
 use ftp_operation::Answer;

@@ -1,5 +1,5 @@
 // One operation over a control connection of its own.
-use crate::location::Target;
+use crate::target::Target;
 use ftp_facts::Text;
 use ftp_operation::{Answer, How, Op};
 use ftp_tool_connection::{ClientSession, LastReply, Request, SessionFault, SessionTask, ask};

@@ -1,6 +1,6 @@
 // An upload, which goes on where the server has it: over breaks, and where a 226 came and not all is there.
 use crate::file::{Content, read_from};
-use crate::location::Target;
+use crate::target::Target;
 use crate::telling::tell;
 use crate::trying::{NO_FILE, ended_of, is_counted, size_request, there_of};
 use ftp_client_steps::MOST_TRIES;

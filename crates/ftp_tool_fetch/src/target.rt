@@ -1,0 +1,35 @@
+// Which file of which server is meant, and who asks.
+use ftp_operation::How;
+use ftp_tool_connection::{ServerAddress, User};
+use ftp_tool_location::Location;
+
+/// What is asked of which server, by whom.
+#[derive(Clone, Copy)]
+pub struct Target<'a> {
+    pub place: Location<'a>,
+    pub user: &'a str,
+    /// The file that has the password; its owner alone may use it.
+    pub password_file: Option<&'a str>,
+    pub how: How,
+    /// Whether a transfer that takes more than a second is told of, each second at most.
+    pub progress: bool,
+}
+
+impl<'a> Target<'a> {
+    /// Which server is asked.
+    pub(crate) fn server(&self) -> ServerAddress<'a> {
+        ServerAddress {
+            host: self.place.host,
+            port: self.place.port,
+            progress: self.progress,
+        }
+    }
+
+    /// Who asks.
+    pub(crate) fn by(&self) -> User<'a> {
+        User {
+            name: self.user,
+            password_file: self.password_file,
+        }
+    }
+}

@@ -1,0 +1,2 @@
+mod CutLemmas
+mod LocationLemmas
