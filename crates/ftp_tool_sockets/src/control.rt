@@ -9,12 +9,10 @@ use libc::net as c;
 use std::io;
 use std::io::{Error, ErrorKind, Read, Write};
 use std::net::{Shutdown, TcpStream};
+use std::os::fd::AsRawFd;
 
 /// How long a peer is waited for after the last reply, in milliseconds, in all.
 const LAST_MILLIS: u64 = 1_000;
-
-/// The most octets of one write: so many there is room for where a poll says that there is some.
-const REPLY_PIECE: usize = 1_024;
 
 /// Reads a control connection. The system takes an urgent octet out of what is read; behind CR it is taken for LF, and behind IAC for the
 /// data mark 242, so that an ABOR whose last octet is urgent is a line, and a Synch is whole. Where patience is over, the connection has ended.
@@ -51,25 +49,25 @@ impl<'a> ControlReader<'a> {
         }
     }
 
-    /// Reads, and gives the octet that was hidden before what was read, and how much that is.
-    fn read_behind(&mut self, room: &mut [u8]) -> io::Result<(Option<u8>, usize)>
-        ensures within { IfOk result (λ read. read.1 ≤ length room.new) }
+    /// Reads, with the octet that was hidden before what was read.
+    fn read_behind(&mut self, room: &mut [u8]) -> io::Result<Behind>
+        ensures within { IfOk result (λ read. read.count ≤ length room.new) }
     {
         let Some(before) = self.wait()? else {
-            return Ok((None, 0));
+            return Ok(Behind::nothing(None));
         };
         if before.is_urgent && !before.has_more {
             self.given = true;
             if let Some(octet) = hidden_after(self.last) {
-                return Ok((Some(octet), 0));
+                return Ok(Behind::nothing(Some(octet)));
             }
             if self.wait()?.is_none() {
-                return Ok((None, 0));
+                return Ok(Behind::nothing(None));
             }
         }
         let mut stream = self.stream;
         let count = stream.read(room)?;
-        let after = look(self.stream, true);
+        let after = look(self.stream);
         let passed = before.is_urgent && !after.is_urgent && !self.given;
         self.given = false;
         let hidden = if passed {
@@ -80,24 +78,32 @@ impl<'a> ControlReader<'a> {
         if let Some(last) = room.get(..count).unwrap_or(&[]).last() {
             self.last = *last;
         }
-        Ok((hidden, count))
+        Ok(Behind {
+            hidden,
+            count,
+            after,
+        })
     }
 
-    /// Reads, with the octet that was hidden before what was read.
-    fn read_front(&mut self, room: &mut [u8]) -> io::Result<usize>
+    /// Reads, with the octet that was hidden before what was read in front of it; how much that is, and what can be read after it.
+    fn read_front(&mut self, room: &mut [u8]) -> io::Result<(usize, Waiting)>
         requires { 0 < length room.old }
-        ensures within { IfOk result (λ count. count ≤ length room.new) }
+        ensures within { IfOk result (λ read. read.0 ≤ length room.new) }
     {
         let (_, rest) = room.split_at_mut(1);
-        let (hidden, count) = self.read_behind(rest)?;
+        let Behind {
+            hidden,
+            count,
+            after,
+        } = self.read_behind(rest)?;
         match hidden {
             Some(octet) => {
                 room[0] = octet;
-                Ok(count + 1)
+                Ok((count + 1, after))
             }
             None => {
                 room.copy_within(1..count + 1, 0);
-                Ok(count)
+                Ok((count, after))
             }
         }
     }
@@ -109,11 +115,11 @@ impl<'a> ControlReader<'a> {
     {
         let last = room.len() - 1;
         let (front, _) = room.split_at_mut(last);
-        let count = self.read_front(front)?;
+        let (count, after) = self.read_front(front)?;
         if count == 0 {
             return Ok(0);
         }
-        match self.hidden_behind() {
+        match self.hidden_behind(after) {
             Some(octet) => {
                 room[count] = octet;
                 Ok(count + 1)
@@ -124,9 +130,8 @@ impl<'a> ControlReader<'a> {
 
     /// The octet that is hidden behind what was read last, where nothing else stands behind that yet: who asks whether the connection has
     /// more to read is told of no urgent octet.
-    fn hidden_behind(&mut self) -> Option<u8> {
-        let waits = look(self.stream, !self.given);
-        if !waits.is_urgent || waits.has_more {
+    fn hidden_behind(&mut self, after: Waiting) -> Option<u8> {
+        if !after.is_urgent || after.has_more {
             return None;
         }
         self.given = true;
@@ -165,24 +170,43 @@ impl<'a> ControlWriter<'a> {
     pub fn new(stream: &'a TcpStream, patience: &'a Patience<'a>) -> ControlWriter<'a> {
         ControlWriter { stream, patience }
     }
+
+    /// Waits for room while patience lasts.
+    fn await_room(&self) -> io::Result<()> {
+        let mut asked = [asking(self.stream, c::POLLOUT)];
+        match self.patience.wait(&mut asked) {
+            Waited::Told => Ok(()),
+            Waited::Over(over) => {
+                self.patience.end(over);
+                Err(Error::from(ErrorKind::TimedOut))
+            }
+            Waited::Failed => Err(Error::from(ErrorKind::ConnectionAborted)),
+        }
+    }
+}
+
+/// Writes as many octets as there is room for now; fails as `WouldBlock` where there is none.
+fn send_now(stream: &TcpStream, octets: &[u8]) -> io::Result<usize>
+    ensures within { IfOk result (λ count. count ≤ length octets.now) }
+{
+    let flags = c::MSG_NOSIGNAL | c::MSG_DONTWAIT;
+    let count = unsafe { c::send(stream.as_raw_fd(), octets, flags) };
+    usize::try_from(count).map_err(|_| Error::from_raw_os_error(os::errno()))
 }
 
 impl<'a> Write for ControlWriter<'a> {
     fn write(&mut self, octets: &[u8]) -> io::Result<usize> {
-        let mut asked = [asking(self.stream, c::POLLOUT)];
-        match self.patience.wait(&mut asked) {
-            Waited::Told => {}
-            Waited::Over(over) => {
-                self.patience.end(over);
-                return Err(Error::from(ErrorKind::TimedOut));
+        for _ in 0..TURNS {
+            match send_now(self.stream, octets) {
+                Err(error) if error.kind() == ErrorKind::WouldBlock => self.await_room()?,
+                Ok(count) => {
+                    self.patience.stir();
+                    return Ok(count);
+                }
+                failed => return failed,
             }
-            Waited::Failed => return Err(Error::from(ErrorKind::ConnectionAborted)),
         }
-        let (piece, _) = octets.split_at(octets.len().min(REPLY_PIECE));
-        let mut stream = self.stream;
-        let count = stream.write(piece)?;
-        self.patience.stir();
-        Ok(count)
+        Err(Error::from(ErrorKind::ConnectionAborted))
     }
 
     fn flush(&mut self) -> io::Result<()> {
@@ -212,6 +236,29 @@ struct Waiting {
     has_more: bool,
 }
 
+/// What a read gave.
+#[derive(Clone, Copy)]
+struct Behind {
+    /// The octet that was hidden before what was read.
+    hidden: Option<u8>,
+    count: usize,
+    /// What can be read after it, as far as nothing of that is given already.
+    after: Waiting,
+}
+
+impl Behind {
+    /// Nothing but a hidden octet, if there was one.
+    fn nothing(hidden: Option<u8>) -> Behind
+        ensures { result.count ≡ 0 }
+    {
+        Behind {
+            hidden,
+            count: 0,
+            after: waiting_by(0),
+        }
+    }
+}
+
 /// The events that are asked of a control connection.
 fn events_of(asks_urgent: bool) -> i16 {
     let urgent = if asks_urgent { c::POLLPRI } else { 0 };
@@ -227,8 +274,8 @@ fn waiting_by(events: i16) -> Waiting {
 }
 
 /// What can be read now.
-fn look(stream: &TcpStream, asks_urgent: bool) -> Waiting {
-    let mut asked = [asking(stream, events_of(asks_urgent))];
+fn look(stream: &TcpStream) -> Waiting {
+    let mut asked = [asking(stream, events_of(true))];
     match ask(&mut asked, 0) {
         Polled::Told => waiting_by(asked[0].revents),
         Polled::TimeOver | Polled::Failed => waiting_by(0),

@@ -68,8 +68,8 @@ impl<'a> Link<'a> {
     }
 
     /// Limits how long what was written waits for the peer to take it, where room is waited for: octets that only the system took are no sign of life.
-    fn limit(&self, what: For) {
-        if let (Some(patience), For::Room) = (self.patience, what) {
+    fn limit(&self) {
+        if let Some(patience) = self.patience {
             let _limited = limit_untaken(&self.stream, patience.untaken_millis());
         }
     }
@@ -81,12 +81,24 @@ impl<'a> Link<'a> {
         } else {
             Heeds::End
         };
-        self.limit(what);
-        match wait(self.control, &self.stream, what, heeds, self.patience) {
+        match self.await_either(what, heeds) {
             Woke::Ready => Ready::Data,
             Woke::Spoken => Ready::Control,
             Woke::Ended | Woke::TimeOver | Woke::Failed => Ready::Lost,
         }
+    }
+
+    /// Waits until octets can be read or written, or what is heeded of the control connection is there. Only where there is no room at once is it
+    /// limited how long octets wait for the peer.
+    fn await_either(&self, what: For, heeds: Heeds) -> Woke {
+        if what == For::Room && self.patience.is_some() {
+            match wait_millis(self.control, &self.stream, what, heeds, 0) {
+                Woke::TimeOver => {}
+                woke => return woke,
+            }
+            self.limit();
+        }
+        wait(self.control, &self.stream, what, heeds, self.patience)
     }
 
     /// Waits after the end of the control connection until there is room.
@@ -172,7 +184,7 @@ impl<'a> Write for Link<'a> {
                 }
                 failed => return failed,
             }
-            self.limit(For::Room);
+            self.limit();
             match wait(
                 self.control,
                 &self.stream,
