@@ -1,2 +1,3 @@
 pub mod Folder
+pub mod Moment
 pub mod Place

@@ -1,4 +1,7 @@
 // What stands in a folder: names, kinds, and the octets of files.
+ghost use Rattle.std.specs.Prelude.{◌≡◌};
+ghost use Rattle.ftp_tree_folder.specs.Moment.{nearest};
+
 use crate::fault::{LoadFault, Reason};
 use crate::place::check_free;
 use crate::writing::BESIDE;
@@ -103,7 +106,9 @@ pub(crate) fn read_all<F: Read>(
 }
 
 /// The moment of a file: the nearest of the profile.
-pub(crate) fn moment_of(seconds: i64) -> Moment {
+pub(crate) fn moment_of(seconds: i64) -> Moment
+    ensures { result.seconds ≡ nearest seconds }
+{
     let seconds = u64::try_from(seconds).unwrap_or(0);
     Moment {
         seconds: seconds.min(LAST_SECOND),
