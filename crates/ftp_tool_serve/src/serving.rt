@@ -1,4 +1,7 @@
 // What the subcommand `serve` does.
+ghost use Rattle.std.specs.Prelude.{◌↔◌, IsTrue};
+ghost use Rattle.ftp_tool_serve.specs.Listening.{MayListen};
+
 use crate::connection::{Service, session};
 use crate::journal::Log;
 use crate::users::{roots_of, users_of};
@@ -74,7 +77,9 @@ struct Desk<'a> {
 
 impl<'a> Serving<'a> {
     /// Whether the address may be listened at: without a file of accounts all that is served may be changed by whoever connects.
-    fn may_listen(&self) -> bool {
+    fn may_listen(&self) -> bool
+        ensures { IsTrue result ↔ MayListen self.now.accounts self.now.host }
+    {
         self.accounts.is_some() || self.host.is_loopback()
     }
 }
