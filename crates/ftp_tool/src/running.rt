@@ -2,7 +2,7 @@
 use crate::help;
 use crate::words::{Form, Subcommand, Word};
 use clap::ArgMatches;
-use ftp_tool_files::number_of;
+use ftp_tool_words::server_port_of;
 
 /// The words of `run`.
 pub const RUN: Subcommand<'static> = Subcommand {
@@ -27,8 +27,8 @@ pub const RUN: Subcommand<'static> = Subcommand {
 /// The host and the port of the server; none where a value is none of its option.
 pub fn server_of<'a>(words: &'a ArgMatches<'_>) -> Option<(&'a str, u16)> {
     let host = words.get_str("host")?;
-    let port = u16::try_from(number_of(words.get_str("port")?)?).ok()?;
-    if host.is_empty() || port == 0 {
+    let port = server_port_of(words.get_str("port")?)?;
+    if host.is_empty() {
         return None;
     }
     Some((host, port))

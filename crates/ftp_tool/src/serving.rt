@@ -3,7 +3,8 @@ use crate::help;
 use crate::words::{Form, Subcommand, Word};
 use clap::ArgMatches;
 use ftp_tool_files::number_of;
-use ftp_tool_serve::{Limits, Log, Others, Serving, Sessions};
+use ftp_tool_serve::{Limits, Log, Others, Serving};
+use ftp_tool_words::{port_of, ports_of, sessions_of};
 
 /// The words of `serve`.
 pub const SERVE: Subcommand<'static> = Subcommand {
@@ -74,7 +75,7 @@ pub const SERVE: Subcommand<'static> = Subcommand {
 pub fn serving_of<'a>(words: &'a ArgMatches<'_>) -> Option<Serving<'a>> {
     Some(Serving {
         host: words.get_str("host")?.parse().ok()?,
-        port: u16::try_from(number_of(words.get_str("port")?)?).ok()?,
+        port: port_of(words.get_str("port")?)?,
         dir: words.get_str("dir")?,
         sessions: sessions_of(words.get_str("sessions")?)?,
         accounts: words.get_str("accounts"),
@@ -95,23 +96,4 @@ pub fn serving_of<'a>(words: &'a ArgMatches<'_>) -> Option<Serving<'a>> {
             Others::Change
         },
     })
-}
-
-/// The first port and the last; none where the last is before the first.
-fn ports_of(word: &str) -> Option<(u16, u16)> {
-    let (first, last) = word.split_once('-')?;
-    let first = u16::try_from(number_of(first)?).ok()?;
-    let last = u16::try_from(number_of(last)?).ok()?;
-    if first == 0 || last < first {
-        return None;
-    }
-    Some((first, last))
-}
-
-/// How many control connections a word says.
-fn sessions_of(word: &str) -> Option<Sessions> {
-    if word == "forever" {
-        return Some(Sessions::Forever);
-    }
-    Some(Sessions::Count(number_of(word)?))
 }

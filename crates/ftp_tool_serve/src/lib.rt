@@ -13,6 +13,7 @@ mod users;
 
 pub use connection::{Service, session};
 pub use ftp_tool_sockets::{Limits, PassivePorts, Patience};
+pub use ftp_tool_words::Sessions;
 pub use journal::Log;
-pub use serving::{Others, Serving, Sessions, serve};
+pub use serving::{Others, Serving, serve};
 pub use users::users_of;

@@ -9,6 +9,7 @@ use ftp_control::{TURNS, Watch};
 use ftp_tool_accounts::Users;
 use ftp_tool_sockets::{Limits, PassivePorts, Patience, SystemWatch, pause};
 use ftp_tool_status::Status;
+use ftp_tool_words::Sessions;
 use ftp_tree_folder::{DiskFolder, LeftOut, Mirror, Reasons, Seen, open, reloaded};
 use std::alloc::Global;
 use std::fs::Files;
@@ -19,23 +20,6 @@ use std::{fs, io};
 
 /// How long a client is waited for again where one could not be taken, in milliseconds.
 const AGAIN_MILLIS: u16 = 1_000;
-
-/// How many control connections are served.
-#[derive(Clone, Copy, Debug, PartialEq, Eq)]
-pub enum Sessions {
-    Count(u32),
-    Forever,
-}
-
-impl Sessions {
-    /// How many turns that is.
-    fn turns(self) -> u64 {
-        match self {
-            Sessions::Count(count) => u64::from(count),
-            Sessions::Forever => TURNS,
-        }
-    }
-}
 
 /// What is to be served.
 #[derive(Clone, Copy, Debug, PartialEq, Eq)]
@@ -220,7 +204,7 @@ where
     let mut mirror = mirror;
     let mut seen = Seen::nothing(rt.alloc());
     let mut status = Status::Done;
-    for _ in 0..desk.job.sessions.turns() {
+    for _ in 0..turns_of(desk.job.sessions) {
         let (back, went) = next_session(rt, mirror, &mut seen, desk);
         mirror = back;
         if !went {
@@ -228,6 +212,14 @@ where
         }
     }
     status
+}
+
+/// How many turns that is.
+fn turns_of(sessions: Sessions) -> u64 {
+    match sessions {
+        Sessions::Count(count) => u64::from(count),
+        Sessions::Forever => TURNS,
+    }
 }
 
 /// Serves the next control connection; gives the folder's mirror back, and whether all went well.
