@@ -4,7 +4,7 @@ ghost use Rattle.ftp_tree.specs.Change.{next_count};
 ghost use Rattle.ftp_tree_folder.specs.Place.{folder_text};
 
 use crate::place::{check_free, check_way, place_of};
-use crate::reasons::Reasons;
+use crate::reasons::{Reasons, Touches};
 use crate::writing::{sync_above, write_over};
 use crate::{Folder, FolderFault};
 use ftp_facts::Moment;
@@ -53,7 +53,7 @@ impl<'a, R: Files + AllocGlobal + Clone + Drop> DiskFolder<'a, R> {
     }
 
     fn made<B: Allocator, C: Allocator>(&self, root: &Path<B>, path: &Path<C>) -> io::Result<()> {
-        self.reasons.check(Deed::Make)?;
+        self.reasons.check(Deed::Make, Touches::Names)?;
         let place = self.place(root, path)?;
         fs::create_dir(&self.files, place.as_str())?;
         let synced = sync_above(&self.files, place.as_str());
@@ -68,7 +68,7 @@ impl<'a, R: Files + AllocGlobal + Clone + Drop> DiskFolder<'a, R> {
         root: &Path<B>,
         path: &Path<C>,
     ) -> io::Result<()> {
-        self.reasons.check(Deed::Change)?;
+        self.reasons.check(Deed::Change, Touches::Names)?;
         let place = self.place(root, path)?;
         fs::remove_dir(&self.files, place.as_str())?;
         sync_above(&self.files, place.as_str())
@@ -79,7 +79,7 @@ impl<'a, R: Files + AllocGlobal + Clone + Drop> DiskFolder<'a, R> {
         root: &Path<B>,
         path: &Path<C>,
     ) -> io::Result<()> {
-        self.reasons.check(Deed::Change)?;
+        self.reasons.check(Deed::Change, Touches::Names)?;
         let place = self.place(root, path)?;
         fs::remove_file(&self.files, place.as_str())?;
         sync_above(&self.files, place.as_str())
@@ -91,7 +91,7 @@ impl<'a, R: Files + AllocGlobal + Clone + Drop> DiskFolder<'a, R> {
         from: &Path<C>,
         to: &Path<D>,
     ) -> io::Result<()> {
-        self.reasons.check(Deed::Change)?;
+        self.reasons.check(Deed::Change, Touches::Names)?;
         let from = self.place(root, from)?;
         let to = self.place(root, to)?;
         check_free(&self.files, to.as_str())?;
@@ -127,8 +127,8 @@ impl<'a, R: Files + AllocGlobal + Clone + Drop> DiskFolder<'a, R> {
             return Ok(());
         }
         match check_free(&self.files, place) {
-            Ok(()) => self.reasons.check(Deed::Make),
-            Err(_) => self.reasons.check(Deed::Change),
+            Ok(()) => self.reasons.check(Deed::Make, Touches::Content),
+            Err(_) => self.reasons.check(Deed::Change, Touches::Content),
         }
     }
 

@@ -19,5 +19,5 @@ pub use folder::DiskFolder;
 pub use loading::{load, open};
 pub use look::Seen;
 pub use mirror::Mirror;
-pub use reasons::Reasons;
+pub use reasons::{Reasons, Touches};
 pub use reloading::{LeftOut, reloaded};

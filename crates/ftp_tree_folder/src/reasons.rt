@@ -4,13 +4,23 @@ use std::cell::{Cell, RefCell};
 use std::io;
 use std::io::{Error, ErrorKind};
 
+/// What a change touches.
+#[derive(Clone, Copy, Debug, PartialEq, Eq)]
+pub enum Touches {
+    /// The octets of a file.
+    Content,
+    /// The names of a directory: one is made, moved or taken away.
+    Names,
+}
+
 /// What may be changed of a folder, as whoever serves it says, and why the last change failed, if that was not told yet. It is lent to a folder, and
 /// asked by whoever tells what was done.
 #[derive(Drop)]
 pub struct Reasons {
     rights: Cell<Rights>,
-    /// Whether a change was refused for want of rights.
-    barred: Cell<bool>,
+    /// Whether a change of content was refused for want of rights, and one of names: both may be before one of them is told.
+    content_barred: Cell<bool>,
+    names_barred: Cell<bool>,
     last: RefCell<Option<Error>>,
 }
 
@@ -19,7 +29,8 @@ impl Reasons {
     pub fn new() -> Reasons {
         Reasons {
             rights: Cell::new(Rights::All),
-            barred: Cell::new(false),
+            content_barred: Cell::new(false),
+            names_barred: Cell::new(false),
             last: RefCell::new(None),
         }
     }
@@ -34,18 +45,25 @@ impl Reasons {
         self.rights.get()
     }
 
-    /// Fails where the rights do not allow a change.
-    pub(crate) fn check(&self, deed: Deed) -> io::Result<()> {
+    /// Fails where the rights do not allow a change of what it touches.
+    pub(crate) fn check(&self, deed: Deed, touched: Touches) -> io::Result<()> {
         if self.rights.get().allows(deed) {
             return Ok(());
         }
-        self.barred.set(true);
+        self.barred(touched).set(true);
         Err(Error::new(ErrorKind::PermissionDenied, "the account may not do that"))
     }
 
-    /// Whether a change was refused for want of rights since this was asked last.
-    pub fn take_barred(&self) -> bool {
-        self.barred.replace(false)
+    /// Whether a change of that was refused for want of rights since this was asked last.
+    pub fn take_barred(&self, touched: Touches) -> bool {
+        self.barred(touched).replace(false)
+    }
+
+    fn barred(&self, touched: Touches) -> &Cell<bool> {
+        match touched {
+            Touches::Content => &self.content_barred,
+            Touches::Names => &self.names_barred,
+        }
     }
 
     /// A change failed for this reason.
