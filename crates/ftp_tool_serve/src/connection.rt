@@ -1,4 +1,5 @@
 // One control connection, from its greeting to its end.
+use crate::guard::Guard;
 use crate::heard::{CountedPorts, HeardReader, SaidWriter};
 use crate::journal::{Journal, Log};
 use ftp_control::Failed;
@@ -8,6 +9,7 @@ use ftp_server::{NotBegun, Server};
 use ftp_server_drive::{Control, drive_server};
 use ftp_server_model::Far;
 use ftp_server_transfer::TreeTransfer;
+use ftp_tool_accounts::Grants;
 use ftp_tool_sockets::{
     ControlReader, ControlWriter, PassivePorts, Patience, SocketPorts, SystemWatch, host_of,
     keep_alive, say_goodbye,
@@ -31,7 +33,9 @@ fn ends_of(stream: &TcpStream) -> io::Result<(Host, SocketAddr)> {
 #[derive(Clone, Copy)]
 pub struct Service<'a> {
     pub log: Log,
-    /// Why a change of the tree's folder failed.
+    /// What each account may change.
+    pub grants: &'a Grants<Global>,
+    /// What may be changed of the tree's folder now, and why a change of it failed.
     pub reasons: &'a Reasons,
     pub patience: &'a Patience<'a>,
     pub passive: &'a PassivePorts,
@@ -94,7 +98,7 @@ where
     T: Tree<Global>,
 {
     let mut server = server;
-    let ended = match Journal::new(rt, service.log, peer, service.reasons, service.patience) {
+    let ended = match Journal::new(rt, peer, service) {
         Ok(journal) => connected(rt, &mut server, stream, &journal, service),
         Err(AllocError) => Err(Failed),
     };
@@ -139,7 +143,8 @@ where
         inner: ControlReader::new(stream, patience),
         journal,
     };
-    let writer = SaidWriter::new(ControlWriter::new(stream, patience), journal);
+    let said = SaidWriter::new(ControlWriter::new(stream, patience), journal);
+    let writer = Guard::new(said, rt.alloc());
     let mut ports = CountedPorts {
         inner: ports,
         journal,

@@ -41,6 +41,10 @@ impl<'a, R: Clock + Eprint> SaidWriter<'a, R> {
             told: 0,
         }
     }
+
+    pub(crate) fn journal(&self) -> &'a Journal<'a, R> {
+        self.journal
+    }
 }
 
 impl<'a, R: Clock + Eprint> Write for SaidWriter<'a, R> {

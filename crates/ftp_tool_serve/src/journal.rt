@@ -1,14 +1,16 @@
 // What is told of a session on standard error.
 ghost use Rattle.std.specs.Prelude.{◌≤◌, ◌<◌, length};
 
+use crate::connection::Service;
 use crate::line::Line;
 use crate::manner::{Manner, Pace};
 use crate::talk::{Answered, Talk, Told};
-use crate::telling::{Asked, Guest, Quoted, tells};
+use crate::telling::{Asked, Guest, Quoted, tells, touched_by};
 use ftp_control::Watch;
 use ftp_facts::moment_text;
-use ftp_tool_sockets::{Over, Patience, SystemWatch, pause};
-use ftp_tree_folder::Reasons;
+use ftp_tool_sockets::{Over, SystemWatch, pause};
+use ftp_tree_folder::Touches;
+use ftp_tree_rights::Rights;
 use std::alloc::AllocError;
 use std::cell::{Cell, RefCell};
 use std::fmt::{Display, Formatter};
@@ -45,13 +47,13 @@ struct Known {
 /// Tells of one session, a line each: the moment, the peer, the user, the verb, what it names, the octets that went over data connections for
 /// it, and the code of the last reply, behind it `reset` where the data connection was, and the reason where the folder failed. A line is told
 /// before its reply is written, so whether or not that can be. What standard error refuses is dropped.
+///
+/// As it hears who logs in, the folder is told what that account may change.
 #[derive(Drop)]
 pub(crate) struct Journal<'a, R: Clock + Eprint> {
     rt: &'a R,
-    log: Log,
     peer: SocketAddr,
-    reasons: &'a Reasons,
-    patience: &'a Patience<'a>,
+    service: Service<'a>,
     manner: Cell<Manner>,
     known: RefCell<Known>,
     moved: Cell<u64>,
@@ -59,23 +61,23 @@ pub(crate) struct Journal<'a, R: Clock + Eprint> {
 }
 
 impl<'a, R: Clock + Eprint + AllocGlobal> Journal<'a, R> {
+    /// Nobody is logged in, and nothing may be changed.
     pub(crate) fn new(
         rt: &'a R,
-        log: Log,
         peer: SocketAddr,
-        reasons: &'a Reasons,
-        patience: &'a Patience<'a>,
+        service: Service<'a>,
     ) -> Result<Journal<'a, R>, AllocError> {
+        service.reasons.allow(Rights::Look);
+        let _content = service.reasons.take_barred(Touches::Content);
+        let _names = service.reasons.take_barred(Touches::Names);
         let known = Known {
             talk: Talk::new(rt.alloc())?,
             guest: Guest::nobody(),
         };
         Ok(Journal {
             rt,
-            log,
             peer,
-            reasons,
-            patience,
+            service,
             manner: Cell::new(Manner::new()),
             known: RefCell::new(known),
             moved: Cell::new(0),
@@ -87,7 +89,7 @@ impl<'a, R: Clock + Eprint + AllocGlobal> Journal<'a, R> {
 impl<'a, R: Clock + Eprint> Journal<'a, R> {
     /// Tells how a session goes, in a word or two.
     pub(crate) fn note(&self, what: &str) {
-        if self.log == Log::Told {
+        if self.service.log == Log::Told {
             let now = moment_text(SystemWatch::new(self.rt).moment());
             let now = str::from_utf8(&now).unwrap_or("-");
             let _told = eprintln!(self.rt; "{now} {} {what}", self.peer);
@@ -96,7 +98,7 @@ impl<'a, R: Clock + Eprint> Journal<'a, R> {
 
     /// Tells how a session ended, and why it was ended where the server did that.
     pub(crate) fn end(&self, is_whole: bool) {
-        let ended = match self.patience.over() {
+        let ended = match self.service.patience.over() {
             None if is_whole => "ends",
             None => "breaks off",
             Some(Over::Login) => "is ended: nobody logged in",
@@ -122,10 +124,40 @@ impl<'a, R: Clock + Eprint> Journal<'a, R> {
             let told = self.told(rest);
             taken += told.taken;
             if let Some(answered) = told.answered {
+                let named = self.named(&answered);
+                self.permit();
                 self.judge(&answered);
-                self.tell(&answered);
+                self.tell(&answered, named);
             }
         }
+    }
+
+    /// From now on as much may be changed as the account that is logged in may change; nothing where that is not known.
+    fn permit(&self) {
+        self.service.reasons.allow(self.rights());
+    }
+
+    fn rights(&self) -> Rights {
+        let Ok(known) = self.known.try_borrow_mut() else {
+            return Rights::Look;
+        };
+        if !known.talk.is_whole() {
+            return Rights::Look;
+        }
+        self.service.grants.rights_of(known.guest.user())
+    }
+
+    /// Whether the line that is answered next asked for a change that was refused, since the account may not make it. It is told once.
+    pub(crate) fn bars(&self) -> bool {
+        match self.touched() {
+            Some(touched) => self.service.reasons.take_barred(touched),
+            None => false,
+        }
+    }
+
+    /// What the line that is answered next changes, where it does.
+    fn touched(&self) -> Option<Touches> {
+        touched_by(self.known.try_borrow_mut().ok()?.talk.next_verb()?)
     }
 
     /// Takes in how a login went. After some that were refused each answer waits until somebody is logged in, and then that to a refused one.
@@ -137,7 +169,7 @@ impl<'a, R: Clock + Eprint> Journal<'a, R> {
         let manner = before.after(answered.asked.verb, code);
         self.manner.set(manner);
         if manner.logged_in {
-            self.patience.log_in();
+            self.service.patience.log_in();
         }
         let waits = !manner.logged_in || before.refused < manner.refused;
         if waits && manner.pace() != Pace::AtOnce {
@@ -148,13 +180,13 @@ impl<'a, R: Clock + Eprint> Journal<'a, R> {
     /// What was told was written: behind the last answer nothing more is heard.
     pub(crate) fn written(&self) {
         if self.manner.get().pace() == Pace::Last {
-            self.patience.end(Over::Refused);
+            self.service.patience.end(Over::Refused);
         }
     }
 
     /// A data connection, or the wait for one, was given up.
     pub(crate) fn give_up(&self) {
-        self.patience.stir();
+        self.service.patience.stir();
     }
 
     /// What octets that are said answer, up to the next end of a line.
@@ -184,7 +216,7 @@ impl<'a, R: Clock + Eprint> Journal<'a, R> {
 
     /// Nothing more is said: tells of a line that was not answered, where it may have done something.
     pub(crate) fn finish(&self) {
-        if self.log == Log::Silent {
+        if self.service.log == Log::Silent {
             return;
         }
         let Some(asked) = self.unanswered() else {
@@ -192,7 +224,7 @@ impl<'a, R: Clock + Eprint> Journal<'a, R> {
         };
         if asked.is_told() {
             let answered = Answered { asked, code: None };
-            self.tell(&answered);
+            self.tell(&answered, self.named(&answered));
         }
     }
 
@@ -211,12 +243,12 @@ impl<'a, R: Clock + Eprint> Journal<'a, R> {
         Some((known.guest, names))
     }
 
-    /// Tells a line, where it is one that is told.
-    fn tell(&self, answered: &Answered) {
-        if self.log == Log::Silent {
+    /// Tells a line, where it is one that is told: who was logged in, and what it names, are given.
+    fn tell(&self, answered: &Answered, named: Option<(Guest, Line)>) {
+        if self.service.log == Log::Silent {
             return;
         }
-        let Some((guest, names)) = self.named(answered) else {
+        let Some((guest, names)) = named else {
             return;
         };
         if answered
@@ -240,7 +272,7 @@ impl<'a, R: Clock + Eprint> Journal<'a, R> {
             Outcome {
                 code: answered.code,
                 fate: self.fate.replace(Fate::Ended),
-                why: self.reasons.take()
+                why: self.service.reasons.take()
             }
         );
     }

@@ -2,16 +2,20 @@
 #![tactic(auto)]
 
 mod connection;
+mod guard;
 mod heard;
 mod journal;
+pub mod laws;
 mod line;
 mod manner;
+mod mend;
 mod serving;
 mod talk;
 mod telling;
 mod users;
 
 pub use connection::{Service, session};
+pub use ftp_tool_accounts::Users;
 pub use ftp_tool_sockets::{Limits, PassivePorts, Patience};
 pub use ftp_tool_words::Sessions;
 pub use journal::Log;

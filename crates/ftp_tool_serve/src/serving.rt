@@ -235,18 +235,19 @@ where
     let Some(stream) = next_client(rt, desk.listener) else {
         return (mirror, false);
     };
-    let Some(users) = users_told(rt, desk.job.accounts) else {
+    let Some(Users { accounts, grants }) = users_told(rt, desk.job.accounts) else {
         return (mirror, false);
     };
     let mirror = looked_at(rt, mirror, seen, desk.job);
     let patience = Patience::new(desk.job.limits, Some(desk.listener));
     let service = Service {
         log: desk.job.log,
+        grants: &grants,
         reasons: desk.reasons,
         patience: &patience,
         passive: desk.passive,
     };
-    let (mirror, ended) = session(rt, mirror, users.accounts, &stream, service);
+    let (mirror, ended) = session(rt, mirror, accounts, &stream, service);
     (mirror, ended.is_ok())
 }
 

@@ -2,7 +2,7 @@
 ghost use Rattle.std.specs.Prelude.{◌≤◌, ◌<◌, length};
 
 use crate::telling::{Asked, asked_of};
-use ftp_command::LINE_LIMIT;
+use ftp_command::{LINE_LIMIT, Verb};
 use ftp_nvt::{Ear, Event};
 use ftp_reply::Reader;
 use std::alloc::{AllocError, Global};
@@ -34,6 +34,8 @@ pub(crate) struct Talk {
     asked: Vec<Asked, Global>,
     /// Whether the greeting was said, which answers no line.
     greeted: bool,
+    /// Whether each line and each reply was heard: memory may be refused for one, and then which reply answers which line is not known any more.
+    whole: bool,
 }
 
 impl Talk {
@@ -44,6 +46,7 @@ impl Talk {
             replies: Reader::new(alloc),
             asked: Vec::new(alloc),
             greeted: false,
+            whole: true,
         })
     }
 
@@ -54,12 +57,32 @@ impl Talk {
             let (_, rest) = octets.split_at(taken);
             let fed = self.heard.feed(rest);
             taken += fed.taken;
-            let _kept = match fed.event {
-                Event::Line => self.asked.push(asked_of(self.heard.line())),
-                Event::TooLong => self.asked.push(Asked::unread()),
-                Event::More | Event::Owed(_) => Ok(()),
-            };
+            match fed.event {
+                Event::Line => {
+                    let asked = asked_of(self.heard.line());
+                    self.ask(asked);
+                }
+                Event::TooLong => self.ask(Asked::unread()),
+                Event::More | Event::Owed(_) => {}
+            }
         }
+    }
+
+    /// A line is to be answered.
+    fn ask(&mut self, asked: Asked) {
+        if self.asked.push(asked).is_err() {
+            self.whole = false;
+        }
+    }
+
+    /// Whether it is known which reply answers which line.
+    pub(crate) fn is_whole(&self) -> bool {
+        self.whole
+    }
+
+    /// The verb of the line that is answered next.
+    pub(crate) fn next_verb(&self) -> Option<Verb> {
+        self.asked.first()?.verb
     }
 
     /// Octets are said to the client: takes them up to the end of a line, and gives the line of the client that is answered by it, if one is.
@@ -68,10 +91,13 @@ impl Talk {
         ensures some { 0 < length octets.now → 0 < result.taken }
     {
         let fed = self.said.feed(octets);
-        let answered = if fed.event == Event::Line {
-            self.answered()
-        } else {
-            None
+        let answered = match fed.event {
+            Event::Line => self.answered(),
+            Event::TooLong => {
+                self.whole = false;
+                None
+            }
+            Event::More | Event::Owed(_) => None,
         };
         Told {
             taken: fed.taken,
@@ -100,7 +126,11 @@ impl Talk {
     fn reply(&mut self) -> Option<u16> {
         match self.replies.line(self.said.line()) {
             Ok(Some(reply)) => Some(reply.code),
-            _ => None,
+            Ok(None) => None,
+            Err(_) => {
+                self.whole = false;
+                None
+            }
         }
     }
 

@@ -1,6 +1,8 @@
 // What is told of a line that was answered: its verb, and what it names where that is no secret.
 use crate::line::Line;
+use crate::manner::{Login, login_by};
 use ftp_command::{Verb, verb_of};
+use ftp_tree_folder::Touches;
 use std::fmt;
 use std::fmt::{Display, Formatter};
 
@@ -66,18 +68,26 @@ impl Guest {
 
     /// Takes in that a line was answered, and gives what it names: behind PASS the user.
     pub(crate) fn answered(&mut self, asked: &Asked, code: u16) -> Line {
-        match asked.verb {
-            Some(Verb::User) => self.claimed = asked.names,
-            Some(Verb::Pass) => {}
-            Some(Verb::Rein) => self.claimed = Line::new(),
-            _ => return asked.names,
+        let names = self.named_by(asked);
+        match login_by(asked.verb, code) {
+            Login::Same => {}
+            Login::Named => {
+                self.claimed = names;
+                self.known = Line::new();
+            }
+            Login::In => self.known = names,
+            Login::Out => self.known = Line::new(),
         }
-        self.known = if code == LOGGED_IN {
+        names
+    }
+
+    /// What a line names: behind PASS the user who was named before it.
+    fn named_by(&self, asked: &Asked) -> Line {
+        if asked.verb == Some(Verb::Pass) {
             self.claimed
         } else {
-            Line::new()
-        };
-        self.claimed
+            asked.names
+        }
     }
 }
 
@@ -100,6 +110,15 @@ fn parts_of(line: &[u8]) -> (&[u8], &[u8]) {
 /// Whether a path stands behind a verb.
 fn names_path(verb: Verb) -> bool {
     is_told(verb) || matches!(verb, Verb::User | Verb::Mlst | Verb::Size | Verb::Mdtm)
+}
+
+/// What a line of a verb changes of a folder, where it does.
+pub(crate) fn touched_by(verb: Verb) -> Option<Touches> {
+    match verb {
+        Verb::Stor | Verb::Stou | Verb::Appe => Some(Touches::Content),
+        Verb::Mkd | Verb::Rmd | Verb::Dele | Verb::Rnto => Some(Touches::Names),
+        _ => None,
+    }
 }
 
 /// Whether a line of a verb is told whatever is answered: transfers, and what changes the folder or the directory.

@@ -1,16 +1,27 @@
 // A session over the loopback, with both ends in one thread: the client says all its lines, and then the server serves them.
 use crate::made::file;
 use crate::meeting::Meeting;
-use ftp_tool_serve::{Limits, Log, PassivePorts, Patience, Service, session, users_of};
-use ftp_tree_folder::{Reasons, open};
+use ftp_tool_serve::{Limits, Log, PassivePorts, Patience, Service, Users, session, users_of};
+use ftp_tree_folder::{DiskFolder, Mirror, Reasons, open};
 use rows_base::{Paper, cut};
+use std::alloc::Global;
 use std::fs::Files;
 use std::io::{Eprint, ErrorKind, Print, Write};
 use std::net::{Net, SocketAddr, TcpListener, TcpStream};
 use std::time::Clock;
 use std::{fs, io};
 
-const DIR: &str = "rows_of_serve/served";
+/// The folder that is served, and the file of those who may log in.
+#[derive(Clone, Copy)]
+pub(crate) struct Over<'a> {
+    pub(crate) dir: &'a str,
+    pub(crate) accounts: Option<&'a str>,
+}
+
+const OVER: Over<'static> = Over {
+    dir: "rows_of_serve/served",
+    accounts: None,
+};
 
 /// What the client says before it names a port by PORT, between that and EPRT, and behind that.
 const BEFORE: &[u8] =
@@ -31,25 +42,19 @@ const LIMITS: Limits = Limits {
 /// What stands before each line of a reply.
 const MARK: &[u8] = b"< ";
 
-/// A client that is connected, the server's side of its connection, and where it awaits data connections.
-struct Joined {
-    client: TcpStream,
-    stream: TcpStream,
-    awaits: TcpListener,
+/// A port of the loopback that the system chooses.
+fn listener<R: Net<Listener = TcpListener, Stream = TcpStream>>(rt: &R) -> io::Result<TcpListener> {
+    TcpListener::bind(rt, SocketAddr::from(([127, 0, 0, 1], 0)))
 }
 
-/// Joins a client to a server over the loopback.
-fn join<R: Net<Listener = TcpListener, Stream = TcpStream>>(rt: &R) -> io::Result<Joined> {
-    let any = SocketAddr::from(([127, 0, 0, 1], 0));
-    let listener = TcpListener::bind(rt, any)?;
+/// A client that is connected over the loopback, and the server's side of its connection.
+pub(crate) fn join<R: Net<Listener = TcpListener, Stream = TcpStream>>(
+    rt: &R,
+) -> io::Result<(TcpStream, TcpStream)> {
+    let listener = listener(rt)?;
     let client = TcpStream::connect(rt, listener.local_addr()?)?;
     let (stream, _) = listener.accept()?;
-    let awaits = TcpListener::bind(rt, any)?;
-    Ok(Joined {
-        client,
-        stream,
-        awaits,
-    })
+    Ok((client, stream))
 }
 
 /// Puts all that the client says, which awaits data connections at this port.
@@ -82,8 +87,8 @@ fn put_replies(paper: &mut Paper, replies: &[u8]) {
     }
 }
 
-/// Serves a control connection; gives whether all went well.
-fn served<R>(rt: &R, stream: &TcpStream) -> io::Result<bool>
+/// Serves a control connection over a folder; gives whether all went well.
+fn served<R>(rt: &R, stream: &TcpStream, over: Over<'_>) -> io::Result<bool>
 where
     R: Net<Listener = TcpListener, Stream = TcpStream>
         + Files
@@ -93,11 +98,21 @@ where
         + AllocGlobal,
 {
     let reasons = Reasons::new();
-    served_over(rt, stream, &reasons)
+    let Ok(mirror) = open(rt, over.dir, &[], &reasons) else {
+        return Err(io::Error::from(ErrorKind::InvalidData));
+    };
+    let (_mirror, ended) = served_over(rt, stream, mirror, over.accounts, &reasons)?;
+    Ok(ended)
 }
 
-/// The same, where the folder tells why it failed.
-fn served_over<R>(rt: &R, stream: &TcpStream, reasons: &Reasons) -> io::Result<bool>
+/// Serves a control connection over the mirror of a folder; gives that back, and whether all went well.
+pub(crate) fn served_over<'a, 'b, R>(
+    rt: &'b R,
+    stream: &TcpStream,
+    mirror: Mirror<Global, DiskFolder<'a, &'b R>>,
+    accounts: Option<&str>,
+    reasons: &Reasons,
+) -> io::Result<(Mirror<Global, DiskFolder<'a, &'b R>>, bool)>
 where
     R: Net<Listener = TcpListener, Stream = TcpStream>
         + Files
@@ -106,22 +121,46 @@ where
         + Eprint
         + AllocGlobal,
 {
-    let Ok(tree) = open(rt, DIR, &[], reasons) else {
+    let Ok(users) = users_of(rt, accounts) else {
         return Err(io::Error::from(ErrorKind::InvalidData));
-    };
-    let Ok(users) = users_of(rt, None) else {
-        return Err(io::Error::from(ErrorKind::OutOfMemory));
     };
     let patience = Patience::new(LIMITS, None);
     let passive = PassivePorts::new(0, 0);
+    let Users { accounts, grants } = users;
     let service = Service {
         log: Log::Told,
+        grants: &grants,
         reasons,
         patience: &patience,
         passive: &passive,
     };
-    let (_tree, ended) = session(&Meeting { rt }, tree, users.accounts, stream, service);
-    Ok(ended.is_ok())
+    let (mirror, ended) = session(&Meeting { rt }, mirror, accounts, stream, service);
+    Ok((mirror, ended.is_ok()))
+}
+
+/// Puts what a client is answered that says these lines before it is served.
+pub(crate) fn answers<R>(
+    rt: &R,
+    paper: &mut Paper,
+    (client, stream): (TcpStream, TcpStream),
+    over: Over<'_>,
+    said: &[u8],
+) -> io::Result<()>
+where
+    R: Net<Listener = TcpListener, Stream = TcpStream>
+        + Files
+        + Clock
+        + Print
+        + Eprint
+        + AllocGlobal,
+{
+    let mut speaks = &client;
+    speaks.write_all(said)?;
+    paper.holds("a session", served(rt, &stream, over)?);
+    drop(stream);
+    let replies = io::read_to_string(rt.alloc(), client)?;
+    put_replies(paper, replies.as_bytes());
+    Ok(())
 }
 
 /// Puts what stands in a file.
@@ -154,24 +193,15 @@ where
         + Eprint
         + AllocGlobal,
 {
-    fs::create_dir(rt, DIR)?;
+    fs::create_dir(rt, OVER.dir)?;
     file(rt, "rows_of_serve/served/a", "hello\n", 0o600)?;
-    let Joined {
-        client,
-        stream,
-        awaits,
-    } = join(rt)?;
+    let awaits = listener(rt)?;
     let mut said = Paper::new(rt.alloc());
     say(&mut said, awaits.local_addr()?.port());
-    let mut speaks = &client;
-    speaks.write_all(said.text())?;
     let mut paper = Paper::new(rt.alloc());
-    paper.holds("a session", served(rt, &stream)?);
-    drop(stream);
+    answers(rt, &mut paper, join(rt)?, OVER, said.text())?;
     put_came(rt, &mut paper, &awaits)?;
     put_came(rt, &mut paper, &awaits)?;
-    let replies = io::read_to_string(rt.alloc(), client)?;
-    put_replies(&mut paper, replies.as_bytes());
     put_file(rt, &mut paper, "rows_of_serve/served/d/b")?;
     put_file(rt, &mut paper, "rows_of_serve/served/d/up")?;
     paper.holds("moved", !fs::exists(rt, "rows_of_serve/served/a")?);

@@ -1,4 +1,4 @@
-//! For tests alone: what `serve` answers where nobody is served, or a folder, a file of accounts, an address or a port is refused, and a session
+//! For tests alone: what `serve` answers where nobody is served, or a folder, a file of accounts, an address or a port is refused, and sessions
 //! over the loopback (RFC 959).
 #![tactic(auto)]
 
@@ -6,6 +6,7 @@ mod loopback;
 mod made;
 mod meeting;
 mod refused;
+mod rights;
 
 use std::{fs, io};
 
@@ -16,7 +17,9 @@ fn main(rt: HostRuntime) -> io::Result<()> {
     fs::create_dir(&rt, PLACE)?;
     let refused = refused::rows(&rt);
     let served = loopback::row(&rt);
+    let shared = rights::row(&rt);
     fs::remove_dir_all(&rt, PLACE)?;
     refused?;
-    served
+    served?;
+    shared
 }
