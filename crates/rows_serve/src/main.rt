@@ -7,6 +7,7 @@ mod made;
 mod meeting;
 mod refused;
 mod rights;
+mod soak;
 
 use std::{fs, io};
 
@@ -18,8 +19,10 @@ fn main(rt: HostRuntime) -> io::Result<()> {
     let refused = refused::rows(&rt);
     let served = loopback::row(&rt);
     let shared = rights::row(&rt);
+    let inbox = soak::row(&rt);
     fs::remove_dir_all(&rt, PLACE)?;
     refused?;
     served?;
-    shared
+    shared?;
+    inbox
 }
