@@ -6,7 +6,7 @@ use crate::pairing::PAIR;
 use crate::running::RUN;
 use crate::serving::SERVE;
 use crate::task::Task;
-use crate::words::{Form, Subcommand, Word, subcommand_of};
+use crate::words::{Form, MODE, MOST, STRU, Subcommand, TYPE, Value, Word, subcommand_of};
 use clap::{ArgMatches, Command};
 use ftp_tool_files::{Direction, Representation, number_of, representation_of};
 use std::alloc::{AllocError, Global};
@@ -23,7 +23,7 @@ const DIALOGUE: Subcommand<'static> = Subcommand {
     help: help::DIALOGUE,
     words: &[Word {
         name: "piece",
-        form: Form::Else("N", "0"),
+        form: Form::Else(Value::Number("N", 0, MOST), "0"),
         help: "octets that are read at a time, or 0 for what a read gives",
     }],
     options: &[],
@@ -44,17 +44,17 @@ const FRAME: Subcommand<'static> = Subcommand {
     words: &[
         Word {
             name: "type",
-            form: Form::Needed("A|I"),
+            form: Form::Needed(TYPE),
             help: "ASCII or image",
         },
         Word {
             name: "stru",
-            form: Form::Needed("F|R"),
+            form: Form::Needed(STRU),
             help: "file or record structure",
         },
         Word {
             name: "mode",
-            form: Form::Needed("S|B"),
+            form: Form::Needed(MODE),
             help: "stream or block mode",
         },
         Word {

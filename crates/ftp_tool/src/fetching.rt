@@ -1,6 +1,6 @@
 // The subcommands `get`, `put` and `ls`: their words.
 use crate::help;
-use crate::words::{Form, Subcommand, Word};
+use crate::words::{BadValue, Form, MODE, STRU, Subcommand, TYPE, Value, Word};
 use clap::ArgMatches;
 use ftp_operation::How;
 use ftp_tool_fetch::{Download, Target, Task};
@@ -16,7 +16,7 @@ pub const GET: Subcommand<'static> = Subcommand {
         PLACE,
         Word {
             name: "file",
-            form: Form::Place("FILE"),
+            form: Form::Place(Value::Text("FILE")),
             help: "the file to write; without it, one of the name that PATH ends in",
         },
         Word {
@@ -41,7 +41,7 @@ pub const PUT: Subcommand<'static> = Subcommand {
     words: &[
         Word {
             name: "file",
-            form: Form::NeededPlace("FILE"),
+            form: Form::NeededPlace(Value::Name("FILE")),
             help: "the file to read",
         },
         PLACE,
@@ -60,7 +60,7 @@ pub const LS: Subcommand<'static> = Subcommand {
 
 const PLACE: Word<'static> = Word {
     name: "place",
-    form: Form::NeededPlace("HOST:PORT/PATH"),
+    form: Form::NeededPlace(Value::Text("HOST:PORT/PATH")),
     help: "the server, its port (21 where none is written), and the path there",
 };
 
@@ -68,12 +68,12 @@ const PLACE: Word<'static> = Word {
 const OPTIONS: &[Word<'static>] = &[
     Word {
         name: "user",
-        form: Form::Else("U", "anonymous"),
+        form: Form::Else(Value::Text("U"), "anonymous"),
         help: "",
     },
     Word {
         name: "password-file",
-        form: Form::Given("F"),
+        form: Form::Given(Value::Text("F")),
         help: "a file of mode 600 with the password",
     },
     Word {
@@ -93,20 +93,37 @@ const OPTIONS: &[Word<'static>] = &[
     },
     Word {
         name: "type",
-        form: Form::Else("A|I", "I"),
+        form: Form::Else(TYPE, "I"),
         help: "",
     },
     Word {
         name: "stru",
-        form: Form::Else("F|R", "F"),
+        form: Form::Else(STRU, "F"),
         help: "",
     },
     Word {
         name: "mode",
-        form: Form::Else("S|B", "S"),
+        form: Form::Else(MODE, "S"),
         help: "",
     },
 ];
+
+/// The value that is none: the place, or the file that has no name where the place is one.
+pub fn bad_value<'a>(words: &'a ArgMatches<'_>) -> Option<BadValue<'a>> {
+    let place = words.get_str("place")?;
+    if place_of(place).is_none() {
+        return Some(BadValue {
+            option: "<HOST:PORT/PATH>",
+            value: place,
+            wanted: "an address or a name, a port from 1 to 65535 and a path are wanted",
+        });
+    }
+    Some(BadValue {
+        option: "[FILE]",
+        value: words.get_str("file").unwrap_or(""),
+        wanted: "a file's name is wanted, where the path ends in none",
+    })
+}
 
 /// Whether a subcommand is one of these.
 pub fn is_one(name: &str) -> bool {

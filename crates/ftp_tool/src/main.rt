@@ -24,6 +24,7 @@ use std::net::{Net, TcpListener, TcpStream};
 use std::process::ExitCode;
 use std::time::Clock;
 use task::perform;
+use words::BadValue;
 
 fn main(rt: HostRuntime) -> ExitCode {
     ExitCode::from(run(&rt, &mut rt.stderr()).unwrap_or(Status::Failed.number()))
@@ -102,7 +103,7 @@ where
             &mut std::io::writer(rt),
             faults,
         )),
-        None => bad_words(rt),
+        None => bad_words(rt, None),
     }
 }
 
@@ -121,7 +122,7 @@ where
             faults,
         )
         .number()),
-        None => bad_words(rt),
+        None => bad_words(rt, None),
     }
 }
 
@@ -137,7 +138,7 @@ where
 {
     match serving::serving_of(words) {
         Some(job) => Ok(ftp_tool_serve::serve(rt, job)?.number()),
-        None => bad_words(rt),
+        None => bad_words(rt, serving::bad_value(words)),
     }
 }
 
@@ -153,7 +154,7 @@ where
 {
     match running::server_of(words) {
         Some((host, port)) => Ok(ftp_tool_fetch::run(rt, host, port)?.number()),
-        None => bad_words(rt),
+        None => bad_words(rt, None),
     }
 }
 
@@ -169,18 +170,22 @@ where
         + Net<Listener = TcpListener, Stream = TcpStream>,
 {
     let Some(asked) = fetching::asked_of(words, is_terminal) else {
-        return bad_words(rt);
+        return bad_words(rt, fetching::bad_value(words));
     };
     match fetching::fetch_task_of(name, words, &asked) {
         Some(task) => Ok(ftp_tool_fetch::fetch(rt, &asked, task)?.number()),
-        None => bad_words(rt),
+        None => bad_words(rt, fetching::bad_value(words)),
     }
 }
 
-/// Tells what the values of options are.
-fn bad_words<R: Eprint>(rt: &R) -> Result<u8> {
-    eprintln!(rt;
-        "error: a number is decimal digits, at most 4294967295; a port is at most 65535, and of a server not 0; types are A and I, structures F and R, modes S and B; an address is in numbers; a place is HOST:PORT/PATH"
-    )?;
+/// Tells which value is none of its option; where none is named, it is a number that has a sign.
+fn bad_words<R: Eprint>(rt: &R, bad: Option<BadValue<'_>>) -> Result<u8> {
+    match bad {
+        Some(bad) => eprintln!(rt;
+            "error: invalid value '{}' for '{}': {}\n\nFor more information, try '--help'.",
+            bad.value, bad.option, bad.wanted
+        )?,
+        None => eprintln!(rt; "error: a number is decimal digits alone")?,
+    }
     Ok(Status::BadWords.number())
 }

@@ -1,6 +1,6 @@
 // The subcommand `run`: its words.
 use crate::help;
-use crate::words::{Form, Subcommand, Word};
+use crate::words::{Form, Subcommand, Value, Word};
 use clap::ArgMatches;
 use ftp_tool_words::server_port_of;
 
@@ -12,12 +12,12 @@ pub const RUN: Subcommand<'static> = Subcommand {
     words: &[
         Word {
             name: "host",
-            form: Form::Needed("A"),
+            form: Form::Needed(Value::Name("A")),
             help: "the server: an address or a name",
         },
         Word {
             name: "port",
-            form: Form::Needed("N"),
+            form: Form::Needed(Value::Number("N", 1, 65_535)),
             help: "the port that it listens at, 1 to 65535",
         },
     ],

@@ -1,10 +1,14 @@
 // The subcommand `serve`: its words.
 use crate::help;
-use crate::words::{Form, Subcommand, Word};
+use crate::words::{BadValue, Form, MOST, Subcommand, Value, Word};
 use clap::ArgMatches;
 use ftp_tool_files::number_of;
 use ftp_tool_serve::{Limits, Log, Others, Serving};
 use ftp_tool_words::{port_of, ports_of, sessions_of};
+use std::net::IpAddr;
+
+/// How long something is waited for.
+const SECONDS: Value<'static> = Value::Number("SECONDS", 0, MOST);
 
 /// The words of `serve`.
 pub const SERVE: Subcommand<'static> = Subcommand {
@@ -14,28 +18,28 @@ pub const SERVE: Subcommand<'static> = Subcommand {
     words: &[
         Word {
             name: "port",
-            form: Form::Needed("N"),
+            form: Form::Needed(Value::Number("N", 0, 65_535)),
             help: "the port to listen at, or 0 for one that the system chooses",
         },
         Word {
             name: "dir",
-            form: Form::Needed("D"),
+            form: Form::Needed(Value::Text("D")),
             help: "the folder",
         },
         Word {
             name: "sessions",
-            form: Form::Else("K|forever", "1"),
+            form: Form::Else(Value::Text("K|forever"), "1"),
             help: "how many control connections are served, one after another",
         },
         Word {
             name: "host",
-            form: Form::Else("A", "127.0.0.1"),
+            form: Form::Else(Value::Text("A"), "127.0.0.1"),
             help: "the address to listen at, one of the loopback where --accounts is not given",
         },
         Word {
             name: "accounts",
-            form: Form::Given("FILE"),
-            help: "who may log in: a file of lines user:password:root, its owner's alone",
+            form: Form::Given(Value::Text("FILE")),
+            help: "who may log in: a file of lines user:password:root or user:password:root:rights, its owner's alone",
         },
         Word {
             name: "log",
@@ -49,22 +53,22 @@ pub const SERVE: Subcommand<'static> = Subcommand {
         },
         Word {
             name: "login",
-            form: Form::Else("SECONDS", "30"),
+            form: Form::Else(SECONDS, "30"),
             help: "ends a control connection on which nobody logged in for so long; 0: never",
         },
         Word {
             name: "idle",
-            form: Form::Else("SECONDS", "300"),
+            form: Form::Else(SECONDS, "300"),
             help: "ends one without a command and without an octet of a transfer for so long; 0: never",
         },
         Word {
             name: "idle-while-waited",
-            form: Form::Else("SECONDS", "15"),
+            form: Form::Else(SECONDS, "15"),
             help: "the same while another client waits to be served",
         },
         Word {
             name: "passive-ports",
-            form: Form::Else("A-B", "49152-65535"),
+            form: Form::Else(Value::Text("A-B"), "49152-65535"),
             help: "the ports of passive data connections, each tried in turn",
         },
     ],
@@ -96,4 +100,33 @@ pub fn serving_of<'a>(words: &'a ArgMatches<'_>) -> Option<Serving<'a>> {
             Others::Change
         },
     })
+}
+
+/// The first value that is none of its option, of those that `clap` takes as they are.
+pub fn bad_value<'a>(words: &'a ArgMatches<'_>) -> Option<BadValue<'a>> {
+    let host = words.get_str("host")?;
+    let sessions = words.get_str("sessions")?;
+    let ports = words.get_str("passive-ports")?;
+    if host.parse::<IpAddr>().is_err() {
+        return Some(BadValue {
+            option: "--host <A>",
+            value: host,
+            wanted: "an address in numbers is wanted",
+        });
+    }
+    if sessions_of(sessions).is_none() {
+        return Some(BadValue {
+            option: "--sessions <K|forever>",
+            value: sessions,
+            wanted: "a number or forever is wanted",
+        });
+    }
+    if ports_of(ports).is_none() {
+        return Some(BadValue {
+            option: "--passive-ports <A-B>",
+            value: ports,
+            wanted: "two ports from 1 on are wanted, the first not behind the last",
+        });
+    }
+    None
 }

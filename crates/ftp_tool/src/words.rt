@@ -1,22 +1,73 @@
 // Words of a command line, as tables, and what `clap` makes of them.
+use clap::builder::ValueParser;
 use clap::{Arg, ArgAction, Command};
 use std::alloc::{AllocError, Global};
+
+/// The letters of types, structures and modes (RFC 959, section 5.3.2), and the most that a number may be.
+pub const TYPE: Value<'static> = Value::One("A|I", &["A", "I"]);
+
+pub const STRU: Value<'static> = Value::One("F|R", &["F", "R"]);
+
+pub const MODE: Value<'static> = Value::One("S|B", &["S", "B"]);
+
+pub const MOST: u64 = 4_294_967_295;
+
+/// The name of a value, and what it has to be.
+#[derive(Clone, Copy)]
+pub enum Value<'a> {
+    /// Any text.
+    Text(&'a str),
+    /// Any text but the empty one.
+    Name(&'a str),
+    /// A number from the first to the second.
+    Number(&'a str, u64, u64),
+    /// One of these words.
+    One(&'a str, &'a [&'a str]),
+}
+
+impl<'a> Value<'a> {
+    fn name(self) -> &'a str {
+        match self {
+            Value::Text(name) | Value::Name(name) => name,
+            Value::Number(name, _, _) => name,
+            Value::One(name, _) => name,
+        }
+    }
+
+    fn parser(self) -> ValueParser<'a> {
+        match self {
+            Value::Text(_) => ValueParser::String,
+            Value::Name(_) => ValueParser::NonEmptyString,
+            Value::Number(_, first, last) => ValueParser::Unsigned(first, last),
+            Value::One(_, words) => ValueParser::Names(words),
+        }
+    }
+}
 
 /// What a word of a command line is.
 #[derive(Clone, Copy)]
 pub enum Form<'a> {
     /// An option without a value.
     Flag,
-    /// An option with a value of this name.
-    Given(&'a str),
-    /// An option that has to be there, and the name of its value.
-    Needed(&'a str),
-    /// An option, the name of its value, and its value where it is not there.
-    Else(&'a str, &'a str),
-    /// A word that is no option, and its name in the help.
-    Place(&'a str),
+    /// An option with a value.
+    Given(Value<'a>),
+    /// An option that has to be there, with a value.
+    Needed(Value<'a>),
+    /// An option with a value, and the value where it is not there.
+    Else(Value<'a>, &'a str),
+    /// A word that is no option.
+    Place(Value<'a>),
     /// A word that is no option and has to be there.
-    NeededPlace(&'a str),
+    NeededPlace(Value<'a>),
+}
+
+/// A value that is none of its option.
+#[derive(Clone, Copy)]
+pub struct BadValue<'a> {
+    /// The option as it stands in the help.
+    pub option: &'a str,
+    pub value: &'a str,
+    pub wanted: &'a str,
 }
 
 /// A word of a command line.
@@ -78,13 +129,14 @@ fn arg_of<'a>(alloc: Global, word: Word<'a>) -> Arg<'a> {
     }
 }
 
-fn option<'a>(alloc: Global, word: Word<'a>, value: &'a str) -> Arg<'a> {
+fn option<'a>(alloc: Global, word: Word<'a>, value: Value<'a>) -> Arg<'a> {
     place(alloc, word, value).long(word.name)
 }
 
-fn place<'a>(alloc: Global, word: Word<'a>, value: &'a str) -> Arg<'a> {
+fn place<'a>(alloc: Global, word: Word<'a>, value: Value<'a>) -> Arg<'a> {
     Arg::new(alloc, word.name)
         .help(word.help)
-        .value_name(value)
+        .value_name(value.name())
+        .value_parser(value.parser())
         .action(ArgAction::Set)
 }
