@@ -17,29 +17,30 @@ const CAME: &str = "rows_of_serve/inbox/run";
 /// What each client sends over a data connection (`meeting`).
 const SENT: &str = "sent by the client\n";
 
-/// Clients, by what they say, and whether a whole file is there behind each.
-const CLIENTS: &[(&str, &[u8], bool)] = &[
-    (
-        "an upload is there",
-        b"USER guest\r\nPASS secret\r\nTYPE I\r\nPASV\r\nSTOR run.part\r\nRNFR run.part\r\nRNTO run\r\nQUIT\r\n",
-        true,
-    ),
-    (
-        "of a client that is cut behind its upload nothing has its last name",
-        b"USER guest\r\nPASS secret\r\nTYPE I\r\nPASV\r\nSTOR run.part\r\nRNFR run.part\r\nRN",
-        false,
-    ),
-    (
-        "the next upload goes over what that left",
-        b"USER guest\r\nPASS secret\r\nTYPE I\r\nPASV\r\nSTOR run.part\r\nRNFR run.part\r\nRNTO run\r\nQUIT\r\n",
-        true,
-    ),
-    ("a client that says nothing leaves nothing", b"", false),
-    (
-        "lines that change nothing lose nothing",
-        b"USER guest\r\nPASS secret\r\nPASV\r\nSTOR run\r\nSIZE run\r\nRNFR run\r\nRNTO run\r\nPASV\r\nLIST\r\nQUIT\r\n",
-        true,
-    ),
+/// How a client ends.
+#[derive(Clone, Copy, Debug, PartialEq, Eq)]
+enum Ends {
+    /// It says QUIT, and waits for the server's end.
+    Whole,
+    /// Its side of the control connection ends behind what it said.
+    Cut,
+}
+
+/// What an instrument says that uploads a file and then gives it its last name.
+const UPLOAD: &[u8] =
+    b"USER guest\r\nPASS secret\r\nTYPE I\r\nPASV\r\nSTOR run.part\r\nRNFR run.part\r\nRNTO run\r\nQUIT\r\n";
+
+/// The same up to the upload.
+const BEGUN: &[u8] =
+    b"USER guest\r\nPASS secret\r\nTYPE I\r\nPASV\r\nSTOR run.part\r\nRNFR run.part\r\n";
+
+/// Clients one after another. A whole file is there behind each that is not cut, and none behind one that is.
+const CLIENTS: &[(&str, &[u8], Ends)] = &[
+    ("a file is there behind an upload", UPLOAD, Ends::Whole),
+    ("none behind one that is cut", BEGUN, Ends::Cut),
+    ("one behind the next", UPLOAD, Ends::Whole),
+    ("none behind a client that says nothing", b"", Ends::Cut),
+    ("one behind the last", UPLOAD, Ends::Whole),
 ];
 
 /// Takes away what came; gives whether it was there, and whole.
@@ -51,15 +52,17 @@ fn taken<R: Files + AllocGlobal>(rt: &R) -> io::Result<bool> {
     Ok(text.as_str() == SENT)
 }
 
-/// A client that says these lines and then ends; gives the server's side of its connection.
-fn said<R>(rt: &R, lines: &[u8]) -> io::Result<(TcpStream, TcpStream)>
+/// A client that says these lines, and the server's side of its connection.
+fn said<R>(rt: &R, lines: &[u8], ends: Ends) -> io::Result<(TcpStream, TcpStream)>
 where
     R: Net<Listener = TcpListener, Stream = TcpStream>,
 {
     let (client, stream) = join(rt)?;
     let mut speaks = &client;
     speaks.write_all(lines)?;
-    client.shutdown(Shutdown::Write)?;
+    if ends == Ends::Cut {
+        client.shutdown(Shutdown::Write)?;
+    }
     Ok((client, stream))
 }
 
@@ -80,12 +83,12 @@ where
     };
     let mut seen = Seen::nothing(rt.alloc());
     let mut paper = Paper::new(rt.alloc());
-    for (name, lines, comes) in CLIENTS {
-        let (_client, stream) = said(rt, *lines)?;
+    for (name, lines, ends) in CLIENTS {
+        let (_client, stream) = said(rt, *lines, *ends)?;
         let (now, _left) = reloaded(&rt, DIR, &[], mirror, &mut seen, 0);
         let (back, _ended) = served_over(rt, &stream, now, None, &reasons)?;
         mirror = back;
-        paper.holds(*name, taken(rt)? == *comes);
+        paper.holds(*name, taken(rt)? == (*ends == Ends::Whole));
     }
     rt.write_all(paper.text())
 }
