@@ -1,9 +1,11 @@
 // A data connection: what stands of its stream, and which octets of a room are on their way over it.
-ghost use Rattle.std.specs.Prelude.{◌≡◌, ◌≤◌, ◌<◌, IsTrue, IfOk, OnOk, OnErr, false, length, take};
+ghost use Rattle.std.specs.Prelude.{◌≡◌, ◌≤◌, ◌<◌, IsTrue, IfOk, OnOk, OnErr, false, length, take, [], Some, None};
+ghost use Rattle.std.specs.Option.{is_some};
 ghost use Rattle.std.specs.Io.KnownBytes.{Appends, Consumes, IsAtEnd, Keeps};
+ghost use Rattle.ftp_control.specs.Asking.{Leaves};
 ghost use Rattle.ftp_control.specs.Whole.{IsCut, IsWhole};
 
-use crate::pieces::{Failed, put};
+use crate::pieces::{Failed, TURNS};
 use crate::ports::{DATA_PIECE, For, Ports, Ready};
 use crate::whole::{Rest, whole_of};
 use std::io::{Error, ErrorKind, Read, Write};
@@ -39,11 +41,13 @@ pub struct DataConnection<S> {
 }
 
 impl<S: Read + Write> DataConnection<S> {
+    ghost use Rattle.ftp_control.specs.Asking.{Adds, Replaces};
     ghost use Rattle.ftp_control.specs.Carrying.{Sends, carried_of, left_of, on_their_way};
 
     /// No data connection.
     pub fn new() -> DataConnection<S>
-        ensures { IsWhole result.at result.end result.rest }
+        ensures whole { IsWhole result.at result.end result.rest }
+        ensures none { result.stream ≡ None }
     {
         DataConnection {
             stream: None,
@@ -56,7 +60,9 @@ impl<S: Read + Write> DataConnection<S> {
 
     /// It is open now; one that stood before is reset.
     pub fn begin<P: Ports<Stream = S>>(&mut self, ports: &mut P, stream: S)
-        ensures { IsWhole self.new.at self.new.end self.new.rest }
+        ensures whole { IsWhole self.new.at self.new.end self.new.rest }
+        ensures stands { self.new.stream ≡ Some stream }
+        ensures asked { Replaces S.remaining S.contents self.old.stream (P.history ports.old) (P.history ports.new) }
     {
         self.at = self.end;
         self.rest = Rest::Nothing;
@@ -71,6 +77,7 @@ impl<S: Read + Write> DataConnection<S> {
         ensures noted { self.new.rest ≡ rest }
         ensures at { self.new.at ≡ self.old.at }
         ensures end { self.new.end ≡ self.old.end }
+        ensures stream { self.new.stream ≡ self.old.stream }
     {
         self.rest = rest;
     }
@@ -105,6 +112,7 @@ impl<S: Read + Write> DataConnection<S> {
         requires within { count ≤ 262144 }
         ensures at { self.new.at ≡ 0 }
         ensures end { self.new.end ≡ count }
+        ensures stream { self.new.stream ≡ self.old.stream }
     {
         self.at = 0;
         self.end = count;
@@ -135,7 +143,9 @@ impl<S: Read + Write> DataConnection<S> {
         ensures ok { OnOk result (Sends (carried_of S.contents self.old) (carried_of S.contents self.new) (on_their_way self.old room.now) (on_their_way self.new room.now)) }
         ensures err { OnErr result (Keeps (carried_of S.contents self.old) (carried_of S.contents self.new)) }
         ensures same { OnErr result (on_their_way self.new room.now ≡ on_their_way self.old room.now) }
+        ensures end { self.new.end ≡ self.old.end }
         ensures rest { self.new.rest ≡ self.old.rest }
+        ensures stands { is_some self.new.stream ≡ is_some self.old.stream }
     {
         let unwritten = self.unwritten(room);
         let Some(stream) = &mut self.stream else {
@@ -150,18 +160,33 @@ impl<S: Read + Write> DataConnection<S> {
     /// Writes all octets of the room that are on their way, however long that waits.
     pub fn write_all(&mut self, room: &[u8]) -> Result<(), Failed>
         requires { self.old.end ≤ length room.now }
-        ensures ok { OnOk result (Sends (carried_of S.contents self.old) (carried_of S.contents self.new) (on_their_way self.old room.now) (on_their_way self.new room.now)) }
+        ensures sends { Sends (carried_of S.contents self.old) (carried_of S.contents self.new) (on_their_way self.old room.now) (on_their_way self.new room.now) }
         ensures all { OnOk result (self.new.at ≡ self.new.end) }
+        ensures end { self.new.end ≡ self.old.end }
         ensures rest { self.new.rest ≡ self.old.rest }
+        ensures stands { is_some self.new.stream ≡ is_some self.old.stream }
     {
-        let unwritten = self.unwritten(room);
-        let Some(stream) = &mut self.stream else {
-            return Err(Failed);
-        };
-        put(stream, unwritten)?;
-        self.went = self.went.saturating_add(unwritten.len());
-        self.at = self.end;
-        Ok(())
+        for _ in 0..TURNS {
+            if !self.has_unwritten() {
+                return Ok(());
+            }
+            self.write_more(room)?;
+        }
+        Err(Failed)
+    }
+
+    /// Writes octets of the room that are on their way, as many as one write takes; none where it was interrupted.
+    fn write_more(&mut self, room: &[u8]) -> Result<(), Failed>
+        requires { self.old.end ≤ length room.now }
+        ensures sends { Sends (carried_of S.contents self.old) (carried_of S.contents self.new) (on_their_way self.old room.now) (on_their_way self.new room.now) }
+        ensures end { self.new.end ≡ self.old.end }
+        ensures rest { self.new.rest ≡ self.old.rest }
+        ensures stands { is_some self.new.stream ≡ is_some self.old.stream }
+    {
+        match self.write(room) {
+            Ok(()) | Err(Halt::Again) => Ok(()),
+            Err(Halt::Spoken | Halt::Broken) => Err(Failed),
+        }
     }
 
     /// Reads once; none is the end of the data connection.
@@ -170,7 +195,10 @@ impl<S: Read + Write> DataConnection<S> {
         ensures ok { IfOk result (λ count. Consumes (left_of S.remaining self.old) (left_of S.remaining self.new) (take count room.new)) }
         ensures end { IfOk result (λ count. count ≡ 0 → 0 < length room.new → IsAtEnd (left_of S.remaining self.new)) }
         ensures err { OnErr result (Keeps (left_of S.remaining self.old) (left_of S.remaining self.new)) }
+        ensures at { self.new.at ≡ self.old.at }
+        ensures length { self.new.end ≡ self.old.end }
         ensures rest { self.new.rest ≡ self.old.rest }
+        ensures stands { is_some self.new.stream ≡ is_some self.old.stream }
     {
         let Some(stream) = &mut self.stream else {
             return Err(Halt::Broken);
@@ -180,7 +208,13 @@ impl<S: Read + Write> DataConnection<S> {
 
     /// Waits until octets can be read or written, or where `hears` until the control connection is to be served.
     pub fn wait<P: Ports<Stream = S>>(&mut self, ports: &mut P, what: For, hears: bool) -> Ready
+        ensures left { Keeps (left_of S.remaining self.old) (left_of S.remaining self.new) }
+        ensures written { Keeps (carried_of S.contents self.old) (carried_of S.contents self.new) }
+        ensures at { self.new.at ≡ self.old.at }
+        ensures end { self.new.end ≡ self.old.end }
         ensures rest { self.new.rest ≡ self.old.rest }
+        ensures stands { is_some self.new.stream ≡ is_some self.old.stream }
+        ensures asked { Adds (P.history ports.old) (P.history ports.new) [] }
     {
         match &mut self.stream {
             Some(stream) => ports.wait(stream, what, hears),
@@ -190,7 +224,9 @@ impl<S: Read + Write> DataConnection<S> {
 
     /// Closes it, if it is open, and the port that is listened at: by an end where all that was to go is written, and else by a reset.
     pub fn close<P: Ports<Stream = S>>(&mut self, ports: &mut P)
-        ensures { IsWhole self.new.at self.new.end self.new.rest }
+        ensures whole { IsWhole self.new.at self.new.end self.new.rest }
+        ensures none { self.new.stream ≡ None }
+        ensures asked { Leaves S.remaining S.contents self.old.stream self.old.at self.old.end self.old.rest (P.history ports.old) (P.history ports.new) }
     {
         let (at, end, rest) = (self.at, self.end, self.rest);
         self.at = self.end;
@@ -202,7 +238,9 @@ impl<S: Read + Write> DataConnection<S> {
     }
 
     /// Closes it for good.
-    pub fn finish<P: Ports<Stream = S>>(self, ports: &mut P) {
+    pub fn finish<P: Ports<Stream = S>>(self, ports: &mut P)
+        ensures { Leaves S.remaining S.contents self.stream self.at self.end self.rest (P.history ports.old) (P.history ports.new) }
+    {
         let DataConnection {
             stream,
             at,
@@ -220,6 +258,7 @@ impl<S: Read + Write> DataConnection<S> {
 /// Closes a data connection of whose octets those up to `end` were taken and those up to `at` are written.
 fn close_by<P: Ports>(ports: &mut P, stream: P::Stream, at: usize, end: usize, rest: Rest)
     requires { at ≤ end }
+    ensures { Leaves P.Stream.remaining P.Stream.contents (Some stream) at end rest (P.history ports.old) (P.history ports.new) }
 {
     match whole_of(stream, at, end, rest) {
         Ok(whole) => ports.close(Some(whole)),

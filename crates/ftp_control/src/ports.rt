@@ -1,4 +1,8 @@
 // What opens and closes data connections, and what tells the time.
+ghost use Rattle.std.specs.Prelude.{List, [], ◌∷◌, Option, None};
+ghost use Rattle.std.specs.Io.KnownBytes.{Keeps};
+ghost use Rattle.ftp_control.specs.Asking.{Accepts, Adds, Asked, Closes, Connects, Listened, Resets};
+
 use crate::whole::Whole;
 use ftp_endpoint::{Endpoint, Host};
 use ftp_facts::Moment;
@@ -53,27 +57,39 @@ pub trait Ports {
     /// let go: each one goes back by `close` or by `reset`.
     type Stream: Read + Write;
 
+    /// What was asked so far, the last one first, where that is known.
+    ghost history: { Self → Option (List Asked) } = { λ ports. None };
+
     /// Listens at a port of its choice for one data connection.
-    fn listen(&mut self) -> Option<u16>;
+    fn listen(&mut self) -> Option<u16>
+        ensures { Adds (history self.old) (history self.new) (Listened result ∷ []) };
 
     /// Waits for the data connection at that port. Where `hears`, octets of the control connection end the waiting.
-    fn accept(&mut self, hears: bool) -> Accepted<Self::Stream>;
+    fn accept(&mut self, hears: bool) -> Accepted<Self::Stream>
+        ensures { Accepts Self.Stream.remaining Self.Stream.contents result (history self.old) (history self.new) };
 
     /// Opens a data connection to an endpoint.
-    fn connect(&mut self, endpoint: Endpoint) -> Option<Self::Stream>;
+    fn connect(&mut self, endpoint: Endpoint) -> Option<Self::Stream>
+        ensures { Connects Self.Stream.remaining Self.Stream.contents endpoint result (history self.old) (history self.new) };
 
     /// Waits at an open data connection. Where `hears`, octets of the control connection stop the waiting, and go first. Its end stops it where
     /// the data connection is not ready; the answer is then `Control` where `hears`, and else `Lost`.
-    fn wait(&mut self, stream: &mut Self::Stream, what: For, hears: bool) -> Ready;
+    fn wait(&mut self, stream: &mut Self::Stream, what: For, hears: bool) -> Ready
+        ensures left { Keeps (Self.Stream.remaining stream.old) (Self.Stream.remaining stream.new) }
+        ensures written { Keeps (Self.Stream.contents stream.old) (Self.Stream.contents stream.new) }
+        ensures asked { Adds (history self.old) (history self.new) [] };
 
     /// What the control connection has now.
-    fn spoken(&mut self) -> Spoken;
+    fn spoken(&mut self) -> Spoken
+        ensures { Adds (history self.old) (history self.new) [] };
 
     /// Closes a data connection and the port that is listened at, if there are any: the peer finds the end behind all that was written.
-    fn close(&mut self, stream: Option<Whole<Self::Stream>>);
+    fn close(&mut self, stream: Option<Whole<Self::Stream>>)
+        ensures { Closes Self.Stream.remaining Self.Stream.contents stream (history self.old) (history self.new) };
 
     /// Closes a data connection, whole or not: the peer finds a reset, and never an end.
-    fn reset(&mut self, stream: Self::Stream);
+    fn reset(&mut self, stream: Self::Stream)
+        ensures { Resets Self.Stream.remaining Self.Stream.contents stream (history self.old) (history self.new) };
 }
 
 /// What tells the time.

@@ -1,5 +1,5 @@
 // A data connection that may be closed by an end.
-ghost use Rattle.std.specs.Prelude.{◌≡◌, ◌≤◌, OnErr};
+ghost use Rattle.std.specs.Prelude.{◌≡◌, ◌≤◌, IfErr, IfOk};
 ghost use Rattle.ftp_control.specs.Whole.{IsCut, IsWhole};
 
 /// Whether octets are still to be taken from the end that sends over a data connection.
@@ -57,7 +57,8 @@ impl<S> Whole<S> {
 /// A stream as a whole one, where it is; else as it was.
 pub(crate) fn whole_of<S>(stream: S, at: usize, end: usize, rest: Rest) -> Result<Whole<S>, S>
     requires { at ≤ end }
-    ensures { OnErr result (IsCut at end rest) }
+    ensures whole { IfOk result (λ whole. (whole.stream ≡ stream) × IsWhole at end rest) }
+    ensures cut { IfErr result (λ kept. (kept ≡ stream) × IsCut at end rest) }
 {
     if at == end && rest == Rest::Nothing {
         Ok(Whole {
