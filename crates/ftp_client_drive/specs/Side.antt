@@ -1,4 +1,5 @@
 -- A client as the end of a session that is driven: what its calls do, as `Near` says it (RFC 959, section 2.3).
+use Rattle.std.proofs.Common.{◌∙◌}
 use Rattle.std.specs.Prelude.{◌≡◌, ℕ, List, [], length, take, Option, refl}
 use Rattle.ftp_control.specs.Side.{Side}
 use Rattle.ftp_endpoint.specs.declared.host.Host.{Host}
@@ -53,4 +54,7 @@ client_side = record {
   OwesNone = OwesNone;
   gives_none = λ old new owes. record { count = 0; owed = refl; gave = owes.gave };
   IsCut = IsCut;
+  LetsGo = λ old new. new ≡ old;
+  lets_none = λ end. refl;
+  lets_then = λ a b c first second. second ∙ first;
 }

@@ -47,7 +47,7 @@ where
         }
         Err(Failed) => {
             client.control_end();
-            data.connection.cut();
+            data.connection.reset(ports);
             data.finish(ports);
             client.data_closed();
             client.report()
@@ -238,8 +238,7 @@ where
         Ok(()) | Err(Halt::Again) => Ok(()),
         Err(Halt::Spoken) => read(client, control),
         Err(Halt::Broken) => {
-            data.connection.cut();
-            data.connection.close(ports);
+            data.connection.reset(ports);
             client.data_fault();
             Ok(())
         }
@@ -271,8 +270,7 @@ where
         Err(Halt::Again) => Ok(()),
         Err(Halt::Spoken) => read(client, control),
         Err(Halt::Broken) => {
-            data.connection.cut();
-            data.connection.close(ports);
+            data.connection.reset(ports);
             client.data_fault();
             Ok(())
         }

@@ -80,7 +80,9 @@ module _ {side : Side} where
     leads = settled_leads start old settles;
     octets = [];
     breaks = record {
-      gives = inl (refl, owner);
+      given = old.owner;
+      gives = inl (refl, refl);
+      lets = subst (λ s. side.LetsGo old.owner s) (sym owner) (side.lets_none old.owner);
       left = left;
       unheard = unheard;
       wrote = subst (λ w. AppendsFront old.written w []) (sym written) (AppendsFront-none old.written []);
@@ -95,7 +97,9 @@ module _ {side : Side} where
     leads = leads;
     octets = octets;
     breaks = record {
+      given = new.owner;
       gives = inr gives;
+      lets = side.lets_none new.owner;
       left = subst (λ l. Keeps old.left l) (sym left) (Keeps-refl old.left);
       unheard = unheard;
       wrote = wrote;

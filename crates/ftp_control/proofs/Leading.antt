@@ -1,7 +1,8 @@
 -- Deeds one after another.
-use Rattle.std.proofs.Common.{List, [], ◌∷◌, ◌++◌, refl, sym, ap, subst, inl}
+use Rattle.std.proofs.Common.{◌≡◌, ◌∙◌, List, [], ◌∷◌, ◌++◌, refl, sym, ap, subst, inl}
 use Rattle.std.proofs.KnownBytes.{Appends-nil, Keeps-refl}
-use Rattle.std.specs.Io.KnownBytes.{Appends}
+use Rattle.std.specs.Io.KnownBytes.{Appends, Keeps}
+use Rattle.ftp_control.specs.Beginning.{AppendsFront}
 use Rattle.ftp_control.proofs.Fronts.{AppendsFront-none}
 use Rattle.ftp_control.specs.Side.{Side}
 use Rattle.ftp_control.specs.Deeds.{Deed, Said, Other, Done, Led, OwesNothing, Stand, with_owner}
@@ -36,10 +37,28 @@ module _ {side : Side} where
 
   -- it gives up where it stands
   pub gives_up : (a : Stand side) → Breaks [] a a
-  gives_up a = record { gives = inl (refl, refl); left = Keeps-refl a.left; unheard = refl; wrote = AppendsFront-none a.written [] }
+  gives_up a = record { given = a.owner; gives = inl (refl, refl); lets = side.lets_none a.owner; left = Keeps-refl a.left; unheard = refl; wrote = AppendsFront-none a.written [] }
 
   pub fails_here : (a b : Stand side) → Leads a b → Fails a b
   fails_here a b leads = record { mid = b; leads = leads; octets = []; breaks = gives_up b }
+
+  -- what was not told is let go, too
+  pub fails_lets : (a b c : Stand side) → Fails a b → side.LetsGo b.owner c.owner → c ≡ with_owner c.owner b → Fails a c
+  fails_lets a b c fails lets same =
+      let breaks = fails.breaks in
+      record {
+        mid = fails.mid;
+        leads = fails.leads;
+        octets = fails.octets;
+        breaks = record {
+          given = breaks.given;
+          gives = breaks.gives;
+          lets = side.lets_then breaks.given b.owner c.owner breaks.lets lets;
+          left = subst (λ s. Keeps fails.mid.left s.left) (sym same) breaks.left;
+          unheard = ap (λ s. s.unheard) same ∙ breaks.unheard;
+          wrote = subst (λ s. AppendsFront fails.mid.written s.written fails.octets) (sym same) breaks.wrote;
+        };
+      }
 
   -- to be asked for nothing is a deed too
   asked_nothing : (a b : Stand side) → OwesNothing a b → Done (Said []) a b

@@ -51,6 +51,11 @@ module _ {S : Type 0} (remaining contents : S → Option (List ℕ)) where
   Replaces (Some stream) old new = Resets stream old new
   Replaces None old new = Adds old new []
 
+  -- one is dropped: reset, where it stands, and else the port alone is closed
+  abbrev pub Drops : Option S → (old new : Option (List Asked)) → Type 0
+  Drops (Some stream) old new = Resets stream old new
+  Drops None old new = Adds old new (Shut ∷ [])
+
   -- one is left, of which so much was written: closed by an end where it is whole, and else reset; where none stands, the port alone is closed
   abbrev pub Leaves : Option S → (at end : ℕ) → Rest → (old new : Option (List Asked)) → Type 0
   Leaves (Some stream) at end rest old new =

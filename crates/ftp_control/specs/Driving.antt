@@ -22,7 +22,9 @@ module _ {side : Side} where
 
   -- the drive breaks off: no more was read, and of these octets, which the end gave last, a beginning was written
   pub record Breaks (octets : List ℕ) (old new : Stand side) : Type 0 where
-    pub gives : ((octets ≡ []) × (new.owner ≡ old.owner)) ⊎ side.Gives octets old.owner new.owner
+    pub given : side.End
+    pub gives : ((octets ≡ []) × (given ≡ old.owner)) ⊎ side.Gives octets old.owner given
+    pub lets : side.LetsGo given new.owner
     pub left : Keeps old.left new.left
     pub unheard : new.unheard ≡ old.unheard
     pub wrote : AppendsFront old.written new.written octets

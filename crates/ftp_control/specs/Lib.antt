@@ -3,6 +3,8 @@ pub mod Beginning
 pub mod Whole
 pub mod Asking
 pub mod Carrying
+pub mod Lane
 pub mod Side
 pub mod Deeds
 pub mod Driving
+pub mod Courses

@@ -17,3 +17,7 @@ pub record Side : Type 1 where
   pub gives_none : (old new : End) → OwesNone old new → Gives [] old new
   -- it is told that the control connection ended
   pub IsCut : (old new : End) → Type 0
+  -- where a drive breaks off, what came for it and it was not told of is let go
+  pub LetsGo : (old new : End) → Type 0
+  pub lets_none : (end : End) → LetsGo end end
+  pub lets_then : (a b c : End) → LetsGo a b → LetsGo b c → LetsGo a c

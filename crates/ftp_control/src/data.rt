@@ -41,7 +41,7 @@ pub struct DataConnection<S> {
 }
 
 impl<S: Read + Write> DataConnection<S> {
-    ghost use Rattle.ftp_control.specs.Asking.{Adds, Replaces};
+    ghost use Rattle.ftp_control.specs.Asking.{Adds, Drops, Replaces};
     ghost use Rattle.ftp_control.specs.Carrying.{Sends, carried_of, left_of, on_their_way};
 
     /// No data connection.
@@ -118,15 +118,6 @@ impl<S: Read + Write> DataConnection<S> {
         self.end = count;
     }
 
-    /// Drops the octets that are not written yet: nothing more of them goes, so it is cut.
-    pub fn cut(&mut self)
-        ensures rest { self.new.rest ≡ Rest.More }
-        ensures none { self.new.at ≡ self.new.end }
-    {
-        self.at = self.end;
-        self.rest = Rest::More;
-    }
-
     /// The octets of the room that are on their way.
     fn unwritten<'r>(&self, room: &'r [u8]) -> &'r [u8]
         requires { self.now.end ≤ length room.now }
@@ -140,7 +131,7 @@ impl<S: Read + Write> DataConnection<S> {
     /// Writes octets of the room that are on their way, as many as one write takes.
     pub fn write(&mut self, room: &[u8]) -> Result<(), Halt>
         requires { self.old.end ≤ length room.now }
-        ensures ok { OnOk result (Sends (carried_of S.contents self.old) (carried_of S.contents self.new) (on_their_way self.old room.now) (on_their_way self.new room.now)) }
+        ensures sends { Sends (carried_of S.contents self.old) (carried_of S.contents self.new) (on_their_way self.old room.now) (on_their_way self.new room.now) }
         ensures err { OnErr result (Keeps (carried_of S.contents self.old) (carried_of S.contents self.new)) }
         ensures same { OnErr result (on_their_way self.new room.now ≡ on_their_way self.old room.now) }
         ensures end { self.new.end ≡ self.old.end }
@@ -233,6 +224,20 @@ impl<S: Read + Write> DataConnection<S> {
         self.rest = Rest::Nothing;
         match self.stream.take() {
             Some(stream) => close_by(ports, stream, at, end, rest),
+            None => ports.close(None),
+        }
+    }
+
+    /// Resets it, if it is open, and closes the port that is listened at: octets that are not written yet are dropped.
+    pub fn reset<P: Ports<Stream = S>>(&mut self, ports: &mut P)
+        ensures whole { IsWhole self.new.at self.new.end self.new.rest }
+        ensures none { self.new.stream ≡ None }
+        ensures asked { Drops S.remaining S.contents self.old.stream (P.history ports.old) (P.history ports.new) }
+    {
+        self.at = self.end;
+        self.rest = Rest::Nothing;
+        match self.stream.take() {
+            Some(stream) => ports.reset(stream),
             None => ports.close(None),
         }
     }

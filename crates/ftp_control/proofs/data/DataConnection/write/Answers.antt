@@ -3,8 +3,8 @@ use Rattle.ftp_control.specs.Carrying.{Sends, told_by}
 use Rattle.ftp_control.proofs.Sending.{sends_some}
 use Rattle.ftp_control.proofs.data.DataConnection.write.Goals as goal
 
-pub returns-clause-ok : goal.returns-clause-ok
-returns-clause-ok g c =
+pub returns-clause-sends : goal.returns-clause-sends
+returns-clause-sends g c =
     let way = take c.args.self.now.end c.args.room.now in
     let contents = g.S.Write.contents in
     subst (λ s. Sends (told_by contents s) (contents c.write_some.new.stream) (drop c.args.self.now.at way) (drop (c.args.self.now.at + c.in_ok-count.count) way)) (sym c.in-Some.is)

@@ -1,0 +1,164 @@
+-- What goes over data connections, deed by deed.
+use Rattle.std.proofs.Common.{◌≡◌, ◌∙◌, ℕ, Bool, true, false, List, [], ◌∷◌, ◌++◌, Option, Some, None, refl, sym, ap, subst, inl, inr, append_assoc, append-nil}
+use Rattle.std.proofs.KnownBytes.{Appends-kept, Appends-nil, Appends-trans, Consumes-kept, Consumes-nil, Consumes-trans, Consumes-whole}
+use Rattle.std.specs.Io.KnownBytes.{Appends, Consumes}
+use Rattle.ftp_control.proofs.Lanes.{adds_then}
+use Rattle.ftp_control.specs.Asking.{Asked, Adds}
+use Rattle.ftp_control.specs.Courses.{Course, Carries, IsFair, IsFairLeave, after, asked_by, asked_in, begun, course_of, move_in}
+use Rattle.ftp_control.specs.Deeds.{Deed, Heard, Said, Read, Ended, Other, Done, Led, Stand}
+use Rattle.ftp_control.specs.Lane.{IsEnded, Lane, Move, Moves, Stays, Waits, Reads, Writes, Gives, Takes, Ends, Stops, Asks, Opens, Leaves}
+use Rattle.ftp_control.specs.Side.{Side}
+
+-- what is so of the data connection that stands, behind each move
+record Follows (course : Course) (lane : Lane) : Type 0 where
+  given : course.given ≡ course.written ++ lane.unwritten
+  read : course.read ≡ course.told ++ lane.untold
+  consumed : course.is_written ≡ false → Consumes course.at_first lane.left course.read
+  appended : course.is_read ≡ false → Appends course.so_far lane.written course.written
+
+never : {T : Type 0} → true ≡ false → T
+never e = absurd (cc)
+
+-- one that is begun
+follows_begun : (at_first so_far : Option (List ℕ)) (lane : Lane) → lane.unwritten ≡ [] → lane.untold ≡ [] → Consumes at_first lane.left [] → Appends so_far lane.written []
+    → Follows (begun at_first so_far) lane
+follows_begun at_first so_far lane unwritten untold consumed appended =
+    record { given = sym unwritten; read = sym untold; consumed = λ e. consumed; appended = λ e. appended }
+
+follows : (move : Move) (course : Course) (old new : Lane) → Follows course old → Moves move old new → Follows (after move course) new
+follows Stays course old new before same = subst (λ l. Follows course l) (sym same) before
+follows Waits course old new before waited = record {
+  given = before.given ∙ ap (λ l. course.written ++ l) (sym waited.holds.unwritten);
+  read = before.read ∙ ap (λ l. course.told ++ l) (sym waited.holds.untold);
+  consumed = λ e. Consumes-kept course.at_first old.left new.left course.read (before.consumed e) waited.left;
+  appended = λ e. Appends-kept course.so_far old.written new.written course.written (before.appended e) waited.written;
+}
+follows (Reads octets) course old new before read = record {
+  given = before.given ∙ ap (λ l. course.written ++ l) (sym read.unwritten);
+  read = ap (λ l. l ++ octets) (before.read ∙ ap (λ l. course.told ++ l) read.told ∙ append-nil course.told) ∙ ap (λ l. course.told ++ l) (sym read.untold);
+  consumed = λ e. Consumes-trans course.at_first old.left new.left course.read octets (before.consumed e) read.read;
+  appended = λ e. never e;
+}
+follows (Writes octets) course old new before wrote = record {
+  given = before.given ∙ ap (λ l. course.written ++ l) wrote.first ∙ sym (append_assoc course.written octets new.unwritten);
+  read = before.read ∙ ap (λ l. course.told ++ l) (sym wrote.untold);
+  consumed = λ e. never e;
+  appended = λ e. Appends-trans course.so_far old.written new.written course.written octets (before.appended e) wrote.wrote;
+}
+follows (Gives octets) course old new before same = subst (λ l. Follows (after (Gives octets) course) l) (sym same) (record {
+  given = ap (λ l. l ++ octets) before.given ∙ append_assoc course.written old.unwritten octets;
+  read = before.read;
+  consumed = before.consumed;
+  appended = before.appended;
+})
+follows (Takes octets) course old new before took = subst (λ l. Follows (after (Takes octets) course) l) (sym took.1) (record {
+  given = before.given;
+  read = before.read ∙ ap (λ l. course.told ++ l) took.0 ∙ sym (append_assoc course.told octets new.untold);
+  consumed = before.consumed;
+  appended = before.appended;
+})
+follows Ends course old new before end = subst (λ l. Follows course l) (sym end.0) before
+follows Stops course old new before stop = subst (λ l. Follows course l) (sym stop.0) before
+follows (Asks asked) course old new before asks =
+    subst (λ l. Follows course l) (sym asks.1) (record { given = before.given; read = before.read; consumed = before.consumed; appended = before.appended })
+follows (Opens host asked at_first so_far) course old new before had = follows_begun at_first so_far new had.unwritten had.untold
+    (subst (λ l. Consumes at_first l []) (sym had.left) (Consumes-nil at_first)) (subst (λ l. Appends so_far l []) (sym had.written) (Appends-nil so_far))
+follows (Leaves asked) course old new before left = follows_begun None None new left.unwritten left.untold tt tt
+
+-- where none is left to be read, all that was read was told
+told_all : (course : Course) (lane : Lane) → Follows course lane → lane.untold ≡ [] → course.told ≡ course.read
+told_all course lane before untold = sym (before.read ∙ ap (λ l. course.told ++ l) untold ∙ append-nil course.told)
+
+ended_fair : (stands : Bool) (asked : Asked) (course : Course) (lane : Lane) → Follows course lane → IsEnded stands lane.left lane.written lane.unwritten asked
+    → IsFairLeave asked course
+ended_fair true asked course lane before (inl (none, is)) =
+    let all = sym (before.given ∙ ap (λ l. course.written ++ l) none ∙ append-nil course.written) in
+    subst (λ a. IsFairLeave a course) (sym is) (all, λ e. subst (λ l. Appends course.so_far lane.written l) all (before.appended e))
+ended_fair true asked course lane before (inr is) = subst (λ a. IsFairLeave a course) (sym is) tt
+ended_fair false asked course lane before is = subst (λ a. IsFairLeave a course) (sym is) tt
+
+fair : (move : Move) (course : Course) (old new : Lane) → Follows course old → Moves move old new → IsFair move course
+fair Ends course old new before end =
+    let all = told_all course old before end.2 in
+    (all, λ e. Consumes-whole course.at_first old.left course.read (λ whole. course.told ≡ whole) (before.consumed e) end.1 all)
+fair (Leaves asked) course old new before left = ended_fair old.stands asked course old before left.ended
+fair Stays course old new before moved = tt
+fair Waits course old new before moved = tt
+fair (Reads octets) course old new before moved = tt
+fair (Writes octets) course old new before moved = tt
+fair (Gives octets) course old new before moved = tt
+fair (Takes octets) course old new before moved = tt
+fair Stops course old new before moved = tt
+fair (Asks asked) course old new before moved = tt
+fair (Opens host asked at_first so_far) course old new before moved = tt
+
+adds_none : (old new : Option (List Asked)) → new ≡ old → Adds old new []
+adds_none None new same = tt
+adds_none (Some l) new same = subst (λ n. Adds (Some l) n []) (sym same) refl
+
+adds : (move : Move) (old new : Lane) → Moves move old new → Adds old.asked new.asked (asked_by move)
+adds Stays old new same = adds_none old.asked new.asked (ap (λ l. l.asked) same)
+adds Waits old new waited = waited.asked
+adds (Reads octets) old new read = adds_none old.asked new.asked read.asked
+adds (Writes octets) old new wrote = adds_none old.asked new.asked wrote.asked
+adds (Gives octets) old new same = adds_none old.asked new.asked (ap (λ l. l.asked) same)
+adds (Takes octets) old new took = adds_none old.asked new.asked (ap (λ l. l.asked) took.1)
+adds Ends old new end = adds_none old.asked new.asked (ap (λ l. l.asked) end.0)
+adds Stops old new stop = adds_none old.asked new.asked (ap (λ l. l.asked) stop.0)
+adds (Asks asked) old new asks = asks.0
+adds (Opens host asked at_first so_far) old new had = had.adds
+adds (Leaves asked) old new left = left.adds
+
+-- the data connection of an end: which call moves it how; what moves control octets leaves it
+pub record Carrier (side : Side) (move_of : side.Call → Move) : Type 0 where
+  pub lane : side.End → Lane
+  pub called : (call : side.Call) (old new : side.End) → side.Called call old new → Moves (move_of call) (lane old) (lane new)
+  pub heard : (octets unheard : List ℕ) (old new : side.End) → side.Hears octets unheard old new → lane new ≡ lane old
+  pub gave : (octets : List ℕ) (old new : side.End) → side.Gives octets old new → lane new ≡ lane old
+  pub owed : (old new : side.End) → side.OwesNone old new → lane new ≡ lane old
+  pub cut : (old new : side.End) → side.IsCut old new → lane new ≡ lane old
+
+module _ {side : Side} (move_of : side.Call → Move) (carrier : Carrier side move_of) where
+  moves : (deed : Deed side) (old new : Stand side) → Done deed old new → Moves (move_in move_of deed) (carrier.lane old.owner) (carrier.lane new.owner)
+  moves (Heard octets) old new done = carrier.heard octets old.unheard old.owner new.owner done.hears
+  moves (Said octets) old new done = carrier.gave octets old.owner new.owner done.gives
+  moves (Read octets) old new done = carrier.owed old.owner new.owner done.owes
+  moves Ended old new done = carrier.cut done.asked new.owner done.cut ∙ carrier.owed old.owner done.asked done.owes
+  moves (Other call) old new done = carrier.called call old.owner new.owner done.0
+
+  record Tells (deeds : List (Deed side)) (start now : Lane) : Type 0 where
+    carries : Carries move_of deeds start now
+    follow : Follows (course_of move_of deeds) now
+
+  tells : (deeds : List (Deed side)) (start now : Stand side) → Led deeds start now → (carrier.lane start.owner).unwritten ≡ [] → (carrier.lane start.owner).untold ≡ []
+      → Tells deeds (carrier.lane start.owner) (carrier.lane now.owner)
+  tells [] start now led unwritten untold =
+      let lane = carrier.lane start.owner in
+      subst (λ s. Tells [] lane (carrier.lane s.owner)) (sym led) (record {
+        carries = record { in_order = tt; given = sym unwritten; read = sym untold; asked = adds_none lane.asked lane.asked refl };
+        follow = follows_begun None None lane unwritten untold tt tt;
+      })
+  tells (deed ∷ before) start now led unwritten untold =
+      let mid = led.0 in
+      let first = carrier.lane start.owner in
+      let old = carrier.lane mid.owner in
+      let new = carrier.lane now.owner in
+      let so_far = tells before start mid led.1 unwritten untold in
+      let course = course_of move_of before in
+      let move = move_in move_of deed in
+      let moved = moves deed mid now led.2 in
+      let follow = follows move course old new so_far.follow moved in
+      record {
+        carries = record {
+          in_order = (so_far.carries.in_order, (old.unwritten, so_far.follow.given), (old.untold, so_far.follow.read), fair move course old new so_far.follow moved);
+          given = follow.given;
+          read = follow.read;
+          asked = adds_then first.asked old.asked new.asked (asked_in move_of before) (asked_by move) so_far.carries.asked (adds move old new moved);
+        };
+        follow = follow;
+      }
+
+  -- deeds that begin where nothing is on its way
+  pub carries : (deeds : List (Deed side)) (start now : Stand side) → Led deeds start now → (carrier.lane start.owner).unwritten ≡ [] → (carrier.lane start.owner).untold ≡ []
+      → Carries move_of deeds (carrier.lane start.owner) (carrier.lane now.owner)
+  carries deeds start now led unwritten untold = (tells deeds start now led unwritten untold).carries

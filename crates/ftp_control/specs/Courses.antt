@@ -1,0 +1,111 @@
+-- What goes over data connections, one after another, as deeds tell it (RFC 959, section 3.2).
+use Rattle.std.specs.Prelude.{◌≡◌, ⊤, ℕ, Bool, true, false, List, [], ◌∷◌, ◌++◌, Option, None, IfSome}
+use Rattle.std.specs.Io.KnownBytes.{Appends}
+use Rattle.ftp_control.specs.Asking.{Asked, Listened, Came, Connected, NotCame, NotConnected, Ended as EndedBy, Reset, Shut, Adds}
+use Rattle.ftp_control.specs.Deeds.{Deed, Heard, Said, Read, Ended, Other}
+use Rattle.ftp_control.specs.Lane.{Lane, Move, Stays, Waits, Reads, Writes, Gives, Takes, Ends, Stops, Asks, Opens, Leaves}
+use Rattle.ftp_control.specs.Side.{Side}
+
+-- what went over one so far: what was left to be read and what was written to it when it was opened; whether it was read and written; what
+-- was read, what of that the end was told or let go, what it gave, and what of that was written
+pub record Course : Type 0 where
+  pub at_first : Option (List ℕ)
+  pub so_far : Option (List ℕ)
+  pub is_read : Bool
+  pub is_written : Bool
+  pub read : List ℕ
+  pub told : List ℕ
+  pub given : List ℕ
+  pub written : List ℕ
+
+abbrev pub begun : (at_first so_far : Option (List ℕ)) → Course
+begun at_first so_far =
+    record { at_first = at_first; so_far = so_far; is_read = false; is_written = false; read = []; told = []; given = []; written = [] }
+
+-- a move goes on with it, or begins another
+abbrev pub after : Move → Course → Course
+after Stays course = course
+after Waits course = course
+after (Reads octets) course = record course { is_read = true; read = course.read ++ octets }
+after (Writes octets) course = record course { is_written = true; written = course.written ++ octets }
+after (Gives octets) course = record course { given = course.given ++ octets }
+after (Takes octets) course = record course { told = course.told ++ octets }
+after Ends course = course
+after Stops course = course
+after (Asks asked) course = course
+after (Opens host asked at_first so_far) course = begun at_first so_far
+after (Leaves asked) course = begun None None
+
+-- what a move asks of whatever opens and closes data connections
+abbrev pub asked_by : Move → List Asked
+asked_by (Asks asked) = asked
+asked_by (Opens host asked at_first so_far) = asked
+asked_by (Leaves asked) = asked ∷ []
+asked_by Stays = []
+asked_by Waits = []
+asked_by (Reads octets) = []
+asked_by (Writes octets) = []
+asked_by (Gives octets) = []
+asked_by (Takes octets) = []
+asked_by Ends = []
+asked_by Stops = []
+
+-- these are the first of those
+abbrev pub IsFront : (front all : List ℕ) → Type 0
+IsFront front all = (rest : List ℕ) × (all ≡ front ++ rest)
+
+-- an end goes behind all that this end gave; where nothing was read before, the stream holds just that behind what it held when it was opened
+abbrev pub IsFairLeave : Asked → Course → Type 0
+IsFairLeave (EndedBy left written) course = (course.written ≡ course.given) × (course.is_read ≡ false → Appends course.so_far written course.given)
+IsFairLeave (Reset left written) course = ⊤
+IsFairLeave Shut course = ⊤
+IsFairLeave (Listened port) course = ⊤
+IsFairLeave (Came host left written) course = ⊤
+IsFairLeave (Connected endpoint left written) course = ⊤
+IsFairLeave NotCame course = ⊤
+IsFairLeave (NotConnected endpoint) course = ⊤
+
+-- what is so before a move: this end is told of an end behind all that was read, and that is all that was to be read, if nothing was written
+abbrev pub IsFair : Move → Course → Type 0
+IsFair Ends course = (course.told ≡ course.read) × (course.is_written ≡ false → IfSome course.at_first (λ all. course.told ≡ all))
+IsFair (Leaves asked) course = IsFairLeave asked course
+IsFair Stays course = ⊤
+IsFair Waits course = ⊤
+IsFair (Reads octets) course = ⊤
+IsFair (Writes octets) course = ⊤
+IsFair (Gives octets) course = ⊤
+IsFair (Takes octets) course = ⊤
+IsFair Stops course = ⊤
+IsFair (Asks asked) course = ⊤
+IsFair (Opens host asked at_first so_far) course = ⊤
+
+module _ {side : Side} (move_of : side.Call → Move) where
+  abbrev pub move_in : Deed side → Move
+  move_in (Other call) = move_of call
+  move_in (Heard octets) = Stays
+  move_in (Said octets) = Stays
+  move_in (Read octets) = Stays
+  move_in Ended = Stays
+
+  -- behind deeds, the last one first
+  abbrev pub course_of : List (Deed side) → Course
+  course_of [] = begun None None
+  course_of (deed ∷ before) = after (move_in deed) (course_of before)
+
+  abbrev pub asked_in : List (Deed side) → List Asked
+  asked_in [] = []
+  asked_in (deed ∷ before) = asked_by (move_in deed) ++ asked_in before
+
+  -- at each deed: what was written is the first of what was given, in order, and what was told the first of what was read
+  abbrev pub AreInOrder : List (Deed side) → Type 0
+  AreInOrder [] = ⊤
+  AreInOrder (deed ∷ before) =
+      let course = course_of before in
+      AreInOrder before × IsFront course.written course.given × IsFront course.told course.read × IsFair (move_in deed) course
+
+  -- what deeds come to
+  pub record Carries (deeds : List (Deed side)) (start now : Lane) : Type 0 where
+    pub in_order : AreInOrder deeds
+    pub given : (course_of deeds).given ≡ (course_of deeds).written ++ now.unwritten
+    pub read : (course_of deeds).read ≡ (course_of deeds).told ++ now.untold
+    pub asked : Adds start.asked now.asked (asked_in deeds)

@@ -1,0 +1,145 @@
+-- What an end sees of its data connection, and how that moves (RFC 959, section 3.2).
+use Rattle.std.specs.Prelude.{◌≡◌, ◌⊎◌, ℕ, Bool, true, false, List, [], ◌∷◌, ◌++◌, Option, None}
+use Rattle.std.specs.Option.{is_some}
+use Rattle.std.specs.Io.KnownBytes.{Appends, Consumes, IsAtEnd, Keeps}
+use Rattle.ftp_endpoint.specs.declared.host.Host.{Host}
+use Rattle.ftp_endpoint.specs.declared.endpoint.Endpoint.{Endpoint}
+use Rattle.ftp_control.specs.Asking.{Asked, Came, Connected, Ended, Reset, Shut, Adds}
+use Rattle.ftp_control.specs.Carrying.{carried_of, left_of, on_their_way}
+use Rattle.ftp_control.specs.declared.data.DataConnection.{DataConnection}
+
+-- whether one stands; what is left to be read of it and what was written to it, where its stream tells that; the octets that this end gave
+-- and that are not written yet; those that were read and that this end was not told; what was asked of whatever opens and closes it
+pub record Lane : Type 0 where
+  pub stands : Bool
+  pub left : Option (List ℕ)
+  pub written : Option (List ℕ)
+  pub unwritten : List ℕ
+  pub untold : List ℕ
+  pub asked : Option (List Asked)
+
+-- of values of the program: the room has the octets that are on their way, and those that were read and not told are in hand
+abbrev pub lane_of : {S : Type 0} → (remaining contents : S → Option (List ℕ)) → Option (List Asked) → DataConnection S → (room untold : List ℕ) → Lane
+lane_of remaining contents asked connection room untold = record {
+  stands = is_some connection.stream;
+  left = left_of remaining connection;
+  written = carried_of contents connection;
+  unwritten = on_their_way connection room;
+  untold = untold;
+  asked = asked;
+}
+
+-- none stands
+abbrev pub no_lane : Option (List Asked) → Lane
+no_lane asked = record { stands = false; left = None; written = None; unwritten = []; untold = []; asked = asked }
+
+-- what is not told is this
+abbrev pub with_untold : List ℕ → Lane → Lane
+with_untold untold lane = record lane { untold = untold }
+
+-- this end gave these, too
+abbrev pub with_given : List ℕ → Lane → Lane
+with_given octets lane = record lane { unwritten = lane.unwritten ++ octets }
+
+-- this was asked
+abbrev pub with_asked : Option (List Asked) → Lane → Lane
+with_asked asked lane = record lane { asked = asked }
+
+-- how it moves
+pub data Move : Type 0 where
+  -- not at all
+  Stays : Move
+  -- it is waited at
+  Waits : Move
+  -- these are read; none where that fails, or at its end
+  Reads : (octets : List ℕ) → Move
+  -- these are written, the first of those that are not yet
+  Writes : (octets : List ℕ) → Move
+  -- this end gives these for it
+  Gives : (octets : List ℕ) → Move
+  -- this end is told of these, the first of those that were read and not told; or they are let go
+  Takes : (octets : List ℕ) → Move
+  -- this end is told that it ended
+  Ends : Move
+  -- this end is told that none stands
+  Stops : Move
+  -- these are asked, and none is opened or closed
+  Asks : (asked : List Asked) → Move
+  -- one is opened, with this host at its other end, of which so much is left and so much was written
+  Opens : (host : Host) → (asked : List Asked) → (left written : Option (List ℕ)) → Move
+  -- it is closed or reset, or where none stands the port alone is closed
+  Leaves : (asked : Asked) → Move
+
+-- what is not read, written, opened or closed stays
+pub record Holds (old new : Lane) : Type 0 where
+  pub stands : new.stands ≡ old.stands
+  pub unwritten : new.unwritten ≡ old.unwritten
+  pub untold : new.untold ≡ old.untold
+
+pub record IsWaited (old new : Lane) : Type 0 where
+  pub holds : Holds old new
+  pub left : Keeps old.left new.left
+  pub written : Keeps old.written new.written
+  pub asked : Adds old.asked new.asked []
+
+-- where all that were read before are told
+pub record IsRead (octets : List ℕ) (old new : Lane) : Type 0 where
+  pub stands : new.stands ≡ old.stands
+  pub told : old.untold ≡ []
+  pub read : Consumes old.left new.left octets
+  pub untold : new.untold ≡ octets
+  pub unwritten : new.unwritten ≡ old.unwritten
+  pub asked : new.asked ≡ old.asked
+
+pub record IsWritten (octets : List ℕ) (old new : Lane) : Type 0 where
+  pub stands : new.stands ≡ old.stands
+  pub first : old.unwritten ≡ octets ++ new.unwritten
+  pub wrote : Appends old.written new.written octets
+  pub untold : new.untold ≡ old.untold
+  pub asked : new.asked ≡ old.asked
+
+-- a data connection is had by waiting for it or by opening it, with this host at its other end
+abbrev pub IsHad : Host → Asked → (left written : Option (List ℕ)) → Type 0
+IsHad host asked left written =
+    (asked ≡ Came host left written) ⊎ ((endpoint : Endpoint) × (asked ≡ Connected endpoint left written) × (host ≡ endpoint.host))
+
+-- one that stood before is reset
+abbrev pub IsReplaced : (stands : Bool) → (left written : Option (List ℕ)) → (had : Asked) → List Asked → Type 0
+IsReplaced true left written had asked = asked ≡ Reset left written ∷ had ∷ []
+IsReplaced false left written had asked = asked ≡ had ∷ []
+
+pub record IsOpened (host : Host) (asked : List Asked) (at_first so_far : Option (List ℕ)) (old new : Lane) : Type 0 where
+  pub had : Asked
+  pub is_had : IsHad host had at_first so_far
+  pub replaced : IsReplaced old.stands old.left old.written had asked
+  pub adds : Adds old.asked new.asked asked
+  pub stands : new.stands ≡ true
+  pub left : new.left ≡ at_first
+  pub written : new.written ≡ so_far
+  pub unwritten : new.unwritten ≡ []
+  pub untold : new.untold ≡ []
+
+-- by an end only where all that was given is written
+abbrev pub IsEnded : (stands : Bool) → (left written : Option (List ℕ)) → (unwritten : List ℕ) → Asked → Type 0
+IsEnded true left written unwritten asked = ((unwritten ≡ []) × (asked ≡ Ended left written)) ⊎ (asked ≡ Reset left written)
+IsEnded false left written unwritten asked = asked ≡ Shut
+
+pub record IsLeft (asked : Asked) (old new : Lane) : Type 0 where
+  pub ended : IsEnded old.stands old.left old.written old.unwritten asked
+  pub adds : Adds old.asked new.asked (asked ∷ [])
+  pub stands : new.stands ≡ false
+  pub unwritten : new.unwritten ≡ []
+  pub untold : new.untold ≡ []
+
+abbrev pub Moves : Move → (old new : Lane) → Type 0
+Moves Stays old new = new ≡ old
+Moves Waits old new = IsWaited old new
+Moves (Reads octets) old new = IsRead octets old new
+Moves (Writes octets) old new = IsWritten octets old new
+Moves (Gives octets) old new = new ≡ with_given octets old
+Moves (Takes octets) old new = (old.untold ≡ octets ++ new.untold) × (new ≡ with_untold new.untold old)
+Moves Ends old new = (new ≡ old) × IsAtEnd old.left × (old.untold ≡ [])
+Moves Stops old new = (new ≡ old) × (old.stands ≡ false)
+Moves (Asks asked) old new = Adds old.asked new.asked asked × (new ≡ with_asked new.asked old)
+Moves (Opens host asked left written) old new = IsOpened host asked left written old new
+Moves (Leaves asked) old new = IsLeft asked old new
