@@ -7,7 +7,7 @@ use Rattle.std.specs.Io.KnownBytes.{Consumes, Keeps}
 use Rattle.ftp_endpoint.specs.declared.host.Host.{Host}
 use Rattle.ftp_control.specs.Asking.{Asked, Reset, Ended, Shut, Adds, Drops, Leaves, Replaces}
 use Rattle.ftp_control.specs.Carrying.{Sends, on_their_way, told_by}
-use Rattle.ftp_control.specs.Lane.{IsEnded, IsHad, IsLeft, IsOpened, IsRead, IsReplaced, IsWaited, IsWritten, lane_of, no_lane}
+use Rattle.ftp_control.specs.Lane.{IsEnded, IsHad, IsLeft, IsOpened, IsRead, IsReplaced, IsWaited, IsWritten, lane_of, no_lane, with_given}
 use Rattle.ftp_control.specs.Whole.{IsWhole}
 use Rattle.ftp_control.specs.declared.data.DataConnection.{DataConnection}
 use Rattle.ftp_control.specs.declared.whole.Rest.{Rest}
@@ -67,14 +67,16 @@ module _ {S : Type 0} (remaining contents : S → Option (List ℕ)) where
       → IsWhole new.at new.end new.rest → new.stream ≡ None
       → (asked : Asked) × IsLeft asked (lane_of remaining contents h0 old room untold) (lane_of remaining contents h1 new later [])
   leaves old new h0 h1 room later untold left whole none =
-      let end = ends old.stream old.at old.end old.rest h0 h1 room left in
-      (end.0, record {
-        ended = end.2;
-        adds = end.1;
-        stands = ap is_some none;
-        unwritten = way_none new.at new.end later whole.0;
-        untold = refl;
-      })
+      let end = ends old.stream old.at old.end old.rest h0 h1 room left in (
+        end.0,
+        record {
+          ended = end.2;
+          adds = end.1;
+          stands = ap is_some none;
+          unwritten = way_none new.at new.end later whole.0;
+          untold = refl;
+        },
+      )
 
   -- one is left for good
   pub leaves_for_good : (old : DataConnection S) (h0 h1 : Option (List Asked)) (room untold : List ℕ) → Leaves remaining contents old.stream old.at old.end old.rest h0 h1
@@ -100,14 +102,16 @@ module _ {S : Type 0} (remaining contents : S → Option (List ℕ)) where
       → IsWhole new.at new.end new.rest → new.stream ≡ None
       → (asked : Asked) × IsLeft asked (lane_of remaining contents h0 old room untold) (lane_of remaining contents h1 new later [])
   drops old new h0 h1 room later untold dropped whole none =
-      let end = drop_ends old.stream h0 h1 (drop old.at (take old.end room)) dropped in
-      (end.0, record {
-        ended = end.2;
-        adds = end.1;
-        stands = ap is_some none;
-        unwritten = way_none new.at new.end later whole.0;
-        untold = refl;
-      })
+      let end = drop_ends old.stream h0 h1 (drop old.at (take old.end room)) dropped in (
+        end.0,
+        record {
+          ended = end.2;
+          adds = end.1;
+          stands = ap is_some none;
+          unwritten = way_none new.at new.end later whole.0;
+          untold = refl;
+        },
+      )
 
   -- it is waited at
   pub waits : (old new : DataConnection S) (h0 h1 : Option (List Asked)) (room untold : List ℕ) → Keeps (told_by remaining old.stream) (told_by remaining new.stream)
@@ -119,6 +123,14 @@ module _ {S : Type 0} (remaining contents : S → Option (List ℕ)) where
     written = written;
     asked = asked;
   }
+
+  -- these were taken, where all before were written
+  pub fills : (old new : DataConnection S) (asked : Option (List Asked)) (room later : List ℕ) (count : ℕ) → new.stream ≡ old.stream → old.at ≡ old.end → new.at ≡ 0
+      → new.end ≡ count → lane_of remaining contents asked new later [] ≡ with_given (take count later) (lane_of remaining contents asked old room [])
+  fills old new asked room later count stream all at end =
+      ap (λ s. record { stands = is_some s; left = told_by remaining s; written = told_by contents s; unwritten = drop new.at (take new.end later); untold = []; asked = asked }) stream
+      ∙ ap (λ l. record { stands = is_some old.stream; left = told_by remaining old.stream; written = told_by contents old.stream; unwritten = l; untold = []; asked = asked })
+      (ap (λ n. drop n (take new.end later)) at ∙ ap (λ n. take n later) end ∙ ap (λ l. l ++ take count later) (sym (way_none old.at old.end room all)))
 
   -- it is read, where none of the room's octets are on their way
   pub reads : (old new : DataConnection S) (asked : Option (List Asked)) (room later octets : List ℕ) → old.at ≡ old.end → new.at ≡ old.at → new.end ≡ old.end

@@ -1,16 +1,25 @@
 -- What turns say, put together, and how a drive ends.
-use Rattle.std.proofs.Common.{◌≡◌, ◌∙◌, ℕ, ◌≤◌, List, ◌++◌, length, take, drop, sym, ap, subst, Result, Ok, Err}
+use Rattle.std.proofs.Common.{◌≡◌, ◌∙◌, ◌⊎◌, ℕ, ◌+◌, ◌≤◌, inl, inr, List, [], ◌∷◌, ◌++◌, length, take, drop, Option, refl, sym, ap, subst, Result, Ok, Err}
 use Rattle.std.specs.Prelude.{IsErr, true, false}
-use Rattle.std.proofs.lemmas.List.{take-append-drop, take-take}
-use Rattle.ftp_control.specs.Deeds.{Heard, Stand, with_owner}
-use Rattle.ftp_control.specs.Driving.{Fails, Leads, Quietly}
+use Rattle.std.proofs.KnownBytes.{Keeps-refl}
+use Rattle.std.specs.Io.KnownBytes.{Consumes}
+use Rattle.std.proofs.Math.Seq.{take-append-add}
+use Rattle.std.proofs.lemmas.List.{append_assoc, append-nil, take-append-drop, take-take}
+use Rattle.ftp_control.specs.Asking.{Adds, Asked}
+use Rattle.ftp_control.specs.Deeds.{Heard, Led, Other, Stand, with_owner}
+use Rattle.ftp_control.specs.Driving.{Breaks, Fails, Goes, Leads, Quietly, Settles}
+use Rattle.ftp_control.specs.Lane.{IsLeft, IsRead, IsWaited, IsWritten, Lane, with_asked, with_given, with_untold}
 use Rattle.ftp_control.specs.declared.pieces.Failed.{Failed}
-use Rattle.ftp_control.proofs.Leading.{leads_by, quiet_call, quiet_then}
+use Rattle.ftp_control.proofs.Courses.{Carrier, carries}
+use Rattle.ftp_control.proofs.Leading.{leads_by, leads_then, quiet_call, quiet_nothing, quiet_then}
 use Rattle.ftp_control.proofs.Totals.{cuts, sums}
-use Rattle.ftp_server_model.specs.Far.{Hears, Server}
-use Rattle.ftp_server_drive.specs.Side.{Call, Clock, ended, server_side}
+use Rattle.ftp_server_model.specs.Far.{Hears, Server, Steps}
+use Rattle.ftp_server_model.specs.Failing.{GiveFails}
+use Rattle.ftp_server_model.specs.Calls.{given_step, to_give}
+use Rattle.ftp_server_drive.specs.Beside.{held, untaken}
+use Rattle.ftp_server_drive.specs.Side.{Call, Clock, Gave, Gives, Got, Left, LetGo, Waited, Wrote, Held, WantsNone, ended, move_of, server_side}
 use Rattle.ftp_server_drive.specs.declared.drive.Life.{Life}
-use Rattle.ftp_server_drive.specs.Driving.{BrokeOff, Drove, EndsOver, IsOver, Timed, Turns}
+use Rattle.ftp_server_drive.specs.Driving.{BrokeOff, Drove, EndsOver, Idles, IsOver, Timed, Turns}
 
 pub turns_err : (a b : Stand server_side) (r : Result Life Failed) → IsErr r → Fails a b → Turns a b r
 turns_err a b (Ok value) failed fails = absurd (let e : false ≡ true = failed in cc)
@@ -20,28 +29,151 @@ pub ends_err : {T : Type 0} (a b : Stand server_side) (r : Result T Failed) → 
 ends_err a b (Ok value) failed fails = absurd (let e : false ≡ true = failed in cc)
 ends_err a b (Err e) failed fails = fails
 
+-- where it breaks off, what was not taken is let go
+pub hands_err : (old : Stand server_side) (new : List ℕ → Stand server_side) (octets : List ℕ) (r : Result ℕ Failed) → IsErr r → Fails old (new [])
+    → Goes old (new (untaken octets r)) r
+hands_err old new octets (Ok value) failed fails = absurd (let e : false ≡ true = failed in cc)
+hands_err old new octets (Err e) failed fails = fails
+
 -- of what is not heard it heard the first octets, of those that it was given
 pub hears_next : (old new : Stand server_side) (given : ℕ) (octets : List ℕ) (count : ℕ) → octets ≡ take given old.unheard → count ≤ given
-    → Hears (take count octets) old.owner new.owner → new.unheard ≡ drop count old.unheard → new.left ≡ old.left → new.written ≡ old.written → Leads old new
-hears_next old new given octets count is le hears unheard left written =
+    → Hears (take count octets) old.owner.server new.owner.server → new.owner.lane ≡ old.owner.lane → new.unheard ≡ drop count old.unheard
+    → new.left ≡ old.left → new.written ≡ old.written → Leads old new
+hears_next old new given octets count is le hears lane unheard left written =
     let first : take count octets ≡ take count old.unheard = ap (take count) is ∙ take-take count given old.unheard le in
     leads_by (Heard (take count octets)) old new (record {
-      hears = hears;
+      hears = (hears, lane);
       next = sym (ap (λ l. l ++ new.unheard) first ∙ ap (λ l. take count old.unheard ++ l) unheard ∙ take-append-drop count old.unheard);
       left = left;
       written = written;
     })
 
--- calls of the server alone, the moment first
-pub timed_quietly : (call : Call) (old new : Server) → Timed call old new → Quietly server_side old new
+-- ---- calls that leave the control connection alone
+
+-- the moment first
+pub timed_quietly : (call : Call) (old new : Held) → Timed call old new → Quietly server_side old new
 timed_quietly call old new timed =
     quiet_then server_side old timed.1 new (quiet_call server_side (Clock timed.0) old timed.1 timed.2) (quiet_call server_side call timed.1 new timed.3)
 
--- a drive that came to its end
-pub drove : (start now : Stand server_side) → Leads start now → IsOver now → Drove start now
-drove start now leads over = record { deeds = leads.deeds; sums = sums leads.deeds start now leads.led; over = over }
+pub idles_nothing : (lane : Lane) → Idles lane lane
+idles_nothing lane server = quiet_nothing server_side (held server lane)
+
+pub idles_then : (a b c : Lane) → Idles a b → Idles b c → Idles a c
+idles_then a b c first second server = quiet_then server_side (held server a) (held server b) (held server c) (first server) (second server)
+
+pub idles_waited : (old new : Lane) → IsWaited old new → Idles old new
+idles_waited old new waited server = quiet_call server_side Waited (held server old) (held server new) (refl, waited)
+
+pub idles_read : (octets : List ℕ) (old new : Lane) → IsRead octets old new → Idles old new
+idles_read octets old new read server = quiet_call server_side (Got octets) (held server old) (held server new) (refl, read)
+
+pub idles_wrote : (octets : List ℕ) (old new : Lane) → IsWritten octets old new → Idles old new
+idles_wrote octets old new wrote server = quiet_call server_side (Wrote octets) (held server old) (held server new) (refl, wrote)
+
+pub idles_left : (asked : Asked) (old new : Lane) → IsLeft asked old new → Idles old new
+idles_left asked old new left server = quiet_call server_side (Left asked) (held server old) (held server new) (refl, left)
+
+-- of none that came there are none
+pub none_came : (old new : Option (List ℕ)) (count : ℕ) (room : List ℕ) → count ≡ 0 → Consumes old new (take count room) → Consumes old new []
+none_came old new count room none read = subst (λ n. Consumes old new (take n room)) none read
+
+-- nothing was asked
+pub idles_asked : (lane : Lane) (h0 h1 : Option (List Asked)) → Adds h0 h1 [] → Idles (with_asked h0 lane) (with_asked h1 lane)
+idles_asked lane h0 h1 asked = idles_waited (with_asked h0 lane) (with_asked h1 lane) (record {
+  holds = record { stands = refl; unwritten = refl; untold = refl };
+  left = Keeps-refl lane.left;
+  written = Keeps-refl lane.written;
+  asked = asked;
+})
+
+pub idles_same : (old new : Lane) → new ≡ old → Idles old new
+idles_same old new same = subst (λ l. Idles old l) (sym same) (idles_nothing old)
+
+-- whatever the server owes, its data connection may move
+pub settles_idle : (start old : Stand server_side) (lane : Lane) → Settles start old → Idles old.owner.lane lane → Settles start (with_owner (held old.owner.server lane) old)
+settles_idle start old lane settles idles =
+    let mid = settles.mid in
+    let owes = settles.owes in
+    let here = held mid.owner.server lane in
+    record {
+      mid = with_owner here mid;
+      leads = leads_then start mid (with_owner here mid) settles.leads
+          (subst (λ l. Idles l lane) (owes.0).lane idles mid.owner.server mid.left mid.unheard mid.written);
+      owes = (
+        record { owed = (owes.0).owed; gave = (owes.0).gave; lane = refl },
+        ap (with_owner (held old.owner.server lane)) owes.1,
+      );
+    }
+
+-- octets that it no longer wants are let go
+pub lets_go : (server : Server) (lane : Lane) (octets : List ℕ) → WantsNone server → Quietly server_side (held server (with_untold octets lane)) (held server (with_untold [] lane))
+lets_go server lane octets none =
+    quiet_call server_side (LetGo octets) (held server (with_untold octets lane)) (held server (with_untold [] lane)) ((refl, none), (sym (append-nil octets), refl))
+
+-- ---- octets that the server gives
+
+more_given : (before : List ℕ) (at count : ℕ) (room front out : List ℕ) → front ≡ take at room → length front ≡ at → count ≤ length out
+    → before ++ take (at + count) (front ++ out) ≡ (before ++ take at room) ++ take count out
+more_given before at count room front out is len fits =
+    ap (λ l. before ++ l) (ap (λ n. take (n + count) (front ++ out)) (sym len) ∙ take-append-add front out count ∙ ap (λ l. l ++ take count out) is)
+    ∙ sym (append_assoc before (take at room) (take count out))
+
+-- it gave more into the room behind what it gave before
+pub given_more : (old mid new : Server) (lane : Lane) (at count : ℕ) (room front out : List ℕ) → Quietly server_side (held old lane) (held mid (with_given (take at room) lane))
+    → front ≡ take at room → length front ≡ at → count ≤ length out → take count out ≡ take count (to_give mid.view) → Steps (GiveFails count) (given_step count) mid new
+    → Quietly server_side (held old lane) (held new (with_given (take (at + count) (front ++ out)) lane))
+given_more old mid new lane at count room front out before is len fits gave steps =
+    quiet_then server_side (held old lane) (held mid (with_given (take at room) lane)) (held new (with_given (take (at + count) (front ++ out)) lane)) before
+    (quiet_call server_side (Gave count (take count out)) (held mid (with_given (take at room) lane)) (held new (with_given (take (at + count) (front ++ out)) lane))
+    ((gave, steps), ap (λ l. record lane { unwritten = l }) (more_given lane.unwritten at count room front out is len fits)))
+
+-- ---- how a drive ends
+
+abbrev carrier : Carrier server_side move_of
+carrier = record {
+  lane = λ end. end.lane;
+  called = λ call old new called. called.1;
+  heard = λ octets unheard old new hears. hears.1;
+  gave = λ octets old new gives. gives.lane;
+  owed = λ old new owes. owes.lane;
+  cut = λ old new cut. cut.1;
+}
+
+-- one that came to its end
+pub drove : (start mid now : Stand server_side) (asked : Asked) → start.owner.lane.unwritten ≡ [] → start.owner.lane.untold ≡ [] → Leads start mid → IsOver mid
+    → IsLeft asked mid.owner.lane now.owner.lane → now ≡ with_owner (held mid.owner.server now.owner.lane) mid → Drove start now
+drove start mid now asked unwritten untold leads over left same =
+    let led : Led {side = server_side} (Other (Left asked) ∷ leads.deeds) start now = (mid, leads.led, ((ap (λ s. s.owner.server) same, left), subst (λ s. now ≡ with_owner s mid) (ap (λ s. s.owner) (sym same)) same)) in
+    record {
+      deeds = leads.deeds;
+      asked = asked;
+      sums = sums {side = server_side} (Other (Left asked) ∷ leads.deeds) start now led;
+      carries = carries move_of carrier (Other (Left asked) ∷ leads.deeds) start now led unwritten untold;
+      over = subst (λ s. IsOver s) (sym same) over;
+    }
+
+same_given : (octets : List ℕ) (mid : Stand server_side) (given : Held) → ((octets ≡ []) × (given ≡ mid.owner)) ⊎ Gives octets mid.owner given → given.lane ≡ mid.owner.lane
+same_given octets mid given (inl (none, same)) = ap (λ s. s.lane) same
+same_given octets mid given (inr gives) = gives.lane
+
+-- where a read or a write failed, its data connection stood as before, but for what was let go
+stood_so : (octets : List ℕ) (mid off : Stand server_side) → (breaks : Breaks octets mid off) → off.owner.lane ≡ with_untold off.owner.lane.untold mid.owner.lane
+stood_so octets mid off breaks = breaks.lets.1 ∙ ap (with_untold off.owner.lane.untold) (same_given octets mid breaks.given breaks.gives)
 
 -- one that broke off, and the server is told
-pub broke_off : (start now : Stand server_side) (server : Server) → Fails start (with_owner server now) → now.owner ≡ ended server → BrokeOff start now
-broke_off start now server fails cut =
-    record { deeds = fails.leads.deeds; last = fails.octets; server = server; cuts = cuts start (with_owner server now) fails; cut = cut }
+pub broke_off : (start off now : Stand server_side) (asked : Asked) → start.owner.lane.unwritten ≡ [] → start.owner.lane.untold ≡ [] → Fails start off
+    → now.owner.server ≡ ended off.owner.server → IsLeft asked off.owner.lane now.owner.lane → now ≡ with_owner now.owner off → BrokeOff start now
+broke_off start off now asked unwritten untold fails cut left same =
+    record {
+      deeds = fails.leads.deeds;
+      last = fails.octets;
+      off = off;
+      cuts = cuts start off fails;
+      stood = fails.mid.owner.lane;
+      lets = stood_so fails.octets fails.mid off fails.breaks;
+      carries = carries move_of carrier fails.leads.deeds start fails.mid fails.leads.led unwritten untold;
+      stays = same;
+      cut = cut;
+      asked = asked;
+      left = left;
+    }

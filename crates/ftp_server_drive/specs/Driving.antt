@@ -1,24 +1,31 @@
 -- What a drive of a server beside its control connection did, whole or until a read or a write failed.
-use Rattle.std.specs.Prelude.{◌≡◌, List, ℕ}
+use Rattle.std.specs.Prelude.{◌≡◌, List, ◌∷◌, ℕ}
 use Rattle.std.specs.declared.result.Result.{Result}
 use Rattle.std.specs.declared.result.Result.TheVariants.{Ok, Err}
 use Rattle.ftp_ends.specs.declared.link.Wants.TheVariants.{CloseAll}
-use Rattle.ftp_control.specs.Deeds.{Deed, Stand, with_owner}
-use Rattle.ftp_control.specs.Driving.{Cuts, Fails, Leads, Sums}
+use Rattle.ftp_control.specs.Asking.{Asked}
+use Rattle.ftp_control.specs.Courses.{Carries}
+use Rattle.ftp_control.specs.Deeds.{Deed, Other, Stand, with_owner}
+use Rattle.ftp_control.specs.Driving.{Cuts, Fails, Leads, Quietly, Sums}
+use Rattle.ftp_control.specs.Lane.{IsLeft, Lane, with_untold}
 use Rattle.ftp_control.specs.declared.pieces.Failed.{Failed}
 use Rattle.ftp_server_model.specs.Calls.{wants}
 use Rattle.ftp_server_model.specs.Far.{Server}
-use Rattle.ftp_server_drive.specs.Side.{Call, Clock, Called, ended, server_side}
+use Rattle.ftp_server_drive.specs.Side.{Call, Clock, Left, Called, Held, ended, move_of, server_side}
 use Rattle.ftp_server_drive.specs.declared.drive.Life.{Life}
 use Rattle.ftp_server_drive.specs.declared.drive.Life.TheVariants.{GoesOn, Over}
 
 -- it is told the moment, and right after that this
-abbrev pub Timed : Call → (old new : Server) → Type 0
-Timed call old new = (moment : ℕ) × (mid : Server) × Called (Clock moment) old mid × Called call mid new
+abbrev pub Timed : Call → (old new : Held) → Type 0
+Timed call old new = (moment : ℕ) × (mid : Held) × Called (Clock moment) old mid × Called call mid new
+
+-- the data connection alone moves, whatever the server holds
+abbrev pub Idles : (old new : Lane) → Type 0
+Idles old new = (server : Server) → Quietly server_side (record { server = server; lane = old }) (record { server = server; lane = new })
 
 -- the server is done with the control connection
 abbrev pub IsOver : Stand server_side → Type 0
-IsOver stand = wants stand.owner.view ≡ CloseAll
+IsOver stand = wants stand.owner.server.view ≡ CloseAll
 
 -- a turn leads on, to where the server is done or not, or fails
 abbrev pub Turns : (old new : Stand server_side) → Result Life Failed → Type 0
@@ -32,19 +39,28 @@ EndsOver old new (Ok value) = Leads old new × IsOver new
 EndsOver old new (Err failed) = Fails old new
 
 -- all that the server said was written, and it heard all that was read but for what is not heard yet; it is done with the control
--- connection
+-- connection, and its data connection was left last
 pub record Drove (start now : Stand server_side) : Type 0 where
   pub deeds : List (Deed server_side)
-  pub sums : Sums deeds start now
+  pub asked : Asked
+  pub sums : Sums {side = server_side} (Other (Left asked) ∷ deeds) start now
+  pub carries : Carries {side = server_side} move_of (Other (Left asked) ∷ deeds) start.owner.lane now.owner.lane
   pub over : IsOver now
 
--- the same where a read or a write failed: a beginning of what it said was written, and it was told that the control connection ended
+-- the same where a read or a write failed: a beginning of what it said was written, and what of an upload it was not told is let go; it was told
+-- that the control connection ended, and its data connection was left
 pub record BrokeOff (start now : Stand server_side) : Type 0 where
   pub deeds : List (Deed server_side)
   pub last : List ℕ
-  pub server : Server
-  pub cuts : Cuts deeds last start (with_owner server now)
-  pub cut : now.owner ≡ ended server
+  pub off : Stand server_side
+  pub cuts : Cuts deeds last start off
+  pub stood : Lane
+  pub carries : Carries {side = server_side} move_of deeds start.owner.lane stood
+  pub lets : off.owner.lane ≡ with_untold off.owner.lane.untold stood
+  pub stays : now ≡ with_owner now.owner off
+  pub cut : now.owner.server ≡ ended off.owner.server
+  pub asked : Asked
+  pub left : IsLeft asked off.owner.lane now.owner.lane
 
 -- how a drive ends
 abbrev pub Drives : {T : Type 0} → (start now : Stand server_side) → Result T Failed → Type 0

@@ -1,8 +1,9 @@
 // The octets of a control connection: those that were read are heard, and those that the server owes are written.
 ghost use Rattle.std.specs.Prelude.{◌≡◌, ◌<◌, ◌+◌, IsTrue, false, length};
 ghost use Rattle.ftp_control.specs.Driving.{Flushes, Leads};
+ghost use Rattle.ftp_control.specs.Lane.{Lane};
 ghost use Rattle.ftp_control.specs.Unheard.{unheard_of};
-ghost use Rattle.ftp_server_drive.specs.Beside.{beside};
+ghost use Rattle.ftp_server_drive.specs.Beside.{beside, held};
 
 use ftp_control::{Control, Failed, TURNS};
 use ftp_server_model::Far;
@@ -19,7 +20,7 @@ where
     R: Read + Drop,
     W: Write + Drop,
     requires { 0 < length (unheard_of control.old) }
-    ensures leads { Leads (beside R.remaining W.contents (F.server server.old) control.old) (beside R.remaining W.contents (F.server server.new) control.new) }
+    ensures leads { (lane : Lane) → Leads (beside R.remaining W.contents (held (F.server server.old) lane) control.old) (beside R.remaining W.contents (held (F.server server.new) lane) control.new) }
     ensures took { IsTrue result → length (unheard_of control.new) + 1 ≡ length (unheard_of control.old) }
     ensures none { result ≡ false → unheard_of control.new ≡ unheard_of control.old }
 {
@@ -40,7 +41,7 @@ where
     F: Far<A, T>,
     R: Read + Drop,
     W: Write + Drop,
-    ensures { Flushes (beside R.remaining W.contents (F.server server.old) control.old) (beside R.remaining W.contents (F.server server.new) control.new) result }
+    ensures { (lane : Lane) → Flushes (beside R.remaining W.contents (held (F.server server.old) lane) control.old) (beside R.remaining W.contents (held (F.server server.new) lane) control.new) result }
 {
     let mut room = [0u8; 1024];
     for _ in 0..TURNS {

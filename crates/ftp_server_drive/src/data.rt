@@ -1,11 +1,13 @@
 // The octets of a data connection, between a stream and the server, and those of a download that are not written yet.
-ghost use Rattle.std.specs.Prelude.{◌≡◌, ◌≢◌, ◌<◌, ◌≤◌, IfOk, OnOk, length};
+ghost use Rattle.std.specs.Prelude.{◌≡◌, ◌≢◌, ◌<◌, ◌≤◌, ℕ, List, [], IfOk, OnOk, Option, None, length, take};
 ghost use Rattle.ftp_server_model.specs.Calls.{wants};
 ghost use Rattle.std.specs.Io.KnownBytes.{IsAtEnd};
+ghost use Rattle.ftp_control.specs.Asking.{Asked};
 ghost use Rattle.ftp_control.specs.Carrying.{left_of};
 ghost use Rattle.ftp_control.specs.Driving.{Goes, Quietly};
-ghost use Rattle.ftp_server_drive.specs.Beside.{beside};
-ghost use Rattle.ftp_server_drive.specs.Driving.{Timed};
+ghost use Rattle.ftp_control.specs.Lane.{IsLeft, IsWritten, Lane, no_lane, with_given, with_untold};
+ghost use Rattle.ftp_server_drive.specs.Beside.{beside, held, in_hand, lane_at, untaken};
+ghost use Rattle.ftp_server_drive.specs.Driving.{Idles, Timed};
 ghost use Rattle.ftp_server_drive.specs.Side.{Break, End, server_side};
 
 use crate::control::flush;
@@ -39,7 +41,10 @@ pub(crate) struct Data<S> {
 
 impl<S: Read + Write> Data<S> {
     /// No data connection.
-    pub(crate) fn new() -> Data<S> {
+    pub(crate) fn new() -> Data<S>
+        ensures none { result.connection.stream ≡ None }
+        ensures all { result.connection.at ≡ result.connection.end }
+    {
         Data {
             connection: DataConnection::new(),
             room: [0; DATA_PIECE],
@@ -52,16 +57,18 @@ impl<S: Read + Write> Data<S> {
         A: Allocator,
         T: Tree<A>,
         F: Far<A, T>,
-        ensures { (self.new.connection.rest ≡ Rest.Nothing) → wants (F.server server.now).view ≢ Wants.Send }
+        ensures none { (self.new.connection.rest ≡ Rest.Nothing) → wants (F.server server.now).view ≢ Wants.Send }
+        ensures same { (asked : Option (List Asked)) → lane_at S.remaining S.contents asked self.new [] ≡ lane_at S.remaining S.contents asked self.old [] }
     {
         self.connection.note(rest_of(server));
     }
 
     /// What it has: octets that are read now, or room where the server wants to send; its end only where its stream is at its end.
     pub(crate) fn come(&mut self, wants: Wants) -> Came
-        ensures { result ≡ Came.End → IsAtEnd (left_of S.remaining self.new.connection) }
+        ensures moved { (asked : Option (List Asked)) → Idles (lane_at S.remaining S.contents asked self.old []) (lane_at S.remaining S.contents asked self.new (in_hand result self.new.room)) }
+        ensures ended { result ≡ Came.End → IsAtEnd (left_of S.remaining self.new.connection) }
     {
-        if wants == Wants::Send {
+        if wants == Wants::Send || self.connection.has_unwritten() {
             return Came::Room;
         }
         match self.connection.read(&mut self.room) {
@@ -72,8 +79,17 @@ impl<S: Read + Write> Data<S> {
         }
     }
 
+    /// Closes it, if it is open, and the port that is listened at.
+    pub(crate) fn leave<P: Ports<Stream = S>>(&mut self, ports: &mut P)
+        ensures { (asked : Asked) × IsLeft asked (lane_at S.remaining S.contents (P.history ports.old) self.old []) (lane_at S.remaining S.contents (P.history ports.new) self.new []) }
+    {
+        self.connection.close(ports);
+    }
+
     /// Closes it for good.
-    pub(crate) fn finish<P: Ports<Stream = S>>(self, ports: &mut P) {
+    pub(crate) fn finish<P: Ports<Stream = S>>(self, ports: &mut P)
+        ensures { (asked : Asked) × IsLeft asked (lane_at S.remaining S.contents (P.history ports.old) self []) (no_lane (P.history ports.new)) }
+    {
         let Data {
             connection,
             room: _,
@@ -82,8 +98,11 @@ impl<S: Read + Write> Data<S> {
     }
 
     /// The front of the room, so many octets.
-    pub(crate) fn front(&self, count: usize) -> &[u8] {
-        self.room.get(..count).unwrap_or(&[])
+    pub(crate) fn front(&self, count: usize) -> &[u8]
+        ensures { result.now ≡ take count self.now.room }
+    {
+        let (front, _) = self.room.split_at(count.min(self.room.len()));
+        front
     }
 
     /// Takes octets of a download from the server, where all before were written.
@@ -92,17 +111,17 @@ impl<S: Read + Write> Data<S> {
         A: Allocator,
         T: Tree<A>,
         F: Far<A, T>,
-        ensures { Quietly server_side (F.server server.old) (F.server server.new) }
+        ensures { (asked : Option (List Asked)) → Quietly server_side (held (F.server server.old) (lane_at S.remaining S.contents asked self.old [])) (held (F.server server.new) (lane_at S.remaining S.contents asked self.new [])) }
     {
         if !self.connection.has_unwritten() {
-            let (front, _) = self.room.split_at_mut(self.connection.piece());
-            let count = fill(server, front);
+            let count = fill_front(server, &mut self.room, self.connection.piece());
             self.connection.took(count);
         }
     }
 
     /// Writes octets that are not written yet: what one write takes, or all where no others come.
     fn write(&mut self) -> Result<(), Failed>
+        ensures written { (asked : Option (List Asked)) → (octets : List ℕ) × IsWritten octets (lane_at S.remaining S.contents asked self.old []) (lane_at S.remaining S.contents asked self.new []) }
         ensures rest { self.new.connection.rest ≡ self.old.connection.rest }
         ensures all { OnOk result (self.new.connection.rest ≡ Rest.Nothing → self.new.connection.at ≡ self.new.connection.end) }
     {
@@ -128,6 +147,7 @@ where
     T: Tree<A>,
     F: Far<A, T>,
     P: Ports,
+    ensures { Idles (lane_at P.Stream.remaining P.Stream.contents (P.history ports.old) «data».old []) (lane_at P.Stream.remaining P.Stream.contents (P.history ports.new) «data».new []) }
 {
     let what = match server.wants() {
         Wants::Send => For::Room,
@@ -146,7 +166,7 @@ where
     S: Read + Write,
     requires ended { IsAtEnd (left_of S.remaining _ended.now.connection) }
     requires before { _spoken ≢ Spoken.Ended }
-    ensures { Timed End (F.server server.old) (F.server server.new) }
+    ensures { (asked : Option (List Asked)) → Timed End (held (F.server server.old) (lane_at S.remaining S.contents asked _ended.now [])) (held (F.server server.new) (lane_at S.remaining S.contents asked _ended.now [])) }
 {
     server.clock(watch.moment());
     server.data_end();
@@ -159,7 +179,7 @@ where
     T: Tree<A>,
     F: Far<A, T>,
     C: Watch,
-    ensures { Timed Break (F.server server.old) (F.server server.new) }
+    ensures { (lane : Lane) → Timed Break (held (F.server server.old) lane) (held (F.server server.new) lane) }
 {
     server.clock(watch.moment());
     server.data_fault();
@@ -177,7 +197,7 @@ where
     F: Far<A, T>,
     R: Read + Drop,
     W: Write + Drop,
-    ensures { Goes (beside R.remaining W.contents (F.server server.old) control.old) (beside R.remaining W.contents (F.server server.new) control.new) result }
+    ensures { (lane : Lane) → Goes (beside R.remaining W.contents (held (F.server server.old) (with_untold octets.now lane)) control.old) (beside R.remaining W.contents (held (F.server server.new) (with_untold [] lane)) control.new) result }
 {
     let mut at = 0;
     while at < octets.len() {
@@ -204,7 +224,7 @@ where
     W: Write + Drop,
     ensures some { IfOk result (λ taken. 0 < taken) }
     ensures within { IfOk result (λ taken. taken ≤ length octets.now) }
-    ensures goes { Goes (beside R.remaining W.contents (F.server server.old) control.old) (beside R.remaining W.contents (F.server server.new) control.new) result }
+    ensures goes { (lane : Lane) → Goes (beside R.remaining W.contents (held (F.server server.old) (with_untold octets.now lane)) control.old) (beside R.remaining W.contents (held (F.server server.new) (with_untold (untaken octets.now result) lane)) control.new) result }
 {
     let taken = server.data_hear(octets);
     if taken == 0 {
@@ -221,7 +241,7 @@ where
     T: Tree<A>,
     F: Far<A, T>,
     S: Read + Write,
-    ensures quiet { Quietly server_side (F.server server.old) (F.server server.new) }
+    ensures quiet { (asked : Option (List Asked)) → Quietly server_side (held (F.server server.old) (lane_at S.remaining S.contents asked «data».old [])) (held (F.server server.new) (lane_at S.remaining S.contents asked «data».new [])) }
     ensures rest { («data».new.connection.rest ≡ Rest.Nothing) → wants (F.server server.new).view ≢ Wants.Send }
     ensures all { OnOk result («data».new.connection.rest ≡ Rest.Nothing → «data».new.connection.at ≡ «data».new.connection.end) }
 {
@@ -244,6 +264,20 @@ where
     }
 }
 
+/// Fills the front of the room, so many octets at most, with the octets that the server gives; gives how many they are.
+fn fill_front<A, T, F>(server: &mut F, room: &mut [u8], most: usize) -> usize
+where
+    A: Allocator,
+    T: Tree<A>,
+    F: Far<A, T>,
+    requires { most ≤ length room.old }
+    ensures within { result ≤ most }
+    ensures quiet { (lane : Lane) → Quietly server_side (held (F.server server.old) lane) (held (F.server server.new) (with_given (take result room.new) lane)) }
+{
+    let (front, _) = room.split_at_mut(most);
+    fill(server, front)
+}
+
 /// Fills the room with the octets that the server gives, as far as they go; gives how many they are.
 fn fill<A, T, F>(server: &mut F, room: &mut [u8]) -> usize
 where
@@ -251,7 +285,7 @@ where
     T: Tree<A>,
     F: Far<A, T>,
     ensures within { result ≤ length room.new }
-    ensures quiet { Quietly server_side (F.server server.old) (F.server server.new) }
+    ensures quiet { (lane : Lane) → Quietly server_side (held (F.server server.old) lane) (held (F.server server.new) (with_given (take result room.new) lane)) }
 {
     let mut at = 0;
     while at < room.len() {

@@ -1,17 +1,19 @@
 // The drive: what the server wants is done, turn by turn.
-ghost use Rattle.std.specs.Prelude.{◌≡◌, ◌≢◌, []};
+ghost use Rattle.std.specs.Prelude.{◌≡◌, ◌≢◌, [], ◌∷◌, ℕ, List, Option};
 ghost use Rattle.std.specs.Io.KnownBytes.{IsAtEnd};
+ghost use Rattle.ftp_control.specs.Asking.{Adds, Asked};
 ghost use Rattle.ftp_control.specs.Carrying.{left_of};
 ghost use Rattle.ftp_control.specs.Driving.{Goes, GoesSettled, Quietly};
+ghost use Rattle.ftp_control.specs.Lane.{IsHad, Lane, no_lane, with_asked};
 ghost use Rattle.ftp_control.specs.Unheard.{unheard_of};
-ghost use Rattle.ftp_server_drive.specs.Beside.{beside};
-ghost use Rattle.ftp_server_drive.specs.Driving.{Drives, EndsOver, Timed, Turns};
-ghost use Rattle.ftp_server_drive.specs.Side.{Break, server_side};
+ghost use Rattle.ftp_server_drive.specs.Beside.{beside, held, in_hand, lane_at};
+ghost use Rattle.ftp_server_drive.specs.Driving.{Drives, EndsOver, Idles, Turns};
+ghost use Rattle.ftp_server_drive.specs.Side.{server_side};
 
 use crate::control::{flush, hear_one};
 use crate::data::{Came, Data, end, fault, hand, send, wait_at};
 use ftp_control::{Accepted, Control, Failed, Ports, Ready, Spoken, TURNS, Watch};
-use ftp_endpoint::Endpoint;
+use ftp_endpoint::{Endpoint, Host};
 use ftp_ends::Wants;
 use ftp_server_model::Far;
 use ftp_tree::Tree;
@@ -44,7 +46,7 @@ where
     W: Write + Drop,
     P: Ports,
     C: Watch,
-    ensures { Drives (beside R.remaining W.contents (F.server server.old) control.old) (beside R.remaining W.contents (F.server server.new) control.new) result }
+    ensures { Drives (beside R.remaining W.contents (held (F.server server.old) (no_lane (P.history ports.old))) control.old) (beside R.remaining W.contents (held (F.server server.new) (no_lane (P.history ports.new))) control.new) result }
 {
     let mut data = Data::new();
     match turns(server, control, ports, watch, &mut data) {
@@ -77,7 +79,7 @@ where
     W: Write + Drop,
     P: Ports,
     C: Watch,
-    ensures { EndsOver (beside R.remaining W.contents (F.server server.old) control.old) (beside R.remaining W.contents (F.server server.new) control.new) result }
+    ensures { EndsOver (beside R.remaining W.contents (held (F.server server.old) (lane_at P.Stream.remaining P.Stream.contents (P.history ports.old) «data».old [])) control.old) (beside R.remaining W.contents (held (F.server server.new) (lane_at P.Stream.remaining P.Stream.contents (P.history ports.new) «data».new [])) control.new) result }
 {
     server.clock(watch.moment());
     for _ in 0..TURNS {
@@ -105,7 +107,7 @@ where
     W: Write + Drop,
     P: Ports,
     C: Watch,
-    ensures { Turns (beside R.remaining W.contents (F.server server.old) control.old) (beside R.remaining W.contents (F.server server.new) control.new) result }
+    ensures { Turns (beside R.remaining W.contents (held (F.server server.old) (lane_at P.Stream.remaining P.Stream.contents (P.history ports.old) «data».old [])) control.old) (beside R.remaining W.contents (held (F.server server.new) (lane_at P.Stream.remaining P.Stream.contents (P.history ports.new) «data».new [])) control.new) result }
 {
     flush(server, control)?;
     if let Wants::CloseAll = server.wants() {
@@ -131,7 +133,7 @@ where
     W: Write + Drop,
     P: Ports,
     C: Watch,
-    ensures { GoesSettled (beside R.remaining W.contents (F.server server.old) control.old) (beside R.remaining W.contents (F.server server.new) control.new) result }
+    ensures { GoesSettled (beside R.remaining W.contents (held (F.server server.old) (lane_at P.Stream.remaining P.Stream.contents (P.history ports.old) «data».old [])) control.old) (beside R.remaining W.contents (held (F.server server.new) (lane_at P.Stream.remaining P.Stream.contents (P.history ports.new) «data».new [])) control.new) result }
 {
     match server.wants() {
         Wants::Nothing => attend(server, control, watch),
@@ -146,7 +148,7 @@ where
             Ok(())
         }
         Wants::CloseData => {
-            data.connection.close(ports);
+            data.leave(ports);
             server.data_closed();
             Ok(())
         }
@@ -171,7 +173,7 @@ where
     W: Write + Drop,
     P: Ports,
     C: Watch,
-    ensures { GoesSettled (beside R.remaining W.contents (F.server server.old) control.old) (beside R.remaining W.contents (F.server server.new) control.new) result }
+    ensures { GoesSettled (beside R.remaining W.contents (held (F.server server.old) (lane_at P.Stream.remaining P.Stream.contents (P.history ports.old) «data».old [])) control.old) (beside R.remaining W.contents (held (F.server server.new) (lane_at P.Stream.remaining P.Stream.contents (P.history ports.new) «data».new [])) control.new) result }
 {
     data.note(server);
     if !control.has_unheard() {
@@ -201,7 +203,7 @@ where
     P: Ports,
     C: Watch,
     requires { unheard_of control.old ≡ [] }
-    ensures { GoesSettled (beside R.remaining W.contents (F.server server.old) control.old) (beside R.remaining W.contents (F.server server.new) control.new) result }
+    ensures { GoesSettled (beside R.remaining W.contents (held (F.server server.old) (lane_at P.Stream.remaining P.Stream.contents (P.history ports.old) «data».old [])) control.old) (beside R.remaining W.contents (held (F.server server.new) (lane_at P.Stream.remaining P.Stream.contents (P.history ports.new) «data».new [])) control.new) result }
 {
     match wait_at(server, ports, data, true) {
         Ready::Control => read(server, control, watch),
@@ -234,7 +236,7 @@ where
     W: Write + Drop,
     P: Ports,
     C: Watch,
-    ensures { Goes (beside R.remaining W.contents (F.server server.old) control.old) (beside R.remaining W.contents (F.server server.new) control.new) result }
+    ensures { Goes (beside R.remaining W.contents (held (F.server server.old) (lane_at P.Stream.remaining P.Stream.contents (P.history ports.old) «data».old [])) control.old) (beside R.remaining W.contents (held (F.server server.new) (lane_at P.Stream.remaining P.Stream.contents (P.history ports.new) «data».new [])) control.new) result }
 {
     match wait_at(server, ports, data, false) {
         Ready::Data => {
@@ -251,7 +253,10 @@ where
 
 /// What the control connection has where nothing more comes over the data connection: its end is told before that of the data connection, so that
 /// an upload is dropped with its session.
-fn spoken_behind<P: Ports>(ports: &mut P, came: Came) -> Spoken {
+fn spoken_behind<P: Ports>(ports: &mut P, came: Came) -> Spoken
+    ensures asked { (lane : Lane) → Idles (with_asked (P.history ports.old) lane) (with_asked (P.history ports.new) lane) }
+    ensures over { result ≢ Spoken.Nothing → (room : List ℕ) → in_hand came room ≡ [] }
+{
     match came {
         Came::End | Came::Break => ports.spoken(),
         Came::Room | Came::Octets(_) | Came::Nothing => Spoken::Nothing,
@@ -279,7 +284,7 @@ where
     C: Watch,
     requires before { spoken ≢ Spoken.Ended }
     requires ended { came ≡ Came.End → IsAtEnd (left_of P.Stream.remaining «data».old.connection) }
-    ensures { Goes (beside R.remaining W.contents (F.server server.old) control.old) (beside R.remaining W.contents (F.server server.new) control.new) result }
+    ensures { Goes (beside R.remaining W.contents (held (F.server server.old) (lane_at P.Stream.remaining P.Stream.contents (P.history ports.old) «data».old (in_hand came «data».old.room))) control.old) (beside R.remaining W.contents (held (F.server server.new) (lane_at P.Stream.remaining P.Stream.contents (P.history ports.new) «data».new [])) control.new) result }
 {
     match came {
         Came::Octets(count) => hand(server, control, data.front(count)),
@@ -289,16 +294,36 @@ where
             Ok(())
         }
         Came::End => {
-            end(server, watch, data, spoken);
-            data.connection.close(ports);
+            over(server, ports, watch, data, spoken);
             Ok(())
         }
         Came::Break => {
-            fault(server, watch);
-            data.connection.close(ports);
+            lose(server, ports, watch, data);
             Ok(())
         }
     }
+}
+
+/// The data connection ended: the server is told the moment and that, and it is closed.
+fn over<A, T, F, P, C>(
+    server: &mut F,
+    ports: &mut P,
+    watch: &mut C,
+    data: &mut Data<P::Stream>,
+    spoken: Spoken,
+)
+where
+    A: Allocator,
+    T: Tree<A>,
+    F: Far<A, T>,
+    P: Ports,
+    C: Watch,
+    requires before { spoken ≢ Spoken.Ended }
+    requires ended { IsAtEnd (left_of P.Stream.remaining «data».old.connection) }
+    ensures { Quietly server_side (held (F.server server.old) (lane_at P.Stream.remaining P.Stream.contents (P.history ports.old) «data».old [])) (held (F.server server.new) (lane_at P.Stream.remaining P.Stream.contents (P.history ports.new) «data».new [])) }
+{
+    end(server, watch, data, spoken);
+    data.leave(ports);
 }
 
 /// Writes octets of a download, once; where that fails, the data connection is lost.
@@ -314,7 +339,7 @@ where
     F: Far<A, T>,
     P: Ports,
     C: Watch,
-    ensures { Quietly server_side (F.server server.old) (F.server server.new) }
+    ensures { Quietly server_side (held (F.server server.old) (lane_at P.Stream.remaining P.Stream.contents (P.history ports.old) «data».old [])) (held (F.server server.new) (lane_at P.Stream.remaining P.Stream.contents (P.history ports.new) «data».new [])) }
 {
     match send(server, data) {
         Ok(()) => {}
@@ -330,10 +355,10 @@ where
     F: Far<A, T>,
     P: Ports,
     C: Watch,
-    ensures { Timed Break (F.server server.old) (F.server server.new) }
+    ensures { Quietly server_side (held (F.server server.old) (lane_at P.Stream.remaining P.Stream.contents (P.history ports.old) «data».old [])) (held (F.server server.new) (lane_at P.Stream.remaining P.Stream.contents (P.history ports.new) «data».new [])) }
 {
     fault(server, watch);
-    data.connection.close(ports);
+    data.leave(ports);
 }
 
 /// Hears the next octet of the control connection, which is read where all before were heard.
@@ -349,7 +374,7 @@ where
     R: Read + Drop,
     W: Write + Drop,
     C: Watch,
-    ensures { GoesSettled (beside R.remaining W.contents (F.server server.old) control.old) (beside R.remaining W.contents (F.server server.new) control.new) result }
+    ensures { (lane : Lane) → GoesSettled (beside R.remaining W.contents (held (F.server server.old) lane) control.old) (beside R.remaining W.contents (held (F.server server.new) lane) control.new) result }
 {
     if !control.has_unheard() {
         return read(server, control, watch);
@@ -374,7 +399,7 @@ where
     W: Write + Drop,
     C: Watch,
     requires { unheard_of control.old ≡ [] }
-    ensures { GoesSettled (beside R.remaining W.contents (F.server server.old) control.old) (beside R.remaining W.contents (F.server server.new) control.new) result }
+    ensures { (lane : Lane) → GoesSettled (beside R.remaining W.contents (held (F.server server.old) lane) control.old) (beside R.remaining W.contents (held (F.server server.new) lane) control.new) result }
 {
     let count = control.read()?;
     if count == 0 {
@@ -401,7 +426,7 @@ where
     W: Write + Drop,
     P: Ports,
     C: Watch,
-    ensures { GoesSettled (beside R.remaining W.contents (F.server server.old) control.old) (beside R.remaining W.contents (F.server server.new) control.new) result }
+    ensures { GoesSettled (beside R.remaining W.contents (held (F.server server.old) (lane_at P.Stream.remaining P.Stream.contents (P.history ports.old) «data».old [])) control.old) (beside R.remaining W.contents (held (F.server server.new) (lane_at P.Stream.remaining P.Stream.contents (P.history ports.new) «data».new [])) control.new) result }
 {
     if !control.has_unheard() {
         return wait(server, control, ports, watch, data);
@@ -430,12 +455,11 @@ where
     P: Ports,
     C: Watch,
     requires { unheard_of control.old ≡ [] }
-    ensures { GoesSettled (beside R.remaining W.contents (F.server server.old) control.old) (beside R.remaining W.contents (F.server server.new) control.new) result }
+    ensures { GoesSettled (beside R.remaining W.contents (held (F.server server.old) (lane_at P.Stream.remaining P.Stream.contents (P.history ports.old) «data».old [])) control.old) (beside R.remaining W.contents (held (F.server server.new) (lane_at P.Stream.remaining P.Stream.contents (P.history ports.new) «data».new [])) control.new) result }
 {
     match ports.accept(true) {
-        Accepted::Came(open, host) => {
-            data.connection.begin(ports, open);
-            server.data_opened(host);
+        Accepted::Came(stream, host) => {
+            opened(server, ports, data, stream, host);
             Ok(())
         }
         Accepted::Spoken => read(server, control, watch),
@@ -453,14 +477,12 @@ where
     T: Tree<A>,
     F: Far<A, T>,
     P: Ports,
-    ensures { Quietly server_side (F.server server.old) (F.server server.new) }
+    ensures { Quietly server_side (held (F.server server.old) (lane_at P.Stream.remaining P.Stream.contents (P.history ports.old) «data».old [])) (held (F.server server.new) (lane_at P.Stream.remaining P.Stream.contents (P.history ports.new) «data».new [])) }
 {
     match ports.accept(false) {
-        Accepted::Came(open, host) => {
-            data.connection.begin(ports, open);
-            server.data_opened(host);
-        }
-        Accepted::Spoken | Accepted::Refused => server.data_refused(),
+        Accepted::Came(stream, host) => opened(server, ports, data, stream, host),
+        Accepted::Spoken => server.data_refused(),
+        Accepted::Refused => server.data_refused(),
     }
 }
 
@@ -471,7 +493,7 @@ where
     T: Tree<A>,
     F: Far<A, T>,
     P: Ports,
-    ensures { Quietly server_side (F.server server.old) (F.server server.new) }
+    ensures { (lane : Lane) → Quietly server_side (held (F.server server.old) (with_asked (P.history ports.old) lane)) (held (F.server server.new) (with_asked (P.history ports.new) lane)) }
 {
     match ports.listen() {
         Some(port) => server.listening(port),
@@ -491,13 +513,29 @@ where
     T: Tree<A>,
     F: Far<A, T>,
     P: Ports,
-    ensures { Quietly server_side (F.server server.old) (F.server server.new) }
+    ensures { Quietly server_side (held (F.server server.old) (lane_at P.Stream.remaining P.Stream.contents (P.history ports.old) «data».old [])) (held (F.server server.new) (lane_at P.Stream.remaining P.Stream.contents (P.history ports.new) «data».new [])) }
 {
     match ports.connect(endpoint) {
-        Some(open) => {
-            data.connection.begin(ports, open);
-            server.data_opened(endpoint.host);
-        }
+        Some(stream) => opened(server, ports, data, stream, endpoint.host),
         None => server.data_refused(),
     }
+}
+
+/// The data connection that was had last is open now, and this host is at its other end.
+fn opened<A, T, F, P>(
+    server: &mut F,
+    ports: &mut P,
+    data: &mut Data<P::Stream>,
+    stream: P::Stream,
+    host: Host,
+)
+where
+    A: Allocator,
+    T: Tree<A>,
+    F: Far<A, T>,
+    P: Ports,
+    ensures { (before : Option (List Asked)) (had : Asked) → Adds before (P.history ports.old) (had ∷ []) → IsHad host had (P.Stream.remaining stream) (P.Stream.contents stream) → Quietly server_side (held (F.server server.old) (lane_at P.Stream.remaining P.Stream.contents before «data».old [])) (held (F.server server.new) (lane_at P.Stream.remaining P.Stream.contents (P.history ports.new) «data».new [])) }
+{
+    data.connection.begin(ports, stream);
+    server.data_opened(host);
 }

@@ -1,4 +1,7 @@
 // How far a transfer is, on standard error.
+ghost use Rattle.std.specs.Prelude.{None};
+ghost use Rattle.ftp_control.specs.Asking.{Closes};
+
 use crate::live::Opens;
 use ftp_control::{Accepted, For, Ports, Ready, Spoken, Whole};
 use ftp_endpoint::Endpoint;
@@ -97,7 +100,9 @@ where
         self.ports.spoken()
     }
 
-    fn close(&mut self, stream: Option<Whole<MeteredLink<'a, R>>>) {
+    fn close(&mut self, stream: Option<Whole<MeteredLink<'a, R>>>)
+        ensures { Closes (λ link. None) (λ link. None) stream.entry None None }
+    {
         self.ports.close(match stream {
             Some(whole) => Some(whole.map(|metered| metered.ended())),
             None => None,

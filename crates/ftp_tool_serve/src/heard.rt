@@ -1,4 +1,7 @@
 // The connections of a session, of which its journal is told.
+ghost use Rattle.std.specs.Prelude.{None};
+ghost use Rattle.ftp_control.specs.Asking.{Closes};
+
 use crate::journal::{Fate, Journal};
 use ftp_control::{Accepted, For, Ports, Ready, Spoken, Whole};
 use ftp_endpoint::Endpoint;
@@ -150,7 +153,9 @@ impl<'a, R: Net<Listener = TcpListener, Stream = TcpStream> + Clock + Eprint> Po
         self.inner.spoken()
     }
 
-    fn close(&mut self, stream: Option<Whole<CountedLink<'a, R>>>) {
+    fn close(&mut self, stream: Option<Whole<CountedLink<'a, R>>>)
+        ensures { Closes (λ link. None) (λ link. None) stream.entry None None }
+    {
         match stream {
             Some(whole) => {
                 self.journal.close(Fate::Ended);

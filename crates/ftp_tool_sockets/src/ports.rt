@@ -1,5 +1,6 @@
 // Data connections over real sockets.
-ghost use Rattle.std.specs.Prelude.{◌≡◌};
+ghost use Rattle.std.specs.Prelude.{◌≡◌, None};
+ghost use Rattle.ftp_control.specs.Asking.{Closes};
 
 use crate::host::{addr_of, host_of};
 use crate::link::Link;
@@ -95,6 +96,14 @@ impl<'a, R: Net<Listener = TcpListener, Stream = TcpStream>> SocketPorts<'a, R> 
     pub fn finish(&mut self) {
         self.listener = None;
         self.drain(LEAVING_MILLIS);
+    }
+
+    /// Ends a data connection; what the peer sends too much is read later.
+    fn leave(&mut self, link: Link<'a>) {
+        self.drain(0);
+        if link.end().is_ok() {
+            self.leaving = Some(link);
+        }
     }
 
     /// Reads what the peer of the last data connection sent too much, and waits at most so many milliseconds for its end.
@@ -233,16 +242,13 @@ impl<'a, R: Net<Listener = TcpListener, Stream = TcpStream>> Ports for SocketPor
         look_at(self.control)
     }
 
-    fn close(&mut self, stream: Option<Whole<Link<'a>>>) {
-        let Some(whole) = stream else {
-            self.listener = None;
-            return;
-        };
+    /// What sockets are asked is not told.
+    fn close(&mut self, stream: Option<Whole<Link<'a>>>)
+        ensures { Closes (λ link. None) (λ link. None) stream.entry None None }
+    {
         self.listener = None;
-        self.drain(0);
-        let link = whole.into_stream();
-        if link.end().is_ok() {
-            self.leaving = Some(link);
+        if let Some(whole) = stream {
+            self.leave(whole.into_stream());
         }
     }
 

@@ -1,8 +1,9 @@
+use Rattle.ftp_control.specs.Lane.{Lane}
 use Rattle.ftp_control.specs.Driving.{Leads}
-use Rattle.ftp_server_drive.specs.Beside.{beside}
+use Rattle.ftp_server_drive.specs.Beside.{beside, held}
 use Rattle.ftp_server_drive.proofs.control.flush.Given as goal
 
 abbrev pub invariant-loop : goal.invariant-loop
 invariant-loop g l =
     let stand = beside g.R.Read.remaining g.W.Write.contents in
-    Leads (stand (g.F.Far.server l.fn.server) l.fn.control) (stand (g.F.Far.server l.server) l.control)
+    (lane : Lane) → Leads (stand (held (g.F.Far.server l.fn.server) lane) l.fn.control) (stand (held (g.F.Far.server l.server) lane) l.control)

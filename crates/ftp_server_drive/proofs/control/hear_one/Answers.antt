@@ -1,9 +1,9 @@
-use Rattle.std.proofs.Common.{◌∙◌, ap, take, arith}
+use Rattle.std.proofs.Common.{◌∙◌, refl, ap, take, arith}
 use Rattle.ftp_server_drive.proofs.Turning.{hears_next}
 use Rattle.ftp_server_drive.proofs.control.hear_one.Goals as goal
 
 pub returns-clause-leads : goal.returns-clause-leads
-returns-clause-leads g c =
+returns-clause-leads g c lane =
     hears_next _ _ 1 c.split_at.result.0.now c.hear-taken.result (c.split_at.ensures.front ∙ ap (take 1) c.unheard.ensures)
-    (omega (arith, c.hear-taken.ensures.within, c.split_at.ensures.front_len)) c.hear-taken.ensures.took
+    (omega (arith, c.hear-taken.ensures.within, c.split_at.ensures.front_len)) c.hear-taken.ensures.took refl
     c.heard.ensures.unheard c.heard.ensures.left c.heard.ensures.written

@@ -1,4 +1,8 @@
+use Rattle.std.proofs.Common.{[], refl}
+use Rattle.ftp_server_drive.specs.Beside.{held, lane_at}
 use Rattle.ftp_server_drive.proofs.data.end.Goals as goal
 
 pub returns : goal.returns
-returns g c = (c.moment.result.seconds, _, c.clock.ensures, c.data_end.ensures)
+returns g c asked =
+    let lane = lane_at g.S.Read.remaining g.S.Write.contents asked c.args._ended.now [] in
+    (c.moment.result.seconds, held (g.F.Far.server c.clock.new.self) lane, (c.clock.ensures, refl), (c.data_end.ensures, (refl, c.requires.ended, refl)))

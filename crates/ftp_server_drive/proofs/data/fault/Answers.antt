@@ -1,4 +1,6 @@
+use Rattle.std.proofs.Common.{refl}
+use Rattle.ftp_server_drive.specs.Beside.{held}
 use Rattle.ftp_server_drive.proofs.data.fault.Goals as goal
 
 pub returns : goal.returns
-returns g c = (c.moment.result.seconds, _, c.clock.ensures, c.data_fault.ensures)
+returns g c lane = (c.moment.result.seconds, held (g.F.Far.server c.clock.new.self) lane, (c.clock.ensures, refl), (c.data_fault.ensures, refl))

@@ -1,10 +1,28 @@
-use Rattle.std.proofs.Common.{rules}
-use Rattle.ftp_server_drive.specs.Side.{Gave, server_side}
-use Rattle.ftp_control.proofs.Leading.{quiet_call, quiet_then}
+use Rattle.std.proofs.Common.{◌≡◌, ◌+◌, subst, take, ◌++◌, rules, arith}
+use Rattle.ftp_control.specs.Driving.{Quietly}
+use Rattle.ftp_control.specs.Lane.{with_given}
+use Rattle.ftp_server_drive.specs.Beside.{held}
+use Rattle.ftp_server_drive.specs.Side.{server_side}
+use Rattle.ftp_server_drive.proofs.Turning.{given_more}
 use Rattle.ftp_server_drive.proofs.data.fill.Goals as goal
 
 pub returns-then-count-eq0-clause-quiet : goal.returns-then-count-eq0-clause-quiet
-returns-then-count-eq0-clause-quiet g c = quiet_then server_side _ _ _ c.loop-at.invariant.1 (quiet_call server_side (Gave c.data_out-count.result) _ _ c.data_out-count.ensures.now)
+returns-then-count-eq0-clause-quiet g c lane =
+    let server = g.F.Far.server in
+    let split = c.split_at_mut-rest in
+    let gave = c.data_out-count in
+    let none : c.loop-at.at + gave.result ≡ c.loop-at.at = let e = c.if-count-eq0.true in omega (arith, e) in
+    subst (λ n. Quietly server_side (held (server c.args.server.now) lane) (held (server gave.new.self) (with_given (take n (split.result.0.now ++ gave.new.room)) lane))) none
+    (given_more (server c.args.server.now) (server c.loop-at.server) (server gave.new.self) lane c.loop-at.at gave.result c.loop-at.room split.result.0.now gave.new.room
+    (c.loop-at.invariant.1 lane) split.ensures.front split.ensures.front_len (search rules) gave.ensures.gave gave.ensures.now)
 
 pub loop-at-preserved : goal.loop-at-preserved
-loop-at-preserved g c = (search rules, quiet_then server_side _ _ _ c.loop-at.invariant.1 (quiet_call server_side (Gave c.data_out-count.result) _ _ c.data_out-count.ensures.now))
+loop-at-preserved g c = (
+  search rules,
+  λ lane.
+      let server = g.F.Far.server in
+      let split = c.split_at_mut-rest in
+      let gave = c.data_out-count in
+      given_more (server c.args.server.now) (server c.loop-at.server) (server gave.new.self) lane c.loop-at.at gave.result c.loop-at.room split.result.0.now gave.new.room
+      (c.loop-at.invariant.1 lane) split.ensures.front split.ensures.front_len (search rules) gave.ensures.gave gave.ensures.now,
+)

@@ -1,10 +1,14 @@
-use Rattle.std.proofs.Common.{length, ◌-◌, ◌≤◌}
+use Rattle.std.proofs.Common.{length, take, ◌-◌, ◌≤◌}
 use Rattle.ftp_control.specs.Driving.{Quietly}
+use Rattle.ftp_control.specs.Lane.{Lane, with_given}
+use Rattle.ftp_server_drive.specs.Beside.{held}
 use Rattle.ftp_server_drive.specs.Side.{server_side}
 use Rattle.ftp_server_drive.proofs.data.fill.Given as goal
 
 abbrev pub invariant-loop-at : goal.invariant-loop-at
-invariant-loop-at g l = (l.at ≤ length l.room) × Quietly server_side (g.F.Far.server l.fn.server) (g.F.Far.server l.server)
+invariant-loop-at g l =
+    (l.at ≤ length l.room)
+    × ((lane : Lane) → Quietly server_side (held (g.F.Far.server l.fn.server) lane) (held (g.F.Far.server l.server) (with_given (take l.at l.room) lane)))
 
 abbrev pub decreases-loop-at : goal.decreases-loop-at
 decreases-loop-at g l = length l.room - l.at

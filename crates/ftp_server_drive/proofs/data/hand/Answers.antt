@@ -1,11 +1,55 @@
-use Rattle.std.proofs.Common.{rules}
+use Rattle.std.proofs.Common.{[], subst, drop, rules}
+use Rattle.std.proofs.lemmas.List.{drop-drop, drop_all}
+use Rattle.ftp_control.specs.Driving.{Fails, Leads}
 use Rattle.ftp_control.proofs.Leading.{fails_then, leads_then}
 use Rattle.ftp_control.proofs.Going.{goes_err}
+use Rattle.ftp_server_drive.specs.Beside.{handing}
+use Rattle.ftp_server_drive.proofs.Turning.{lets_go}
 use Rattle.ftp_server_drive.proofs.data.hand.Goals as goal
 
 pub returns-in_err-at : goal.returns-in_err-at
-returns-in_err-at g c =
-    goes_err _ _ c.from_residual.result c.from_residual.ensures.0 (fails_then _ _ _ c.loop-at.invariant.1 c.in_err-at.ensures.goes)
+returns-in_err-at g c lane =
+    let stand = handing g.R.Read.remaining g.W.Write.contents in
+    let server = g.F.Far.server in
+    let octets = c.args.octets.now in
+    let old = stand (server c.args.server.now) c.args.control.now lane octets in
+    let mid = stand (server c.loop-at.server) c.loop-at.control lane in
+    let new = stand (server c.hand_some.new.server) c.hand_some.new.control lane [] in
+    goes_err old new c.from_residual.result c.from_residual.ensures.0 (fails_then old (mid (drop c.loop-at.at octets)) new (c.loop-at.invariant.1 lane)
+    (subst (λ l. Fails (mid l) new) c.split_at.ensures.back (c.in_err-at.ensures.goes lane)))
 
 pub loop-at-preserved : goal.loop-at-preserved
-loop-at-preserved g c = (search rules, leads_then _ _ _ c.loop-at.invariant.1 c.in_ok-at.ensures.goes)
+loop-at-preserved g c = (
+  search rules,
+  λ lane.
+      let stand = handing g.R.Read.remaining g.W.Write.contents in
+      let server = g.F.Far.server in
+      let octets = c.args.octets.now in
+      let at = c.loop-at.at in
+      let n = c.in_ok-at.field-0 in
+      let old = stand (server c.args.server.now) c.args.control.now lane octets in
+      let mid = stand (server c.loop-at.server) c.loop-at.control lane in
+      let new = stand (server c.hand_some.new.server) c.hand_some.new.control lane in
+      leads_then old (mid (drop at octets)) _ (c.loop-at.invariant.1 lane)
+      (subst (λ l. Leads (mid (drop at octets)) (new l)) (drop-drop n at octets)
+      (subst (λ l. Leads (mid l) (new (drop n l))) c.split_at.ensures.back (c.in_ok-at.ensures.goes lane))),
+)
+
+pub returns-then-ne : goal.returns-then-ne
+returns-then-ne g c lane =
+    let stand = handing g.R.Read.remaining g.W.Write.contents in
+    let server = g.F.Far.server in
+    let octets = c.args.octets.now in
+    let rest = drop c.loop-at.at octets in
+    let old = stand (server c.args.server.now) c.args.control.now lane octets in
+    let mid = stand (server c.loop-at.server) c.loop-at.control lane in
+    leads_then old (mid rest) (mid []) (c.loop-at.invariant.1 lane) (lets_go (server c.loop-at.server) lane rest (search rules) _ _ _)
+
+pub returns : goal.returns
+returns g c lane =
+    let stand = handing g.R.Read.remaining g.W.Write.contents in
+    let server = g.F.Far.server in
+    let octets = c.args.octets.now in
+    let old = stand (server c.args.server.now) c.args.control.now lane octets in
+    let mid = stand (server c.loop-at.server) c.loop-at.control lane in
+    subst (λ l. Leads old (mid l)) (drop_all c.loop-at.at octets (search rules)) (c.loop-at.invariant.1 lane)

@@ -1,33 +1,44 @@
-use Rattle.std.proofs.Common.{take}
-use Rattle.ftp_server_drive.specs.Beside.{beside}
+use Rattle.std.proofs.Common.{[], refl, sym, take, drop}
+use Rattle.std.proofs.lemmas.List.{take-append-drop}
+use Rattle.ftp_control.specs.Lane.{with_untold}
+use Rattle.ftp_control.proofs.Leading.{call_leads, fails_here, fails_lets, fails_then, leads_then, settled_leads}
+use Rattle.ftp_server_drive.specs.Beside.{handing}
 use Rattle.ftp_server_drive.specs.Side.{Received}
-use Rattle.ftp_control.proofs.Leading.{fails_here, fails_then, leads_then, settled_leads}
-use Rattle.ftp_control.proofs.Going.{goes_err}
-use Rattle.ftp_control.proofs.Leading.{call_leads}
+use Rattle.ftp_server_drive.proofs.Turning.{hands_err}
 use Rattle.ftp_server_drive.proofs.data.hand_some.Goals as goal
 
 pub returns-then-taken-eq0-clause-goes : goal.returns-then-taken-eq0-clause-goes
-returns-then-taken-eq0-clause-goes g c =
-    let old = beside g.R.Read.remaining g.W.Write.contents (g.F.Far.server c.args.server.now) c.args.control.now in
-    let server = g.F.Far.server c.data_hear-taken.new.self in
-    fails_here old _ (call_leads old (Received (take c.data_hear-taken.result c.args.octets.now)) server c.data_hear-taken.ensures.took)
+returns-then-taken-eq0-clause-goes g c lane =
+    let octets = c.args.octets.now in
+    let count = c.data_hear-taken.result in
+    let mid = handing g.R.Read.remaining g.W.Write.contents (g.F.Far.server c.data_hear-taken.new.self) c.args.control.now lane (drop count octets) in
+    let new = handing g.R.Read.remaining g.W.Write.contents (g.F.Far.server c.data_hear-taken.new.self) c.args.control.now lane [] in
+    fails_lets (handing g.R.Read.remaining g.W.Write.contents (g.F.Far.server c.args.server.now) c.args.control.now lane octets) mid new
+    (fails_here (handing g.R.Read.remaining g.W.Write.contents (g.F.Far.server c.args.server.now) c.args.control.now lane octets) mid (call_leads (handing g.R.Read.remaining g.W.Write.contents (g.F.Far.server c.args.server.now) c.args.control.now lane octets) (Received (take count octets)) mid.owner
+    (c.data_hear-taken.ensures.took, (sym (take-append-drop count octets), refl))))
+    (refl, refl) refl
 
 pub returns-in_err-flush-clause-goes : goal.returns-in_err-flush-clause-goes
-returns-in_err-flush-clause-goes g c =
-    let stand = beside g.R.Read.remaining g.W.Write.contents in
-    let old = stand (g.F.Far.server c.args.server.now) c.args.control.now in
-    let server = g.F.Far.server c.data_hear-taken.new.self in
-    goes_err old _ c.from_residual.result c.from_residual.ensures.0
-    (fails_then old (stand server c.args.control.now) _
-    (call_leads old (Received (take c.data_hear-taken.result c.args.octets.now)) server c.data_hear-taken.ensures.took)
-    c.in_err-flush.ensures)
+returns-in_err-flush-clause-goes g c lane =
+    let octets = c.args.octets.now in
+    let count = c.data_hear-taken.result in
+    let old = handing g.R.Read.remaining g.W.Write.contents (g.F.Far.server c.args.server.now) c.args.control.now lane octets in
+    let mid = handing g.R.Read.remaining g.W.Write.contents (g.F.Far.server c.data_hear-taken.new.self) c.args.control.now lane (drop count octets) in
+    let off = handing g.R.Read.remaining g.W.Write.contents (g.F.Far.server c.flush.new.server) c.flush.new.control lane (drop count octets) in
+    let new = handing g.R.Read.remaining g.W.Write.contents (g.F.Far.server c.flush.new.server) c.flush.new.control lane [] in
+    hands_err old (handing g.R.Read.remaining g.W.Write.contents (g.F.Far.server c.flush.new.server) c.flush.new.control lane) octets c.from_residual.result c.from_residual.ensures.0
+    (fails_lets old off new
+    (fails_then old mid off
+    (call_leads old (Received (take count octets)) mid.owner (c.data_hear-taken.ensures.took, (sym (take-append-drop count octets), refl)))
+    (c.in_err-flush.ensures (with_untold (drop count octets) lane)))
+    (refl, refl) refl)
 
 pub returns-clause-goes : goal.returns-clause-goes
-returns-clause-goes g c =
-    let stand = beside g.R.Read.remaining g.W.Write.contents in
-    let old = stand (g.F.Far.server c.args.server.now) c.args.control.now in
-    let server = g.F.Far.server c.data_hear-taken.new.self in
-    let mid = stand server c.args.control.now in
+returns-clause-goes g c lane =
+    let octets = c.args.octets.now in
+    let count = c.data_hear-taken.result in
+    let old = handing g.R.Read.remaining g.W.Write.contents (g.F.Far.server c.args.server.now) c.args.control.now lane octets in
+    let mid = handing g.R.Read.remaining g.W.Write.contents (g.F.Far.server c.data_hear-taken.new.self) c.args.control.now lane (drop count octets) in
     leads_then old mid _
-    (call_leads old (Received (take c.data_hear-taken.result c.args.octets.now)) server c.data_hear-taken.ensures.took)
-    (settled_leads mid _ c.in_ok-flush.ensures)
+    (call_leads old (Received (take count octets)) mid.owner (c.data_hear-taken.ensures.took, (sym (take-append-drop count octets), refl)))
+    (settled_leads mid _ (c.in_ok-flush.ensures (with_untold (drop count octets) lane)))

@@ -3,33 +3,33 @@ use Rattle.std.specs.Io.KnownBytes.{Consumes}
 use Rattle.ftp_control.specs.Unheard.{left_of}
 use Rattle.ftp_control.proofs.Leading.{call_leads, leads_then}
 use Rattle.ftp_control.proofs.Going.{ends_here, goes_err, read_fails, reads_next}
-use Rattle.ftp_server_drive.specs.Beside.{beside}
+use Rattle.ftp_server_drive.specs.Beside.{beside, held}
 use Rattle.ftp_server_drive.specs.Side.{Clock}
 use Rattle.ftp_server_drive.proofs.drive.read.Goals as goal
 
 pub returns-in_err-count : goal.returns-in_err-count
-returns-in_err-count g c start settles =
-    let stand = beside g.R.Read.remaining g.W.Write.contents (g.F.Far.server c.args.server.now) in
+returns-in_err-count g c lane start settles =
+    let stand = beside g.R.Read.remaining g.W.Write.contents (held (g.F.Far.server c.args.server.now) lane) in
     goes_err start _ c.from_residual.result c.from_residual.ensures.0
     (read_fails start (stand c.args.control.now) (stand c.read.new.self) settles
     c.in_err-count.ensures.err (c.in_err-count.ensures.kept ∙ sym c.requires) c.in_err-count.ensures.written refl)
 
 pub returns-then-count-eq0 : goal.returns-then-count-eq0
-returns-then-count-eq0 g c start settles =
+returns-then-count-eq0 g c lane start settles =
     let old = c.args.control.now in
     let new = c.read.new.self in
     let stand = beside g.R.Read.remaining g.W.Write.contents in
     let left = left_of g.R.Read.remaining in
     let none = c.in_ok-count.ensures.none c.if-count-eq0.true in
-    ends_here start (stand (g.F.Far.server c.args.server.now) old) (stand (g.F.Far.server c.control_end.new.self) new) settles c.requires
+    ends_here start (stand (held (g.F.Far.server c.args.server.now) lane) old) (stand (held (g.F.Far.server c.control_end.new.self) lane) new) settles c.requires
     (subst (λ l. Consumes (left old) (left new) l) none.1 c.in_ok-count.ensures.ok)
-    none.0 none.1 c.in_ok-count.ensures.written c.control_end.ensures
+    none.0 none.1 c.in_ok-count.ensures.written (c.control_end.ensures, refl)
 
 pub returns : goal.returns
-returns g c start settles =
+returns g c lane start settles =
     let new = c.read.new.self in
-    let stand = beside g.R.Read.remaining g.W.Write.contents (g.F.Far.server c.args.server.now) in
+    let stand = beside g.R.Read.remaining g.W.Write.contents (held (g.F.Far.server c.args.server.now) lane) in
     leads_then start (stand new) _
     (reads_next start (stand c.args.control.now) (stand new) _ settles c.requires
     c.in_ok-count.ensures.ok refl c.in_ok-count.ensures.written refl)
-    (call_leads (stand new) (Clock c.moment.result.seconds) (g.F.Far.server c.clock.new.self) c.clock.ensures)
+    (call_leads (stand new) (Clock c.moment.result.seconds) (held (g.F.Far.server c.clock.new.self) lane) (c.clock.ensures, refl))

@@ -6,5 +6,9 @@ pub returns-in_err-write_more-clause-sends : goal.returns-in_err-write_more-clau
 returns-in_err-write_more-clause-sends g c = sends_then _ _ _ _ _ _ c.loop.invariant.0 c.write_more.ensures.sends
 
 pub loop-preserved : goal.loop-preserved
-loop-preserved g c = (sends_then _ _ _ _ _ _ c.loop.invariant.0 c.write_more.ensures.sends, c.write_more.ensures.end ∙ c.loop.invariant.1,
-    c.write_more.ensures.rest ∙ c.loop.invariant.2, c.write_more.ensures.stands ∙ c.loop.invariant.3)
+loop-preserved g c = (
+  sends_then _ _ _ _ _ _ c.loop.invariant.0 c.write_more.ensures.sends,
+  c.write_more.ensures.end ∙ c.loop.invariant.1,
+  c.write_more.ensures.rest ∙ c.loop.invariant.2,
+  c.write_more.ensures.stands ∙ c.loop.invariant.3,
+)

@@ -1,0 +1,13 @@
+use Rattle.std.proofs.Common.{sym, subst}
+use Rattle.std.proofs.lemmas.List.{take-append-le}
+use Rattle.ftp_control.specs.Driving.{Quietly}
+use Rattle.ftp_control.specs.Lane.{with_given}
+use Rattle.ftp_server_drive.specs.Beside.{held}
+use Rattle.ftp_server_drive.specs.Side.{server_side}
+use Rattle.ftp_server_drive.proofs.data.fill_front.Goals as goal
+
+pub returns-clause-quiet : goal.returns-clause-quiet
+returns-clause-quiet g c lane =
+    let server = g.F.Far.server in
+    subst (λ l. Quietly server_side (held (server c.args.server.now) lane) (held (server c.fill.new.server) (with_given l lane)))
+    (sym (take-append-le c.fill.result c.fill.new.room c.split_at_mut-front.result.1.now c.fill.ensures.within)) (c.fill.ensures.quiet lane)
