@@ -1,5 +1,5 @@
 // When orders are done.
-ghost use Rattle.std.specs.Prelude.{◌≡◌, ◌+◌, IfSome};
+ghost use Rattle.std.specs.Prelude.{◌≡◌, ◌+◌, ◌<◌, IfNone, IfSome};
 
 use ftp_facts::Moment;
 
@@ -8,7 +8,11 @@ const YEAR_2000: u64 = 946_684_800;
 
 /// The moment of the order with this number, from 0: each has the second after that of the order before it. None after the year 9999.
 pub fn moment_of(number: u64) -> Option<Moment>
-    ensures { IfSome result (λ moment. moment.seconds ≡ 946684800 + number) }
+    ensures some { IfSome result (λ moment. moment.seconds ≡ 946684800 + number) }
+    ensures none { IfNone result (253_402_300_799 < 946684800 + number) }
 {
-    Moment::new(YEAR_2000.checked_add(number)?)
+    let Some(seconds) = YEAR_2000.checked_add(number) else {
+        return None;
+    };
+    Moment::new(seconds)
 }
