@@ -1,4 +1,7 @@
 // An upload over breaks by a client, against a server of texts: its first data connections break, each behind four octets.
+ghost use Rattle.std.specs.Prelude.{None};
+ghost use Rattle.ftp_control.specs.Asking.{Closes};
+
 use crate::drive::peer::PEER;
 use ftp_client_drive::{Control, drive_client};
 use ftp_client_model::Near;
@@ -106,7 +109,9 @@ impl Ports for Breaking {
         Spoken::Nothing
     }
 
-    fn close(&mut self, stream: Option<Whole<Link>>) {
+    fn close(&mut self, stream: Option<Whole<Link>>)
+        ensures { Closes (λ link. None) (λ link. None) stream None None }
+    {
         if let Some(whole) = stream {
             self.reset(whole.into_stream());
         }

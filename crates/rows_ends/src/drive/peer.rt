@@ -1,5 +1,8 @@
 // A client's side of data connections that is the same each time: it opens each port, sends so many octets, has no room at first, and speaks at
 // a time of its choice.
+ghost use Rattle.std.specs.Prelude.{None};
+ghost use Rattle.ftp_control.specs.Asking.{Closes};
+
 use ftp_control::{Accepted, For, Ports, Ready, Spoken, Watch, Whole};
 use ftp_endpoint::{Endpoint, Host};
 use ftp_facts::Moment;
@@ -116,7 +119,9 @@ impl Ports for Client {
         Spoken::Nothing
     }
 
-    fn close(&mut self, stream: Option<Whole<Link>>) {
+    fn close(&mut self, stream: Option<Whole<Link>>)
+        ensures { Closes (λ link. None) (λ link. None) stream None None }
+    {
         if let Some(whole) = stream {
             self.taken = self.taken.wrapping_add(whole.into_stream().taken);
         }
