@@ -7,7 +7,7 @@ use ftp_control::{Accepted, For, Ports, Ready, Spoken, Whole};
 use ftp_endpoint::Endpoint;
 use ftp_tool_sockets::{ControlReader, ControlWriter, Link, SocketPorts};
 use std::io;
-use std::io::{Eprint, Read, Write};
+use std::io::{Eprint, ErrorKind, Read, Write};
 use std::net::{Net, TcpListener, TcpStream};
 use std::time::Clock;
 
@@ -27,7 +27,8 @@ impl<'a, R: Clock + Eprint> Read for HeardReader<'a, R> {
     }
 }
 
-/// The writing side of a control connection. The journal is told what is said before it is written; after refused logins that is slow.
+/// The writing side of a control connection. The journal is told what is said before it is written; after refused logins that is slow, and behind the
+/// last of them nothing is written, also of what was read before.
 #[derive(Drop)]
 pub(crate) struct SaidWriter<'a, R: Clock + Eprint> {
     inner: ControlWriter<'a>,
@@ -52,6 +53,9 @@ impl<'a, R: Clock + Eprint> SaidWriter<'a, R> {
 
 impl<'a, R: Clock + Eprint> Write for SaidWriter<'a, R> {
     fn write(&mut self, octets: &[u8]) -> io::Result<usize> {
+        if self.journal.is_over() {
+            return Err(io::Error::from(ErrorKind::TimedOut));
+        }
         let (_, fresh) = octets.split_at(self.told.min(octets.len()));
         self.journal.say(fresh);
         self.told = octets.len();

@@ -184,6 +184,11 @@ impl<'a, R: Clock + Eprint> Journal<'a, R> {
         }
     }
 
+    /// Whether the server has ended the session.
+    pub(crate) fn is_over(&self) -> bool {
+        self.service.patience.over().is_some()
+    }
+
     /// A data connection, or the wait for one, was given up.
     pub(crate) fn give_up(&self) {
         self.service.patience.stir();
