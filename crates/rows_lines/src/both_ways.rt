@@ -1,10 +1,11 @@
-use crate::report::{Paper, is_printed};
+use crate::report::{is_printed, stretched};
 use crate::wires::{
     ASCII_BLOCK, ASCII_RECORD_BLOCK, ASCII_RECORD_STREAM, ASCII_STREAM, FILE_BLOCK, FILE_STREAM,
     RECORD_BLOCK, RECORD_STREAM, comes_back,
 };
 use ftp_mode::FrameFault;
 use ftp_settings::Representation;
+use rows_base::Paper;
 use std::alloc::Global;
 
 const REPRESENTATIONS: &[Representation] = &[
@@ -51,14 +52,8 @@ fn come_back_each(alloc: Global) -> bool {
 }
 
 fn seventy_thousand_come_back(alloc: Global) -> bool {
-    let file = Paper::stretched(alloc, b"", b'x', 70_000, b"");
-    comes_back(
-        alloc,
-        FILE_BLOCK,
-        Some(0),
-        file.octets(),
-        &[1, 4096, 70_000],
-    )
+    let file = stretched(alloc, b"", b'x', 70_000, b"");
+    comes_back(alloc, FILE_BLOCK, Some(0), file.text(), &[1, 4096, 70_000])
 }
 
 const FAULTS: &[(FrameFault, &'static str)] = &[
@@ -78,10 +73,10 @@ fn are_printed(alloc: Global) -> bool {
 
 /// What is tried here, and whether it holds.
 pub(crate) fn tried(alloc: Global, report: &mut Paper) {
-    report.say("each representation there and back", come_back_each(alloc));
-    report.say(
+    report.holds("each representation there and back", come_back_each(alloc));
+    report.holds(
         "seventy thousand octets with a marker come back",
         seventy_thousand_come_back(alloc),
     );
-    report.say("faults print number name and place", are_printed(alloc));
+    report.holds("faults print number name and place", are_printed(alloc));
 }

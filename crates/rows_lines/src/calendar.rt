@@ -1,6 +1,6 @@
 //! Every day from 1970 to 2199, and the last day of each century after, as Python's `datetime` counts them.
-use crate::report::Paper;
 use ftp_facts::{FactFault, moment_of_text, moment_text};
+use rows_base::Paper;
 
 /// The day numbers of 1 January 1970 to 2200: `date(y, 1, 1).toordinal() - date(1970, 1, 1).toordinal()`.
 const YEARS: &[u32] = &[
@@ -194,6 +194,6 @@ fn centuries_end() -> bool {
 
 /// What is tried here, and whether it holds.
 pub(crate) fn tried(report: &mut Paper) {
-    report.say("every day from 1970 to 2199", first_wrong_year().is_none());
-    report.say("the last day of each century", centuries_end());
+    report.holds("every day from 1970 to 2199", first_wrong_year().is_none());
+    report.holds("the last day of each century", centuries_end());
 }

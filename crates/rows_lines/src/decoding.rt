@@ -1,10 +1,9 @@
 //! Octets of data connections, and what a decoder makes of them.
-use crate::report::Paper;
 use crate::wires::{ASCII_RECORD_STREAM, ASCII_STREAM, RECORD_BLOCK, RECORD_STREAM};
 use ftp_mode::FrameFault;
 use ftp_settings::Representation;
 use ftp_wire::{Decoded, Decoder, Taken};
-use rows_base::Refusing;
+use rows_base::{Paper, Refusing};
 use std::alloc::{Allocator, Global};
 
 /// Hands a decoder a wire in pieces of this size.
@@ -131,23 +130,23 @@ fn refusal_is_told(alloc: Global) -> bool {
 
 /// What is tried here, and whether it holds.
 pub(crate) fn tried(alloc: Global, report: &mut Paper) {
-    report.say("decoder: wires give files", wires_give_files(alloc));
-    report.say(
+    report.holds("decoder: wires give files", wires_give_files(alloc));
+    report.holds(
         "decoder: a break drops a return",
         settles(alloc, ASCII_STREAM, b"a\r\nb\r", b"a\nb")
             & settles(alloc, RECORD_BLOCK, b"\x00\x00\x05ab", b"ab"),
     );
-    report.say(
+    report.holds(
         "decoder: a marker is told before its end",
         marker_is_told(alloc),
     );
-    report.say(
+    report.holds(
         "decoder: a fault comes with its octet",
         fault_is_told(alloc),
     );
-    report.say(
+    report.holds(
         "decoder: a room is passed by one octet",
         room_is_passed(alloc),
     );
-    report.say("decoder: a refused growth is told", refusal_is_told(alloc));
+    report.holds("decoder: a refused growth is told", refusal_is_told(alloc));
 }

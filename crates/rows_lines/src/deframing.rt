@@ -1,4 +1,4 @@
-use crate::report::Paper;
+use crate::report::stretched;
 use crate::wires::{
     ASCII_BLOCK, ASCII_RECORD_BLOCK, ASCII_STREAM, FILE_BLOCK, RECORD_BLOCK, RECORD_STREAM,
     reads_as,
@@ -6,6 +6,7 @@ use crate::wires::{
 use ftp_mode::{Deframer, FrameFault, Mode, Part};
 use ftp_repr::Structure;
 use ftp_settings::Representation;
+use rows_base::Paper;
 use std::alloc::Global;
 
 /// A wire, the file that it settles and its fault, by hand from RFC 959, sections 3.4.1, 3.4.2 and 3.5.
@@ -149,19 +150,19 @@ fn all_hold(alloc: Global) -> bool {
 
 /// Whether a block of 65,535 octets is read.
 fn reads_a_full_block(alloc: Global) -> bool {
-    let file = Paper::stretched(alloc, b"", b'x', 65_535, b"");
-    let wire = Paper::stretched(alloc, b"\x40\xFF\xFF", b'x', 65_535, b"");
-    let row = (FILE_BLOCK, wire.octets(), file.octets(), None);
+    let file = stretched(alloc, b"", b'x', 65_535, b"");
+    let wire = stretched(alloc, b"\x40\xFF\xFF", b'x', 65_535, b"");
+    let row = (FILE_BLOCK, wire.text(), file.text(), None);
     holds(alloc, &row, &[1, 4096, 70_000])
 }
 
 /// Whether a marker of 255 octets is read over.
 fn reads_a_full_marker(alloc: Global) -> bool {
-    let wire = Paper::stretched(alloc, b"\xD0\x00\xFF", b'~', 255, b"");
+    let wire = stretched(alloc, b"\xD0\x00\xFF", b'~', 255, b"");
     let file: &[u8] = &[0x0A];
     holds(
         alloc,
-        &(RECORD_BLOCK, wire.octets(), file, None),
+        &(RECORD_BLOCK, wire.text(), file, None),
         &[1, 64, 300],
     )
 }
@@ -216,22 +217,22 @@ fn is_whole_behind_its_end(deframer: &mut Deframer) -> bool {
 
 fn try_files(report: &mut Paper) {
     let mut deframer = Deframer::new(Mode::Block, Structure::File);
-    report.say("a marker is lent", lends_a_marker(&mut deframer));
+    report.holds("a marker is lent", lends_a_marker(&mut deframer));
 }
 
 fn try_records(report: &mut Paper) {
     let mut deframer = Deframer::new(Mode::Stream, Structure::Record);
-    report.say("a fault stays", stays_faulty(&mut deframer));
+    report.holds("a fault stays", stays_faulty(&mut deframer));
 }
 
 fn try_breaks(report: &mut Paper) {
     let mut records = Deframer::new(Mode::Block, Structure::Record);
-    report.say(
+    report.holds(
         "a break leaves what was read",
         gives_what_came(&mut records),
     );
     let mut file = Deframer::new(Mode::Block, Structure::File);
-    report.say(
+    report.holds(
         "behind an end of file a break breaks nothing",
         is_whole_behind_its_end(&mut file),
     );
@@ -239,9 +240,9 @@ fn try_breaks(report: &mut Paper) {
 
 /// What is tried here, and whether it holds.
 pub(crate) fn tried(alloc: Global, report: &mut Paper) {
-    report.say("wires read with their faults", all_hold(alloc));
-    report.say("a block of 65535 octets", reads_a_full_block(alloc));
-    report.say(
+    report.holds("wires read with their faults", all_hold(alloc));
+    report.holds("a block of 65535 octets", reads_a_full_block(alloc));
+    report.holds(
         "a marker of 255 octets before an end",
         reads_a_full_marker(alloc),
     );

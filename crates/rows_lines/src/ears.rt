@@ -1,8 +1,8 @@
 //! What octets of a control connection say, in every cutting, and the memory that an ear asks for.
 use crate::caller::events_in;
-use crate::report::Paper;
+use crate::report::stretched;
 use ftp_nvt::{Ear, Event, NvtFault};
-use rows_base::Refusing;
+use rows_base::{Paper, Refusing};
 use std::alloc::{Allocator, Global};
 
 /// Octets, and what they say.
@@ -44,7 +44,7 @@ fn put_cut(ear: &mut Ear<Global>, octets: &[u8], at: usize, size: usize, said: &
 fn is_said(alloc: Global, ear: &mut Ear<Global>, row: &Row, at: usize, size: usize) -> bool {
     let mut said = Paper::new(alloc);
     put_cut(ear, row.0, at, size, &mut said);
-    said.octets() == row.1
+    said.text() == row.1
 }
 
 /// Whether a row says the same cut once at this place, and then into pieces of this size.
@@ -137,9 +137,9 @@ fn is_too_long(ear: &mut Ear<Global>, octets: &[u8]) -> bool {
 
 /// Whether an ear for 1,024 octets hears 1,018 spaces behind NOOP as one line, and then one more as a line that is too long.
 fn keeps_its_limit(alloc: Global, ear: &mut Ear<Global>) -> bool {
-    let longest = Paper::stretched(alloc, b"NOOP", b' ', 1_018, b"\r\n");
-    let longer = Paper::stretched(alloc, b"NOOP", b' ', 1_019, b"\r\n");
-    is_a_line(ear, longest.octets()) & is_too_long(ear, longer.octets())
+    let longest = stretched(alloc, b"NOOP", b' ', 1_018, b"\r\n");
+    let longer = stretched(alloc, b"NOOP", b' ', 1_019, b"\r\n");
+    is_a_line(ear, longest.text()) & is_too_long(ear, longer.text())
 }
 
 /// Whether an ear for eight octets tells how long its unfinished line is: three octets, none behind its end, none past the limit.
@@ -185,9 +185,9 @@ fn asks_once(alloc: Global) -> bool {
 
 /// What is tried here, and whether it holds.
 pub(crate) fn tried(alloc: Global, report: &mut Paper) {
-    report.say("lines in every cutting", all_hold(alloc, 10, LINES));
-    report.say("telnet octets in every cutting", all_hold(alloc, 4, TELNET));
-    report.say("a line has 1024 octets at most", is_limited(alloc));
-    report.say("an unfinished line is measured", measures(alloc));
-    report.say("memory is asked for once", asks_once(alloc));
+    report.holds("lines in every cutting", all_hold(alloc, 10, LINES));
+    report.holds("telnet octets in every cutting", all_hold(alloc, 4, TELNET));
+    report.holds("a line has 1024 octets at most", is_limited(alloc));
+    report.holds("an unfinished line is measured", measures(alloc));
+    report.holds("memory is asked for once", asks_once(alloc));
 }

@@ -1,10 +1,10 @@
 //! Rows of RFC 959 and RFC 2428, and numbers at their limits.
-use crate::report::Paper;
 use ftp_endpoint::{
     Endpoint, EndpointFault, Host, after, extended_endpoint, is_delimiter, number, octet,
     octet_in_front, port, port_in_front, six_in_front, six_numbers, split_digits, write_extended,
     write_six,
 };
+use rows_base::Paper;
 
 const LOCAL: Endpoint = Endpoint {
     host: Host::V4([10, 0, 0, 9]),
@@ -221,15 +221,15 @@ fn are_written_as_six() -> bool {
 
 /// What is tried here, and whether it holds.
 pub(crate) fn tried(report: &mut Paper) {
-    report.say(
+    report.holds(
         "numbers at their limits",
         numbers_are_read() & octets_are_read() & ports_are_read(),
     );
-    report.say("what stands in front", what_stands_in_front());
-    report.say("six numbers of RFC 959", are_six());
-    report.say("ports of extended replies", replies_are_read());
-    report.say("extended addresses that are refused", are_refused());
-    report.say("extended addresses that are read", are_read());
-    report.say("extended addresses as they are written", are_written());
-    report.say("six numbers as they are written", are_written_as_six());
+    report.holds("what stands in front", what_stands_in_front());
+    report.holds("six numbers of RFC 959", are_six());
+    report.holds("ports of extended replies", replies_are_read());
+    report.holds("extended addresses that are refused", are_refused());
+    report.holds("extended addresses that are read", are_read());
+    report.holds("extended addresses as they are written", are_written());
+    report.holds("six numbers as they are written", are_written_as_six());
 }

@@ -1,6 +1,7 @@
 //! Lines of a listing, and what is written of the entries that they say.
-use crate::report::{Paper, is_printed};
+use crate::report::is_printed;
 use ftp_facts::{Entry, FactFault, read_entry, write_entry};
+use rows_base::Paper;
 use std::alloc::{Allocator, Global};
 
 /// A line, and either the line that is written of its entry or its fault.
@@ -159,7 +160,7 @@ fn are_printed(alloc: Global) -> bool {
 
 /// What is tried here, and whether it holds.
 pub(crate) fn tried(alloc: Global, report: &mut Paper) {
-    report.say("lines and their answers", lines_are_answered(alloc));
-    report.say("names that are no path text", are_bad_names(alloc));
-    report.say("faults as they are printed", are_printed(alloc));
+    report.holds("lines and their answers", lines_are_answered(alloc));
+    report.holds("names that are no path text", are_bad_names(alloc));
+    report.holds("faults as they are printed", are_printed(alloc));
 }

@@ -1,9 +1,8 @@
 //! Each growth refused in turn.
 use crate::entries::{answers, fault_of};
-use crate::report::Paper;
 use ftp_facts::laws::entry_comes_back;
 use ftp_facts::{Entry, FactFault, Text, read_entry, write_entry};
-use rows_base::Refusing;
+use rows_base::{Paper, Refusing};
 use std::alloc::{Allocator, Global};
 
 const LINE: &str = "Type=OS.unix=slink:/x;Size=12;Modify=20000229235959;Perm=adfrw; a b";
@@ -75,11 +74,11 @@ fn writing_is_refused_memory(alloc: Global, entry: &Entry<Global>) -> bool {
 
 /// Tries the entry of the line.
 fn try_entry(alloc: Global, entry: &Entry<Global>, report: &mut Paper) {
-    report.say(
+    report.holds(
         "writing is refused memory",
         writing_is_refused_memory(alloc, entry),
     );
-    report.say(
+    report.holds(
         "an entry comes back",
         answers(alloc, entry_comes_back(alloc, entry), LINE),
     );
@@ -89,7 +88,7 @@ fn try_entry(alloc: Global, entry: &Entry<Global>, report: &mut Paper) {
 fn try_read(alloc: Global, read: &Result<Entry<Global>, FactFault>, report: &mut Paper) {
     match read {
         Ok(entry) => try_entry(alloc, entry, report),
-        Err(_) => report.say("the line is read", false),
+        Err(_) => report.holds("the line is read", false),
     }
 }
 
@@ -114,16 +113,16 @@ fn is_kept_or_refused(alloc: Global) -> bool {
 
 /// What is tried here, and whether it holds.
 pub(crate) fn tried(alloc: Global, report: &mut Paper) {
-    report.say(
+    report.holds(
         "reading is refused memory",
         reading_is_refused_memory(alloc),
     );
-    report.say(
+    report.holds(
         "a bad line asks for no memory",
         bad_lines_ask_for_none(alloc),
     );
     try_line(alloc, report);
-    report.say(
+    report.holds(
         "a text is kept or memory is refused",
         is_kept_or_refused(alloc),
     );

@@ -1,5 +1,5 @@
 //! Files to wires, by a sender and a framer, and by the encoder, which puts one behind the other.
-use crate::report::Paper;
+use crate::report::{fill, stretched};
 use crate::wires::{
     ASCII_BLOCK, ASCII_RECORD_BLOCK, ASCII_RECORD_STREAM, ASCII_STREAM, FILE_BLOCK, FILE_STREAM,
     RECORD_BLOCK, RECORD_STREAM, encode, encoder, write,
@@ -8,6 +8,7 @@ use ftp_mode::{Framer, Mode, Written};
 use ftp_repr::{Item, Structure};
 use ftp_settings::Representation;
 use ftp_wire::{Encoded, Encoder};
+use rows_base::Paper;
 use std::alloc::Global;
 
 /// A file and its wire, by hand from RFC 959, sections 3.4.1 and 3.4.2.
@@ -72,7 +73,7 @@ fn goes_as(
         By::Framer => write(row.0, start, row.1, sizes, &mut wire),
         By::Encoder => put_encoded(row.0, start, row.1, sizes, &mut wire),
     }
-    wire.octets() == row.2
+    wire.text() == row.2
 }
 
 /// Puts the wire that an encoder makes, and a word behind it where not all of it is out.
@@ -160,7 +161,7 @@ fn goes_by(
     form: Representation,
     start: Option<u64>,
 ) -> bool {
-    let row = (form, file.octets(), wire.octets());
+    let row = (form, file.text(), wire.text());
     goes_as(alloc, By::Framer, &row, start, (1, 1))
         & goes_as(alloc, By::Framer, &row, start, (4096, 4096))
         & goes_as(alloc, By::Framer, &row, start, (70_000, 70_000))
@@ -168,21 +169,21 @@ fn goes_by(
 
 /// Whether 70,000 octets go with a marker behind 65,536 of them: eight blocks of 8,192 octets, the marker, and a block of 4,464.
 fn writes_70_000(alloc: Global) -> bool {
-    let file = Paper::stretched(alloc, b"", b'x', 70_000, b"");
+    let file = stretched(alloc, b"", b'x', 70_000, b"");
     let mut wire = Paper::new(alloc);
     for _ in 0..8 {
         wire.put(b"\x00\x20\x00");
-        wire.fill(b'x', 8192);
+        fill(&mut wire, b'x', 8192);
     }
     wire.put(b"\x10\x00\x0565536\x40\x11\x70");
-    wire.fill(b'x', 4464);
-    (wire.octets().len() == 70_035) & goes_by(alloc, &file, &wire, FILE_BLOCK, Some(0))
+    fill(&mut wire, b'x', 4464);
+    (wire.text().len() == 70_035) & goes_by(alloc, &file, &wire, FILE_BLOCK, Some(0))
 }
 
 /// Whether a record of 8,192 octets goes as one block.
 fn writes_a_full_block(alloc: Global) -> bool {
-    let file = Paper::stretched(alloc, b"", b'x', 8192, b"\n");
-    let wire = Paper::stretched(alloc, b"\xC0\x20\x00", b'x', 8192, b"");
+    let file = stretched(alloc, b"", b'x', 8192, b"\n");
+    let wire = stretched(alloc, b"\xC0\x20\x00", b'x', 8192, b"");
     goes_by(alloc, &file, &wire, RECORD_BLOCK, None)
 }
 
@@ -230,34 +231,34 @@ fn half_is_kept() -> bool {
 
 /// What is tried here, and whether it holds.
 pub(crate) fn tried(alloc: Global, report: &mut Paper) {
-    report.say("wires of small files", all_hold(alloc, By::Framer));
-    report.say(
+    report.holds("wires of small files", all_hold(alloc, By::Framer));
+    report.holds(
         "seventy thousand octets with a marker",
         writes_70_000(alloc),
     );
-    report.say("markers count from a start", starts_hold(alloc, By::Framer));
-    report.say(
+    report.holds("markers count from a start", starts_hold(alloc, By::Framer));
+    report.holds(
         "markers are for blocks in file structure",
         unmarked_hold(alloc, By::Framer),
     );
-    report.say(
+    report.holds(
         "a record of 8192 octets is one block",
         writes_a_full_block(alloc),
     );
-    report.say("an end is taken once it is out", takes_it_once());
-    report.say(
+    report.holds("an end is taken once it is out", takes_it_once());
+    report.holds(
         "encoder: wires of small files",
         all_hold(alloc, By::Encoder),
     );
-    report.say(
+    report.holds(
         "encoder: own markers",
         starts_hold(alloc, By::Encoder) & unmarked_hold(alloc, By::Encoder),
     );
-    report.say(
+    report.holds(
         "encoder: an end that writes nothing is out before it is put",
         ends_of_both_are_out(),
     );
-    report.say(
+    report.holds(
         "encoder: the second octet of a pair waits for room",
         half_is_kept(),
     );

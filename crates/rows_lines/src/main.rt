@@ -19,6 +19,7 @@ mod refusals;
 mod replies;
 mod reply_memory;
 mod report;
+mod script;
 mod scripts;
 mod sending;
 mod sizes;
@@ -30,17 +31,21 @@ mod words;
 mod writing;
 mod written;
 
-use report::Paper;
+use rows_base::Paper;
 use std::alloc::Global;
 use std::io;
-use std::io::Write;
+use std::io::{Read, Write};
 
-/// Tries all rows, and writes a line for each table.
+/// Tries all rows: writes each line of the script with what is said of it, and a line for each table.
 fn main(rt: HostRuntime) -> io::Result<()> {
+    let mut rows = Vec::new(rt.alloc());
+    rt.reader().read_to_end(&mut rows)?;
     let mut report = Paper::new(rt.alloc());
+    script::play_all(rt.alloc(), rows.as_slice(), &mut report);
+    report.put(b"\n");
     try_lines(rt.alloc(), &mut report);
     try_files(rt.alloc(), &mut report);
-    io::writer(&rt).write_all(report.octets())
+    io::writer(&rt).write_all(report.text())
 }
 
 fn try_lines(alloc: Global, report: &mut Paper) {

@@ -1,7 +1,7 @@
 //! Moments and their texts, one by one.
-use crate::report::Paper;
 use ftp_facts::laws::moment_comes_back;
 use ftp_facts::{FactFault, Moment, moment_of_text, moment_text};
+use rows_base::Paper;
 
 /// Seconds, and the text of their moment.
 const BOTH_WAYS: &[(u64, &str)] = &[
@@ -89,10 +89,10 @@ fn are_no_moments() -> bool {
 
 /// What is tried here, and whether it holds.
 pub(crate) fn tried(report: &mut Paper) {
-    report.say(
+    report.holds(
         "texts of moments",
         go_both_ways() & Moment::new(253_402_300_800).is_none(),
     );
-    report.say("texts that are read and not written", are_read());
-    report.say("texts of no moment", are_no_moments());
+    report.holds("texts that are read and not written", are_read());
+    report.holds("texts of no moment", are_no_moments());
 }

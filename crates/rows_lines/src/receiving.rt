@@ -1,5 +1,5 @@
-use crate::report::Paper;
 use ftp_repr::{Item, Kind, Receiver, Structure};
+use rows_base::Paper;
 use std::alloc::Global;
 
 /// Items in a type and structure, the file at a clean end behind them, and at a break.
@@ -162,5 +162,5 @@ fn all_hold(alloc: Global) -> bool {
 
 /// What is tried here, and whether it holds.
 pub(crate) fn tried(alloc: Global, report: &mut Paper) {
-    report.say("items are received in any pieces", all_hold(alloc));
+    report.holds("items are received in any pieces", all_hold(alloc));
 }

@@ -1,6 +1,5 @@
-use crate::report::Paper;
 use ftp_repr::{Item, Kind, Receiver, ReprFault, Structure};
-use rows_base::Refusing;
+use rows_base::{Paper, Refusing};
 use std::alloc::{Allocator, Global};
 
 const GROWING: &[Item<'static>] = &[
@@ -45,7 +44,7 @@ fn growth(alloc: Global, refused: u64, items: u64, copy: &mut Paper) -> (bool, u
 fn is_whole(alloc: Global, refused: u64, whole: &[u8]) -> bool {
     let mut copy = Paper::new(alloc);
     let (once, _) = growth(alloc, refused, 1, &mut copy);
-    once & (copy.octets() == whole)
+    once & (copy.text() == whole)
 }
 
 fn each_is_whole(alloc: Global) -> bool {
@@ -54,7 +53,7 @@ fn each_is_whole(alloc: Global) -> bool {
     let growths = 0u64.wrapping_sub(left);
     let mut all = none & (growths > 3);
     for refused in 1..=growths {
-        all &= is_whole(alloc, refused, whole.octets());
+        all &= is_whole(alloc, refused, whole.text());
     }
     all
 }
@@ -82,11 +81,11 @@ fn end_keeps_return(alloc: Global, structure: Structure) -> bool {
 
 /// What is tried here, and whether it holds.
 pub(crate) fn tried(alloc: Global, report: &mut Paper) {
-    report.say(
+    report.holds(
         "a refused growth leaves all as before",
         each_is_whole(alloc),
     );
-    report.say(
+    report.holds(
         "a refused end keeps its return",
         end_keeps_return(alloc, Structure::File) & end_keeps_return(alloc, Structure::Record),
     );

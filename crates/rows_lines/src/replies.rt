@@ -1,7 +1,8 @@
 //! Lines and the replies that they are: rows of RFC 959, section 4.2, and the limits.
 use crate::common::{hears, texts_are};
-use crate::report::Paper;
+use crate::report::stretched;
 use ftp_reply::{Reader, ReplyFault};
+use rows_base::Paper;
 use std::alloc::Global;
 
 /// Lines, and the code and texts of the reply that they are.
@@ -129,8 +130,8 @@ fn hears_long(
     mark: &[u8],
     octets: usize,
 ) -> Result<bool, ReplyFault> {
-    let line = Paper::stretched(alloc, mark, b'x', octets, b"");
-    hears(reader, line.octets())
+    let line = stretched(alloc, mark, b'x', octets, b"");
+    hears(reader, line.text())
 }
 
 /// What the reader answers to the last of so many lines, those between the first and the last empty, or its first fault.
@@ -175,10 +176,10 @@ fn one_line_is_limited(alloc: Global) -> bool {
 
 /// What is tried here, and whether it holds.
 pub(crate) fn tried(alloc: Global, report: &mut Paper) {
-    report.say("replies of RFC 959, section 4.2", are_heard(alloc));
-    report.say("lines that begin no reply", all_stop(alloc));
-    report.say("limits of lines and octets", limits_are_kept(alloc));
-    report.say(
+    report.holds("replies of RFC 959, section 4.2", are_heard(alloc));
+    report.holds("lines that begin no reply", all_stop(alloc));
+    report.holds("limits of lines and octets", limits_are_kept(alloc));
+    report.holds(
         "a reply of one line has 8192 octets at most",
         one_line_is_limited(alloc),
     );

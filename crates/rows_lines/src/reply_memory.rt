@@ -1,8 +1,7 @@
 //! Each growth refused in turn.
 use crate::common::{hears, quotes, reply_of, reply_with, texts_are};
-use crate::report::Paper;
 use ftp_reply::{Reader, Reply, ReplyFault, write};
-use rows_base::Refusing;
+use rows_base::{Paper, Refusing};
 use std::alloc::{Allocator, Global};
 
 const LONG: [u8; 400] = [b'x'; 400];
@@ -162,19 +161,19 @@ fn written_reply_is_refused(alloc: Global) -> bool {
 
 /// What is tried here, and whether it holds.
 pub(crate) fn tried(alloc: Global, report: &mut Paper) {
-    report.say(
+    report.holds(
         "each growth of a reader refused in turn",
         reader_is_refused(alloc),
     );
-    report.say(
+    report.holds(
         "each growth of a path refused in turn",
         path_of_line_is_refused(alloc),
     );
-    report.say(
+    report.holds(
         "want of memory comes after no path",
         lines_have_no_path(alloc),
     );
-    report.say(
+    report.holds(
         "each growth of a written reply refused in turn",
         written_reply_is_refused(alloc),
     );

@@ -1,9 +1,8 @@
 //! Whole scripts: how many orders they have, or which line is refused; the reports of answers; each growth refused in turn.
-use crate::report::Paper;
 use ftp_facts::{Moment, Text};
 use ftp_operation::Answer;
 use ftp_tool_script::{ScriptFault, report_of, script_of};
-use rows_base::Refusing;
+use rows_base::{Paper, Refusing};
 use std::alloc::{AllocError, Allocator, Global};
 
 /// Scripts, and how many orders each has.
@@ -201,11 +200,11 @@ fn are_reported(alloc: Global) -> bool {
 
 /// What is tried here, and whether it holds.
 pub(crate) fn tried(alloc: Global, report: &mut Paper) {
-    report.say("scripts and their orders", are_read(alloc));
-    report.say("the first line that fits no form", are_refused(alloc));
-    report.say(
+    report.holds("scripts and their orders", are_read(alloc));
+    report.holds("the first line that fits no form", are_refused(alloc));
+    report.holds(
         "a refused growth of a script is memory or a smaller one does",
         reading_is_refused_memory(alloc),
     );
-    report.say("reports of answers", are_reported(alloc));
+    report.holds("reports of answers", are_reported(alloc));
 }

@@ -1,5 +1,5 @@
-use crate::report::Paper;
 use ftp_repr::{Item, Kind, Sender, Structure};
+use rows_base::Paper;
 use std::alloc::Global;
 
 /// A file in a type and structure, and its items, by hand from RFC 959, sections 3.1.1.1 and 3.1.2.2.
@@ -122,7 +122,7 @@ fn is_sent(alloc: Global, row: &Row<'_>, cut: Option<usize>, expected: &[u8]) ->
     let mut sender = Sender::new(row.0, row.1);
     send(&mut sender, row.2, cut, &mut parts);
     let (_, more) = sender.next(&[0x61], true);
-    more.is_none() & (parts.octets() == expected)
+    more.is_none() & (parts.text() == expected)
 }
 
 /// Whether a row holds, cut at each place and by octets.
@@ -139,7 +139,7 @@ fn holds(alloc: Global, row: &Row<'_>) -> bool {
     for item in row.3 {
         put_item(*item, &mut expected);
     }
-    is_sent_cut(alloc, row, expected.octets())
+    is_sent_cut(alloc, row, expected.text())
 }
 
 fn all_hold(alloc: Global) -> bool {
@@ -152,5 +152,5 @@ fn all_hold(alloc: Global) -> bool {
 
 /// What is tried here, and whether it holds.
 pub(crate) fn tried(alloc: Global, report: &mut Paper) {
-    report.say("files are sent in any pieces", all_hold(alloc));
+    report.holds("files are sent in any pieces", all_hold(alloc));
 }

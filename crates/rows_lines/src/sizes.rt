@@ -1,5 +1,6 @@
-use crate::report::{Paper, is_printed};
+use crate::report::is_printed;
 use ftp_repr::{Kind, ReprFault, Structure, first_ff, plain_run, wire_size};
+use rows_base::Paper;
 use std::alloc::Global;
 
 /// Octets and their sizes in type A and in type I.
@@ -86,13 +87,13 @@ fn are_run() -> bool {
 
 /// What is tried here, and whether it holds.
 pub(crate) fn tried(alloc: Global, report: &mut Paper) {
-    report.say("wire sizes of type A and I", are_sized());
-    report.say(
+    report.holds("wire sizes of type A and I", are_sized());
+    report.holds(
         "sizes and runs with a line end at each place",
         counts_are_sized(),
     );
-    report.say("runs before what changes", are_run());
-    report.say(
+    report.holds("runs before what changes", are_run());
+    report.holds(
         "the refusal prints its number and name",
         is_printed(alloc, &ReprFault::Memory, "P1 Memory"),
     );

@@ -1,5 +1,5 @@
-use crate::report::Paper;
 use ftp_repr::{Kind, Skipped, skip};
+use rows_base::Paper;
 
 /// A line end and a carriage return: seven octets in type A.
 const FILE: &[u8] = &[0x61, 0x0A, 0x62, 0x0D, 0x63];
@@ -72,5 +72,5 @@ fn all_hold() -> bool {
 
 /// What is tried here, and whether it holds.
 pub(crate) fn tried(report: &mut Paper) {
-    report.say("places of a file whole and in every cut", all_hold());
+    report.holds("places of a file whole and in every cut", all_hold());
 }

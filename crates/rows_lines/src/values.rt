@@ -1,8 +1,9 @@
 //! The values of replies: rows of RFC 959, RFC 2428 and RFC 3659.
 use crate::common::{quotes, reply_of, reply_with};
-use crate::report::Paper;
+use crate::report::stretched;
 use ftp_endpoint::{Endpoint, Host};
 use ftp_reply::{Reply, ReplyFault, extended_of, mark_of, moment_of, passive_of, size_of};
+use rows_base::Paper;
 use std::alloc::Global;
 
 const LOCAL: Endpoint = Endpoint {
@@ -250,30 +251,30 @@ fn paths_are_quoted(alloc: Global) -> bool {
 
 /// Whether a path of so many octets is read, or none.
 fn is_long_path(alloc: Global, octets: usize, reads: bool) -> bool {
-    let path = Paper::stretched(alloc, b"", b'x', octets, b"");
-    let line = Paper::stretched(alloc, b"257 \"", b'x', octets, b"\"");
-    let read = if reads { Some(path.octets()) } else { None };
-    is_path(alloc, line.octets(), read)
+    let path = stretched(alloc, b"", b'x', octets, b"");
+    let line = stretched(alloc, b"257 \"", b'x', octets, b"\"");
+    let read = if reads { Some(path.text()) } else { None };
+    is_path(alloc, line.text(), read)
 }
 
 /// Whether a mark of so many octets is 1, or none.
 fn says_long_mark(alloc: Global, octets: usize, mark: Option<u64>) -> bool {
-    let line = Paper::stretched(alloc, b"110 MARK ", b'x', octets, b" = 1");
-    says(alloc, Asked::Mark, line.octets(), mark)
+    let line = stretched(alloc, b"110 MARK ", b'x', octets, b" = 1");
+    says(alloc, Asked::Mark, line.text(), mark)
 }
 
 /// What is tried here, and whether it holds.
 pub(crate) fn tried(alloc: Global, report: &mut Paper) {
-    report.say(
+    report.holds(
         "values of replies",
         endpoints_are_named(alloc) & numbers_are_said(alloc) & paths_are_quoted(alloc),
     );
-    report.say("endpoints of 227 in several lines", lines_are_joined(alloc));
-    report.say(
+    report.holds("endpoints of 227 in several lines", lines_are_joined(alloc));
+    report.holds(
         "a path of 257 has 900 octets at most",
         is_long_path(alloc, 900, true) & is_long_path(alloc, 901, false),
     );
-    report.say(
+    report.holds(
         "a mark of 110 has 255 octets at most",
         says_long_mark(alloc, 255, Some(1)) & says_long_mark(alloc, 256, None),
     );

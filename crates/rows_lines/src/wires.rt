@@ -1,9 +1,9 @@
 //! Files to wires, in pieces and rooms, and wires to files.
-use crate::report::Paper;
 use ftp_mode::{Deframer, FrameFault, Framer, Part};
 use ftp_repr::{Item, Receiver, ReprFault, Sender};
 use ftp_settings::{Kind, Mode, Representation, Structure};
 use ftp_wire::Encoder;
+use rows_base::Paper;
 use std::alloc::Global;
 
 pub const FILE_STREAM: Representation = Representation {
@@ -225,7 +225,7 @@ fn comes_back_by(
 ) -> bool {
     let mut wire = Paper::new(alloc);
     write(form, start, file, (size, size), &mut wire);
-    reads_as(alloc, form, wire.octets(), (file, None), size)
+    reads_as(alloc, form, wire.text(), (file, None), size)
 }
 
 /// Whether a file is read again from its wire, by pieces and rooms of each of these sizes.

@@ -1,5 +1,5 @@
-use crate::report::Paper;
 use ftp_repr::{Item, Kind, Receiver, Sender, Structure, wire_size};
+use rows_base::Paper;
 use std::alloc::Global;
 
 /// Type A over a whole text, written down from RFC 959, section 3.1.1.1: how a file goes.
@@ -46,14 +46,14 @@ fn is_read(alloc: Global, word: &[u8], ended: bool) -> bool {
     let mut expected = Paper::new(alloc);
     plain_read(word, ended, &mut expected);
     let mut out = Vec::new(alloc);
-    reads(word, ended, &mut out) & (out.as_slice() == expected.octets())
+    reads(word, ended, &mut out) & (out.as_slice() == expected.text())
 }
 
 /// Whether a word's size is that of what the plain program writes.
 fn is_counted(alloc: Global, word: &[u8]) -> bool {
     let mut wire = Paper::new(alloc);
     plain_written(word, &mut wire);
-    wire_size(Kind::Ascii, word) == wire.octets().len() as u64
+    wire_size(Kind::Ascii, word) == wire.text().len() as u64
 }
 
 /// Hands an item on, its octets one by one.
@@ -130,7 +130,7 @@ fn all_words_agree(alloc: Global) -> bool {
 
 /// What is tried here, and whether it holds.
 pub(crate) fn tried(alloc: Global, report: &mut Paper) {
-    report.say(
+    report.holds(
         "plain programs agree over all words of four",
         all_words_agree(alloc),
     );

@@ -1,7 +1,8 @@
 //! Replies as they are written, and the faults as they are printed.
 use crate::common::reply_with;
-use crate::report::{Paper, is_printed};
+use crate::report::is_printed;
 use ftp_reply::{Reply, ReplyFault, write};
+use rows_base::Paper;
 use std::alloc::{AllocError, Global};
 
 const WRITTEN: &[(u16, &[&[u8]], &[u8])] = &[
@@ -74,7 +75,7 @@ fn are_printed(alloc: Global) -> bool {
 
 /// What is tried here, and whether it holds.
 pub(crate) fn tried(alloc: Global, report: &mut Paper) {
-    report.say("written as RFC 959, section 4.2", are_written(alloc));
-    report.say("a reply by its parts", is_built(alloc) == Ok(true));
-    report.say("faults are printed with their numbers", are_printed(alloc));
+    report.holds("written as RFC 959, section 4.2", are_written(alloc));
+    report.holds("a reply by its parts", is_built(alloc) == Ok(true));
+    report.holds("faults are printed with their numbers", are_printed(alloc));
 }

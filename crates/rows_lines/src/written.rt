@@ -1,7 +1,6 @@
 //! How texts are written as lines, and what a refused growth leaves.
-use crate::report::Paper;
 use ftp_nvt::put_line;
-use rows_base::Refusing;
+use rows_base::{Paper, Refusing};
 use std::alloc::{Allocator, Global};
 
 /// Texts, and how they are written.
@@ -60,6 +59,6 @@ fn each_is_kept(alloc: Global) -> bool {
 
 /// What is tried here, and whether it holds.
 pub(crate) fn tried(alloc: Global, report: &mut Paper) {
-    report.say("texts are written", are_written(alloc));
-    report.say("each growth of a written line refused", each_is_kept(alloc));
+    report.holds("texts are written", are_written(alloc));
+    report.holds("each growth of a written line refused", each_is_kept(alloc));
 }
