@@ -1,12 +1,30 @@
--- A client beside its control connection, of values of the program.
-use Rattle.std.specs.Prelude.{ℕ, List, Option}
+-- A client between its connections, of values of the program.
+use Rattle.std.specs.Prelude.{ℕ, List, [], take, Option}
+use Rattle.std.specs.declared.result.Result.{Result}
+use Rattle.std.specs.declared.result.Result.TheVariants.{Ok, Err}
+use Rattle.ftp_control.specs.Asking.{Asked}
 use Rattle.ftp_control.specs.Deeds.{Stand}
+use Rattle.ftp_control.specs.Lane.{Lane, lane_of}
 use Rattle.ftp_control.specs.Unheard.{left_of, unheard_of, written_of}
 use Rattle.ftp_control.specs.declared.control.Control.{Control}
+use Rattle.ftp_control.specs.declared.data.Halt.{Halt}
 use Rattle.ftp_client_model.specs.Failing.{Client}
-use Rattle.ftp_client_drive.specs.Side.{client_side}
+use Rattle.ftp_client_drive.specs.Side.{Held, client_side}
+use Rattle.ftp_client_drive.specs.declared.data.Data.{Data}
 
--- a client beside a control connection, by what its reader has left and what its writer holds
-abbrev pub beside : {R W : Type 0} → (R → Option (List ℕ)) → (W → Option (List ℕ)) → Client → Control R W → Stand client_side
-beside remaining contents client control =
-    record { owner = client; left = left_of remaining control; unheard = unheard_of control; written = written_of contents control }
+abbrev pub held : Client → Lane → Held
+held client lane = record { client = client; lane = lane }
+
+-- a client and its data connection beside a control connection, by what its reader has left and what its writer holds
+abbrev pub beside : {R W : Type 0} → (R → Option (List ℕ)) → (W → Option (List ℕ)) → Held → Control R W → Stand client_side
+beside remaining contents owner control =
+    record { owner = owner; left = left_of remaining control; unheard = unheard_of control; written = written_of contents control }
+
+-- a data connection of which these octets were read and not told
+abbrev pub lane_at : {S : Type 0} → (remaining contents : S → Option (List ℕ)) → Option (List Asked) → Data S → (untold : List ℕ) → Lane
+lane_at remaining contents asked connection untold = lane_of remaining contents asked connection.connection connection.room untold
+
+-- the octets that were read and are in hand
+abbrev pub in_hand : Result ℕ Halt → (room : List ℕ) → List ℕ
+in_hand (Ok count) room = take count room
+in_hand (Err halt) room = []

@@ -1,16 +1,39 @@
 -- What a drive of a client beside its control connection did, whole or until a read or a write failed.
-use Rattle.std.specs.Prelude.{◌≡◌, ◌⊎◌, ℕ, Bool, true, false, List, ◌∷◌, Option, Some, IsTrue}
+use Rattle.std.specs.Prelude.{◌≡◌, ◌⊎◌, ℕ, Bool, true, false, List, [], ◌∷◌, Option, Some, IsTrue}
 use Rattle.std.specs.declared.result.Result.{Result}
 use Rattle.std.specs.declared.result.Result.TheVariants.{Ok, Err}
+use Rattle.ftp_control.specs.Asking.{Asked, Reset, Shut}
+use Rattle.ftp_control.specs.Courses.{Carries}
 use Rattle.ftp_control.specs.Deeds.{Calls, Deed, Other, Stand, with_owner}
-use Rattle.ftp_control.specs.Driving.{Cuts, Fails, Leads, Sums}
+use Rattle.ftp_control.specs.Driving.{Cuts, Fails, Leads, Quietly, Sums}
+use Rattle.ftp_control.specs.Lane.{IsLeft, Lane, with_untold}
 use Rattle.ftp_control.specs.declared.pieces.Failed.{Failed}
 use Rattle.ftp_operation.specs.Answer.{Said, Lost, said_of}
 use Rattle.ftp_operation.specs.declared.answer.Answer.{Answer}
 use Rattle.ftp_client_model.specs.Calls.{is_sound}
 use Rattle.ftp_client_model.specs.Failing.{Client}
 use Rattle.ftp_client_model.specs.View.{Job, Idle, Waiting, Doing, Transferring, Told}
-use Rattle.ftp_client_drive.specs.Side.{Closed, Report, Called, IsCut, client_side}
+use Rattle.ftp_client_drive.specs.Beside.{held}
+use Rattle.ftp_client_drive.specs.Side.{Closed, Left, Report, Called, Held, IsCut, client_side, move_of}
+
+-- the data connection alone moves, whatever the client holds
+abbrev pub Idles : (old new : Lane) → Type 0
+Idles old new = (client : Client) → Quietly client_side (held client old) (held client new)
+
+-- octets that were read are told or let go; where that fails, some of them still are in hand
+abbrev pub Hands : {T : Type 0} → (octets : List ℕ) → (old new : Client) → Lane → Result T Failed → Type 0
+Hands octets old new lane (Ok value) = Quietly client_side (held old (with_untold octets lane)) (held new (with_untold [] lane))
+Hands octets old new lane (Err failed) = (rest : List ℕ) × Quietly client_side (held old (with_untold octets lane)) (held new (with_untold rest lane))
+
+-- a data connection that stands is reset, and where none stands the port alone is closed
+abbrev pub IsDropped : (stands : Bool) → (left written : Option (List ℕ)) → Asked → Type 0
+IsDropped true left written asked = asked ≡ Reset left written
+IsDropped false left written asked = asked ≡ Shut
+
+-- it is left so, whether octets are on their way or not
+pub record IsReset (asked : Asked) (old new : Lane) : Type 0 where
+  pub dropped : IsDropped old.stands old.left old.written asked
+  pub left : IsLeft asked old new
 
 -- deeds, and then the client was asked for its report, which was this
 abbrev pub Tells : Option Said → (start now : Stand client_side) → Type 0
@@ -21,13 +44,15 @@ abbrev pub Answers : {A : Type 0} → (old new : Stand client_side) → Result (
 Answers old new (Ok answer) = Tells (Some (said_of answer)) old new
 Answers old new (Err failed) = Fails old new
 
--- the client gave this answer, and was told that the data connection is closed; before that all that it said was written, and it heard all
--- that was read but for what is not heard yet
+-- the client gave this answer, its data connection was left, and it was told that it is closed; before that all that it said was written, and it
+-- heard all that was read but for what is not heard yet
 pub record Drove (start now : Stand client_side) (said : Option Said) : Type 0 where
   pub answer : Said
   pub answered : said ≡ Some answer
   pub deeds : List (Deed client_side)
-  pub sums : Sums {side = client_side} (Other Closed ∷ Other (Report said) ∷ deeds) start now
+  pub asked : Asked
+  pub sums : Sums {side = client_side} (Other Closed ∷ Other (Left asked) ∷ Other (Report said) ∷ deeds) start now
+  pub carries : Carries {side = client_side} move_of (Other Closed ∷ Other (Left asked) ∷ Other (Report said) ∷ deeds) start.owner.lane now.owner.lane
 
 -- an operation was begun and is not answered
 abbrev pub is_under_way : Job → Bool
@@ -37,23 +62,33 @@ is_under_way (Doing op step) = true
 is_under_way (Transferring op transfer) = true
 is_under_way (Told answer) = false
 
--- the client is told that the control connection ended and then that the data connection is closed, and gives its report: an operation
--- under way is lost
-pub record GivesUp (said : Option Said) (old new : Client) : Type 0 where
-  pub cut : Client
+-- the client is told that the control connection ended, its data connection is reset and then the port closed, it is told that the data
+-- connection is closed, and gives its report: an operation under way is lost
+pub record GivesUp (said : Option Said) (old new : Held) : Type 0 where
+  pub cut : Held
   pub is_cut : IsCut old cut
-  pub closed : Client
-  pub closes : Called Closed cut closed
+  pub asked : Asked
+  pub mid : Held
+  pub leaves : Called (Left asked) cut mid
+  pub dropped : IsDropped cut.lane.stands cut.lane.left cut.lane.written asked
+  pub shut : Held
+  pub shuts : Called (Left Shut) mid shut
+  pub closed : Held
+  pub closes : Called Closed shut closed
   pub reports : Called (Report said) closed new
-  pub lost : IsTrue (is_sound old.view.standing) → IsTrue (is_under_way old.view.job) → said ≡ Some Lost
+  pub lost : IsTrue (is_sound old.client.view.standing) → IsTrue (is_under_way old.client.view.job) → said ≡ Some Lost
 
--- the same deeds where a read or a write failed: a beginning of what the client said was written, and it gave up
+-- the same deeds where a read or a write failed: a beginning of what the client said was written, what of a download it was not told is let go,
+-- and it gave up
 pub record BrokeOff (start now : Stand client_side) (said : Option Said) : Type 0 where
   pub deeds : List (Deed client_side)
   pub last : List ℕ
-  pub client : Client
-  pub cuts : Cuts deeds last start (with_owner client now)
-  pub gave_up : GivesUp said client now.owner
+  pub off : Held
+  pub cuts : Cuts deeds last start (with_owner off now)
+  pub stood : Lane
+  pub carries : Carries {side = client_side} move_of deeds start.owner.lane stood
+  pub lets : off.lane ≡ with_untold off.lane.untold stood
+  pub gave_up : GivesUp said off now.owner
 
 -- how a drive ends, with this report
 abbrev pub Drives : (start now : Stand client_side) → Option Said → Type 0

@@ -1,8 +1,9 @@
 // The octets of a control connection: those that were read are heard, and those that the client owes are written.
 ghost use Rattle.std.specs.Prelude.{◌≡◌, []};
 ghost use Rattle.ftp_control.specs.Driving.{Flushes, Goes, GoesSettled};
+ghost use Rattle.ftp_control.specs.Lane.{Lane};
 ghost use Rattle.ftp_control.specs.Unheard.{unheard_of};
-ghost use Rattle.ftp_client_drive.specs.Beside.{beside};
+ghost use Rattle.ftp_client_drive.specs.Beside.{beside, held};
 
 use ftp_client_model::Near;
 use ftp_control::{Control, Failed, TURNS};
@@ -16,7 +17,7 @@ where
     N: Near<A>,
     R: Read + Drop,
     W: Write + Drop,
-    ensures { Goes (beside R.remaining W.contents (N.client client.old) control.old) (beside R.remaining W.contents (N.client client.new) control.new) result }
+    ensures { (lane : Lane) → Goes (beside R.remaining W.contents (held (N.client client.old) lane) control.old) (beside R.remaining W.contents (held (N.client client.new) lane) control.new) result }
 {
     let count = client.hear(control.unheard());
     control.heard(count);
@@ -34,7 +35,7 @@ where
     R: Read + Drop,
     W: Write + Drop,
     requires { unheard_of control.old ≡ [] }
-    ensures { GoesSettled (beside R.remaining W.contents (N.client client.old) control.old) (beside R.remaining W.contents (N.client client.new) control.new) result }
+    ensures { (lane : Lane) → GoesSettled (beside R.remaining W.contents (held (N.client client.old) lane) control.old) (beside R.remaining W.contents (held (N.client client.new) lane) control.new) result }
 {
     let count = control.read()?;
     if count == 0 {
@@ -50,7 +51,7 @@ where
     N: Near<A>,
     R: Read + Drop,
     W: Write + Drop,
-    ensures { Flushes (beside R.remaining W.contents (N.client client.old) control.old) (beside R.remaining W.contents (N.client client.new) control.new) result }
+    ensures { (lane : Lane) → Flushes (beside R.remaining W.contents (held (N.client client.old) lane) control.old) (beside R.remaining W.contents (held (N.client client.new) lane) control.new) result }
 {
     let mut room = [0u8; 1024];
     for _ in 0..TURNS {

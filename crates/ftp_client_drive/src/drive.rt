@@ -1,20 +1,22 @@
 // The drive: what the client wants is done, turn by turn, until its operation is answered.
-ghost use Rattle.std.specs.Prelude.{◌≡◌, []};
+ghost use Rattle.std.specs.Prelude.{◌≡◌, [], ◌∷◌, List, Option};
 ghost use Rattle.std.specs.Option.{option_map};
 ghost use Rattle.std.specs.Io.KnownBytes.{IsAtEnd};
+ghost use Rattle.ftp_control.specs.Asking.{Adds, Asked};
 ghost use Rattle.ftp_control.specs.Carrying.{left_of};
 ghost use Rattle.ftp_control.specs.Driving.{Goes, GoesSettled, Quietly};
+ghost use Rattle.ftp_control.specs.Lane.{IsHad, Lane, no_lane, with_asked};
 ghost use Rattle.ftp_control.specs.Unheard.{unheard_of};
 ghost use Rattle.ftp_operation.specs.Answer.{said_of};
-ghost use Rattle.ftp_client_drive.specs.Beside.{beside};
-ghost use Rattle.ftp_client_drive.specs.Driving.{Answers, Drives};
-ghost use Rattle.ftp_client_drive.specs.Side.{Called, Closed, End, client_side};
+ghost use Rattle.ftp_client_drive.specs.Beside.{beside, held, lane_at};
+ghost use Rattle.ftp_client_drive.specs.Driving.{Answers, Drives, Hands};
+ghost use Rattle.ftp_client_drive.specs.Side.{client_side};
 
 use crate::control::{flush, hear, read};
 use crate::data::{Data, is_spoken_first};
 use ftp_client_model::Near;
 use ftp_control::{Accepted, Control, Failed, Halt, Ports, TURNS};
-use ftp_endpoint::Endpoint;
+use ftp_endpoint::{Endpoint, Host};
 use ftp_ends::Wants;
 use ftp_operation::Answer;
 use std::alloc::Allocator;
@@ -36,7 +38,7 @@ where
     R: Read + Drop,
     W: Write + Drop,
     P: Ports,
-    ensures { Drives (beside R.remaining W.contents (N.client client.old) control.old) (beside R.remaining W.contents (N.client client.new) control.new) (option_map said_of result) }
+    ensures { Drives (beside R.remaining W.contents (held (N.client client.old) (no_lane (P.history ports.old))) control.old) (beside R.remaining W.contents (held (N.client client.new) (no_lane (P.history ports.new))) control.new) (option_map said_of result) }
 {
     let mut data = Data::new();
     match turns(client, control, ports, &mut data) {
@@ -47,7 +49,7 @@ where
         }
         Err(Failed) => {
             client.control_end();
-            data.connection.reset(ports);
+            data.reset(ports);
             data.finish(ports);
             client.data_closed();
             client.report()
@@ -55,15 +57,15 @@ where
     }
 }
 
-/// Closes what stands of the data connection.
+/// Closes what stands of the data connection, and tells the client.
 fn close<A, N, P>(client: &mut N, ports: &mut P, data: &mut Data<P::Stream>)
 where
     A: Allocator,
     N: Near<A>,
     P: Ports,
-    ensures { Called Closed (N.client client.old) (N.client client.new) }
+    ensures { Quietly client_side (held (N.client client.old) (lane_at P.Stream.remaining P.Stream.contents (P.history ports.old) «data».old [])) (held (N.client client.new) (lane_at P.Stream.remaining P.Stream.contents (P.history ports.new) «data».new [])) }
 {
-    data.connection.close(ports);
+    data.leave(ports);
     client.data_closed();
 }
 
@@ -80,7 +82,7 @@ where
     R: Read + Drop,
     W: Write + Drop,
     P: Ports,
-    ensures { Answers (beside R.remaining W.contents (N.client client.old) control.old) (beside R.remaining W.contents (N.client client.new) control.new) result }
+    ensures { Answers (beside R.remaining W.contents (held (N.client client.old) (lane_at P.Stream.remaining P.Stream.contents (P.history ports.old) «data».old [])) control.old) (beside R.remaining W.contents (held (N.client client.new) (lane_at P.Stream.remaining P.Stream.contents (P.history ports.new) «data».new [])) control.new) result }
 {
     for _ in 0..TURNS {
         match client.report() {
@@ -105,7 +107,7 @@ where
     R: Read + Drop,
     W: Write + Drop,
     P: Ports,
-    ensures { Goes (beside R.remaining W.contents (N.client client.old) control.old) (beside R.remaining W.contents (N.client client.new) control.new) result }
+    ensures { Goes (beside R.remaining W.contents (held (N.client client.old) (lane_at P.Stream.remaining P.Stream.contents (P.history ports.old) «data».old [])) control.old) (beside R.remaining W.contents (held (N.client client.new) (lane_at P.Stream.remaining P.Stream.contents (P.history ports.new) «data».new [])) control.new) result }
 {
     flush(client, control)?;
     if control.has_unheard() {
@@ -117,7 +119,7 @@ where
     serve(client, control, ports, data)
 }
 
-/// Does what the client wants.
+/// Does what the client wants, where all octets on their way were written.
 fn serve<A, N, R, W, P>(
     client: &mut N,
     control: &mut Control<R, W>,
@@ -130,8 +132,9 @@ where
     R: Read + Drop,
     W: Write + Drop,
     P: Ports,
-    requires { unheard_of control.old ≡ [] }
-    ensures { GoesSettled (beside R.remaining W.contents (N.client client.old) control.old) (beside R.remaining W.contents (N.client client.new) control.new) result }
+    requires heard { unheard_of control.old ≡ [] }
+    requires all { «data».old.connection.at ≡ «data».old.connection.end }
+    ensures { GoesSettled (beside R.remaining W.contents (held (N.client client.old) (lane_at P.Stream.remaining P.Stream.contents (P.history ports.old) «data».old [])) control.old) (beside R.remaining W.contents (held (N.client client.new) (lane_at P.Stream.remaining P.Stream.contents (P.history ports.new) «data».new [])) control.new) result }
 {
     match client.wants() {
         Wants::Nothing => read(client, control),
@@ -163,7 +166,7 @@ where
     A: Allocator,
     N: Near<A>,
     P: Ports,
-    ensures { Quietly client_side (N.client client.old) (N.client client.new) }
+    ensures { (lane : Lane) → Quietly client_side (held (N.client client.old) (with_asked (P.history ports.old) lane)) (held (N.client client.new) (with_asked (P.history ports.new) lane)) }
 {
     match ports.listen() {
         Some(port) => client.listening(port),
@@ -177,15 +180,30 @@ where
     A: Allocator,
     N: Near<A>,
     P: Ports,
-    ensures { Quietly client_side (N.client client.old) (N.client client.new) }
+    ensures { Quietly client_side (held (N.client client.old) (lane_at P.Stream.remaining P.Stream.contents (P.history ports.old) «data».old [])) (held (N.client client.new) (lane_at P.Stream.remaining P.Stream.contents (P.history ports.new) «data».new [])) }
 {
     match ports.connect(endpoint) {
-        Some(open) => {
-            data.connection.begin(ports, open);
-            client.data_opened(endpoint.host);
-        }
+        Some(stream) => opened(client, ports, data, stream, endpoint.host),
         None => client.data_refused(),
     }
+}
+
+/// The data connection that was had last is open now, and this host is at its other end.
+fn opened<A, N, P>(
+    client: &mut N,
+    ports: &mut P,
+    data: &mut Data<P::Stream>,
+    stream: P::Stream,
+    host: Host,
+)
+where
+    A: Allocator,
+    N: Near<A>,
+    P: Ports,
+    ensures { (before : Option (List Asked)) (had : Asked) → Adds before (P.history ports.old) (had ∷ []) → IsHad host had (P.Stream.remaining stream) (P.Stream.contents stream) → Quietly client_side (held (N.client client.old) (lane_at P.Stream.remaining P.Stream.contents before «data».old [])) (held (N.client client.new) (lane_at P.Stream.remaining P.Stream.contents (P.history ports.new) «data».new [])) }
+{
+    data.connection.begin(ports, stream);
+    client.data_opened(host);
 }
 
 /// Waits for the data connection that the server opens, or for a reply.
@@ -202,12 +220,11 @@ where
     W: Write + Drop,
     P: Ports,
     requires { unheard_of control.old ≡ [] }
-    ensures { GoesSettled (beside R.remaining W.contents (N.client client.old) control.old) (beside R.remaining W.contents (N.client client.new) control.new) result }
+    ensures { GoesSettled (beside R.remaining W.contents (held (N.client client.old) (lane_at P.Stream.remaining P.Stream.contents (P.history ports.old) «data».old [])) control.old) (beside R.remaining W.contents (held (N.client client.new) (lane_at P.Stream.remaining P.Stream.contents (P.history ports.new) «data».new [])) control.new) result }
 {
     match ports.accept(true) {
-        Accepted::Came(open, host) => {
-            data.connection.begin(ports, open);
-            client.data_opened(host);
+        Accepted::Came(stream, host) => {
+            opened(client, ports, data, stream, host);
             Ok(())
         }
         Accepted::Spoken => read(client, control),
@@ -218,7 +235,7 @@ where
     }
 }
 
-/// Writes octets of an upload; where that would wait, replies are read first. Where the data connection broke, it is closed and the client told.
+/// Writes octets of an upload; where that would wait, replies are read first. Where the data connection broke, the client is told, and it is reset.
 fn send<A, N, R, W, P>(
     client: &mut N,
     control: &mut Control<R, W>,
@@ -232,21 +249,16 @@ where
     W: Write + Drop,
     P: Ports,
     requires { unheard_of control.old ≡ [] }
-    ensures { GoesSettled (beside R.remaining W.contents (N.client client.old) control.old) (beside R.remaining W.contents (N.client client.new) control.new) result }
+    ensures { GoesSettled (beside R.remaining W.contents (held (N.client client.old) (lane_at P.Stream.remaining P.Stream.contents (P.history ports.old) «data».old [])) control.old) (beside R.remaining W.contents (held (N.client client.new) (lane_at P.Stream.remaining P.Stream.contents (P.history ports.new) «data».new [])) control.new) result }
 {
     match data.write() {
-        Ok(()) | Err(Halt::Again) => Ok(()),
-        Err(Halt::Spoken) => read(client, control),
-        Err(Halt::Broken) => {
-            data.connection.reset(ports);
-            client.data_fault();
-            Ok(())
-        }
+        Ok(()) => Ok(()),
+        Err(halt) => halted(client, control, ports, data, halt),
     }
 }
 
-/// Reads replies where there are any, and else octets of a download. Where the data connection ended or broke, it is closed at once and the
-/// client told.
+/// Reads replies where there are any, and else octets of a download, where none are on their way. Where the data connection ended or broke, the
+/// client is told, and it is closed at once.
 fn receive<A, N, R, W, P>(
     client: &mut N,
     control: &mut Control<R, W>,
@@ -259,61 +271,79 @@ where
     R: Read + Drop,
     W: Write + Drop,
     P: Ports,
-    requires { unheard_of control.old ≡ [] }
-    ensures { GoesSettled (beside R.remaining W.contents (N.client client.old) control.old) (beside R.remaining W.contents (N.client client.new) control.new) result }
+    requires heard { unheard_of control.old ≡ [] }
+    requires all { «data».old.connection.at ≡ «data».old.connection.end }
+    ensures { GoesSettled (beside R.remaining W.contents (held (N.client client.old) (lane_at P.Stream.remaining P.Stream.contents (P.history ports.old) «data».old [])) control.old) (beside R.remaining W.contents (held (N.client client.new) (lane_at P.Stream.remaining P.Stream.contents (P.history ports.new) «data».new [])) control.new) result }
 {
     if is_spoken_first(ports, data) {
         return read(client, control);
     }
-    match data.read() {
-        Ok(count) => take_in(client, ports, data, count),
-        Err(Halt::Again) => Ok(()),
-        Err(Halt::Spoken) => read(client, control),
-        Err(Halt::Broken) => {
-            data.connection.reset(ports);
-            client.data_fault();
+    match data.come() {
+        Ok(0) => {
+            end(client, ports, data);
+            Ok(())
+        }
+        Ok(count) => hand(client, data.front(count)),
+        Err(halt) => halted(client, control, ports, data, halt),
+    }
+}
+
+/// Follows a read or a write of the data connection that moved no octet: replies that go first are read, and where it broke, the client is told
+/// and it is reset.
+fn halted<A, N, R, W, P>(
+    client: &mut N,
+    control: &mut Control<R, W>,
+    ports: &mut P,
+    data: &mut Data<P::Stream>,
+    halt: Halt,
+) -> Result<(), Failed>
+where
+    A: Allocator,
+    N: Near<A>,
+    R: Read + Drop,
+    W: Write + Drop,
+    P: Ports,
+    requires { unheard_of control.old ≡ [] }
+    ensures { GoesSettled (beside R.remaining W.contents (held (N.client client.old) (lane_at P.Stream.remaining P.Stream.contents (P.history ports.old) «data».old [])) control.old) (beside R.remaining W.contents (held (N.client client.new) (lane_at P.Stream.remaining P.Stream.contents (P.history ports.new) «data».new [])) control.new) result }
+{
+    match halt {
+        Halt::Again => Ok(()),
+        Halt::Spoken => read(client, control),
+        Halt::Broken => {
+            lose(client, ports, data);
             Ok(())
         }
     }
 }
 
-/// Serves so many octets that were read of a download: none is its end.
-fn take_in<A, N, P>(
-    client: &mut N,
-    ports: &mut P,
-    data: &mut Data<P::Stream>,
-    count: usize,
-) -> Result<(), Failed>
-where
-    A: Allocator,
-    N: Near<A>,
-    P: Ports,
-    requires { count ≡ 0 → IsAtEnd (left_of P.Stream.remaining «data».old.connection) }
-    ensures { Quietly client_side (N.client client.old) (N.client client.new) }
-{
-    if count == 0 {
-        end(client, ports, data);
-        return Ok(());
-    }
-    hand(client, data.front(count))
-}
-
-/// The data connection ended: it is closed, and the client told.
+/// The data connection ended: the client is told, and it is closed.
 fn end<A, N, P>(client: &mut N, ports: &mut P, data: &mut Data<P::Stream>)
 where
     A: Allocator,
     N: Near<A>,
     P: Ports,
     requires { IsAtEnd (left_of P.Stream.remaining «data».old.connection) }
-    ensures { Called End (N.client client.old) (N.client client.new) }
+    ensures { Quietly client_side (held (N.client client.old) (lane_at P.Stream.remaining P.Stream.contents (P.history ports.old) «data».old [])) (held (N.client client.new) (lane_at P.Stream.remaining P.Stream.contents (P.history ports.new) «data».new [])) }
 {
-    data.connection.close(ports);
     client.data_end();
+    data.leave(ports);
+}
+
+/// The data connection broke: the client is told, and it is reset.
+fn lose<A, N, P>(client: &mut N, ports: &mut P, data: &mut Data<P::Stream>)
+where
+    A: Allocator,
+    N: Near<A>,
+    P: Ports,
+    ensures { Quietly client_side (held (N.client client.old) (lane_at P.Stream.remaining P.Stream.contents (P.history ports.old) «data».old [])) (held (N.client client.new) (lane_at P.Stream.remaining P.Stream.contents (P.history ports.new) «data».new [])) }
+{
+    client.data_fault();
+    data.reset(ports);
 }
 
 /// Hands octets of a download to the client until it has taken them all or the transfer is over, which drops the rest.
 fn hand<A: Allocator, N: Near<A>>(client: &mut N, octets: &[u8]) -> Result<(), Failed>
-    ensures { Quietly client_side (N.client client.old) (N.client client.new) }
+    ensures { (lane : Lane) → Hands octets.now (N.client client.old) (N.client client.new) lane result }
 {
     let mut at = 0;
     while at < octets.len() {

@@ -1,42 +1,42 @@
-use Rattle.std.proofs.Common.{◌≡◌, ◌∙◌, subst, length, rules}
+use Rattle.std.proofs.Common.{◌≡◌, ◌∙◌, refl, subst, length, rules}
 use Rattle.ftp_client_model.specs.Calls.{gives_control}
 use Rattle.ftp_client_model.specs.Failing.{Holds}
-use Rattle.ftp_client_drive.specs.Beside.{beside}
+use Rattle.ftp_client_drive.specs.Beside.{beside, held}
 use Rattle.ftp_control.specs.Deeds.{Said}
-use Rattle.ftp_control.proofs.Leading.{leads_nowhere, leads_on, fails_here}
+use Rattle.ftp_control.proofs.Leading.{leads_nowhere, leads_on, fails_here, settles_here}
 use Rattle.ftp_control.proofs.Going.{flushes_err, none_owed, write_fails}
-use Rattle.ftp_control.proofs.Leading.{settles_here}
 use Rattle.ftp_client_drive.proofs.control.flush.Goals as goal
 
 pub loop-init : goal.loop-init
-loop-init g c = leads_nowhere _
+loop-init g c lane = leads_nowhere _
 
 pub returns-then-count-eq0 : goal.returns-then-count-eq0
-returns-then-count-eq0 g c =
+returns-then-count-eq0 g c lane =
     let client = g.N.Near.client in
-    let mid = beside g.R.Read.remaining g.W.Write.contents (client c.loop.client) c.loop.control in
+    let mid = beside g.R.Read.remaining g.W.Write.contents (held (client c.loop.client) lane) c.loop.control in
     let given = c.control_out-count.result in
     let none : given ≡ 0 = c.if-count-eq0.true in
-    settles_here _ mid (client c.control_out-count.new.self) c.loop.invariant (record {
+    settles_here (beside g.R.Read.remaining g.W.Write.contents (held (client c.args.client.now) lane) c.args.control.now) mid (held (client c.control_out-count.new.self) lane) (c.loop.invariant lane) (record {
       owed = none_owed given (length c.loop.room) _ none (search rules) c.control_out-count.ensures.some;
       gave = subst (λ n. Holds (client c.loop.client) (client c.control_out-count.new.self) (gives_control n (client c.loop.client).view)) none c.control_out-count.ensures.now;
+      lane = refl;
     })
 
 pub returns-in_err-write : goal.returns-in_err-write
-returns-in_err-write g c =
+returns-in_err-write g c lane =
     flushes_err _ _ c.from_residual.result c.from_residual.ensures.0
-    (write_fails _ _ _ c.split_at.result.0.now c.loop.invariant
-    (record { count = c.control_out-count.result; owed = c.split_at.ensures.front ∙ c.control_out-count.ensures.gave; gave = c.control_out-count.ensures.now })
+    (write_fails _ _ _ c.split_at.result.0.now (c.loop.invariant lane)
+    (record { count = c.control_out-count.result; owed = c.split_at.ensures.front ∙ c.control_out-count.ensures.gave; gave = c.control_out-count.ensures.now; lane = refl })
     c.in_err-write.ensures.front c.in_err-write.ensures.left c.in_err-write.ensures.unheard)
 
 pub loop-preserved : goal.loop-preserved
-loop-preserved g c =
-    leads_on (Said c.split_at.result.0.now) _ _ _ c.loop.invariant (record {
-      gives = record { count = c.control_out-count.result; owed = c.split_at.ensures.front ∙ c.control_out-count.ensures.gave; gave = c.control_out-count.ensures.now };
+loop-preserved g c lane =
+    leads_on (Said c.split_at.result.0.now) _ _ _ (c.loop.invariant lane) (record {
+      gives = record { count = c.control_out-count.result; owed = c.split_at.ensures.front ∙ c.control_out-count.ensures.gave; gave = c.control_out-count.ensures.now; lane = refl };
       wrote = c.in_ok-write.ensures.ok;
       left = c.in_ok-write.ensures.left;
       unheard = c.in_ok-write.ensures.unheard;
     })
 
 pub returns : goal.returns
-returns g c = fails_here _ _ c.loop.invariant
+returns g c lane = fails_here _ _ (c.loop.invariant lane)

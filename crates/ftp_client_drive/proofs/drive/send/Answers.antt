@@ -1,10 +1,19 @@
-use Rattle.ftp_client_drive.specs.Beside.{beside}
-use Rattle.ftp_client_drive.specs.Side.{Break}
-use Rattle.ftp_control.proofs.Leading.{leads_then, settled_leads}
-use Rattle.ftp_control.proofs.Leading.{call_leads}
+use Rattle.std.proofs.Common.{[]}
+use Rattle.ftp_client_drive.specs.Beside.{beside, held, lane_at}
+use Rattle.ftp_client_drive.proofs.Idling.{idle_leads, settles_idle}
 use Rattle.ftp_client_drive.proofs.drive.send.Goals as goal
 
-pub returns-in-Err-Broken : goal.returns-in-Err-Broken
-returns-in-Err-Broken g c start settles =
-    let old = beside g.R.Read.remaining g.W.Write.contents (g.N.Near.client c.args.client.now) c.args.control.now in
-    leads_then start old _ (settled_leads start old settles) (call_leads old Break (g.N.Near.client c.data_fault.new.self) c.data_fault.ensures)
+pub returns-in-Ok : goal.returns-in-Ok
+returns-in-Ok g c start settles =
+    let lane = lane_at g.P.Stream.Read.remaining g.P.Stream.Write.contents (g.P.Ports.history c.args.ports.now) in
+    let stand = beside g.R.Read.remaining g.W.Write.contents in
+    idle_leads start (stand (held (g.N.Near.client c.args.client.now) (lane c.args.data.now [])) c.args.control.now) (lane c.write.new.self []) settles
+    (c.write.ensures (g.P.Ports.history c.args.ports.now))
+
+pub returns-in-Err : goal.returns-in-Err
+returns-in-Err g c start settles =
+    let lane = lane_at g.P.Stream.Read.remaining g.P.Stream.Write.contents (g.P.Ports.history c.args.ports.now) in
+    let stand = beside g.R.Read.remaining g.W.Write.contents in
+    c.halted.ensures start
+    (settles_idle start (stand (held (g.N.Near.client c.args.client.now) (lane c.args.data.now [])) c.args.control.now) (lane c.write.new.self []) settles
+    (c.write.ensures (g.P.Ports.history c.args.ports.now)))

@@ -1,0 +1,18 @@
+use Rattle.std.proofs.Common.{[]}
+use Rattle.ftp_control.proofs.Lanes.{asked_for, opens}
+use Rattle.ftp_control.proofs.Leading.{quiet_call}
+use Rattle.ftp_client_drive.specs.Side.{Opened, client_side}
+use Rattle.ftp_client_drive.proofs.drive.opened.Goals as goal
+
+pub returns : goal.returns
+returns g c before had adds is_had =
+    let remaining = g.P.Stream.Read.remaining in
+    let contents = g.P.Stream.Write.contents in
+    let history = g.P.Ports.history in
+    let old = c.args.data.now in
+    let stream = c.args.stream in
+    quiet_call client_side (Opened c.args.host (asked_for remaining contents old.connection.stream had) (remaining stream) (contents stream)) _ _ (
+      c.data_opened.ensures,
+      opens remaining contents old.connection c.begin.new.self stream before (history c.args.ports.now) (history c.begin.new.ports)
+          c.args.host had old.room old.room [] adds is_had c.begin.ensures.asked c.begin.ensures.whole c.begin.ensures.stands,
+    )
