@@ -1,5 +1,5 @@
 // A data connection: what stands of its stream, and which octets of a room are on their way over it.
-ghost use Rattle.std.specs.Prelude.{◌≡◌, ◌≤◌, ◌<◌, IsTrue, IfOk, OnOk, OnErr, false, length, take, [], Some, None};
+ghost use Rattle.std.specs.Prelude.{◌≡◌, ◌≤◌, ◌<◌, IsTrue, IfOk, OnOk, OnErr, false, true, length, take, [], Some, None};
 ghost use Rattle.std.specs.Option.{is_some};
 ghost use Rattle.std.specs.Io.KnownBytes.{Appends, Consumes, IsAtEnd, Keeps};
 ghost use Rattle.ftp_control.specs.Asking.{Leaves};
@@ -180,11 +180,12 @@ impl<S: Read + Write> DataConnection<S> {
         }
     }
 
-    /// Reads once; none is the end of the data connection.
+    /// Reads once, where it is open; none is the end of the data connection.
     pub fn read(&mut self, room: &mut [u8]) -> Result<usize, Halt>
         ensures within { IfOk result (λ count. count ≤ length room.new) }
         ensures ok { IfOk result (λ count. Consumes (left_of S.remaining self.old) (left_of S.remaining self.new) (take count room.new)) }
         ensures end { IfOk result (λ count. count ≡ 0 → 0 < length room.new → IsAtEnd (left_of S.remaining self.new)) }
+        ensures open { IfOk result (λ count. is_some self.old.stream ≡ true) }
         ensures err { OnErr result (Keeps (left_of S.remaining self.old) (left_of S.remaining self.new)) }
         ensures at { self.new.at ≡ self.old.at }
         ensures length { self.new.end ≡ self.old.end }
