@@ -5,7 +5,7 @@ use Rattle.std.proofs.lemmas.List.{length-take-le, take-append-drop}
 use Rattle.ftp_control.specs.Asking.{Asked, Shut}
 use Rattle.ftp_control.specs.Deeds.{Heard, Led, Other, Stand, with_owner}
 use Rattle.ftp_control.specs.Driving.{Breaks, Cuts, Fails, Leads}
-use Rattle.ftp_control.specs.Lane.{IsEnded, IsLeft, Lane, with_untold}
+use Rattle.ftp_control.specs.Lane.{IsEnded, IsLeft, Lane, Moves, with_untold}
 use Rattle.ftp_control.specs.declared.pieces.Failed.{Failed}
 use Rattle.ftp_control.proofs.Courses.{Carrier, carries}
 use Rattle.ftp_control.proofs.Leading.{call_leads, leads_by, leads_then}
@@ -19,7 +19,7 @@ use Rattle.ftp_client_model.specs.declared.client.Failure.TheVariants as Failure
 use Rattle.ftp_client_model.specs.declared.client.Standing.{Standing}
 use Rattle.ftp_client_model.specs.declared.client.Standing.TheVariants as Stands
 use Rattle.ftp_client_drive.specs.Beside.{held}
-use Rattle.ftp_client_drive.specs.Side.{Closed, Does, Gives, Held, IsCut, Left, Report, client_side, move_of}
+use Rattle.ftp_client_drive.specs.Side.{Call, Report, Listening, Opened, Refused, Received, Gave, NoPort, End, Break, Closed, Waited, Got, Wrote, LetGo, Left, Called, Does, Gives, Held, IsCut, client_side, move_of}
 use Rattle.ftp_client_drive.specs.Driving.{Answers, BrokeOff, Drove, GivesUp, IsReset, Tells, is_under_way}
 
 -- it heard the first of the octets that were read
@@ -98,10 +98,27 @@ answers_err a b (Err e) failed fails = fails
 
 -- ---- a drive
 
+moved : (call : Call) (old new : Held) → Called call old new → Moves (move_of call) old.lane new.lane
+moved (Report said) old new called = called.1
+moved (Listening port) old new called = called.1
+moved (Opened host asked at_first so_far) old new called = called.1
+moved (Refused asked) old new called = called.1
+moved (Received octets count) old new called = called.1
+moved (Gave count octets) old new called = called.1
+moved NoPort old new called = called.1
+moved End old new called = called.1
+moved Break old new called = called.1
+moved Closed old new called = called.1
+moved Waited old new called = called.1
+moved (Got octets) old new called = called.1
+moved (Wrote octets) old new called = called.1
+moved (LetGo octets) old new called = called.1
+moved (Left asked) old new called = called.1
+
 abbrev carrier : Carrier client_side move_of
 carrier = record {
   lane = λ end. end.lane;
-  called = λ call old new called. called.1;
+  called = moved;
   heard = λ octets unheard old new hears. hears.1;
   gave = λ octets old new gives. gives.lane;
   owed = λ old new owes. owes.lane;

@@ -1,6 +1,6 @@
 -- A client as the end of a session that is driven: what its calls do, as `Near` says it, and how its data connection moves (RFC 959, section 2.3).
 use Rattle.std.proofs.Common.{◌∙◌, ap}
-use Rattle.std.specs.Prelude.{◌≡◌, ◌≢◌, ℕ, List, [], ◌∷◌, length, take, Option, Some, None, refl}
+use Rattle.std.specs.Prelude.{◌≡◌, ◌≢◌, ℕ, true, List, [], ◌∷◌, length, take, Option, Some, None, refl}
 use Rattle.ftp_control.specs.Asking.{Asked, Listened}
 use Rattle.ftp_control.specs.Lane.{Lane, Move, Moves, Stays, Waits, Reads, Writes, Gives as GivesOctets, Takes, Ends, Stops, Asks, Opens, Leaves, with_untold}
 use Rattle.ftp_control.specs.Side.{Side}
@@ -70,7 +70,9 @@ move_of (Wrote octets) = Writes octets
 move_of (LetGo octets) = Takes octets
 move_of (Left asked) = Leaves asked
 
+-- both; it is told of an end only while its data connection stands
 abbrev pub Called : Call → (old new : Held) → Type 0
+Called End old new = Does End old.client new.client × Moves Ends old.lane new.lane × (old.lane.stands ≡ true)
 Called call old new = Does call old.client new.client × Moves (move_of call) old.lane new.lane
 
 -- control octets are heard

@@ -1,5 +1,6 @@
 // A data connection, and room for its octets.
-ghost use Rattle.std.specs.Prelude.{◌≡◌, ◌≢◌, [], IfOk, List, Option, None, take};
+ghost use Rattle.std.specs.Prelude.{◌≡◌, ◌≢◌, [], IfOk, List, Option, None, take, true};
+ghost use Rattle.std.specs.Option.{is_some};
 ghost use Rattle.std.specs.Io.KnownBytes.{IsAtEnd};
 ghost use Rattle.ftp_client_model.specs.Calls.{wants};
 ghost use Rattle.ftp_control.specs.Asking.{Asked};
@@ -57,6 +58,7 @@ impl<S: Read + Write> Data<S> {
         requires { self.old.connection.at ≡ self.old.connection.end }
         ensures moved { (asked : Option (List Asked)) → Idles (lane_at S.remaining S.contents asked self.old []) (lane_at S.remaining S.contents asked self.new (in_hand result self.new.room)) }
         ensures end { IfOk result (λ count. count ≡ 0 → IsAtEnd (left_of S.remaining self.new.connection)) }
+        ensures open { IfOk result (λ count. is_some self.new.connection.stream ≡ true) }
     {
         self.connection.read(&mut self.room)
     }

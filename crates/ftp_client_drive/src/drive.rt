@@ -1,6 +1,6 @@
 // The drive: what the client wants is done, turn by turn, until its operation is answered.
-ghost use Rattle.std.specs.Prelude.{◌≡◌, [], ◌∷◌, List, Option};
-ghost use Rattle.std.specs.Option.{option_map};
+ghost use Rattle.std.specs.Prelude.{◌≡◌, [], ◌∷◌, List, Option, true};
+ghost use Rattle.std.specs.Option.{is_some, option_map};
 ghost use Rattle.std.specs.Io.KnownBytes.{IsAtEnd};
 ghost use Rattle.ftp_control.specs.Asking.{Adds, Asked};
 ghost use Rattle.ftp_control.specs.Carrying.{left_of};
@@ -322,7 +322,8 @@ where
     A: Allocator,
     N: Near<A>,
     P: Ports,
-    requires { IsAtEnd (left_of P.Stream.remaining «data».old.connection) }
+    requires ended { IsAtEnd (left_of P.Stream.remaining «data».old.connection) }
+    requires open { is_some «data».old.connection.stream ≡ true }
     ensures { Quietly client_side (held (N.client client.old) (lane_at P.Stream.remaining P.Stream.contents (P.history ports.old) «data».old [])) (held (N.client client.new) (lane_at P.Stream.remaining P.Stream.contents (P.history ports.new) «data».new [])) }
 {
     client.data_end();

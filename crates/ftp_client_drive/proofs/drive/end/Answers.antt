@@ -7,5 +7,5 @@ use Rattle.ftp_client_drive.proofs.drive.end.Goals as goal
 pub returns : goal.returns
 returns g c =
     let left = c.leave.ensures in
-    quiet_then client_side _ _ _ (quiet_call client_side End _ _ (c.data_end.ensures, (refl, c.requires, refl)))
+    quiet_then client_side _ _ _ (quiet_call client_side End _ _ (c.data_end.ensures, (refl, c.requires.ended, refl), c.requires.open))
     (idles_left left.0 _ _ left.1 (g.N.Near.client c.data_end.new.self))
