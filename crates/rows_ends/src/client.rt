@@ -1,7 +1,5 @@
 //! Plays the rows of a script on a client, and writes what comes of each as a dialogue.
 mod answer;
-mod desk;
-mod event;
 mod lines;
 mod plays;
 mod request;

@@ -1,7 +1,5 @@
 //! Plays the rows of a script on a server, and writes what comes of each as a dialogue.
 mod begun;
-mod desk;
-mod event;
 mod files;
 mod lines;
 mod plays;

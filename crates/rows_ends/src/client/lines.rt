@@ -1,10 +1,12 @@
 // The lines of a row.
-use crate::client::desk::Desk;
-use crate::client::event::event_of;
 use crate::client::plays::Plays;
 use crate::client::request::request_of;
+use crate::client::run::PEER;
 use crate::client::stage::{begin, bring, enter, give, say, tell};
 use crate::client::verb::{Verb, verb_of};
+use crate::desk::Desk;
+use crate::driven::{Owner, drive_of, run};
+use crate::event::event_of;
 use rows_base::{cut, number, quoted, split};
 
 /// Plays the lines of a row, and tells what comes of each.
@@ -26,7 +28,9 @@ fn play_line<P: Plays>(end: &mut P, desk: &mut Desk, line: &[u8]) {
     for _ in 0..times {
         act(end, desk, turn);
     }
-    tell(end, desk);
+    if desk.drive.is_none() {
+        tell(end, desk);
+    }
 }
 
 /// How often a line is played, at most 10,000 times, and what: `62 times < 211 more`.
@@ -50,8 +54,11 @@ fn act<P: Plays>(end: &mut P, desk: &mut Desk, line: &[u8]) {
         Verb::Held => desk.weighs = true,
         Verb::Brings => bring(end, desk, quoted(rest).0),
         Verb::Gives => give(end, desk, number(rest)),
-        Verb::Happens(happening) => end.happens(event_of(happening, rest)),
+        Verb::Happens(happening) => end.happens(event_of(happening, rest, PEER)),
         Verb::Begins(asked) => begin(end, desk, request_of(asked, rest)),
+        Verb::Drive => desk.drive = Some(drive_of(rest)),
+        Verb::Run => run(end, desk, Owner::Drive, b"> "),
+        Verb::Perform => run(end, desk, Owner::Page(rest), b"> "),
         Verb::Unknown => desk.paper.line(b"! no such word"),
     }
 }

@@ -1,14 +1,19 @@
 // What rows are played on.
 use crate::client::answer::show_answer;
-use crate::client::event::Event;
-use crate::client::request::{Asked, Request, operation};
+use crate::client::request::{Asked, Request, operation, request_of};
+use crate::client::verb::{Verb, verb_of};
+use crate::driven::{Driven, Owner};
+use crate::embedded::client::perform;
+use crate::event::Event;
+use crate::peer::Peer;
 use ftp_client::Client;
+use ftp_client_drive::{Control, drive_client};
 use ftp_client_model::Near;
 use ftp_client_transfer::OperationTransfer;
 use ftp_ends::Wants;
 use ftp_facts::Text;
-use ftp_operation::How;
-use rows_base::{Paper, octets_of};
+use ftp_operation::{Answer, How, Op};
+use rows_base::{FailingReader, FailingWriter, Paper, octets_of, split};
 use std::alloc::{AllocError, Allocator, Global};
 
 /// What meets the client's calls, and tells how many octets it holds.
@@ -32,7 +37,7 @@ pub enum Begun {
 }
 
 /// The calls of a client, of which nothing is said here, so that what plays rows on it is proved without the client's clauses.
-pub trait Plays: Drop {
+pub trait Plays: Driven + Drop {
     fn hear(&mut self, piece: &[u8]) -> usize;
 
     fn control_out(&mut self, room: &mut [u8]) -> usize;
@@ -87,6 +92,34 @@ impl<A: Allocator + Copy, C: Holds<A>> Played<A, C> {
     }
 }
 
+/// The operation that a line asks for; none where memory is refused.
+fn asked<A: Allocator + Copy>(alloc: Global, heap: A, line: &[u8]) -> Option<Op<Text<A>>> {
+    let (word, rest) = split(line);
+    let Verb::Begins(asked) = verb_of(word) else {
+        return None;
+    };
+    let request = request_of(asked, rest);
+    match texts(alloc, heap, request) {
+        Some((path, other)) => operation(asked, path, request.number, other, request.how),
+        None => None,
+    }
+}
+
+/// The texts of a request; none where memory is refused.
+fn texts<A: Allocator + Copy>(
+    alloc: Global,
+    heap: A,
+    request: Request<'_>,
+) -> Option<(Text<A>, Text<A>)> {
+    let Ok(path) = text(alloc, heap, request.path) else {
+        return None;
+    };
+    match text(alloc, heap, request.other) {
+        Ok(other) => Some((path, other)),
+        Err(_) => None,
+    }
+}
+
 fn text<A: Allocator + Copy>(alloc: Global, heap: A, text: &[u8]) -> Result<Text<A>, AllocError> {
     match octets_of(alloc, text) {
         Ok(octets) => Text::copy_of(heap, octets.as_slice()),
@@ -114,13 +147,14 @@ impl<A: Allocator + Copy, C: Holds<A>> Plays for Played<A, C> {
     fn happens(&mut self, event: Event) {
         match event {
             Event::Listening(port) => self.client.listening(port),
-            Event::NoPort => self.client.listen_refused(),
+            Event::Portless => self.client.listen_refused(),
             Event::Opened(host) => self.client.data_opened(host),
             Event::Refused => self.client.data_refused(),
             Event::Ended => self.client.data_end(),
             Event::Broke => self.client.data_fault(),
             Event::Closed => self.client.data_closed(),
-            Event::Gone => self.client.control_end(),
+            Event::Cut => self.client.control_end(),
+            Event::Clock(_) => {}
         }
     }
 
@@ -133,12 +167,9 @@ impl<A: Allocator + Copy, C: Holds<A>> Plays for Played<A, C> {
     }
 
     fn begin(&mut self, alloc: Global, request: Request<'_>) -> Begun {
-        let Ok(path) = text(alloc, self.heap, request.path) else {
-            return Begun::NoMemory;
-        };
-        match text(alloc, self.heap, request.other) {
-            Ok(other) => self.begin_with(path, other, request),
-            Err(_) => Begun::NoMemory,
+        match texts(alloc, self.heap, request) {
+            Some((path, other)) => self.begin_with(path, other, request),
+            None => Begun::NoMemory,
         }
     }
 
@@ -146,5 +177,32 @@ impl<A: Allocator + Copy, C: Holds<A>> Plays for Played<A, C> {
         if let Some(answer) = self.client.report() {
             show_answer(alloc, &answer, paper);
         }
+    }
+}
+
+impl<A: Allocator + Copy, C: Holds<A>> Driven for Played<A, C> {
+    fn drive(
+        &mut self,
+        alloc: Global,
+        owner: Owner<'_>,
+        (mut reader, mut writer): (FailingReader<'_>, FailingWriter),
+        peer: &mut Peer,
+        paper: &mut Paper,
+    ) -> FailingWriter {
+        let answer = match owner {
+            Owner::Drive => {
+                let mut control = Control::new(reader, &mut writer);
+                drive_client(&mut self.client, &mut control, peer)
+            }
+            Owner::Page(line) => match asked(alloc, self.heap, line) {
+                Some(op) => perform(&mut self.client, op, (&mut reader, &mut writer), peer).ok(),
+                None => Some(Answer::Memory),
+            },
+        };
+        match answer {
+            None | Some(Answer::Lost) => {}
+            Some(answer) => show_answer(alloc, &answer, paper),
+        }
+        writer
     }
 }

@@ -1,6 +1,8 @@
 // A row: played whole, in pieces, and with each of its growths refused in turn.
-use crate::client::desk::Desk;
 use crate::client::run::run;
+use crate::desk::Desk;
+use crate::driven::again;
+use crate::script::{Runs, Turn};
 use rows_base::{Paper, first_other, row_in_front};
 use std::alloc::Global;
 
@@ -22,6 +24,15 @@ pub fn play_all(alloc: Global, script: &[u8]) -> Paper {
     paper
 }
 
+/// Plays a row on a client.
+struct OnClient {}
+
+impl Runs for OnClient {
+    fn run(&self, alloc: Global, turn: Turn<'_>, refused: u64, desk: &mut Desk) -> u64 {
+        run(alloc, turn.row, refused, desk)
+    }
+}
+
 /// What a row writes. Where it goes otherwise in pieces of one, two or three octets, or where a refused growth is not told, that stands
 /// behind it.
 fn play_row(alloc: Global, row: &[u8], paper: &mut Paper) {
@@ -29,6 +40,7 @@ fn play_row(alloc: Global, row: &[u8], paper: &mut Paper) {
     let growths = run(alloc, row, 0, &mut desk);
     let whole = desk.paper.text();
     paper.put(whole);
+    again(&OnClient {}, alloc, Turn { row, whole: None }, whole, paper);
     for piece in 1..4 {
         compare_piece(alloc, row, whole, piece, paper);
     }

@@ -1,8 +1,8 @@
 // A run of a row on a client.
-use crate::client::desk::Desk;
-use crate::client::event::{PEER, host_or};
 use crate::client::lines::play;
 use crate::client::plays::{Holds, Played};
+use crate::desk::Desk;
+use crate::event::host_or;
 use ftp_client::Client;
 use ftp_client_transfer::OperationTransfer;
 use ftp_endpoint::Host;
@@ -11,7 +11,10 @@ use ftp_operation::Login;
 use rows_base::{Refusing, said};
 use std::alloc::{Allocator, Global};
 
+/// The hosts of both ends, where nothing else is said.
 const HERE: Host = Host::V4([192, 0, 2, 7]);
+
+pub const PEER: Host = Host::V4([192, 0, 2, 1]);
 
 /// Plays a row with this growth refused, and says how many growths were asked for.
 pub fn run(alloc: Global, row: &[u8], refused: u64, desk: &mut Desk) -> u64 {

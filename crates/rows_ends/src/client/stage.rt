@@ -1,8 +1,11 @@
 // A client to which something happens, and what comes of it.
 use crate::client::answer::show_wants;
-use crate::client::desk::{Desk, ROOM};
 use crate::client::plays::{Begun, Plays};
 use crate::client::request::Request;
+use crate::desk::Desk;
+
+/// The most octets of a call of `control_out` and `data_out`.
+const ROOM: usize = 1024;
 
 /// The login that is accepted.
 pub fn enter<P: Plays>(end: &mut P, desk: &mut Desk) {
@@ -13,11 +16,14 @@ pub fn enter<P: Plays>(end: &mut P, desk: &mut Desk) {
     hear(end, desk, b"230 Known\r\n");
 }
 
-/// Octets of the control connection.
+/// Octets of the control connection; where connections drive the client they wait.
 pub fn say<P: Plays>(end: &mut P, desk: &mut Desk, text: &[u8], behind: &[u8]) {
     let mut octets = desk.octets_of(text);
     let _ = octets.extend_from_slice(behind);
-    hear(end, desk, octets.as_slice());
+    match desk.drive {
+        Some(_) => desk.say(octets.as_slice()),
+        None => hear(end, desk, octets.as_slice()),
+    }
 }
 
 fn hear<P: Plays>(end: &mut P, desk: &mut Desk, octets: &[u8]) {
@@ -66,7 +72,7 @@ fn receive<P: Plays>(end: &mut P, desk: &mut Desk, octets: &[u8]) {
 /// What goes over the data connection, so many octets at most.
 pub fn give<P: Plays>(end: &mut P, desk: &mut Desk, most: u64) {
     let mut given = Vec::new(desk.alloc);
-    give_into(end, desk.piece, most, &mut given);
+    give_into(end, desk.size, most, &mut given);
     desk.paper.put(b"gave ");
     desk.paper.quote(given.as_slice());
     desk.paper.put(b"\n");

@@ -1,19 +1,7 @@
 // The words that a line begins with.
 use crate::client::request::Asked;
+use crate::event::Happening;
 use rows_base::found;
-
-/// What happens to the connections.
-#[derive(Clone, Copy)]
-pub enum Happening {
-    Listening,
-    NoPort,
-    Opened,
-    Refused,
-    Ended,
-    Broke,
-    Closed,
-    Gone,
-}
 
 /// What a line is about.
 #[derive(Clone, Copy)]
@@ -30,12 +18,24 @@ pub enum Verb {
     Happens(Happening),
     /// An operation is begun.
     Begins(Asked),
+    /// From here on connections drive the client.
+    Drive,
+    /// They do.
+    Run,
+    /// The program of the page does, over sockets.
+    Perform,
     /// No word of a script.
     Unknown,
 }
 
 const VERBS: &[(&'static [u8], Verb)] = &[
     (b"#", Verb::Heading),
+    (b"also", Verb::Heading),
+    (b"reads", Verb::Heading),
+    (b"writes", Verb::Heading),
+    (b"drive", Verb::Drive),
+    (b"run", Verb::Run),
+    (b"perform", Verb::Perform),
     (b"user", Verb::Heading),
     (b"pass", Verb::Heading),
     (b"here", Verb::Heading),
@@ -47,13 +47,13 @@ const VERBS: &[(&'static [u8], Verb)] = &[
     (b"data", Verb::Brings),
     (b"out", Verb::Gives),
     (b"listening", Verb::Happens(Happening::Listening)),
-    (b"no-port", Verb::Happens(Happening::NoPort)),
+    (b"no-port", Verb::Happens(Happening::Portless)),
     (b"opened", Verb::Happens(Happening::Opened)),
     (b"refused", Verb::Happens(Happening::Refused)),
     (b"end", Verb::Happens(Happening::Ended)),
     (b"fault", Verb::Happens(Happening::Broke)),
     (b"closed", Verb::Happens(Happening::Closed)),
-    (b"gone", Verb::Happens(Happening::Gone)),
+    (b"gone", Verb::Happens(Happening::Cut)),
     (b"upload", Verb::Begins(Asked::Upload)),
     (b"where", Verb::Begins(Asked::Where)),
     (b"cd", Verb::Begins(Asked::ChangeDir)),

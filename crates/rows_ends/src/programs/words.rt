@@ -1,7 +1,20 @@
 // Numbers, letters and ways of a command line.
-use crate::programs::forms::{ASCII_FILE_STREAM, IMAGE_RECORD_BLOCK};
+use ftp_mode::Mode;
+use ftp_repr::{Kind, Structure};
 use ftp_tool_files::{Direction, Representation, number_of, representation_of};
 use rows_base::Paper;
+
+const IMAGE_RECORD_BLOCK: Representation = Representation {
+    kind: Kind::Image,
+    structure: Structure::Record,
+    mode: Mode::Block,
+};
+
+const ASCII_FILE_STREAM: Representation = Representation {
+    kind: Kind::Ascii,
+    structure: Structure::File,
+    mode: Mode::Stream,
+};
 
 /// A text, and the number that it is.
 const NUMBERS: &[(&str, Option<u32>)] = &[

@@ -1,5 +1,5 @@
 // What a server begins with.
-use crate::server::event::YEAR_2000;
+use crate::event::YEAR_2000;
 use crate::server::files::path;
 use ftp_facts::Text;
 use ftp_operation::{Account, Accounts};

@@ -1,6 +1,8 @@
 // The lines of a row.
-use crate::server::desk::Desk;
-use crate::server::event::event_of;
+use crate::desk::Desk;
+use crate::driven::{Owner, drive_of, run};
+use crate::event::event_of;
+use crate::peer::PEER;
 use crate::server::plays::Plays;
 use crate::server::stage::{come, come_fixed, give, settle, show_wants, weigh};
 use crate::server::uploads::{fronts, try_aborts};
@@ -9,17 +11,27 @@ use rows_base::{number, split};
 
 /// Plays a line, and writes it with what comes of it.
 pub fn play<P: Plays>(end: &mut P, desk: &mut Desk, line: &[u8]) {
-    let (word, _) = split(line);
+    let (word, rest) = split(line);
     match verb_of(word) {
         Verb::Heading => desk.paper.line(line),
+        Verb::Drive => {
+            desk.drive = Some(drive_of(rest));
+            desk.paper.line(line);
+        }
         verb => {
             settle(end, desk);
             desk.paper.line(line);
             act(end, desk, verb, line);
-            weigh(end, &mut desk.paper);
-            settle(end, desk);
-            show_wants(end, desk);
+            come_to_rest(end, desk);
         }
+    }
+}
+
+fn come_to_rest<P: Plays>(end: &mut P, desk: &mut Desk) {
+    weigh(end, &mut desk.paper);
+    settle(end, desk);
+    if desk.drive.is_none() {
+        show_wants(end, desk);
     }
 }
 
@@ -29,7 +41,7 @@ fn act<P: Plays>(end: &mut P, desk: &mut Desk, verb: Verb, line: &[u8]) {
         Verb::Says => desk.say_lines(rest, 1),
         Verb::Octets => desk.say_text(rest),
         Verb::Times => repeat(end, desk, rest),
-        Verb::Happens(happening) => end.happens(event_of(happening, rest)),
+        Verb::Happens(happening) => end.happens(event_of(happening, rest, PEER)),
         Verb::Tree => end.show_tree(desk.alloc, &mut desk.paper),
         Verb::Held => show_held(end, desk),
         Verb::Data => come_text(end, desk, rest),
@@ -37,7 +49,9 @@ fn act<P: Plays>(end: &mut P, desk: &mut Desk, verb: Verb, line: &[u8]) {
         Verb::Out => give(end, desk, number(rest).min(1_000) as usize),
         Verb::Fronts => fronts(end, desk, rest),
         Verb::Aborts => try_aborts(end, desk, number(rest)),
-        Verb::Heading | Verb::Unknown => desk.paper.put(b"= no such line\n"),
+        Verb::Run => run(end, desk, Owner::Drive, b"< "),
+        Verb::Serve => run(end, desk, Owner::Page(rest), b"< "),
+        Verb::Heading | Verb::Drive | Verb::Unknown => desk.paper.put(b"= no such line\n"),
     }
 }
 

@@ -1,12 +1,16 @@
 // What rows are played on.
-use crate::server::event::Event;
+use crate::driven::{Driven, Owner};
+use crate::embedded::server::serve;
+use crate::event::Event;
+use crate::peer::{Peer, Still};
 use crate::server::files::{show_file, show_tree};
 use ftp_ends::Wants;
 use ftp_server::Server;
+use ftp_server_drive::{Control, drive_server};
 use ftp_server_model::Far;
 use ftp_server_transfer::TreeTransfer;
 use ftp_tree::{MemTree, Tree};
-use rows_base::Paper;
+use rows_base::{FailingReader, FailingWriter, Paper};
 use std::alloc::{Allocator, Global};
 use std::marker::PhantomData;
 
@@ -22,7 +26,7 @@ impl<A: Allocator + Copy> Holds<A, MemTree<A>> for Server<A, MemTree<A>, TreeTra
 }
 
 /// The calls of a server, of which nothing is said here, so that what plays rows on it is proved without the server's clauses.
-pub trait Plays: Drop {
+pub trait Plays: Driven + Drop {
     fn hear(&mut self, piece: &[u8]) -> usize;
 
     fn control_out(&mut self, room: &mut [u8]) -> usize;
@@ -105,5 +109,28 @@ impl<A: Allocator + Copy, S: Holds<A, MemTree<A>>> Plays for Played<A, S> {
 
     fn show_file(&self, alloc: Global, paper: &mut Paper) {
         show_file(alloc, self.server.tree(), paper);
+    }
+}
+
+impl<A: Allocator + Copy, S: Holds<A, MemTree<A>>> Driven for Played<A, S> {
+    fn drive(
+        &mut self,
+        _alloc: Global,
+        owner: Owner<'_>,
+        (mut reader, mut writer): (FailingReader<'_>, FailingWriter),
+        peer: &mut Peer,
+        paper: &mut Paper,
+    ) -> FailingWriter {
+        let ended = match owner {
+            Owner::Drive => {
+                let mut control = Control::new(reader, &mut writer);
+                drive_server(&mut self.server, &mut control, peer, &mut Still {})
+            }
+            Owner::Page(_) => serve(&mut self.server, (&mut reader, &mut writer), peer),
+        };
+        if ended.is_ok() {
+            paper.put(b"= ended\n");
+        }
+        writer
     }
 }

@@ -1,6 +1,7 @@
 // Each growth of a row refused in turn.
-use crate::server::desk::{Desk, ROOM};
-use crate::server::run::{Turn, run};
+use crate::desk::{Desk, ROOM};
+use crate::script::Turn;
+use crate::server::run::run;
 use rows_base::{Paper, first_other};
 use std::alloc::Global;
 

@@ -1,7 +1,9 @@
-// A row of a script is played, and played again.
-use crate::server::desk::{Desk, ROOM};
+// A row is played, and played again.
+use crate::desk::{Desk, ROOM};
+use crate::driven::again;
+use crate::script::{Runs, Turn};
 use crate::server::refusals::show_growths;
-use crate::server::run::{Turn, run};
+use crate::server::run::run;
 use rows_base::{Paper, cut, number, row_in_front, said};
 use std::alloc::Global;
 
@@ -20,6 +22,15 @@ pub fn play_all(alloc: Global, script: &[u8]) -> Paper {
     paper
 }
 
+/// Plays a row on a server.
+struct OnServer {}
+
+impl Runs for OnServer {
+    fn run(&self, alloc: Global, turn: Turn<'_>, refused: u64, desk: &mut Desk) -> u64 {
+        run(alloc, turn, refused, desk)
+    }
+}
+
 /// Plays a row whole, and then as it says.
 fn play_row(alloc: Global, row: &[u8], paper: &mut Paper) {
     let mut desk = Desk::new(alloc, ROOM);
@@ -28,6 +39,7 @@ fn play_row(alloc: Global, row: &[u8], paper: &mut Paper) {
     desk.put_all(paper);
     let whole = desk.paper.text();
     in_pieces(alloc, turn, whole, paper);
+    again(&OnServer {}, alloc, turn, whole, paper);
     if said(row, b"growths").is_some() {
         show_growths(alloc, row, whole, paper);
     }

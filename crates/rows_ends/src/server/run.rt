@@ -1,7 +1,9 @@
 // A run of a row on a server.
+use crate::desk::Desk;
+use crate::event::{YEAR_2000, host_or};
+use crate::peer::PEER;
+use crate::script::Turn;
 use crate::server::begun::{accounts, planted};
-use crate::server::desk::Desk;
-use crate::server::event::{PEER, YEAR_2000, host_or};
 use crate::server::lines::play;
 use crate::server::plays::{Holds, Played, Plays};
 use ftp_endpoint::Host;
@@ -14,13 +16,6 @@ use rows_base::{Paper, Refusing, cut, said};
 use std::alloc::{Allocator, Global};
 
 const HERE: Host = Host::V4([127, 0, 0, 1]);
-
-/// A row, and what it writes where that was seen before: then the tree is kept behind each line, up to the first that writes something else.
-#[derive(Clone, Copy)]
-pub struct Turn<'a> {
-    pub row: &'a [u8],
-    pub whole: Option<&'a [u8]>,
-}
 
 /// Plays a row with this growth refused, and says how many growths were asked for.
 pub fn run(alloc: Global, turn: Turn<'_>, refused: u64, desk: &mut Desk) -> u64 {

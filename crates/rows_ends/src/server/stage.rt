@@ -1,5 +1,5 @@
 // A server to which something happens, and what comes of it.
-use crate::server::desk::{Desk, ROOM};
+use crate::desk::{Desk, ROOM};
 use crate::server::plays::Plays;
 use ftp_endpoint::write_extended;
 use ftp_ends::Wants;
@@ -11,8 +11,12 @@ const TURNS: u64 = 100_000_000;
 /// The most octets that may be held.
 const HELD_LIMIT: usize = 24_576;
 
-/// Control octets are taken as long as any are, then what is owed is written, and so on until nothing moves.
+/// Control octets are taken as long as any are, then what is owed is written, and so on until nothing moves; where connections drive the server
+/// they wait.
 pub fn settle<P: Plays>(end: &mut P, desk: &mut Desk) {
+    if desk.drive.is_some() {
+        return;
+    }
     for _ in 0..TURNS {
         if !hears(end, desk) && !owes(end, desk) {
             break;

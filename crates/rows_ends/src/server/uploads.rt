@@ -1,6 +1,7 @@
 // Uploads and downloads that break at each octet.
-use crate::server::desk::Desk;
-use crate::server::event::{Event, PEER};
+use crate::desk::Desk;
+use crate::event::Event;
+use crate::peer::PEER;
 use crate::server::plays::Plays;
 use crate::server::stage::{come, give_once, settle};
 use ftp_ends::Wants;

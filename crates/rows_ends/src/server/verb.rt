@@ -1,19 +1,6 @@
 // The words that a line begins with.
+use crate::event::Happening;
 use rows_base::found;
-
-/// What happens to the connections, or the clock.
-#[derive(Clone, Copy)]
-pub enum Happening {
-    Listening,
-    Portless,
-    Opened,
-    Refused,
-    Ended,
-    Broke,
-    Closed,
-    Cut,
-    Clock,
-}
 
 /// What a line is about.
 #[derive(Clone, Copy)]
@@ -31,6 +18,12 @@ pub enum Verb {
     Out,
     Fronts,
     Aborts,
+    /// From here on connections drive the server.
+    Drive,
+    /// They do.
+    Run,
+    /// The program of the page does, over sockets.
+    Serve,
     /// No word of a script.
     Unknown,
 }
@@ -45,6 +38,9 @@ const VERBS: &[(&'static [u8], Verb)] = &[
     (b"file", Verb::Heading),
     (b"in", Verb::Heading),
     (b"growths", Verb::Heading),
+    (b"also", Verb::Heading),
+    (b"reads", Verb::Heading),
+    (b"writes", Verb::Heading),
     (b">", Verb::Says),
     (b">>", Verb::Octets),
     (b"times", Verb::Times),
@@ -64,6 +60,9 @@ const VERBS: &[(&'static [u8], Verb)] = &[
     (b"out", Verb::Out),
     (b"fronts", Verb::Fronts),
     (b"aborts", Verb::Aborts),
+    (b"drive", Verb::Drive),
+    (b"run", Verb::Run),
+    (b"serve", Verb::Serve),
 ];
 
 /// What a word says.

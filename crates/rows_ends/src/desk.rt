@@ -1,4 +1,5 @@
-// The control octets of a row, and what it writes.
+// The control octets of a row, how its end is played on, and what it writes.
+use crate::driven::{Drive, Try};
 use ftp_ends::Wants;
 use rows_base::{Paper, last_line, octets_of};
 use std::alloc::Global;
@@ -7,24 +8,34 @@ use std::mem;
 /// The most octets of one call.
 pub const ROOM: usize = 1_000;
 
-/// What stands beside a server that is played on.
+/// What stands beside an end that is played on.
 #[derive(Drop)]
 pub struct Desk {
     pub alloc: Global,
     pub paper: Paper,
     /// What is not shown as it stands.
     pub aside: Paper,
-    /// The control octets so far, and how many of them were taken.
+    /// The control octets so far that wait, and how many of them were taken.
     octets: Vec<u8>,
     heard: usize,
     /// The most octets of one call.
     pub size: usize,
     /// What was wanted when it was told last.
     pub wanted: Wants,
-    /// Whether the server was had.
+    /// Whether the end was had.
     pub is_begun: bool,
     /// The tree behind each line.
     pub trees: Vec<Paper>,
+    /// How many octets of the line were not taken.
+    pub left: usize,
+    /// Whether each line tells how much is held.
+    pub weighs: bool,
+    /// How connections go that drive the end: then the control octets wait for that.
+    pub drive: Option<Drive>,
+    /// What is tried of these.
+    pub tried: Try,
+    /// Whether that broke off.
+    pub is_broken: bool,
 }
 
 impl Desk {
@@ -39,6 +50,11 @@ impl Desk {
             wanted: Wants::Nothing,
             is_begun: false,
             trees: Vec::new(alloc),
+            left: 0,
+            weighs: false,
+            drive: None,
+            tried: Try::Whole,
+            is_broken: false,
         }
     }
 
@@ -73,6 +89,11 @@ impl Desk {
         }
     }
 
+    /// All control octets so far.
+    pub fn said(&self) -> &[u8] {
+        self.octets.as_slice()
+    }
+
     /// The control octets of the next call.
     pub fn next_piece(&self) -> &[u8] {
         let all = self.octets.as_slice();
@@ -83,6 +104,11 @@ impl Desk {
     /// So many of them were taken.
     pub fn took(&mut self, count: usize) {
         self.heard = self.heard.saturating_add(count);
+    }
+
+    /// The first of these octets, as many as a call is given.
+    pub fn front<'a>(&self, octets: &'a [u8]) -> &'a [u8] {
+        octets.split_at(self.size.min(octets.len())).0
     }
 
     /// From here on nothing is shown, until `show`.
@@ -134,10 +160,32 @@ impl Desk {
         self.paper.line(last_line(self.aside.text()));
     }
 
+    /// A line with a number behind this mark.
+    pub fn put_number(&mut self, mark: &[u8], number: u64) {
+        self.paper.put(mark);
+        self.paper.number(number);
+        self.paper.put(b"\n");
+    }
+
     /// The tree as it is behind a line.
     pub fn keep(&mut self, tree: Paper) {
         if self.trees.push(tree).is_err() {
             self.paper.fill();
+        }
+    }
+
+    /// How many octets of the line were not taken.
+    pub fn tell_left(&mut self) {
+        if self.left > 0 {
+            self.put_number(b"! octets that are not taken: ", self.left as u64);
+        }
+        self.left = 0;
+    }
+
+    /// How much was held.
+    pub fn tell_held(&mut self, held: usize) {
+        if self.weighs {
+            self.put_number(b"held ", held as u64);
         }
     }
 }

@@ -1,5 +1,5 @@
 // An operation of a client: what it owes goes out, and then what it wants is done (RFC 959, section 2.3).
-use crate::sockets::Sockets;
+use crate::embedded::sockets::Sockets;
 use ftp_client_model::Near;
 use ftp_control::{Failed, TURNS, get, put};
 use ftp_ends::Wants;

@@ -1,18 +1,28 @@
-// What happens to a server.
-use crate::server::verb::Happening;
+// What happens to the connections of an end, and to its clock.
 use ftp_endpoint::{Host, extended_endpoint};
 use ftp_facts::{Moment, moment_of_text};
 use rows_base::number;
-
-/// The client's host, where nothing else is said.
-pub const PEER: Host = Host::V4([10, 0, 0, 2]);
 
 /// The first second of the year 2000.
 pub const YEAR_2000: Moment = Moment {
     seconds: 946_684_800,
 };
 
-/// What happens to a server's connections, and its clock.
+/// What a word says that happens.
+#[derive(Clone, Copy)]
+pub enum Happening {
+    Listening,
+    Portless,
+    Opened,
+    Refused,
+    Ended,
+    Broke,
+    Closed,
+    Cut,
+    Clock,
+}
+
+/// What happens.
 #[derive(Clone, Copy)]
 pub enum Event {
     Listening(u16),
@@ -26,12 +36,12 @@ pub enum Event {
     Clock(Moment),
 }
 
-/// The event that a word names, with what stands behind it.
-pub fn event_of(happening: Happening, rest: &[u8]) -> Event {
+/// The event that a word names, with what stands behind it; this host is at the other end where nothing else is said.
+pub fn event_of(happening: Happening, rest: &[u8], peer: Host) -> Event {
     match happening {
         Happening::Listening => Event::Listening((number(rest) % 65_536) as u16),
         Happening::Portless => Event::Portless,
-        Happening::Opened => Event::Opened(host_or(rest, PEER)),
+        Happening::Opened => Event::Opened(host_or(rest, peer)),
         Happening::Refused => Event::Refused,
         Happening::Ended => Event::Ended,
         Happening::Broke => Event::Broke,

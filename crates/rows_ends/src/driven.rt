@@ -1,0 +1,194 @@
+// Rows in which connections drive an end: its control octets come from a reader that gives few of them a call, what it owes goes to a writer that
+// takes few, and each read or each write may fail.
+use crate::desk::{Desk, ROOM};
+use crate::peer::Peer;
+use crate::script::{Runs, Turn};
+use rows_base::{FailingReader, FailingWriter, Paper, number, said, split};
+use std::alloc::Global;
+
+/// The number of no call, and more waits than there are.
+const NEVER: u32 = 4_000_000_000;
+
+/// How connections go that drive an end.
+#[derive(Clone, Copy)]
+pub struct Drive {
+    /// The most octets of the control connection that one call moves.
+    pub moves: usize,
+    /// How many octets come over each data connection; none where it can't be read.
+    pub sends: Option<u64>,
+    /// How often a data connection is waited for before the control connection speaks.
+    pub silent: u64,
+    /// How many writes of each data connection find no room.
+    pub full: u64,
+    /// How many data connections break at first.
+    pub breaks: u64,
+}
+
+/// A call of the control connection.
+#[derive(Clone, Copy)]
+pub enum Call {
+    Read,
+    Write,
+}
+
+/// What is tried of a row.
+#[derive(Clone, Copy)]
+pub enum Try {
+    /// The row as it stands.
+    Whole,
+    /// So many octets of the control connection at most in a call.
+    Moves(usize),
+    /// The call with that number fails, counted from 0.
+    Fails(Call, u32),
+}
+
+/// Who makes the calls of an end.
+#[derive(Clone, Copy)]
+pub enum Owner<'a> {
+    /// The drive of the product.
+    Drive,
+    /// The program that the end's page shows, which is asked for this.
+    Page(&'a [u8]),
+}
+
+/// An end that connections can drive.
+pub trait Driven {
+    /// Writes what it reports in the end, nothing where it was broken off, and hands the writer back.
+    fn drive(
+        &mut self,
+        alloc: Global,
+        owner: Owner<'_>,
+        control: (FailingReader<'_>, FailingWriter),
+        peer: &mut Peer,
+        paper: &mut Paper,
+    ) -> FailingWriter;
+}
+
+/// What is said of connections: `moves 7 sends 3 silent 7 full 1000 breaks 2`.
+pub fn drive_of(text: &[u8]) -> Drive {
+    Drive {
+        moves: value(text, b"moves").unwrap_or(1) as usize,
+        sends: value(text, b"sends"),
+        silent: value(text, b"silent").unwrap_or(NEVER as u64),
+        full: value(text, b"full").unwrap_or(0),
+        breaks: value(text, b"breaks").unwrap_or(0),
+    }
+}
+
+/// The number behind a word.
+fn value(text: &[u8], name: &[u8]) -> Option<u64> {
+    let mut rest = text;
+    for _ in 0..text.len() {
+        let (word, behind) = split(rest);
+        if word == name {
+            return Some(number(split(behind).0));
+        }
+        rest = behind;
+    }
+    None
+}
+
+/// The most octets of a call, and the read and the write that fail.
+fn limits(drive: Drive, tried: Try) -> (usize, u32, u32) {
+    match tried {
+        Try::Whole => (drive.moves, NEVER, NEVER),
+        Try::Moves(moves) => (moves, NEVER, NEVER),
+        Try::Fails(Call::Read, at) => (drive.moves, at, NEVER),
+        Try::Fails(Call::Write, at) => (drive.moves, NEVER, at),
+    }
+}
+
+/// Drives an end by the control octets so far, and writes the lines that it sends behind this mark; where it was not broken off, what it reports
+/// and what came over data connections too.
+pub fn run<D: Driven>(end: &mut D, desk: &mut Desk, owner: Owner<'_>, mark: &[u8]) {
+    let Some(drive) = desk.drive else {
+        desk.paper.line(b"= nothing drives it");
+        return;
+    };
+    let (moves, read, write) = limits(drive, desk.tried);
+    let writer = FailingWriter::new(desk.alloc, moves, write);
+    let mut peer = Peer::new(desk.alloc, drive);
+    let mut told = Paper::new(desk.alloc);
+    let reader = FailingReader::new(desk.said(), moves, read);
+    let writer = end.drive(desk.alloc, owner, (reader, writer), &mut peer, &mut told);
+    desk.paper.lines(mark, writer.taken());
+    desk.is_broken = told.text().is_empty();
+    if !desk.is_broken {
+        desk.paper.end_line();
+        desk.paper.put(told.text());
+        peer.show(&mut desk.paper);
+    }
+}
+
+/// What came of a try.
+#[derive(Clone, Copy, PartialEq, Eq)]
+enum Outcome {
+    /// The same as of the whole row.
+    Same,
+    /// It was broken off behind a beginning of that.
+    Broken,
+    Other,
+}
+
+fn came_of<R: Runs>(runs: &R, alloc: Global, turn: Turn<'_>, whole: &[u8], tried: Try) -> Outcome {
+    let mut desk = Desk::new(alloc, ROOM);
+    desk.tried = tried;
+    runs.run(alloc, turn, 0, &mut desk);
+    let text = desk.paper.text();
+    if !desk.is_broken && text == whole {
+        Outcome::Same
+    } else if desk.is_broken && whole.starts_with(text) {
+        Outcome::Broken
+    } else {
+        Outcome::Other
+    }
+}
+
+/// Drives a row again as it says: in calls of each size behind `also`, and with so many reads and writes failed in turn.
+pub fn again<R: Runs>(runs: &R, alloc: Global, turn: Turn<'_>, whole: &[u8], paper: &mut Paper) {
+    each_size(runs, alloc, turn, whole, paper);
+    each_failed(runs, alloc, turn, whole, (Call::Read, b"reads"), paper);
+    each_failed(runs, alloc, turn, whole, (Call::Write, b"writes"), paper);
+}
+
+fn each_size<R: Runs>(runs: &R, alloc: Global, turn: Turn<'_>, whole: &[u8], paper: &mut Paper) {
+    let mut rest = said(turn.row, b"also").unwrap_or(b"");
+    for _ in 0..rest.len() {
+        let (word, behind) = split(rest);
+        if word.is_empty() {
+            break;
+        }
+        let tried = Try::Moves(number(word).min(NEVER as u64) as usize);
+        if came_of(runs, alloc, turn, whole, tried) != Outcome::Same {
+            paper.put(b"= otherwise in calls of ");
+            paper.line(word);
+        }
+        rest = behind;
+    }
+}
+
+/// The first calls that fail break the row off, and those behind them are not made: how many are the first ones.
+fn each_failed<R: Runs>(
+    runs: &R,
+    alloc: Global,
+    turn: Turn<'_>,
+    whole: &[u8],
+    (call, word): (Call, &[u8]),
+    paper: &mut Paper,
+) {
+    let Some(count) = said(turn.row, word) else {
+        return;
+    };
+    let mut broken = 0;
+    for at in 0..number(count).min(1_000) {
+        match came_of(runs, alloc, turn, whole, Try::Fails(call, at as u32)) {
+            Outcome::Broken if broken == at => broken += 1,
+            Outcome::Same => {}
+            _ => paper.line(b"= otherwise where a call fails"),
+        }
+    }
+    paper.put(b"= ");
+    paper.number(broken);
+    paper.put(b" ");
+    paper.line(word);
+}

@@ -1,0 +1,187 @@
+// The other side of data connections that is the same each time: it opens each at once, sends so many octets, has no room at first, breaks the
+// first ones, and the control connection speaks at a time of its choice.
+ghost use Rattle.std.specs.Prelude.{None};
+ghost use Rattle.ftp_control.specs.Asking.{Closes};
+
+use crate::driven::Drive;
+use crate::embedded::sockets::Sockets;
+use crate::event::YEAR_2000;
+use ftp_control::{Accepted, For, Ports, Ready, Spoken, Watch, Whole};
+use ftp_endpoint::{Endpoint, Host};
+use ftp_ends::Wants;
+use ftp_facts::Moment;
+use rows_base::{Paper, Tally};
+use std::alloc::Global;
+use std::io;
+use std::io::{Error, ErrorKind, Read, Write};
+
+/// The host at the other end of data connections.
+pub const PEER: Host = Host::V4([10, 0, 0, 2]);
+
+/// How many octets a data connection takes before it breaks.
+const TAKES: usize = 4;
+
+/// More octets than a data connection takes.
+const AMPLE: usize = 1 << 40;
+
+/// A data connection that gives so many octets, if it can be read, and takes so many behind so many writes that find no room.
+#[derive(Drop)]
+pub struct Link {
+    rest: Option<u64>,
+    full: u64,
+    room: usize,
+    taken: Vec<u8>,
+}
+
+impl Read for Link {
+    fn read(&mut self, room: &mut [u8]) -> io::Result<usize> {
+        let Some(rest) = self.rest else {
+            return Err(Error::from(ErrorKind::ConnectionReset));
+        };
+        let count = room.len().min(rest as usize);
+        room[..count].fill(b'x');
+        self.rest = Some(rest - count as u64);
+        Ok(count)
+    }
+}
+
+impl Write for Link {
+    fn write(&mut self, octets: &[u8]) -> io::Result<usize> {
+        if self.full > 0 {
+            self.full -= 1;
+            return Err(Error::from(ErrorKind::WouldBlock));
+        }
+        if self.room == 0 {
+            return Err(Error::from(ErrorKind::BrokenPipe));
+        }
+        let count = octets.len().min(self.room);
+        if self.taken.extend_from_slice(&octets[..count]).is_err() {
+            return Err(Error::from(ErrorKind::OutOfMemory));
+        }
+        self.room -= count;
+        Ok(count)
+    }
+
+    fn flush(&mut self) -> io::Result<()> {
+        Ok(())
+    }
+}
+
+/// Opens each data connection at once.
+#[derive(Drop)]
+pub struct Peer {
+    alloc: Global,
+    drive: Drive,
+    /// What came over data connections that are closed.
+    taken: Tally,
+    /// How many data connections were reset.
+    resets: u64,
+}
+
+impl Peer {
+    pub fn new(alloc: Global, drive: Drive) -> Peer {
+        Peer {
+            alloc,
+            drive,
+            taken: Tally::new(),
+            resets: 0,
+        }
+    }
+
+    /// Writes what came over the data connections, and how many were reset.
+    pub fn show(&self, paper: &mut Paper) {
+        paper.put(b"= data ");
+        self.taken.show(paper);
+        paper.put(b", resets ");
+        paper.number(self.resets);
+        paper.put(b"\n");
+    }
+
+    fn link(&mut self) -> Link {
+        Link {
+            rest: self.drive.sends,
+            full: self.drive.full,
+            room: self.room(),
+            taken: Vec::new(self.alloc),
+        }
+    }
+
+    /// How many octets the next data connection takes.
+    fn room(&mut self) -> usize {
+        if self.drive.breaks == 0 {
+            return AMPLE;
+        }
+        self.drive.breaks -= 1;
+        TAKES
+    }
+}
+
+impl Ports for Peer {
+    type Stream = Link;
+
+    fn listen(&mut self) -> Option<u16> {
+        Some(1930)
+    }
+
+    fn accept(&mut self, _hears: bool) -> Accepted<Link> {
+        Accepted::Came(self.link(), PEER)
+    }
+
+    fn connect(&mut self, _endpoint: Endpoint) -> Option<Link> {
+        Some(self.link())
+    }
+
+    fn wait(&mut self, _stream: &mut Link, _what: For, hears: bool) -> Ready {
+        if !hears {
+            return Ready::Data;
+        }
+        if self.drive.silent == 0 {
+            return Ready::Control;
+        }
+        self.drive.silent -= 1;
+        Ready::Data
+    }
+
+    fn spoken(&mut self) -> Spoken {
+        Spoken::Nothing
+    }
+
+    fn close(&mut self, stream: Option<Whole<Link>>)
+        ensures { Closes (λ link. None) (λ link. None) stream None None }
+    {
+        if let Some(whole) = stream {
+            self.taken.take(whole.into_stream().taken.as_slice());
+        }
+    }
+
+    fn reset(&mut self, stream: Link) {
+        self.taken.take(stream.taken.as_slice());
+        self.resets = self.resets.wrapping_add(1);
+    }
+}
+
+impl Sockets for Peer {
+    type Link = Link;
+
+    fn listen(&mut self) -> Option<u16> {
+        Some(1930)
+    }
+
+    fn open(&mut self, _wanted: Wants) -> Option<(Link, Host)> {
+        Some((self.link(), PEER))
+    }
+
+    fn now(&mut self) -> Moment {
+        YEAR_2000
+    }
+}
+
+/// A clock that stands at the first second of the year 2000.
+#[derive(Drop)]
+pub struct Still {}
+
+impl Watch for Still {
+    fn moment(&mut self) -> Moment {
+        YEAR_2000
+    }
+}
