@@ -1,21 +1,32 @@
-//! For tests alone: which places texts say, and what `run`, `get`, `put` and `ls` answer where nobody listens, or where nothing can be asked; what
+//! For tests alone: what `serve` answers where nobody is served, or a folder, a file of accounts, an address or a port is refused, and sessions
+//! over the loopback; which places texts say, and what `run`, `get`, `put` and `ls` answer where nobody listens, or where nothing can be asked; what
 //! uploads and downloads ask of a server that answers so; and scripts as `pair` and as `loop` play them (RFC 959; RFC 3659).
 #![tactic(auto)]
 
 mod downloads;
+mod loopback;
+mod made;
+mod meeting;
 mod places;
+mod refused;
+mod rights;
 mod scripts;
 mod seat;
+mod soak;
 mod statuses;
+mod tries;
 mod typing;
 mod uploads;
 
 use ftp_tool_status::Status;
-use rows_base::Paper;
-use std::io;
+use rows_base::{Paper, row_in_front};
 use std::io::{Read, Write};
 use std::process::ExitCode;
+use std::{fs, io};
 use typing::Typing;
+
+/// The directory in which the rows of `serve` make what they need; it is gone at the end.
+const PLACE: &str = "rows_of_serve";
 
 /// What stands between the scripts of `pair` and that of `loop`.
 const DIVIDER: &[u8] = b"\n== by loop\n\n";
@@ -26,22 +37,37 @@ fn main(rt: HostRuntime) -> ExitCode {
 
 /// Plays all rows; gives the status of the last script, that of `loop`.
 fn played(rt: &HostRuntime) -> io::Result<Status> {
+    served(rt)?;
     let mut script = Vec::new(rt.alloc());
     rt.reader().read_to_end(&mut script)?;
-    let (pairs, text) = parted(script.as_slice());
-    let mut paper = fetched(rt)?;
+    let (tries, scripts) = row_in_front(script.as_slice());
+    let (pairs, text) = parted(scripts);
+    let mut paper = fetched(rt, tries)?;
     paper.put(scripts::play_all(rt.alloc(), pairs).text());
     io::writer(rt).write_all(paper.text())?;
     ftp_tool_loop::play(&Typing { rt, text })
 }
 
+/// Writes the rows of `serve`.
+fn served(rt: &HostRuntime) -> io::Result<()> {
+    fs::create_dir(rt, PLACE)?;
+    let refused = refused::rows(rt);
+    let served = loopback::row(rt);
+    let shared = rights::row(rt);
+    let inbox = soak::row(rt);
+    fs::remove_dir_all(rt, PLACE)?;
+    refused?;
+    served?;
+    shared?;
+    inbox
+}
+
 /// The rows of places, and those of `run`, `get`, `put` and `ls`.
-fn fetched(rt: &HostRuntime) -> io::Result<Paper> {
+fn fetched(rt: &HostRuntime, tries: &[u8]) -> io::Result<Paper> {
     let mut paper = Paper::new(rt.alloc());
     places::rows(&mut paper);
     statuses::rows(rt, &mut paper)?;
-    uploads::rows(rt, &mut paper)?;
-    downloads::rows(rt, &mut paper);
+    tries::rows(rt, &mut paper, tries)?;
     Ok(paper)
 }
 

@@ -1,13 +1,17 @@
 // Somebody who answers what a row says, and writes what was asked.
+use crate::tries::Row;
 use ftp_facts::Text;
 use ftp_operation::{Answer, Op};
-use ftp_tool_connection::{ClientSession, Request};
-use rows_base::Paper;
+use ftp_tool_connection::{ClientSession, Request, SessionFault, SessionTask};
+use rows_base::{Paper, cut, found, number, split};
 use std::alloc::Global;
+
+/// How many control connections there are at most.
+const CONNECTIONS: u32 = 2;
 
 /// What is answered.
 #[derive(Clone, Copy)]
-pub(crate) enum Told {
+enum Told {
     Done,
     /// The data connection broke.
     Broken,
@@ -26,15 +30,13 @@ pub(crate) enum Told {
     Lost,
 }
 
-/// Answers one after another; those from `again` on come anew behind the last.
+/// Answers one after another.
 #[derive(Drop)]
-pub(crate) struct Seat<'a> {
-    pub(crate) alloc: Global,
-    pub(crate) paper: &'a mut Paper,
-    pub(crate) told: &'a [Told],
-    pub(crate) again: usize,
-    pub(crate) at: usize,
-    pub(crate) opened: u32,
+struct Seat<'a> {
+    alloc: Global,
+    paper: &'a mut Paper,
+    row: Row<'a>,
+    opened: u32,
 }
 
 impl<'a> ClientSession for Seat<'a> {
@@ -55,13 +57,60 @@ impl<'a> ClientSession for Seat<'a> {
 impl<'a> Seat<'a> {
     /// What is answered next.
     fn next(&mut self) -> Told {
-        if self.at >= self.told.len() {
-            self.at = self.again;
+        if self.row.told.is_empty() {
+            self.row.told = self.row.again;
         }
-        let told = self.told.get(self.at).copied().unwrap_or(Told::Lost);
-        self.at = self.at.saturating_add(1);
-        told
+        let (word, behind) = split(self.row.told);
+        self.row.told = behind;
+        told_by(word)
     }
+}
+
+/// What a word says: `size=10`. Any other word, and none, is that all is lost.
+fn told_by(word: &[u8]) -> Told {
+    let (name, digits) = cut(word, b'=');
+    let count = number(digits);
+    let code = u16::try_from(count).unwrap_or(0);
+    found(
+        &[
+            (b"done", Told::Done),
+            (b"broken", Told::Broken),
+            (b"sent", Told::Sent(count)),
+            (b"cut", Told::Cut(count)),
+            (b"unopened", Told::Unopened),
+            (b"refused", Told::Refused(code)),
+            (b"behind", Told::Behind(code)),
+            (b"size", Told::Size(count)),
+            (b"strange", Told::Strange),
+        ],
+        name,
+        Told::Lost,
+    )
+}
+
+/// What is answered over control connections, one after another.
+pub(crate) fn played<T>(
+    alloc: Global,
+    paper: &mut Paper,
+    row: Row<'_>,
+    task: &mut T,
+) -> Result<Answer<Global>, SessionFault>
+where
+    T: SessionTask<Result<Answer<Global>, SessionFault>>,
+{
+    let mut seat = Seat {
+        alloc,
+        paper,
+        row,
+        opened: 0,
+    };
+    for _ in 1..CONNECTIONS {
+        match task.play(&mut seat) {
+            Ok(Answer::Lost) => {}
+            answered => return answered,
+        }
+    }
+    task.play(&mut seat)
 }
 
 /// Whether a data connection was opened for it.
