@@ -1,8 +1,9 @@
 // The next operation.
-ghost use Rattle.std.specs.Prelude.{◌≡◌, ◌<◌, [], true, false, vec_len, vec_capacity, IfOk, OnErr, OnOk};
+ghost use Rattle.std.specs.Prelude.{◌≡◌, ◌<◌, ℕ, List, Some, [], true, false, vec_len, vec_capacity, IfOk, OnErr, OnOk};
 ghost use Rattle.ftp_client_model.specs.Calls.{is_busy, starts, uploads};
 ghost use Rattle.ftp_client_model.specs.Tries.{over_breaks};
 ghost use Rattle.ftp_server_model.specs.Calls.{clocked};
+ghost use Rattle.ftp_operation.specs.declared.op.Op.{Op};
 ghost use Rattle.ftp_pair_world.specs.Events.{Happens, Next, Upload, begun_at, lends_none};
 ghost use Rattle.ftp_pair_parts.specs.Shown.{shown, Calmly, HasRoom, Steps, is_unlinked};
 
@@ -17,14 +18,16 @@ use ftp_tree::Tree;
 use std::alloc::{AllocError, Allocator};
 
 impl<A: Allocator, T: Tree<A>, N: Near<A>, F: Far<A, T>> Parts<A, T, N, F> {
-    /// An operation is begun, where none is open and no link stands or is wanted. Room for its report and a mark is made first.
+    /// The operation that is given is begun, where none is open and no link stands or is wanted. Room for its report and a mark is made first.
     #[tactic(auto, using(crate::proofs::Beginning::linked_not, crate::proofs::Beginning::busy_not, crate::proofs::Beginning::free_begins))]
     pub(crate) fn step_next(
         &mut self,
         alloc: A,
-        op: Op<Text<A>>,
+        given: &mut Option<Op<Text<A>>>,
         moment: Moment,
     ) -> Result<bool, AllocError>
+        ghost op: { Op (List ℕ) }
+        requires given { given.old ≡ Some op }
         requires ports { self.old.listens < 16384 }
         requires report { HasRoom N.client self.old }
         ensures ok { IfOk result (λ possible. Steps self.old.calm self.new.calm (λ read. Happens read (Next op moment.seconds) (shown N.client F.server self.old) possible (shown N.client F.server self.new))) }
@@ -36,7 +39,7 @@ impl<A: Allocator, T: Tree<A>, N: Near<A>, F: Far<A, T>> Parts<A, T, N, F> {
             return Ok(false);
         }
         let marks = self.make_room(alloc, 1)?;
-        if !self.start(op) {
+        if !self.start(given) {
             return Ok(false);
         }
         self.note(moment, marks);
@@ -97,18 +100,19 @@ impl<A: Allocator, T: Tree<A>, N: Near<A>, F: Far<A, T>> Parts<A, T, N, F> {
         Ok(kept)
     }
 
-    /// The client begins an operation, where none is open.
+    /// The client begins the operation that is given, where none is open.
     #[tactic(auto, using(crate::proofs::Beginning::handed_some, crate::proofs::Beginning::handed_none))]
-    fn start(&mut self, op: Op<Text<A>>) -> bool
+    fn start(&mut self, given: &mut Option<Op<Text<A>>>) -> bool
+        ghost op: { Op (List ℕ) }
+        requires given { given.old ≡ Some op }
         ensures begun { result ≡ true → (is_busy (N.client self.old.near).view ≡ false) × Calmly self.old self.new (shown N.client F.server self.new ≡ record (shown N.client F.server self.old) { near = starts op (N.client self.old.near).view }) }
         ensures busy { result ≡ false → (is_busy (N.client self.old.near).view ≡ true) × (shown N.client F.server self.new ≡ shown N.client F.server self.old) × (self.new.calm ≡ self.old.calm) }
         ensures marks { self.new.marks ≡ self.old.marks }
         ensures reports { self.new.reports ≡ self.old.reports }
         ensures few { self.new.listens ≡ self.old.listens }
     {
-        let mut given = Some(op);
         let refusals = self.near.refusals();
-        self.near.start(&mut given);
+        self.near.start(given);
         if given.is_some() {
             return false;
         }

@@ -30,7 +30,7 @@ impl<A: Allocator, T: Tree<A>, N: Near<A>, F: Far<A, T>> Parts<A, T, N, F> {
             Event::End(queue) => Ok(self.step_end(queue)),
             Event::Break => self.step_break(),
             Event::EndControl => Ok(self.step_end_control()),
-            Event::Next(op, moment) => self.step_next(alloc, op, moment),
+            Event::Next(op, moment) => self.step_next(alloc, &mut Some(op), moment),
             Event::Upload(path, octets, how, moment) => {
                 self.step_upload(alloc, path, octets, how, moment)
             }
