@@ -46,6 +46,16 @@ fn read_line<A: Allocator>(alloc: A, line: &[u8]) -> Result<Command<Argument<A>>
     read_argument(alloc, verb, argument)
 }
 
+// What was read as the command's argument, or why it could not be: `?` would ask each time how a fault becomes a fault.
+macro_rules! asks {
+    ($command:path, $read:expr) => {
+        match $read {
+            Ok(read) => Ok($command(read)),
+            Err(fault) => Err(fault),
+        }
+    };
+}
+
 // The command of a verb with this argument.
 fn read_argument<A: Allocator>(
     alloc: A,
@@ -56,26 +66,26 @@ fn read_argument<A: Allocator>(
     ensures refuses { IfErr result (λ fault. ((fault ≡ CommandFault.Memory) × NeedsCopy argument.now verb) ⊎ Declined argument.now verb fault) }
 {
     match verb {
-        Verb::User => Ok(Command::User(name(alloc, argument)?)),
-        Verb::Pass => Ok(Command::Pass(password(alloc, argument)?)),
-        Verb::Acct => Ok(Command::Acct(words(alloc, trim(argument))?)),
-        Verb::Opts => Ok(Command::Opts(words(alloc, trim(argument))?)),
-        Verb::Help => Ok(Command::Help(words_or_none(alloc, trim(argument))?)),
-        Verb::List => Ok(Command::List(path_or_none(alloc, drop_options(argument))?)),
-        Verb::Nlst => Ok(Command::Nlst(path_or_none(alloc, drop_options(argument))?)),
-        Verb::Mlst => Ok(Command::Mlst(path_or_none(alloc, argument)?)),
-        Verb::Mlsd => Ok(Command::Mlsd(path_or_none(alloc, argument)?)),
-        Verb::Cwd => Ok(Command::Cwd(path(alloc, argument)?)),
-        Verb::Retr => Ok(Command::Retr(path(alloc, argument)?)),
-        Verb::Stor => Ok(Command::Stor(path(alloc, argument)?)),
-        Verb::Appe => Ok(Command::Appe(path(alloc, argument)?)),
-        Verb::Rnfr => Ok(Command::Rnfr(path(alloc, argument)?)),
-        Verb::Rnto => Ok(Command::Rnto(path(alloc, argument)?)),
-        Verb::Dele => Ok(Command::Dele(path(alloc, argument)?)),
-        Verb::Rmd => Ok(Command::Rmd(path(alloc, argument)?)),
-        Verb::Mkd => Ok(Command::Mkd(path(alloc, argument)?)),
-        Verb::Size => Ok(Command::Size(path(alloc, argument)?)),
-        Verb::Mdtm => Ok(Command::Mdtm(path(alloc, argument)?)),
+        Verb::User => asks!(Command::User, name(alloc, argument)),
+        Verb::Pass => asks!(Command::Pass, password(alloc, argument)),
+        Verb::Acct => asks!(Command::Acct, words(alloc, trim(argument))),
+        Verb::Opts => asks!(Command::Opts, words(alloc, trim(argument))),
+        Verb::Help => asks!(Command::Help, words_or_none(alloc, trim(argument))),
+        Verb::List => asks!(Command::List, path_or_none(alloc, drop_options(argument))),
+        Verb::Nlst => asks!(Command::Nlst, path_or_none(alloc, drop_options(argument))),
+        Verb::Mlst => asks!(Command::Mlst, path_or_none(alloc, argument)),
+        Verb::Mlsd => asks!(Command::Mlsd, path_or_none(alloc, argument)),
+        Verb::Cwd => asks!(Command::Cwd, path(alloc, argument)),
+        Verb::Retr => asks!(Command::Retr, path(alloc, argument)),
+        Verb::Stor => asks!(Command::Stor, path(alloc, argument)),
+        Verb::Appe => asks!(Command::Appe, path(alloc, argument)),
+        Verb::Rnfr => asks!(Command::Rnfr, path(alloc, argument)),
+        Verb::Rnto => asks!(Command::Rnto, path(alloc, argument)),
+        Verb::Dele => asks!(Command::Dele, path(alloc, argument)),
+        Verb::Rmd => asks!(Command::Rmd, path(alloc, argument)),
+        Verb::Mkd => asks!(Command::Mkd, path(alloc, argument)),
+        Verb::Size => asks!(Command::Size, path(alloc, argument)),
+        Verb::Mdtm => asks!(Command::Mdtm, path(alloc, argument)),
         Verb::Cdup => blank(argument).and(Ok(Command::Cdup)),
         Verb::Rein => blank(argument).and(Ok(Command::Rein)),
         Verb::Quit => blank(argument).and(Ok(Command::Quit)),
@@ -87,13 +97,13 @@ fn read_argument<A: Allocator>(
         Verb::Feat => blank(argument).and(Ok(Command::Feat)),
         Verb::Stat if is_blank(argument) => Ok(Command::Stat),
         Verb::Stat | Verb::Smnt | Verb::Stou | Verb::Site => Err(CommandFault::NotDone),
-        Verb::Port => Ok(Command::Port(six(trim(argument))?)),
-        Verb::Eprt => Ok(Command::Eprt(extended(trim(argument))?)),
-        Verb::Epsv => Ok(Command::Epsv(passive(trim(argument))?)),
-        Verb::Repr => Ok(Command::Repr(kind(trim(argument))?)),
-        Verb::Stru => Ok(Command::Stru(structure(trim(argument))?)),
-        Verb::Mode => Ok(Command::Mode(mode(trim(argument))?)),
-        Verb::Rest => Ok(Command::Rest(place(trim(argument))?)),
+        Verb::Port => asks!(Command::Port, six(trim(argument))),
+        Verb::Eprt => asks!(Command::Eprt, extended(trim(argument))),
+        Verb::Epsv => asks!(Command::Epsv, passive(trim(argument))),
+        Verb::Repr => asks!(Command::Repr, kind(trim(argument))),
+        Verb::Stru => asks!(Command::Stru, structure(trim(argument))),
+        Verb::Mode => asks!(Command::Mode, mode(trim(argument))),
+        Verb::Rest => asks!(Command::Rest, place(trim(argument))),
         Verb::Allo => {
             let (octets, longest) = space(trim(argument))?;
             Ok(Command::Allo(octets, longest))
