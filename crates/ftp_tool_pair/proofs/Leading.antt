@@ -14,7 +14,6 @@ use Rattle.ftp_pair_world.specs.Events.{Event, Happens}
 use Rattle.ftp_pair_world.specs.World.{World}
 use Rattle.ftp_pair_parts.specs.Shown.{Steps, queue_of}
 use Rattle.ftp_pair.specs.Session.{Seen}
-use Rattle.ftp_tool_script.specs.Order.{order_from}
 use Rattle.ftp_tool_script.specs.declared.order.Order.{Order}
 use Rattle.ftp_tool_script.specs.declared.order.Order.TheVariants.{Once, Tries}
 use Rattle.ftp_tree.specs.Sound.{last_second}

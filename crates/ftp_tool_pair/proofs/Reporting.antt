@@ -1,10 +1,9 @@
 -- Reports that are written after a text, and the reports of a world.
-use Rattle.std.proofs.Common.{◌≡◌, ◌++◌, ◌∙◌, ℕ, Bool, true, List, Option, Result, Ok, Err, OnOk, IfOk, map, flat_map, inl, inr, sym, subst}
+use Rattle.std.proofs.Common.{◌≡◌, ◌∙◌, ℕ, Bool, true, List, Option, Result, Ok, Err, OnOk, IfOk, map, flat_map, inl, inr, sym, subst}
 use Rattle.std.specs.Io.KnownBytes.{Appends}
 use Rattle.std.proofs.KnownBytes.{Appends-trans}
 use Rattle.ftp_operation.specs.Answer.{Said, said_of}
 use Rattle.ftp_operation.specs.declared.answer.Answer.{Answer}
-use Rattle.ftp_server_model.specs.Machine.{Reading}
 use Rattle.ftp_pair.specs.Session.{Seen}
 use Rattle.ftp_pair_world.specs.Agreement.{Leads}
 use Rattle.ftp_pair_world.specs.Claims.{Beginning, IsFair, world_of}

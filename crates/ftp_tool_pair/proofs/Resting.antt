@@ -1,5 +1,5 @@
 -- How what orders led to comes to rest.
-use Rattle.std.proofs.Common.{◌≡◌, ◌++◌, true, List, [], ◌∷◌, subst}
+use Rattle.std.proofs.Common.{◌≡◌, true, List, [], ◌∷◌, subst}
 use Rattle.ftp_pair.specs.Session.{AreSmall, LeadsSmall, Seen, Session, SettlesAfter}
 use Rattle.ftp_pair_parts.specs.Happening.{IsSmall}
 use Rattle.ftp_pair_world.specs.Agreement as worlds

@@ -6,7 +6,7 @@ use Rattle.ftp_operation.specs.Account.{Account}
 use Rattle.ftp_pair_ends.specs.Begun.{begun}
 use Rattle.ftp_pair_world.specs.Claims.{Beginning}
 use Rattle.ftp_path.specs.Path.{Names, resolved}
-use Rattle.ftp_tree.specs.Tree.{Table, made, root_alone}
+use Rattle.ftp_tree.specs.Tree.{made, root_alone}
 
 -- the host of both ends
 abbrev pub own_host : Host
