@@ -6,9 +6,8 @@ ghost use Rattle.ftp_client_model.specs.Calls.{gives_control, hears_octet, is_so
 use crate::dialogue::Dialogue;
 use crate::finishing::is_sound;
 use crate::task::Task;
-use ftp_client_hearing::Spoken;
 use ftp_client_model::client::Standing;
-use ftp_client_steps::ClientTransfer;
+use ftp_client_steps::{ClientTransfer, Spoken};
 use ftp_endpoint::Host;
 use ftp_reply::Reply;
 use std::alloc::{AllocError, Allocator};

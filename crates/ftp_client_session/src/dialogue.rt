@@ -5,9 +5,8 @@ ghost use Rattle.ftp_client_session.specs.Calm.{is_under_way};
 
 use crate::letting_go::let_go_op;
 use crate::task::Task;
-use ftp_client_hearing::Hearing;
 use ftp_client_model::client::{ClientLink, Standing};
-use ftp_client_steps::{Output, Run};
+use ftp_client_steps::{Hearing, Output, Run};
 use ftp_endpoint::Host;
 use ftp_facts::Text;
 use ftp_operation::{Login, Op};

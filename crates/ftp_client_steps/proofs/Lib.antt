@@ -1,2 +1,4 @@
-pub mod TriesLemmas
+pub mod CountLemmas
 pub mod EntryLemmas
+pub mod HearingLemmas
+pub mod TriesLemmas

@@ -1,8 +1,11 @@
-//! What an operation sends, step by step, and what each reply to it means to a client (RFC 959, section 5.4).
+//! Octets of the control connection to the replies that a client hears; what an operation sends, step by step, and what each reply to it
+//! means (RFC 854; RFC 959, sections 4.2 and 5.4).
 #![tactic(auto)]
 
 mod command;
+mod hearing;
 mod judgement;
+mod line;
 mod output;
 mod request;
 mod step;
@@ -14,7 +17,9 @@ mod verdict;
 pub use command::{
     own_command, passive_command, port_command, restart_command, set_command, source_command,
 };
+pub use hearing::Hearing;
 pub use judgement::judged;
+pub use line::Spoken;
 pub use output::{OUTPUT_ROOM, Output};
 pub use request::{asked_settings, count_of, how_of, listing_settings, offset_of};
 pub use step::{first_step, next_step, settings_behind};

@@ -1,3 +1,4 @@
 pub mod Account
 pub mod Answer
 pub mod Operation
+pub mod Rights

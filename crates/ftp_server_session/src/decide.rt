@@ -7,9 +7,10 @@ use crate::footing::Footing;
 use crate::session::Session;
 use ftp_command::{Argument, Command};
 use ftp_path::Path;
-use ftp_server_decisions::{fault_text, is_free, is_in, is_transfer, pending_for};
 use ftp_server_model::{FixedReply, HeardLine, Pending, ReplyKind};
-use ftp_server_parts::{Fault, ServerTransfer};
+use ftp_server_parts::{
+    Fault, ServerTransfer, fault_text, is_free, is_in, is_transfer, pending_for,
+};
 use ftp_tree::Tree;
 use std::alloc::Allocator;
 

@@ -9,9 +9,8 @@ use ftp_command::Passive;
 use ftp_endpoint::Endpoint;
 use ftp_ends::is_v6;
 use ftp_path::Path;
-use ftp_server_decisions::is_taken;
 use ftp_server_model::{FixedReply, PassiveVerb, ReplyKind, ServerLink, Way};
-use ftp_server_parts::ServerTransfer;
+use ftp_server_parts::{ServerTransfer, is_taken};
 use ftp_tree::Tree;
 use std::alloc::Allocator;
 

@@ -1,4 +1,6 @@
 pub mod Download
+pub mod Lines
 pub mod Receiving
-pub mod Upload
+pub mod Rest
 pub mod TreeTransfer
+pub mod Upload

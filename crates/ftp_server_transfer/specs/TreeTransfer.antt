@@ -4,7 +4,7 @@ use Rattle.ftp_server_model.specs.View.{Transfer}
 use Rattle.ftp_server_model.specs.declared.session.Transfer.TheVariants as Transfers
 use Rattle.ftp_server_transfer.specs.Download.{rest_of as download_left}
 use Rattle.ftp_server_transfer.specs.Upload.{upload_of}
-use Rattle.ftp_server_listing.specs.Rest.{rest_of as listing_left}
+use Rattle.ftp_server_transfer.specs.Rest.{rest_of as listing_left}
 use Rattle.ftp_server_transfer.specs.declared.transfer.TreeTransfer.{TreeTransfer}
 use Rattle.ftp_server_transfer.specs.declared.transfer.TreeTransfer.TheVariants as Kinds
 

@@ -1,4 +1,5 @@
-//! Uploads, downloads and listings of a server, as one type that meets the trait of transfers (RFC 959, section 4.1.3).
+//! Uploads, downloads and listings of a server, as one type that meets the trait of transfers; LIST, NLST and MLSD are made line by line from
+//! a tree (RFC 959, section 4.1.3; RFC 1123, section 4.1.2.7; RFC 3659, section 7). No IO.
 #![tactic(auto)]
 
 mod came;
@@ -6,9 +7,15 @@ mod counted;
 mod download;
 mod held;
 mod install;
+mod line;
+mod list_line;
+mod listing;
 mod transfer;
 mod upload;
 
 pub use download::Download;
+pub use line::{What, put_chosen};
+pub use list_line::{put_dir_line, put_file_line};
+pub use listing::{Listing, Made};
 pub use transfer::TreeTransfer;
 pub use upload::{Arrived, Upload};

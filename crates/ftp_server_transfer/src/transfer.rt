@@ -3,11 +3,12 @@ ghost use Rattle.std.specs.Prelude.{◌≡◌, IfOk};
 ghost use Rattle.ftp_server_model.specs.Ask.{or_empty};
 ghost use Rattle.ftp_server_transfer.specs.TreeTransfer.{transfer_of};
 
+use crate::line::What;
+use crate::listing::Listing;
 use crate::{Download, Upload};
 use ftp_command::Argument;
 use ftp_facts::{Moment, Text};
 use ftp_path::Path;
-use ftp_server_listing::{Listing, What};
 use ftp_server_model::{Facts, FixedReply};
 use ftp_server_parts::{Fault, Given, Received, ServerTransfer, Told};
 use ftp_settings::{Mode, Representation};

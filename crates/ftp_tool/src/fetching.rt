@@ -5,7 +5,7 @@ use clap::ArgMatches;
 use ftp_operation::How;
 use ftp_tool_fetch::{Download, Target, Task};
 use ftp_tool_files::representation_of;
-use ftp_tool_location::place_of;
+use ftp_tool_words::place_of;
 
 /// The words of `get`.
 pub const GET: Subcommand<'static> = Subcommand {

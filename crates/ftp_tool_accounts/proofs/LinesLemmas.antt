@@ -10,7 +10,7 @@ use Rattle.ftp_facts.specs.Listing.{line_feed}
 use Rattle.ftp_operation.specs.Account.{Account, accounts_refusal}
 use Rattle.ftp_operation.specs.declared.account.AccountsFault.{AccountsFault}
 use Rattle.ftp_tool_accounts.specs.Blame.{HoldsUp, IsBarred, IsBlamed, IsHeld, IsOff, account_limit}
-use Rattle.ftp_tree_rights.specs.declared.rights.Rights.{Rights}
+use Rattle.ftp_operation.specs.declared.rights.Rights.{Rights}
 use Rattle.ftp_tool_accounts.specs.Grants.{Grant}
 use Rattle.ftp_tool_accounts.specs.Line.{Entry, Says, is_silent, of_accounts}
 use Rattle.ftp_tool_accounts.specs.Lines.{Adds, Line, Lists, Say, SayEach, accounts_of, granted, grants_of, lines_of, numbered, speakers, speaking, without_cr}

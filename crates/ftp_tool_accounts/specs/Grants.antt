@@ -3,8 +3,8 @@ use Rattle.std.specs.Prelude.{ℕ, Bool, nat_eq, List}
 use Rattle.std.specs.List.{find}
 use Rattle.std.specs.Option.{option_map, unwrap_or}
 use Rattle.std.specs.Cmp.Lexicographic.{pointwise}
-use Rattle.ftp_tree_rights.specs.declared.rights.Rights.{Rights}
-use Rattle.ftp_tree_rights.specs.declared.rights.Rights.TheVariants as May
+use Rattle.ftp_operation.specs.declared.rights.Rights.{Rights}
+use Rattle.ftp_operation.specs.declared.rights.Rights.TheVariants as May
 use Rattle.ftp_tool_accounts.specs.declared.grants.Grant.{Grant as Held}
 
 -- a user, and what the user may change

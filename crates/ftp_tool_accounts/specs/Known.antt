@@ -1,7 +1,7 @@
 -- Who may log in where no file of accounts is given: `guest` with the password `secret`, and `anonymous`, which has none; the root of both is the tree's (own choice).
 use Rattle.std.specs.Prelude.{List, [], ◌∷◌, Some, None, codes}
 use Rattle.ftp_operation.specs.Account.{Account}
-use Rattle.ftp_tree_rights.specs.declared.rights.Rights.TheVariants as May
+use Rattle.ftp_operation.specs.declared.rights.Rights.TheVariants as May
 use Rattle.ftp_tool_accounts.specs.Grants.{Grant}
 
 -- the account that needs a password

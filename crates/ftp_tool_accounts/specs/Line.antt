@@ -6,8 +6,8 @@ use Rattle.ftp_path.specs.Path.{fits, is_path_text, is_rooted, resolved}
 use Rattle.ftp_operation.specs.Account.{Account, is_password, is_user}
 use Rattle.ftp_operation.specs.declared.account.AccountsFault.{AccountsFault}
 use Rattle.ftp_operation.specs.declared.account.AccountsFault.TheVariants as AccountsFaults
-use Rattle.ftp_tree_rights.specs.declared.rights.Rights.{Rights}
-use Rattle.ftp_tree_rights.specs.declared.rights.Rights.TheVariants as May
+use Rattle.ftp_operation.specs.declared.rights.Rights.{Rights}
+use Rattle.ftp_operation.specs.declared.rights.Rights.TheVariants as May
 use Rattle.ftp_tool_accounts.specs.declared.fault.LineFault.{LineFault}
 use Rattle.ftp_tool_accounts.specs.declared.fault.LineFault.TheVariants as Faults
 

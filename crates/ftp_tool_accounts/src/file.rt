@@ -6,7 +6,7 @@ use crate::fault::AccountsFileFault;
 use crate::reading::{Users, read_users};
 use crate::roots::read_roots;
 use ftp_path::Path;
-use ftp_tool_private::{NotPrivate, read_private};
+use ftp_tool_words::{NotPrivate, read_private};
 use std::alloc::Global;
 use std::fs::Files;
 

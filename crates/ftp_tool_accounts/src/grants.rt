@@ -3,7 +3,7 @@ ghost use Rattle.std.specs.Prelude.{◌≡◌};
 ghost use Rattle.ftp_tool_accounts.specs.Grants.{has_name, rights_of};
 
 use ftp_facts::Text;
-use ftp_tree_rights::Rights;
+use ftp_operation::Rights;
 use std::alloc::Allocator;
 use std::marker::Model;
 

@@ -5,9 +5,8 @@ ghost use Rattle.ftp_tool_accounts.specs.Known.{anonymous, guest, two_accounts, 
 use crate::grants::{Grant, Grants};
 use crate::reading::Users;
 use ftp_facts::Text;
-use ftp_operation::{Account, Accounts};
+use ftp_operation::{Account, Accounts, Rights};
 use ftp_path::Path;
-use ftp_tree_rights::Rights;
 use std::alloc::{AllocError, Allocator};
 
 /// `guest` with the password `secret`, and `anonymous` without one, both at the root (own choice).

@@ -6,9 +6,8 @@ ghost use Rattle.ftp_tool_accounts.specs.Line.{EndsIn, HasFewFields, IsCut, IsFa
 
 use crate::fault::LineFault;
 use ftp_facts::{Text, cut_at};
-use ftp_operation::Account;
+use ftp_operation::{Account, Rights};
 use ftp_path::{Path, PathFault, is_password, is_path_text, is_user};
-use ftp_tree_rights::Rights;
 use std::alloc::{AllocError, Allocator};
 
 /// Whether a line says no account: blanks alone, or a comment, which begins with `#`.

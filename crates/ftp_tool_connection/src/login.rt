@@ -1,7 +1,7 @@
 // Who asks: a user name, and the password, which is never a word of a command line.
 use ftp_facts::Text;
 use ftp_operation::Login;
-use ftp_tool_private::{NotPrivate, read_private};
+use ftp_tool_words::{NotPrivate, read_private};
 use std::alloc::Global;
 use std::env::{Env, VarError};
 use std::fs::Files;

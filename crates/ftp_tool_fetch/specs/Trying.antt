@@ -2,10 +2,10 @@
 use Rattle.std.specs.Prelude.{ℕ, ◌==◌, ◌&&◌, Bool, Option, Some, None, if◌then◌else◌}
 use Rattle.ftp_operation.specs.declared.answer.Answer.{Answer}
 use Rattle.ftp_operation.specs.declared.answer.Answer.TheVariants as Answers
-use Rattle.ftp_tool_steps.specs.declared.step.There.{There}
-use Rattle.ftp_tool_steps.specs.declared.step.There.TheVariants as Theres
-use Rattle.ftp_tool_steps.specs.declared.step.Ended.{Ended}
-use Rattle.ftp_tool_steps.specs.declared.step.Ended.TheVariants as Ends
+use Rattle.ftp_tool_status.specs.declared.step.There.{There}
+use Rattle.ftp_tool_status.specs.declared.step.There.TheVariants as Theres
+use Rattle.ftp_tool_status.specs.declared.step.Ended.{Ended}
+use Rattle.ftp_tool_status.specs.declared.step.Ended.TheVariants as Ends
 
 -- how a try ended that was answered so, with a data connection or without: 451 says that the server gave up what it did (RFC 959, section 4.2.2);
 -- none where the answer is told, whatever is there

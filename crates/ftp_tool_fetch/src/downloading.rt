@@ -5,7 +5,7 @@ use ftp_client_steps::MOST_TRIES;
 use ftp_facts::Text;
 use ftp_operation::{Answer, How, Op};
 use ftp_tool_connection::{ClientSession, Request, SessionFault, SessionTask};
-use ftp_tool_steps::{Arrival, Ended, Size, Step, There, arrived, follows_download};
+use ftp_tool_status::{Arrival, Ended, Size, Step, There, arrived, follows_download};
 use std::alloc::{AllocError, Global};
 use std::io::Eprint;
 

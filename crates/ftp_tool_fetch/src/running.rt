@@ -5,8 +5,7 @@ use ftp_tool_connection::{
     ClientSession, LastReply, Phase, Request, ServerAddress, SessionFault, SessionTask, at,
     converse,
 };
-use ftp_tool_reports::{NoScript, read_script, write_report};
-use ftp_tool_script::{Order, Script};
+use ftp_tool_script::{NoScript, Order, Script, read_script, write_report};
 use ftp_tool_status::Status;
 use std::alloc::Global;
 use std::io;

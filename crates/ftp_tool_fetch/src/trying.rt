@@ -6,7 +6,7 @@ use ftp_facts::Text;
 use ftp_operation::{Answer, How, Op};
 use ftp_settings::{Kind, Structure};
 use ftp_tool_connection::Request;
-use ftp_tool_steps::{Ended, There};
+use ftp_tool_status::{Ended, There};
 use std::alloc::{AllocError, Global};
 
 /// The code of a reply that there is no such file (RFC 959, section 4.2.2).

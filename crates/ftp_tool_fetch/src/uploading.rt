@@ -9,8 +9,7 @@ use ftp_operation::{Answer, How, Op};
 use ftp_tool_connection::{
     ClientSession, LastReply, Phase, Request, SessionFault, SessionTask, ask, at,
 };
-use ftp_tool_status::Status;
-use ftp_tool_steps::{Ended, Step, There, Transfer, follows};
+use ftp_tool_status::{Ended, Status, Step, There, Transfer, follows};
 use std::alloc::{AllocError, Global};
 use std::env::Env;
 use std::fs::Files;

@@ -10,10 +10,10 @@ use Rattle.ftp_pair_world.specs.Claims.{Beginning, IsFair, world_of}
 use Rattle.ftp_tool_script.specs.Report.{report}
 use Rattle.ftp_tool_script.specs.declared.order.Order.{Order}
 use Rattle.ftp_tool_script.specs.declared.script.Script.{Script}
-use Rattle.ftp_tool_reports.specs.Reading.{ReadsScript}
-use Rattle.ftp_tool_reports.specs.Status.{status_without, worst_of}
-use Rattle.ftp_tool_reports.specs.declared.reading.NoScript.{NoScript}
-use Rattle.ftp_tool_reports.specs.declared.reading.NoScript.TheVariants as Nones
+use Rattle.ftp_tool_script.specs.Reading.{ReadsScript}
+use Rattle.ftp_tool_script.specs.Status.{status_without, worst_of}
+use Rattle.ftp_tool_script.specs.declared.reading.NoScript.{NoScript}
+use Rattle.ftp_tool_script.specs.declared.reading.NoScript.TheVariants as Nones
 use Rattle.ftp_tool_status.specs.declared.status.Status.{Status}
 use Rattle.ftp_tool_status.specs.declared.status.Status.TheVariants.{Done}
 use Rattle.ftp_tool_pair.specs.Leading.{Led, LeadsTo, Rests, first_second, orders_at}

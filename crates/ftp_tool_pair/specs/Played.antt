@@ -8,8 +8,8 @@ use Rattle.ftp_pair_world.specs.Claims.{Beginning}
 use Rattle.ftp_tool_script.specs.Report.{report}
 use Rattle.ftp_tool_script.specs.Script.{script_value}
 use Rattle.ftp_tool_script.specs.declared.order.Order.{Order}
-use Rattle.ftp_tool_reports.specs.Reading.{GivesAll}
-use Rattle.ftp_tool_reports.specs.Status.{worst_of}
+use Rattle.ftp_tool_script.specs.Reading.{GivesAll}
+use Rattle.ftp_tool_script.specs.Status.{worst_of}
 use Rattle.ftp_tool_status.specs.declared.status.Status.{Status}
 use Rattle.ftp_tool_status.specs.declared.status.Status.TheVariants.{BadWords, Done, Failed}
 use Rattle.ftp_tool_pair.specs.Leading.{Led}

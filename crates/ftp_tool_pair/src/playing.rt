@@ -4,7 +4,7 @@ ghost use Rattle.ftp_pair_ends.specs.Begun.{begun};
 ghost use Rattle.ftp_tool_status.specs.declared.status.Status.TheVariants.{Done, Failed};
 ghost use Rattle.ftp_tool_pair.specs.Leading.{LeadsTo, Rests, first_second, orders_at};
 ghost use Rattle.ftp_tool_pair.specs.Making.{own_beginning};
-ghost use Rattle.ftp_tool_reports.specs.Status.{status_without};
+ghost use Rattle.ftp_tool_script.specs.Status.{status_without};
 ghost use Rattle.ftp_tool_pair.specs.Played.{Plays, Reports, Tells};
 
 use crate::making::beginning_of;
@@ -17,8 +17,7 @@ use ftp_pair::World;
 use ftp_pair_ends::{Beginning, world_of};
 use ftp_server_model::Far;
 use ftp_server_transfer::TreeTransfer;
-use ftp_tool_reports::{NoScript, read_script, write_reports};
-use ftp_tool_script::{Order, Script};
+use ftp_tool_script::{NoScript, Order, Script, read_script, write_reports};
 use ftp_tool_status::Status;
 use ftp_tree::{MemTree, Tree};
 use std::alloc::Allocator;

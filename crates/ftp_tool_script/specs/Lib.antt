@@ -1,7 +1,9 @@
 pub mod Field
 pub mod Line
 pub mod Order
+pub mod Reading
 pub mod Report
 pub mod Rows
 pub mod Script
+pub mod Status
 pub mod Verb

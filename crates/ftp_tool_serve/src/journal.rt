@@ -10,7 +10,7 @@ use ftp_control::Watch;
 use ftp_facts::moment_text;
 use ftp_tool_sockets::{Over, SystemWatch, pause};
 use ftp_tree_folder::Touches;
-use ftp_tree_rights::Rights;
+use ftp_operation::Rights;
 use std::alloc::AllocError;
 use std::cell::{Cell, RefCell};
 use std::fmt::{Display, Formatter};

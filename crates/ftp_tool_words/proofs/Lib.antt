@@ -1,1 +1,3 @@
+mod CutLemmas
+mod LocationLemmas
 mod WordLemmas

@@ -1,1 +1,3 @@
+pub mod Location
+pub mod Private
 pub mod Words

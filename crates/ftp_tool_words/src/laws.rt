@@ -2,6 +2,7 @@
 ghost use Rattle.std.specs.Prelude.{◌≡◌, ℕ, List};
 ghost use Rattle.ftp_tool_words.specs.Words.{SaysPort, SaysPorts, SaysSessions};
 ghost use Rattle.ftp_tool_words.specs.declared.words.Sessions.{Sessions};
+ghost use Rattle.ftp_tool_words.specs.Location.{Names};
 
 /// A word says one port at most.
 pub fn one_port()
@@ -17,4 +18,11 @@ pub fn one_range()
 /// A word says one count at most.
 pub fn one_count()
     ensures { (word : List ℕ) (sessions other : Sessions) → SaysSessions word sessions → SaysSessions word other → sessions ≡ other }
+{}
+
+/// A text names one place at most.
+pub fn one_place()
+    ensures { (text host path other_host other_path : List ℕ) (port other_port : ℕ)
+        → Names text host port path → Names text other_host other_port other_path
+        → (host ≡ other_host) × (port ≡ other_port) × (path ≡ other_path) }
 {}

@@ -10,7 +10,7 @@ use crate::{Folder, FolderFault};
 use ftp_facts::Moment;
 use ftp_path::Path;
 use ftp_tree::Content;
-use ftp_tree_rights::{Deed, Rights};
+use ftp_operation::{Deed, Rights};
 use std::alloc::{AllocError, Allocator, Global};
 use std::fs::Files;
 use std::{fs, io};

@@ -1,5 +1,5 @@
 // What somebody may change of a folder, and why changes of it failed.
-use ftp_tree_rights::{Deed, Rights};
+use ftp_operation::{Deed, Rights};
 use std::cell::{Cell, RefCell};
 use std::io;
 use std::io::{Error, ErrorKind};

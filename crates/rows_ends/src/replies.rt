@@ -4,7 +4,7 @@ ghost use Rattle.std.specs.Prelude.{◌≡◌, []};
 use ftp_endpoint::{Endpoint, Host};
 use ftp_facts::Moment;
 use ftp_path::{Path, is_path_text};
-use ftp_server_listing::{put_dir_line, put_file_line};
+use ftp_server_transfer::{put_dir_line, put_file_line};
 use ftp_server_model::{Facts, FixedReply};
 use ftp_server_replies::Output;
 use rows_base::{Paper, Refusing};

@@ -3,7 +3,7 @@ use crate::seat::played;
 use crate::tries::Row;
 use ftp_operation::Answer;
 use ftp_tool_fetch::Downloading;
-use ftp_tool_steps::Arrival;
+use ftp_tool_status::Arrival;
 use rows_base::Paper;
 use std::io::Eprint;
 

@@ -1,5 +1,5 @@
 // Which places texts say.
-use ftp_tool_location::{Location, place_of};
+use ftp_tool_words::{Location, place_of};
 use rows_base::Paper;
 
 /// Texts that say a place.

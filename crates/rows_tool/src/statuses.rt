@@ -3,7 +3,7 @@ use crate::typing::Typing;
 use ftp_operation::How;
 use ftp_settings::{Kind, Mode, Representation, Structure};
 use ftp_tool_fetch::{Download, Target, Task, fetch, run};
-use ftp_tool_location::Location;
+use ftp_tool_words::Location;
 use ftp_tool_status::Status;
 use rows_base::Paper;
 use std::env::Env;

@@ -1,7 +1,7 @@
 use Rattle.std.proofs.Common.{◌∙◌, ◌++◌, sym, ap}
 use Rattle.ftp_client_model.specs.Dialogue.{answered}
 use Rattle.ftp_client_model.specs.View.{View, strange}
-use Rattle.ftp_client_hearing.specs.Comes.{acts}
+use Rattle.ftp_client_steps.specs.Comes.{acts}
 use Rattle.ftp_client_session.specs.Client.{view_of}
 use Rattle.ftp_client_session.proofs.HeardLemmas.{ear_is, gathered_is, seen}
 use Rattle.ftp_client_session.proofs.dialogue.Dialogue.hear.Goals as goal

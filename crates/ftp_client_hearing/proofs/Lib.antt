@@ -1,2 +1,0 @@
-pub mod HearingLemmas
-pub mod CountLemmas

@@ -1,6 +1,0 @@
-use Rattle.std.proofs.Common.{[]}
-use Rattle.ftp_nvt.proofs.ReaderLemmas.{reader_is_ear}
-use Rattle.ftp_client_hearing.proofs.hearing.Hearing.new.Goals as goal
-
-pub returns-clause-ear : goal.returns-clause-ear
-returns-clause-ear g c = reader_is_ear c.in-Ok.ear [] c.in-Ok.ensures.heard

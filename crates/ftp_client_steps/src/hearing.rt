@@ -1,0 +1,89 @@
+// The reader of the control connection of a client.
+ghost use Rattle.std.specs.Prelude.{◌≡◌, IfOk, length};
+ghost use Rattle.ftp_nvt.specs.Fold.{quiet};
+ghost use Rattle.ftp_reply.specs.Reader.{Between};
+ghost use Rattle.ftp_ends.specs.Reply.{reply_limit};
+ghost use Rattle.ftp_client_model.specs.Held.{gathered_len};
+
+use crate::line::{Spoken, take_line};
+use ftp_nvt::{Ear, Event};
+use ftp_reply::Reader;
+use std::alloc::{AllocError, Allocator};
+use std::marker::Model;
+
+/// The most octets of a reply line, its end included (own choice).
+pub const REPLY_LIMIT: usize = 4096;
+
+/// The unfinished line and the unfinished reply that a client hears. Contracts see it as both.
+#[derive(Drop)]
+pub struct Hearing<A: Allocator> {
+    alloc: A,
+    ear: Ear<A>,
+    reader: Reader<A>,
+    /// How many octets the texts of the reply that has begun have.
+    gathered: Option<usize>,
+}
+
+impl<A: Allocator> Model for Hearing<A> {
+    ghost use Rattle.ftp_nvt.specs.Fold.{ear_of};
+    ghost use Rattle.ftp_client_steps.specs.Reader.{Held, CanBeHeld, gathered_in};
+
+    ghost Value = { Held };
+
+    ghost view = { λ hearing. record { ear = ear_of hearing.ear; gathered = gathered_in hearing.reader } };
+
+    ghost invariant = { λ hearing. CanBeHeld hearing.ear hearing.reader hearing.gathered };
+}
+
+impl<A: Allocator + Clone> Hearing<A> {
+    ghost use Rattle.ftp_client_steps.specs.Comes.{Comes};
+
+    /// Nothing was heard. All memory for lines is taken now.
+    pub fn new(alloc: A) -> Result<Hearing<A>, AllocError>
+        ensures ear { IfOk result (λ hearing. hearing.ear ≡ quiet) }
+        ensures gathered { IfOk result (λ hearing. hearing.gathered ≡ Between) }
+    {
+        let Ok(ear) = Ear::new(alloc.clone()?, REPLY_LIMIT) else {
+            return Err(AllocError);
+        };
+        let reader = Reader::new(alloc.clone()?);
+        Ok(Hearing {
+            alloc,
+            ear,
+            reader,
+            gathered: None,
+        })
+    }
+
+    /// Takes an octet of the control connection.
+    pub fn octet(&mut self, octet: u8) -> Result<Spoken<A>, AllocError>
+        ensures { IfOk result (λ heard. Comes self.old octet heard self.new) }
+    {
+        let heard = self.ear.feed(&[octet]);
+        match heard.event {
+            Event::More => Ok(Spoken::Nothing),
+            Event::Owed(answer) => Ok(Spoken::Owed(answer)),
+            Event::TooLong => Ok(Spoken::Misplaced),
+            Event::Line => take_line(
+                &mut self.reader,
+                &mut self.gathered,
+                self.ear.line(),
+                &self.alloc,
+            ),
+        }
+    }
+
+    /// How many octets of text the line that is being read has so far.
+    pub fn unfinished(&self) -> usize
+        ensures { result ≡ length self.now.ear.line.text }
+    {
+        self.ear.unfinished()
+    }
+
+    /// How many octets the texts of the reply that has begun have: none between two replies.
+    pub fn gathered(&self) -> usize
+        ensures { result ≡ gathered_len self.now.gathered }
+    {
+        self.gathered.unwrap_or(0)
+    }
+}

@@ -1,2 +1,0 @@
-pub mod ListLemmas
-pub mod ListingLemmas

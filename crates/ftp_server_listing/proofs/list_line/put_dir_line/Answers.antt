@@ -1,9 +1,0 @@
-use Rattle.std.proofs.Common.{[], codes}
-use Rattle.ftp_server_model.specs.Listing.{list_line}
-use Rattle.ftp_server_listing.proofs.ListLemmas.{behind}
-use Rattle.ftp_server_listing.proofs.list_line.put_dir_line.Goals as goal
-
-pub returns : goal.returns
-returns g c =
-    behind _ (codes "drwxr-xr-x") (list_line [] 0 0 c.args.name.now) _ _
-    c.in_ok-extend_from_slice.ensures.items c.in_ok-put_columns.ensures

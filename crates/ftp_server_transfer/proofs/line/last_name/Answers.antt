@@ -1,0 +1,14 @@
+use Rattle.std.proofs.Common.{◌≡◌, ◌∙◌, ap, sym, rules, min, ◌+◌, length, drop}
+use Rattle.ftp_path.specs.Path.{joined, parent}
+use Rattle.ftp_server_transfer.proofs.ListingLemmas.{last_cut}
+use Rattle.ftp_server_transfer.proofs.line.last_name.Goals as goal
+
+pub returns : goal.returns
+returns g c =
+    let path = c.args.path.now in
+    let octets = c.key-octets.result.now in
+    let up = c.parent_key.result.now in
+    let key : joined path ≡ octets = ap joined (sym c.key-octets.ensures.names) ∙ c.key-octets.ensures.kept.joins.whole in
+    let above : joined (parent path) ≡ up = ap joined (sym c.parent_key.ensures.names) ∙ c.parent_key.ensures.joined.whole in
+    let cut : c.split_at.result.1.now ≡ drop (min (length up + 1) (length octets)) octets = search rules in
+    cut ∙ last_cut path octets up key above

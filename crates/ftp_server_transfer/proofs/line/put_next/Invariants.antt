@@ -1,0 +1,16 @@
+use Rattle.std.proofs.Common.{◌≡◌, ◌-◌, [], length, Some}
+use Rattle.ftp_tree.specs.Tree.{children, under}
+use Rattle.ftp_server_model.specs.Listing.{lines_file}
+use Rattle.ftp_server_transfer.specs.Lines.{lines_from}
+use Rattle.ftp_server_transfer.proofs.line.put_next.Given as goal
+
+abbrev pub invariant-loop-name : goal.invariant-loop-name
+invariant-loop-name g l =
+    let part = under (g.T.Tree.table l.tree) l.root in
+    record {
+      empty : l.line.items ≡ [];
+      left : lines_file (lines_from l.what part l.path (Some l.from)) ≡ lines_file (lines_from l.what part l.path (Some l.place));
+    }
+
+abbrev pub decreases-loop-name : goal.decreases-loop-name
+decreases-loop-name g l = length (children (under (g.T.Tree.table l.tree) l.root) l.path) - l.place

@@ -1,2 +1,0 @@
-mod CutLemmas
-mod LocationLemmas

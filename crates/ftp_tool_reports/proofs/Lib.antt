@@ -1,2 +1,0 @@
--- Lemmas: reports, one after another.
-pub mod Reporting

@@ -1,0 +1,86 @@
+-- What follows a try of an upload or a download (own choice: RFC 959, section 3.5, leaves the recovery of a transfer to the user). Sizes are those
+-- of SIZE, in type I (RFC 3659, section 4).
+use Rattle.std.specs.Prelude.{ℕ, ◌==◌, ◌&&◌, ◌||◌, Bool, true, false, not, nat_le, if◌then◌else◌}
+use Rattle.ftp_tool_status.specs.declared.step.There.{There}
+use Rattle.ftp_tool_status.specs.declared.step.There.TheVariants as Theres
+use Rattle.ftp_tool_status.specs.declared.step.Ended.{Ended}
+use Rattle.ftp_tool_status.specs.declared.step.Ended.TheVariants as Ends
+use Rattle.ftp_tool_status.specs.declared.step.Step.{Step}
+use Rattle.ftp_tool_status.specs.declared.step.Step.TheVariants as Steps
+use Rattle.ftp_tool_status.specs.declared.step.Transfer.{Transfer}
+use Rattle.ftp_tool_status.specs.declared.step.Size.{Size}
+use Rattle.ftp_tool_status.specs.declared.step.Size.TheVariants as Sizes
+use Rattle.ftp_tool_status.specs.declared.step.Arrival.{Arrival}
+use Rattle.ftp_tool_status.specs.declared.step.Arrival.TheVariants as Arrivals
+
+-- so many octets where a file goes to are known to be of this transfer: nothing stood there before, or something of another size
+abbrev pub is_own : There → ℕ → Bool
+is_own Theres.Nothing count = true
+is_own (Theres.Octets size) count = not (size == count)
+is_own Theres.Untold count = false
+is_own Theres.Lost count = false
+
+-- from where a try goes on where so many octets are there
+abbrev pub goes_on : Transfer → ℕ → Step
+goes_on t count = if is_own t.older count then Steps.From count else Steps.From 0
+
+-- behind a try that the server says is done: what is there has to have the file's size
+abbrev pub behind_done : Transfer → There → Step
+behind_done t (Theres.Octets count) =
+    if count == t.total then Steps.Done
+    else (if not (nat_le count t.total) || t.left == 0 then Steps.Wrong count else goes_on t count)
+behind_done t Theres.Nothing = Steps.Missing
+behind_done t Theres.Untold = Steps.Done
+behind_done t Theres.Lost = Steps.Done
+
+-- behind one whose data connection broke
+abbrev pub behind_broken : Transfer → There → Step
+behind_broken t (Theres.Octets count) =
+    if t.left == 0 then Steps.Tell else (if nat_le count t.total && is_own t.older count then Steps.From count else Steps.From 0)
+behind_broken t Theres.Nothing = if t.left == 0 then Steps.Tell else Steps.From 0
+behind_broken t Theres.Untold = Steps.Tell
+behind_broken t Theres.Lost = if t.left == 0 then Steps.Tell else Steps.Lost
+
+-- behind one that was refused by 451 although its data connection was opened
+abbrev pub behind_failed : Transfer → There → Step
+behind_failed t (Theres.Octets count) =
+    if t.left == 0 then Steps.Tell else (if nat_le count t.total && is_own t.older count then Steps.From count else Steps.Tell)
+behind_failed t Theres.Nothing = Steps.Tell
+behind_failed t Theres.Untold = Steps.Tell
+behind_failed t Theres.Lost = if t.left == 0 then Steps.Tell else Steps.Lost
+
+-- behind each, where this is there
+abbrev pub follows : Transfer → Ended → There → Step
+follows t Ends.Done there = behind_done t there
+follows t Ends.Broken there = behind_broken t there
+follows t Ends.Failed there = behind_failed t there
+follows t Ends.Unopened there = if t.left == 0 then Steps.Tell else Steps.Again
+
+-- A download as a transfer to this end, where the server told the size `told` before a try and this behind it. Octets that came are known to be of
+-- the file only while its size is the same; where it is told no more, it is taken to be.
+abbrev pub arriving : ℕ → ℕ → There → Transfer
+arriving told left (Theres.Octets size) =
+    record { total = size; left = left; older = if size == told then Theres.Nothing else Theres.Untold }
+arriving told left Theres.Nothing = record { total = told; left = left; older = Theres.Nothing }
+arriving told left Theres.Untold = record { total = told; left = left; older = Theres.Nothing }
+arriving told left Theres.Lost = record { total = told; left = left; older = Theres.Nothing }
+
+-- the size could not be asked for behind a try, since the control connection ended
+abbrev pub is_lost : There → Bool
+is_lost Theres.Lost = true
+is_lost (Theres.Octets size) = false
+is_lost Theres.Nothing = false
+is_lost Theres.Untold = false
+
+-- behind a try of a download of which so many octets came so far
+abbrev pub follows_download : ℕ → ℕ → Ended → ℕ → There → Step
+follows_download told left ended came behind =
+    if is_lost behind && not (left == 0) then Steps.Lost
+    else follows (arriving told left behind) ended (Theres.Octets came)
+
+-- how a download stands that the server says is done, of which so many octets came
+abbrev pub arrived : Size → ℕ → Arrival
+arrived (Sizes.Told total) count = if count == total then Arrivals.Whole else Arrivals.Wrong total
+arrived Sizes.Untold count = Arrivals.Unknown
+arrived Sizes.Strange count = Arrivals.Unknown
+arrived Sizes.Uncounted count = Arrivals.Unknown

@@ -1,0 +1,241 @@
+// What follows a try of an upload or a download, by values alone.
+ghost use Rattle.std.specs.Prelude.{◌≡◌};
+ghost use Rattle.ftp_tool_status.specs.Steps.{arrived, arriving, behind_broken, behind_done, behind_failed, follows, follows_download, is_lost, is_own};
+
+/// What is there of a file: what a server tells by SIZE (RFC 3659, section 4), or what came to this end.
+#[derive(Clone, Copy)]
+pub enum There {
+    /// So many octets.
+    Octets(u64),
+    /// There is no such file.
+    Nothing,
+    /// The server does not tell it.
+    Untold,
+    /// Nothing more is answered over this control connection.
+    Lost,
+}
+
+/// How a try of a transfer ended.
+#[derive(Clone, Copy)]
+pub enum Ended {
+    /// The server says that all is done.
+    Done,
+    /// Its data connection broke.
+    Broken,
+    /// It was refused by 451 although its data connection was opened.
+    Failed,
+    /// No data connection was opened.
+    Unopened,
+}
+
+/// How far a transfer is.
+#[derive(Clone, Copy)]
+pub struct Transfer {
+    /// How many octets the file has.
+    pub total: u64,
+    /// How many tries may still begin.
+    pub left: u64,
+    /// What stood where the file goes to before the first try, and may stand there still: `Nothing` once it is known not to.
+    pub older: There,
+}
+
+/// What follows a try.
+#[derive(Clone, Copy)]
+pub enum Step {
+    /// A try from this octet of the file on.
+    From(u64),
+    /// The same try once more.
+    Again,
+    /// All is done.
+    Done,
+    /// The answer of the try is told.
+    Tell,
+    /// It is told that so many octets are there.
+    Wrong(u64),
+    /// It is told that the server says that all is done, and then that there is no such file.
+    Missing,
+    /// All is asked anew over another control connection.
+    Lost,
+}
+
+/// What is known of the size of a file that is downloaded.
+#[derive(Clone, Copy)]
+pub enum Size {
+    /// The server told it.
+    Told(u64),
+    /// The server does not tell it, or was not asked yet.
+    Untold,
+    /// The server was asked, and answered with what has no place.
+    Strange,
+    /// It would not count the octets of the transfer, and is not asked for.
+    Uncounted,
+}
+
+/// How a download stands that the server says is done.
+#[derive(Clone, Copy)]
+pub enum Arrival {
+    /// What came has the size that the server tells.
+    Whole,
+    /// No size is known, so it is not known whether all came.
+    Unknown,
+    /// The server tells this size, and what came has another.
+    Wrong(u64),
+}
+
+/// How a download stands that the server says is done, of which so many octets came.
+pub fn arrived(size: Size, count: u64) -> Arrival
+    ensures { result ≡ arrived size count }
+{
+    match size {
+        Size::Told(total) => {
+            if count == total {
+                Arrival::Whole
+            } else {
+                Arrival::Wrong(total)
+            }
+        }
+        Size::Untold | Size::Strange | Size::Uncounted => Arrival::Unknown,
+    }
+}
+
+/// What follows a try that ended so, where this is there then.
+///
+/// A 226 is believed only where the size is the file's, or is not told. A try goes on behind the octets that are there only where these are known to
+/// be of this transfer, and else begins anew.
+pub fn follows(transfer: Transfer, ended: Ended, there: There) -> Step
+    ensures { result ≡ follows transfer ended there }
+{
+    match ended {
+        Ended::Done => behind_done(transfer, there),
+        Ended::Broken => behind_broken(transfer, there),
+        Ended::Failed => behind_failed(transfer, there),
+        Ended::Unopened => {
+            if transfer.left == 0 {
+                Step::Tell
+            } else {
+                Step::Again
+            }
+        }
+    }
+}
+
+/// Behind a try that the server says is done.
+fn behind_done(transfer: Transfer, there: There) -> Step
+    ensures { result ≡ behind_done transfer there }
+{
+    match there {
+        There::Octets(count) => behind_octets(transfer, count),
+        There::Nothing => Step::Missing,
+        There::Untold | There::Lost => Step::Done,
+    }
+}
+
+/// Behind a try that the server says is done, where so many octets are there.
+fn behind_octets(transfer: Transfer, count: u64) -> Step
+    ensures { result ≡ behind_done transfer (There.Octets count) }
+{
+    if count == transfer.total {
+        Step::Done
+    } else if count > transfer.total || transfer.left == 0 {
+        Step::Wrong(count)
+    } else if is_own(transfer.older, count) {
+        Step::From(count)
+    } else {
+        Step::From(0)
+    }
+}
+
+/// What follows a try of a download that ended so, where the server told the size `told` before it, so many octets came so far, and the server tells
+/// this of the size behind the try.
+///
+/// A download is done only where what came has the size that the server told last. It goes on behind what came only while that size is the one of
+/// before, and else begins anew.
+pub fn follows_download(told: u64, left: u64, ended: Ended, came: u64, behind: There) -> Step
+    ensures { result ≡ follows_download told left ended came behind }
+{
+    if is_lost(behind) && left != 0 {
+        return Step::Lost;
+    }
+    follows(arriving(told, left, behind), ended, There::Octets(came))
+}
+
+/// A download as a transfer to this end.
+fn arriving(told: u64, left: u64, behind: There) -> Transfer
+    ensures { result ≡ arriving told left behind }
+{
+    match behind {
+        There::Octets(size) => Transfer {
+            total: size,
+            left,
+            older: if size == told {
+                There::Nothing
+            } else {
+                There::Untold
+            },
+        },
+        There::Nothing | There::Untold | There::Lost => Transfer {
+            total: told,
+            left,
+            older: There::Nothing,
+        },
+    }
+}
+
+/// Whether the control connection ended where the size was asked for.
+fn is_lost(there: There) -> bool
+    ensures { result ≡ is_lost there }
+{
+    matches!(there, There::Lost)
+}
+
+/// Behind a try whose data connection broke.
+fn behind_broken(transfer: Transfer, there: There) -> Step
+    ensures { result ≡ behind_broken transfer there }
+{
+    if transfer.left == 0 {
+        return Step::Tell;
+    }
+    match there {
+        There::Octets(count) => {
+            if count <= transfer.total && is_own(transfer.older, count) {
+                Step::From(count)
+            } else {
+                Step::From(0)
+            }
+        }
+        There::Nothing => Step::From(0),
+        There::Untold => Step::Tell,
+        There::Lost => Step::Lost,
+    }
+}
+
+/// Behind a try that was refused by 451: it was given up in its middle only where the server is seen to have octets of it.
+fn behind_failed(transfer: Transfer, there: There) -> Step
+    ensures { result ≡ behind_failed transfer there }
+{
+    if transfer.left == 0 {
+        return Step::Tell;
+    }
+    match there {
+        There::Octets(count) => {
+            if count <= transfer.total && is_own(transfer.older, count) {
+                Step::From(count)
+            } else {
+                Step::Tell
+            }
+        }
+        There::Nothing | There::Untold => Step::Tell,
+        There::Lost => Step::Lost,
+    }
+}
+
+/// Whether so many octets are known to be of this transfer, and not what stood there before.
+fn is_own(older: There, count: u64) -> bool
+    ensures { result ≡ is_own older count }
+{
+    match older {
+        There::Nothing => true,
+        There::Octets(size) => size != count,
+        There::Untold | There::Lost => false,
+    }
+}
