@@ -48,7 +48,7 @@ impl Written {
 }
 
 /// Where in its text a framer stands.
-#[derive(Clone, Copy, Debug, PartialEq, Eq)]
+#[derive(Clone, Copy, PartialEq, Eq)]
 pub(crate) enum Stage {
     /// Stream mode, file structure: octets go as they are.
     Copying,
@@ -69,7 +69,7 @@ pub(crate) enum Stage {
 }
 
 /// Own restart markers.
-#[derive(Clone, Copy, Debug, PartialEq, Eq)]
+#[derive(Clone, Copy, PartialEq, Eq)]
 pub(crate) enum Marks {
     /// Not in this mode and structure.
     Never,

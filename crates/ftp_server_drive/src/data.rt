@@ -21,7 +21,7 @@ use std::alloc::Allocator;
 use std::io::{Read, Write};
 
 /// What a data connection has.
-#[derive(Clone, Copy, Debug, PartialEq, Eq)]
+#[derive(Clone, Copy, PartialEq, Eq)]
 pub(crate) enum Came {
     /// Room, where octets go.
     Room,

@@ -21,7 +21,7 @@ use std::alloc::Allocator;
 use std::io::{Read, Write};
 
 /// Whether a drive goes on.
-#[derive(Clone, Copy, Debug, PartialEq, Eq)]
+#[derive(Clone, Copy, PartialEq, Eq)]
 pub(crate) enum Life {
     GoesOn,
     Over,

@@ -30,7 +30,7 @@ pub enum Log {
 }
 
 /// How the last data connection was closed.
-#[derive(Clone, Copy, Debug, PartialEq, Eq)]
+#[derive(Clone, Copy, PartialEq, Eq)]
 pub(crate) enum Fate {
     Ended,
     /// By a reset, since octets that were to go did not.

@@ -20,7 +20,7 @@ const SLOW_FROM: u8 = 3;
 const LAST: u8 = 10;
 
 /// How the logins of a connection went.
-#[derive(Clone, Copy, Debug, PartialEq, Eq)]
+#[derive(Clone, Copy, PartialEq, Eq)]
 pub(crate) struct Manner {
     pub(crate) logged_in: bool,
     /// How many logins were refused, 10 for more.
@@ -28,7 +28,7 @@ pub(crate) struct Manner {
 }
 
 /// How a client is answered.
-#[derive(Clone, Copy, Debug, PartialEq, Eq)]
+#[derive(Clone, Copy, PartialEq, Eq)]
 pub(crate) enum Pace {
     AtOnce,
     /// After a second.
@@ -80,7 +80,7 @@ impl Manner {
 }
 
 /// What an answer says of who is logged in.
-#[derive(Clone, Copy, Debug, PartialEq, Eq)]
+#[derive(Clone, Copy, PartialEq, Eq)]
 pub(crate) enum Login {
     /// Who was before, if anybody.
     Same,

@@ -37,14 +37,14 @@ pub enum Over {
 }
 
 /// How many milliseconds are left of a limit, and what is over with it.
-#[derive(Clone, Copy, Debug, PartialEq, Eq)]
+#[derive(Clone, Copy, PartialEq, Eq)]
 pub(crate) struct Term {
     pub(crate) left: u64,
     pub(crate) over: Over,
 }
 
 /// How a wait ended.
-#[derive(Clone, Copy, Debug, PartialEq, Eq)]
+#[derive(Clone, Copy, PartialEq, Eq)]
 pub(crate) enum Waited {
     /// What was asked for of a socket is there.
     Told,

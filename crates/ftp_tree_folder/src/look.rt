@@ -5,7 +5,7 @@ use std::os::unix::fs::MetadataExt;
 
 /// What tells a file from each other one, and from what it was before a change: its device and inode, its octets, and when it and its inode
 /// were changed last.
-#[derive(Clone, Copy, Debug, PartialEq, Eq)]
+#[derive(Clone, Copy, PartialEq, Eq)]
 pub(crate) struct Look {
     dev: u64,
     ino: u64,

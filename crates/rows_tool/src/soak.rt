@@ -18,7 +18,7 @@ const CAME: &str = "rows_of_serve/inbox/run";
 const SENT: &str = "sent by the client\n";
 
 /// How a client ends.
-#[derive(Clone, Copy, Debug, PartialEq, Eq)]
+#[derive(Clone, Copy, PartialEq, Eq)]
 enum Ends {
     /// It says QUIT, and waits for the server's end.
     Whole,
