@@ -1,2 +1,3 @@
-pub mod Representation
 pub mod Marker
+pub mod Representation
+pub mod Rows

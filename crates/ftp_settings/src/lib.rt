@@ -4,8 +4,7 @@
 
 mod marker;
 mod representation;
-#[cfg(test)]
-mod tests;
+pub mod rows;
 
 pub use marker::{MARKER_LIMIT, is_marker_octet};
 pub use representation::{Kind, Mode, Representation, Structure};
