@@ -1,6 +1,7 @@
 // Why a program stops before it has an answer of the server.
 ghost use Rattle.std.specs.Prelude.{◌≡◌};
 
+use crate::saying::say;
 use ftp_tool_status::Status;
 use std::io;
 use std::io::{Eprint, Error, ErrorKind};
@@ -17,6 +18,22 @@ pub enum Phase {
     Writing,
     Script,
     Report,
+}
+
+impl Phase {
+    /// What failed, as it is told before the error.
+    fn sentence(self) -> &'static str {
+        match self {
+            Phase::Login => "error: no login: ",
+            Phase::Asking => "error: nothing is asked: ",
+            Phase::Connection => "error: no connection: ",
+            Phase::Talking => "error: the control connection ended: ",
+            Phase::Reading => "error: the file is not read: ",
+            Phase::Writing => "error: the file is not written: ",
+            Phase::Script => "error: the script is not read: ",
+            Phase::Report => "error: no report: ",
+        }
+    }
 }
 
 /// What was under way, and what failed.
@@ -58,17 +75,10 @@ impl SessionFault {
 
     /// Tells why on standard error, and gives the exit status: that of bad words for a bad login, and else that of a failure.
     pub fn tell<R: Eprint>(&self, rt: &R) -> io::Result<Status> {
-        let (what, status) = match self.stage {
-            Phase::Login => ("no login", Status::BadWords),
-            Phase::Asking => ("nothing is asked", Status::Failed),
-            Phase::Connection => ("no connection", Status::Failed),
-            Phase::Talking => ("the control connection ended", Status::Failed),
-            Phase::Reading => ("the file is not read", Status::Failed),
-            Phase::Writing => ("the file is not written", Status::Failed),
-            Phase::Script => ("the script is not read", Status::Failed),
-            Phase::Report => ("no report", Status::Failed),
-        };
-        eprintln!(rt; "error: {what}: {}", self.error)?;
-        Ok(status)
+        say(rt, self.stage.sentence(), &self.error, "")?;
+        match self.stage {
+            Phase::Login => Ok(Status::BadWords),
+            _ => Ok(Status::Failed),
+        }
     }
 }

@@ -205,7 +205,12 @@ fn write_plain<W: fmt::Write>(octets: &[u8], formatter: &mut Formatter<W>) -> fm
 
 fn write_text<W: fmt::Write>(text: &str, formatter: &mut Formatter<W>) -> fmt::Result {
     for each in text.chars() {
-        formatter.write_char(if each.is_control() { HIDDEN } else { each })?;
+        formatter.write_char(shown(each))?;
     }
     Ok(())
+}
+
+/// A character as a terminal is shown it.
+fn shown(each: char) -> char {
+    if each.is_control() { HIDDEN } else { each }
 }

@@ -8,6 +8,7 @@ mod live;
 mod login;
 mod progress;
 mod request;
+mod saying;
 mod server;
 mod talking;
 
@@ -17,5 +18,6 @@ pub use last_reply::{LastReply, Refusal, Said};
 pub use live::{ClientSession, SessionTask};
 pub use login::User;
 pub use request::Request;
+pub use saying::say;
 pub use server::ServerAddress;
 pub use talking::converse;
