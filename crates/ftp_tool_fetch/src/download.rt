@@ -2,13 +2,13 @@
 use crate::came::Came;
 use crate::downloading::Downloading;
 use crate::file::{write_over, write_part};
-use crate::single::{Wish, ask_for};
+use crate::single::{Wish, ask_at, ask_for};
 use crate::target::Target;
-use crate::telling::tell;
+use crate::telling::{Part, tell};
 use ftp_facts::Moment;
 use ftp_operation::{Answer, How};
 use ftp_settings::{Mode, Structure};
-use ftp_tool_connection::{LastReply, Phase, SessionFault, ask, at};
+use ftp_tool_connection::{LastReply, Phase, SessionFault, at, say};
 use ftp_tool_status::{Arrival, Status};
 use std::alloc::Global;
 use std::env::Env;
@@ -70,12 +70,45 @@ where
     R: Net<Listener = TcpListener, Stream = TcpStream> + Files + Env + Eprint + Clock + AllocGlobal,
 {
     let mut downloading = Downloading::new(rt, asked.place.path, asked.how);
-    let answer = ask(rt, asked.server(), asked.by(), noticed, &mut downloading)?;
-    let saved = match answer {
-        Answer::Done => save(rt, asked, download, moment, &downloading),
-        _ => save_part(rt, download, &answer, downloading.came(), noticed),
-    };
-    at(Phase::Report, saved)
+    get_by(rt, asked, download, moment, &mut downloading, noticed)
+}
+
+/// Does a download, and leaves what came at this end.
+fn get_by<R>(
+    rt: &R,
+    asked: &Target<'_>,
+    download: Download<'_>,
+    moment: Option<Moment>,
+    downloading: &mut Downloading<'_, R>,
+    noticed: &mut LastReply,
+) -> Result<Status, SessionFault>
+where
+    R: Net<Listener = TcpListener, Stream = TcpStream> + Files + Env + Eprint + Clock + AllocGlobal,
+{
+    match ask_at(rt, asked, noticed, downloading) {
+        Ok(answer) => {
+            let left = leave(rt, asked, download, moment, &answer, downloading, noticed);
+            drop(answer);
+            at(Phase::Report, left)
+        }
+        Err(stop) => Err(stop),
+    }
+}
+
+/// Leaves at this end what came, as the server answered.
+fn leave<R: Files + Eprint + AllocGlobal>(
+    rt: &R,
+    asked: &Target<'_>,
+    download: Download<'_>,
+    moment: Option<Moment>,
+    answer: &Answer<Global>,
+    downloading: &Downloading<'_, R>,
+    noticed: &LastReply,
+) -> io::Result<Status> {
+    match answer {
+        Answer::Done => save(rt, asked, download, moment, downloading),
+        _ => save_part(rt, download, answer, downloading.came(), noticed),
+    }
 }
 
 /// Asks for the moment of the file.
@@ -83,8 +116,14 @@ fn known_of<R>(rt: &R, asked: &Target<'_>, noticed: &mut LastReply) -> Result<Kn
 where
     R: Net<Listener = TcpListener, Stream = TcpStream> + Files + Env + Eprint + Clock + AllocGlobal,
 {
-    let answer = ask_for(rt, asked, Wish::Moment, noticed)?;
-    at(Phase::Report, known_by(rt, &answer, noticed))
+    match ask_for(rt, asked, Wish::Moment, noticed) {
+        Ok(answer) => {
+            let known = known_by(rt, &answer, noticed);
+            drop(answer);
+            at(Phase::Report, known)
+        }
+        Err(stop) => Err(stop),
+    }
 }
 
 /// What an answer tells of the moment of a file; where the server does not know it, that is told.
@@ -92,25 +131,25 @@ fn known_by<R: Eprint>(rt: &R, answer: &Answer<Global>, noticed: &LastReply) -> 
     match answer {
         Answer::Stamp(moment) => Ok(Known::Moment(Some(*moment))),
         Answer::Refused(code) => {
-            tell_no_moment(rt, noticed, *code);
+            let _told = say(
+                rt,
+                "note: the server tells no moment of the file: ",
+                &noticed.refusal(*code),
+                "",
+            );
             Ok(Known::Moment(None))
         }
         Answer::Strange => {
-            let _told = eprintln!(rt;
-                "note: the server tells no moment of the file{}",
-                noticed.said()
+            let _told = say(
+                rt,
+                "note: the server tells no moment of the file",
+                &noticed.said(),
+                "",
             );
             Ok(Known::Moment(None))
         }
         _ => Ok(Known::Useless(tell(rt, answer, noticed)?)),
     }
-}
-
-fn tell_no_moment<R: Eprint>(rt: &R, noticed: &LastReply, code: u16) {
-    let _told = eprintln!(rt;
-        "note: the server tells no moment of the file: {}",
-        noticed.refusal(code)
-    );
 }
 
 /// Leaves at this end what came of a download that the server says is done, where that may be the whole file.
@@ -125,18 +164,10 @@ fn save<R: Files + Eprint + AllocGlobal>(
     match downloading.arrived() {
         Arrival::Whole => write(rt, download.file, came, moment),
         Arrival::Unknown => {
-            if asked.progress && !is_ended(asked.how) {
-                tell_unknown(rt);
-            }
+            tell_unknown(rt, asked);
             write(rt, download.file, came, moment)
         }
-        Arrival::Wrong(total) => {
-            let count = came.count();
-            eprintln!(rt;
-                "error: {count} octets came of a file that has {total}, as the server says"
-            )?;
-            keep_part(rt, download, came, Status::Refused)
-        }
+        Arrival::Wrong(total) => keep_wrong(rt, download, came, total),
     }
 }
 
@@ -146,11 +177,29 @@ fn is_ended(how: How) -> bool {
     form.mode == Mode::Block || form.structure == Structure::Record
 }
 
-/// Tells that a file may have been cut where nobody could notice.
-fn tell_unknown<R: Eprint>(rt: &R) {
-    let _told = eprintln!(rt;
-        "note: the size of the file is not known; whether all of it came is not known either"
-    );
+/// Tells, where progress is told, that a file may have been cut where nobody could notice.
+fn tell_unknown<R: Eprint>(rt: &R, asked: &Target<'_>) {
+    if asked.progress && !is_ended(asked.how) {
+        let _told = rt.eprintln(
+            "note: the size of the file is not known; whether all of it came is not known either",
+        );
+    }
+}
+
+/// Keeps what came of a file that has another size, as the server says.
+fn keep_wrong<R: Files + Eprint + AllocGlobal>(
+    rt: &R,
+    download: Download<'_>,
+    came: &Came,
+    total: u64,
+) -> io::Result<Status> {
+    let told = Part {
+        count: came.count(),
+        between: " octets came of a file that has ",
+        total,
+    };
+    say(rt, "error: ", &told, ", as the server says")?;
+    keep_part(rt, download, came, Status::Refused)
 }
 
 /// Writes the file.
@@ -175,14 +224,21 @@ fn save_part<R: Files + Eprint + AllocGlobal>(
     noticed: &LastReply,
 ) -> io::Result<Status> {
     let status = match answer {
-        Answer::Broken { got: _, mark: _ } => {
-            let count = came.count();
-            eprintln!(rt; "error: the data connection broke behind {count} octets")?;
-            Status::Refused
-        }
-        _ => tell(rt, answer, noticed)?,
+        Answer::Broken { got: _, mark: _ } => tell_broken(rt, came),
+        _ => tell(rt, answer, noticed),
     };
-    keep_part(rt, download, came, status)
+    keep_part(rt, download, came, status?)
+}
+
+/// Tells behind how many octets the data connection broke, and gives the exit status.
+fn tell_broken<R: Eprint>(rt: &R, came: &Came) -> io::Result<Status> {
+    say(
+        rt,
+        "error: the data connection broke behind ",
+        &came.count(),
+        " octets",
+    )?;
+    Ok(Status::Refused)
 }
 
 /// Keeps the octets that came where they are to be kept, tells where they are, and gives the status.
@@ -197,11 +253,11 @@ fn keep_part<R: Files + Eprint + AllocGlobal>(
     }
     match write_part(rt, download.file, came.pieces()) {
         Ok(name) => {
-            eprintln!(rt; "note: the octets that came are in {name}")?;
+            say(rt, "note: the octets that came are in ", &name, "")?;
             Ok(status)
         }
         Err(error) => {
-            eprintln!(rt; "error: the octets that came are not kept: {error}")?;
+            say(rt, "error: the octets that came are not kept: ", &error, "")?;
             Ok(Status::Failed)
         }
     }

@@ -1,10 +1,11 @@
 // A download, which goes on where it was cut: where its data connection broke, and where the server says that all is sent and not all came.
 use crate::came::Came;
+use crate::telling::Part;
 use crate::trying::{ended_of, is_counted, size_request, there_of};
 use ftp_client_steps::MOST_TRIES;
 use ftp_facts::Text;
 use ftp_operation::{Answer, How, Op};
-use ftp_tool_connection::{ClientSession, Request, SessionFault, SessionTask};
+use ftp_tool_connection::{ClientSession, Request, SessionFault, SessionTask, say};
 use ftp_tool_status::{Arrival, Ended, Size, Step, There, arrived, follows_download};
 use std::alloc::{AllocError, Global};
 use std::io::Eprint;
@@ -166,15 +167,22 @@ impl<'a, R: Eprint + AllocGlobal> Downloading<'a, R> {
         }
     }
 
-    /// Takes a step.
+    /// Takes a step. An answer that is none of the end is let go by a call: where it is let go at an arm's end, it is proved part by part.
     fn follow(&mut self, answer: Answer<Global>, step: Step) -> Turn {
         match step {
             Step::From(next) => {
+                drop(answer);
                 self.go_on(next);
                 Turn::GoesOn
             }
-            Step::Again => Turn::GoesOn,
-            Step::Lost => Turn::Over(Answer::Lost),
+            Step::Again => {
+                drop(answer);
+                Turn::GoesOn
+            }
+            Step::Lost => {
+                drop(answer);
+                Turn::Over(Answer::Lost)
+            }
             Step::Done | Step::Tell | Step::Wrong(_) | Step::Missing => Turn::Over(answer),
         }
     }
@@ -183,9 +191,14 @@ impl<'a, R: Eprint + AllocGlobal> Downloading<'a, R> {
     fn go_on(&mut self, from: u64) {
         if from != self.came.count() {
             self.came = Came::new(self.rt.alloc());
-            let _told = eprintln!(self.rt; "note: the download begins anew");
+            let _told = self.rt.eprintln("note: the download begins anew");
         } else if let Size::Told(total) = self.size {
-            let _told = eprintln!(self.rt; "note: {from} of {total} octets came; going on");
+            let part = Part {
+                count: from,
+                between: " of ",
+                total,
+            };
+            let _told = say(self.rt, "note: ", &part, " octets came; going on");
         }
     }
 }

@@ -6,7 +6,7 @@ use crate::target::Target;
 use crate::telling::tell;
 use crate::uploading::put;
 use ftp_operation::Answer;
-use ftp_tool_connection::{LastReply, Phase, SessionFault, at};
+use ftp_tool_connection::{LastReply, Phase, SessionFault, at, say};
 use ftp_tool_status::Status;
 use std::alloc::Global;
 use std::env::Env;
@@ -81,12 +81,17 @@ fn listed<R>(
 where
     R: Net<Listener = TcpListener, Stream = TcpStream> + Files + Env + Eprint + Clock + AllocGlobal,
 {
-    match ask_for(rt, asked, Wish::Entries, noticed) {
-        Ok(Answer::Refused(UNKNOWN | NOT_IMPLEMENTED)) => {
-            ask_for(rt, asked, Wish::Names, noticed)
-        }
-        listed => listed,
+    let listed = ask_for(rt, asked, Wish::Entries, noticed);
+    if !is_unknown(&listed) {
+        return listed;
     }
+    drop(listed);
+    ask_for(rt, asked, Wish::Names, noticed)
+}
+
+/// Whether the server does not know what was asked.
+fn is_unknown(answered: &Result<Answer<Global>, SessionFault>) -> bool {
+    matches!(answered, Ok(Answer::Refused(UNKNOWN | NOT_IMPLEMENTED)))
 }
 
 /// Writes a listing to standard output, or tells why there is none.
@@ -104,9 +109,11 @@ where
 fn write<R: Print + Eprint>(rt: &R, listing: Listing) -> io::Result<Status> {
     io::writer(rt).write_all(listing.lines.as_slice())?;
     if listing.left_out > 0 {
-        let _told = eprintln!(rt;
-            "note: names that are none of a single file are left out: {}",
-            listing.left_out
+        let _told = say(
+            rt,
+            "note: names that are none of a single file are left out: ",
+            &listing.left_out,
+            "",
         );
     }
     Ok(Status::Done)

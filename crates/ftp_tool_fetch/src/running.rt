@@ -3,7 +3,7 @@ use ftp_facts::Text;
 use ftp_operation::Answer;
 use ftp_tool_connection::{
     ClientSession, LastReply, Phase, Request, ServerAddress, SessionFault, SessionTask, at,
-    converse,
+    converse, say,
 };
 use ftp_tool_script::{NoScript, Order, Script, read_script, write_report};
 use ftp_tool_status::Status;
@@ -53,7 +53,7 @@ where
 
 /// Tells which line of a text makes it no script.
 fn tell_line<R: Eprint>(rt: &R, number: usize) -> io::Result<Status> {
-    eprintln!(rt; "error: {}", NoScript::Line(number))?;
+    say(rt, "error: ", &NoScript::Line(number), "")?;
     Ok(Status::BadWords)
 }
 

@@ -36,7 +36,21 @@ where
         how: asked.how,
         wish,
     };
-    ask(rt, asked.server(), asked.by(), noticed, &mut single)
+    ask_at(rt, asked, noticed, &mut single)
+}
+
+/// Does a task that asks at a place, by its user. Where its control connection ends, it is done anew over another one.
+pub(crate) fn ask_at<R, P>(
+    rt: &R,
+    asked: &Target<'_>,
+    noticed: &mut LastReply,
+    task: &mut P,
+) -> Result<Answer<Global>, SessionFault>
+where
+    R: Net<Listener = TcpListener, Stream = TcpStream> + Files + Env + Eprint + Clock + AllocGlobal,
+    P: SessionTask<Result<Answer<Global>, SessionFault>>,
+{
+    ask(rt, asked.server(), asked.by(), noticed, task)
 }
 
 /// A wish at a path, whose request is made anew for each control connection.

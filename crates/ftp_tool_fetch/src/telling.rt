@@ -1,10 +1,11 @@
 // What an answer that is none of those wished for tells, in a sentence and an exit status.
 use ftp_operation::Answer;
-use ftp_tool_connection::LastReply;
+use ftp_tool_connection::{LastReply, say};
 use ftp_tool_status::Status;
 use std::alloc::Global;
-use std::io;
+use std::fmt::{Display, Formatter};
 use std::io::Eprint;
+use std::{fmt, io};
 
 /// Tells on standard error why an operation was not done, and gives the exit status.
 pub(crate) fn tell<R: Eprint>(
@@ -13,21 +14,26 @@ pub(crate) fn tell<R: Eprint>(
     noticed: &LastReply,
 ) -> io::Result<Status> {
     match answer {
-        Answer::Refused(code) => {
-            eprintln!(rt; "error: the server refuses it: {}", noticed.refusal(*code))?
-        }
-        Answer::Lost => eprintln!(rt;
-            "error: the control connection ended{}; it may be done in part",
-            noticed.farewell()
-        )?,
-        Answer::Strange => {
-            eprintln!(rt;
-                "error: the server says what has no place{}",
-                noticed.said()
-            )?
-        }
-        other => eprintln!(rt; "error: {}", sentence(other))?,
-    }
+        Answer::Refused(code) => say(
+            rt,
+            "error: the server refuses it: ",
+            &noticed.refusal(*code),
+            "",
+        ),
+        Answer::Lost => say(
+            rt,
+            "error: the control connection ended",
+            &noticed.farewell(),
+            "; it may be done in part",
+        ),
+        Answer::Strange => say(
+            rt,
+            "error: the server says what has no place",
+            &noticed.said(),
+            "",
+        ),
+        other => say(rt, "error: ", &sentence(other), ""),
+    }?;
     Ok(status(answer))
 }
 
@@ -48,5 +54,19 @@ fn status(answer: &Answer<Global>) -> Status {
         Answer::Refused(_) | Answer::Broken { got: _, mark: _ } => Status::Refused,
         Answer::Unopened | Answer::Foreign | Answer::Strange => Status::Refused,
         _ => Status::Failed,
+    }
+}
+
+/// How much of a file there is, as it is told: both numbers, and a text between them.
+#[derive(Clone, Copy)]
+pub(crate) struct Part<'a> {
+    pub(crate) count: u64,
+    pub(crate) between: &'a str,
+    pub(crate) total: u64,
+}
+
+impl<'a> Display for Part<'a> {
+    fn fmt<W: fmt::Write>(&self, formatter: &mut Formatter<W>) -> fmt::Result {
+        write!(formatter, "{}{}{}", self.count, self.between, self.total)
     }
 }

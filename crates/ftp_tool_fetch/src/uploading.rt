@@ -1,13 +1,14 @@
 // An upload, which goes on where the server has it: over breaks, and where a 226 came and not all is there.
 use crate::file::{Content, read_from};
+use crate::single::ask_at;
 use crate::target::Target;
-use crate::telling::tell;
+use crate::telling::{Part, tell};
 use crate::trying::{NO_FILE, ended_of, is_counted, size_request, there_of};
 use ftp_client_steps::MOST_TRIES;
 use ftp_facts::Text;
 use ftp_operation::{Answer, How, Op};
 use ftp_tool_connection::{
-    ClientSession, LastReply, Phase, Request, SessionFault, SessionTask, ask, at,
+    ClientSession, LastReply, Phase, Request, SessionFault, SessionTask, at, say,
 };
 use ftp_tool_status::{Ended, Status, Step, There, Transfer, follows};
 use std::alloc::{AllocError, Global};
@@ -62,12 +63,30 @@ pub(crate) fn put<R>(
 where
     R: Net<Listener = TcpListener, Stream = TcpStream> + Files + Env + Eprint + Clock + AllocGlobal,
 {
-    let mut uploading = at(
-        Phase::Reading,
-        Uploading::new(rt, file, asked.place.path, asked.how),
-    )?;
-    let answer = ask(rt, asked.server(), asked.by(), noticed, &mut uploading)?;
-    at(Phase::Report, uploading.finish(&answer, noticed))
+    match Uploading::new(rt, file, asked.place.path, asked.how) {
+        Ok(mut uploading) => put_by(rt, asked, &mut uploading, noticed),
+        Err(error) => at(Phase::Reading, Err(error)),
+    }
+}
+
+/// Does an upload that has its octets, and gives the exit status.
+fn put_by<R>(
+    rt: &R,
+    asked: &Target<'_>,
+    uploading: &mut Uploading<'_, R>,
+    noticed: &mut LastReply,
+) -> Result<Status, SessionFault>
+where
+    R: Net<Listener = TcpListener, Stream = TcpStream> + Files + Env + Eprint + Clock + AllocGlobal,
+{
+    match ask_at(rt, asked, noticed, uploading) {
+        Ok(answer) => {
+            let finished = uploading.finish(&answer, noticed);
+            drop(answer);
+            at(Phase::Report, finished)
+        }
+        Err(stop) => Err(stop),
+    }
 }
 
 impl<'a, R: Files + Eprint + AllocGlobal> Uploading<'a, R> {
@@ -105,7 +124,12 @@ impl<'a, R: Files + Eprint + AllocGlobal> Uploading<'a, R> {
     /// The size of what stands there.
     fn size<S: ClientSession>(&self, seat: &mut S) -> There {
         match size_request(self.rt.alloc(), self.path, self.how) {
-            Ok(request) => there_of(&seat.answer(request)),
+            Ok(request) => {
+                let answer = seat.answer(request);
+                let there = there_of(&answer);
+                drop(answer);
+                there
+            }
             Err(AllocError) => There::Untold,
         }
     }
@@ -180,15 +204,22 @@ impl<'a, R: Files + Eprint + AllocGlobal> Uploading<'a, R> {
         }
     }
 
-    /// Takes a step.
+    /// Takes a step. An answer that is none of the end is let go by a call: where it is let go at an arm's end, it is proved part by part.
     fn follow(&mut self, answer: Answer<Global>, step: Step, from: u64) -> Turn {
         match step {
             Step::From(next) => {
+                drop(answer);
                 self.go_on(next);
                 Turn::From(next)
             }
-            Step::Again => Turn::From(from),
-            Step::Lost => Turn::Over(Answer::Lost),
+            Step::Again => {
+                drop(answer);
+                Turn::From(from)
+            }
+            Step::Lost => {
+                drop(answer);
+                Turn::Over(Answer::Lost)
+            }
             Step::Wrong(count) => {
                 self.wrong = Some(Wrong::Octets(count));
                 Turn::Over(answer)
@@ -204,12 +235,16 @@ impl<'a, R: Files + Eprint + AllocGlobal> Uploading<'a, R> {
     /// Tells from where the upload goes on. What the server has then is known to be of this upload, unless it begins anew.
     fn go_on(&mut self, from: u64) {
         if from == 0 {
-            let _told = eprintln!(self.rt; "note: the upload begins anew");
+            let _told = self.rt.eprintln("note: the upload begins anew");
             return;
         }
         self.upload.older = There::Nothing;
-        let total = self.upload.total;
-        let _told = eprintln!(self.rt; "note: the server has {from} of {total} octets; going on");
+        let part = Part {
+            count: from,
+            between: " of ",
+            total: self.upload.total,
+        };
+        let _told = say(self.rt, "note: the server has ", &part, " octets; going on");
     }
 
     /// Tells how many tries the upload took, or why it is not done, and gives the exit status.
@@ -225,25 +260,34 @@ impl<'a, R: Files + Eprint + AllocGlobal> Uploading<'a, R> {
     /// Tells how many tries the upload took, where it was more than one: each has a data connection of its own.
     fn tell_tries(&self, tries: u32) -> io::Result<Status> {
         if tries > 1 {
-            eprintln!(self.rt; "note: the upload took {tries} tries")?;
+            say(self.rt, "note: the upload took ", &tries, " tries")?;
         }
         Ok(Status::Done)
     }
 
     /// Tells that the server has not what it says that it has.
     fn tell_wrong(&self, count: u64) -> io::Result<Status> {
-        let total = self.upload.total;
-        eprintln!(self.rt;
-            "error: the server says that it is done, and has {count} octets of a file that has {total}"
+        let part = Part {
+            count,
+            between: " octets of a file that has ",
+            total: self.upload.total,
+        };
+        say(
+            self.rt,
+            "error: the server says that it is done, and has ",
+            &part,
+            "",
         )?;
         Ok(Status::Refused)
     }
 
     /// Tells that the server says that it is done, and then that there is no such file.
     fn tell_missing(&self, noticed: &LastReply) -> io::Result<Status> {
-        eprintln!(self.rt;
-            "error: the server says that it is done, and tells no size of it: {}",
-            noticed.refusal(NO_FILE)
+        say(
+            self.rt,
+            "error: the server says that it is done, and tells no size of it: ",
+            &noticed.refusal(NO_FILE),
+            "",
         )?;
         Ok(Status::Refused)
     }
