@@ -2,6 +2,7 @@
 use crate::made::file;
 use crate::meeting::Meeting;
 use ftp_tool_serve::{Limits, Log, PassivePorts, Patience, Service, Users, session, users_of};
+use ftp_tree::Tree;
 use ftp_tree_folder::{DiskFolder, Mirror, Reasons, open};
 use rows_base::{Paper, cut};
 use std::alloc::Global;
@@ -101,8 +102,10 @@ where
     let Ok(mirror) = open(rt, over.dir, &[], &reasons) else {
         return Err(io::Error::from(ErrorKind::InvalidData));
     };
-    let (_mirror, ended) = served_over(rt, stream, mirror, over.accounts, &reasons)?;
-    Ok(ended)
+    match served_over(rt, stream, mirror, over.accounts, &reasons) {
+        Ok((_mirror, ended)) => Ok(ended),
+        Err(fault) => Err(fault),
+    }
 }
 
 /// Serves a control connection over the mirror of a folder; gives that back, and whether all went well.
@@ -121,9 +124,24 @@ where
         + Eprint
         + AllocGlobal,
 {
-    let Ok(users) = users_of(rt, accounts) else {
-        return Err(io::Error::from(ErrorKind::InvalidData));
-    };
+    match users_of(rt, accounts) {
+        Ok(users) => Ok(served_users(rt, stream, mirror, users, reasons)),
+        Err(_) => Err(io::Error::from(ErrorKind::InvalidData)),
+    }
+}
+
+/// Serves a control connection of these users over a tree; gives that back, and whether all went well.
+fn served_users<R, T>(
+    rt: &R,
+    stream: &TcpStream,
+    tree: T,
+    users: Users<Global>,
+    reasons: &Reasons,
+) -> (T, bool)
+where
+    R: Net<Listener = TcpListener, Stream = TcpStream> + Clock + Eprint + AllocGlobal,
+    T: Tree<Global>,
+{
     let patience = Patience::new(LIMITS, None);
     let passive = PassivePorts::new(0, 0);
     let Users { accounts, grants } = users;
@@ -134,8 +152,8 @@ where
         patience: &patience,
         passive: &passive,
     };
-    let (mirror, ended) = session(&Meeting { rt }, mirror, accounts, stream, service);
-    Ok((mirror, ended.is_ok()))
+    let (tree, ended) = session(&Meeting { rt }, tree, accounts, stream, service);
+    (tree, ended.is_ok())
 }
 
 /// Puts what a client is answered that says these lines before it is served.
@@ -183,6 +201,45 @@ fn put_came<R: AllocGlobal>(rt: &R, paper: &mut Paper, awaits: &TcpListener) -> 
     Ok(())
 }
 
+/// Puts what a client is answered that awaits data connections at this port.
+fn put_answers<R>(rt: &R, paper: &mut Paper, port: u16) -> io::Result<()>
+where
+    R: Net<Listener = TcpListener, Stream = TcpStream>
+        + Files
+        + Clock
+        + Print
+        + Eprint
+        + AllocGlobal,
+{
+    let mut said = Paper::new(rt.alloc());
+    say(&mut said, port);
+    answers(rt, paper, join(rt)?, OVER, said.text())
+}
+
+/// Puts what a client is answered, and what its downloads give.
+fn put_session<R>(rt: &R, paper: &mut Paper) -> io::Result<()>
+where
+    R: Net<Listener = TcpListener, Stream = TcpStream>
+        + Files
+        + Clock
+        + Print
+        + Eprint
+        + AllocGlobal,
+{
+    let awaits = listener(rt)?;
+    put_answers(rt, paper, awaits.local_addr()?.port())?;
+    put_came(rt, paper, &awaits)?;
+    put_came(rt, paper, &awaits)
+}
+
+/// Puts what the folder has behind it.
+fn put_left<R: Files + AllocGlobal>(rt: &R, paper: &mut Paper) -> io::Result<()> {
+    put_file(rt, paper, "rows_of_serve/served/d/b")?;
+    put_file(rt, paper, "rows_of_serve/served/d/up")?;
+    paper.holds("moved", !fs::exists(rt, "rows_of_serve/served/a")?);
+    Ok(())
+}
+
 /// Writes what a client is answered, what its downloads give, and what the folder has then.
 pub(crate) fn row<R>(rt: &R) -> io::Result<()>
 where
@@ -195,15 +252,8 @@ where
 {
     fs::create_dir(rt, OVER.dir)?;
     file(rt, "rows_of_serve/served/a", "hello\n", 0o600)?;
-    let awaits = listener(rt)?;
-    let mut said = Paper::new(rt.alloc());
-    say(&mut said, awaits.local_addr()?.port());
     let mut paper = Paper::new(rt.alloc());
-    answers(rt, &mut paper, join(rt)?, OVER, said.text())?;
-    put_came(rt, &mut paper, &awaits)?;
-    put_came(rt, &mut paper, &awaits)?;
-    put_file(rt, &mut paper, "rows_of_serve/served/d/b")?;
-    put_file(rt, &mut paper, "rows_of_serve/served/d/up")?;
-    paper.holds("moved", !fs::exists(rt, "rows_of_serve/served/a")?);
+    put_session(rt, &mut paper)?;
+    put_left(rt, &mut paper)?;
     rt.write_all(paper.text())
 }

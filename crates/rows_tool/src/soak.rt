@@ -1,8 +1,9 @@
 // An inbox under a mixed load, in short (at length: scripts/soak): clients one after another, of whom some are cut in the middle, and somebody who
 // takes away what came between them.
 use crate::loopback::{join, served_over};
-use ftp_tree_folder::{Reasons, Seen, open, reloaded};
+use ftp_tree_folder::{DiskFolder, Mirror, Reasons, Seen, open, reloaded};
 use rows_base::Paper;
+use std::alloc::Global;
 use std::fs::Files;
 use std::io::{Eprint, ErrorKind, Print, Write};
 use std::net::{Net, Shutdown, TcpListener, TcpStream};
@@ -18,7 +19,7 @@ const CAME: &str = "rows_of_serve/inbox/run";
 const SENT: &str = "sent by the client\n";
 
 /// How a client ends.
-#[derive(Clone, Copy, PartialEq, Eq)]
+#[derive(Clone, Copy)]
 enum Ends {
     /// It says QUIT, and waits for the server's end.
     Whole,
@@ -60,10 +61,79 @@ where
     let (client, stream) = join(rt)?;
     let mut speaks = &client;
     speaks.write_all(lines)?;
-    if ends == Ends::Cut {
+    if let Ends::Cut = ends {
         client.shutdown(Shutdown::Write)?;
     }
     Ok((client, stream))
+}
+
+/// Serves a client over what the folder has by now, and gives its mirror back.
+fn served_anew<'a, 'b, R>(
+    rt: &'b R,
+    stream: &TcpStream,
+    mirror: Mirror<Global, DiskFolder<'a, &'b R>>,
+    seen: &mut Seen,
+    reasons: &Reasons,
+) -> io::Result<Mirror<Global, DiskFolder<'a, &'b R>>>
+where
+    R: Net<Listener = TcpListener, Stream = TcpStream>
+        + Files
+        + Clock
+        + Print
+        + Eprint
+        + AllocGlobal,
+{
+    let (mirror, _left) = reloaded(&rt, DIR, &[], mirror, seen, 0);
+    match served_over(rt, stream, mirror, None, reasons) {
+        Ok((mirror, _ended)) => Ok(mirror),
+        Err(fault) => Err(fault),
+    }
+}
+
+/// Serves a client that says these lines, which stays until it is served.
+fn visited<'a, 'b, R>(
+    rt: &'b R,
+    (lines, ends): (&[u8], Ends),
+    mirror: Mirror<Global, DiskFolder<'a, &'b R>>,
+    seen: &mut Seen,
+    reasons: &Reasons,
+) -> io::Result<Mirror<Global, DiskFolder<'a, &'b R>>>
+where
+    R: Net<Listener = TcpListener, Stream = TcpStream>
+        + Files
+        + Clock
+        + Print
+        + Eprint
+        + AllocGlobal,
+{
+    match said(rt, lines, ends) {
+        Ok((_client, stream)) => served_anew(rt, &stream, mirror, seen, reasons),
+        Err(fault) => Err(fault),
+    }
+}
+
+/// Puts what is there behind each client.
+fn put_clients<'a, 'b, R>(
+    rt: &'b R,
+    paper: &mut Paper,
+    mirror: Mirror<Global, DiskFolder<'a, &'b R>>,
+    reasons: &Reasons,
+) -> io::Result<()>
+where
+    R: Net<Listener = TcpListener, Stream = TcpStream>
+        + Files
+        + Clock
+        + Print
+        + Eprint
+        + AllocGlobal,
+{
+    let mut mirror = mirror;
+    let mut seen = Seen::nothing(rt.alloc());
+    for (name, lines, ends) in CLIENTS {
+        mirror = visited(rt, (*lines, *ends), mirror, &mut seen, reasons)?;
+        paper.holds(*name, taken(rt)? == matches!(ends, Ends::Whole));
+    }
+    Ok(())
 }
 
 /// Writes what is there behind each client.
@@ -77,18 +147,11 @@ where
         + AllocGlobal,
 {
     fs::create_dir(rt, DIR)?;
-    let reasons = Reasons::new();
-    let Ok(mut mirror) = open(rt, DIR, &[], &reasons) else {
-        return Err(io::Error::from(ErrorKind::InvalidData));
-    };
-    let mut seen = Seen::nothing(rt.alloc());
     let mut paper = Paper::new(rt.alloc());
-    for (name, lines, ends) in CLIENTS {
-        let (_client, stream) = said(rt, *lines, *ends)?;
-        let (now, _left) = reloaded(&rt, DIR, &[], mirror, &mut seen, 0);
-        let (back, _ended) = served_over(rt, &stream, now, None, &reasons)?;
-        mirror = back;
-        paper.holds(*name, taken(rt)? == (*ends == Ends::Whole));
+    let reasons = Reasons::new();
+    match open(rt, DIR, &[], &reasons) {
+        Ok(mirror) => put_clients(rt, &mut paper, mirror, &reasons)?,
+        Err(_) => return Err(io::Error::from(ErrorKind::InvalidData)),
     }
     rt.write_all(paper.text())
 }

@@ -3,8 +3,8 @@ use crate::typing::Typing;
 use ftp_operation::How;
 use ftp_settings::{Kind, Mode, Representation, Structure};
 use ftp_tool_fetch::{Download, Target, Task, fetch, run};
-use ftp_tool_words::Location;
 use ftp_tool_status::Status;
+use ftp_tool_words::Location;
 use rows_base::Paper;
 use std::env::Env;
 use std::fs::Files;
@@ -55,15 +55,23 @@ fn asked(has_password: bool) -> Target<'static> {
     }
 }
 
-fn download() -> Task<'static> {
-    Task::Get(Download {
-        file: NONE,
-        keep: true,
-        moment: true,
-    })
-}
+/// Tasks where nobody listens, and whether there is a password for each.
+const TASKS: &[(&str, bool, Task<'static>)] = &[
+    (
+        "get",
+        true,
+        Task::Get(Download {
+            file: NONE,
+            keep: true,
+            moment: true,
+        }),
+    ),
+    ("put, no file", true, Task::Put(NONE)),
+    ("ls", true, Task::List),
+    ("ls, no password", false, Task::List),
+];
 
-/// Puts the status of each run.
+/// Puts the status of each script and of each task.
 pub(crate) fn rows<R>(rt: &R, paper: &mut Paper) -> io::Result<()>
 where
     R: Net<Listener = TcpListener, Stream = TcpStream>
@@ -78,18 +86,10 @@ where
         let status = run(&Typing { rt, text }, HERE, NOBODY)?;
         put(paper, what, status);
     }
-    put(paper, "get", fetch(rt, &asked(true), download())?);
-    put(
-        paper,
-        "put, no file",
-        fetch(rt, &asked(true), Task::Put(NONE))?,
-    );
-    put(paper, "ls", fetch(rt, &asked(true), Task::List)?);
-    put(
-        paper,
-        "ls, no password",
-        fetch(rt, &asked(false), Task::List)?,
-    );
+    for (what, has_password, task) in TASKS {
+        let status = fetch(rt, &asked(*has_password), *task)?;
+        put(paper, what, status);
+    }
     paper.holds("no file is left", !fs::exists(rt, NONE)?);
     Ok(())
 }

@@ -1,9 +1,11 @@
 // What an upload of the file `ten` asks of a server that answers so, and the status.
 use crate::seat::played;
 use crate::tries::Row;
-use ftp_tool_connection::LastReply;
+use ftp_operation::Answer;
+use ftp_tool_connection::{LastReply, SessionFault};
 use ftp_tool_fetch::Uploading;
 use rows_base::Paper;
+use std::alloc::Global;
 use std::fs::Files;
 use std::io;
 use std::io::Eprint;
@@ -19,12 +21,25 @@ where
     let mut uploading = Uploading::new(rt, FILE, "a", row.how)?;
     let answer = played(rt.alloc(), paper, row, &mut uploading);
     paper.put(b"; ");
-    match answer {
-        Ok(answer) => paper.number(u64::from(
-            uploading.finish(&answer, &LastReply::new())?.number(),
-        )),
-        Err(_) => paper.put(b"stopped"),
-    }
+    put_end(paper, &uploading, &answer)?;
     paper.line(b"");
+    Ok(())
+}
+
+/// Puts the status of an upload that was answered so.
+fn put_end<'a, R>(
+    paper: &mut Paper,
+    uploading: &Uploading<'a, R>,
+    answer: &Result<Answer<Global>, SessionFault>,
+) -> io::Result<()>
+where
+    R: Files + Eprint + AllocGlobal,
+{
+    let Ok(answer) = answer else {
+        paper.put(b"stopped");
+        return Ok(());
+    };
+    let status = uploading.finish(answer, &LastReply::new())?;
+    paper.number(u64::from(status.number()));
     Ok(())
 }
