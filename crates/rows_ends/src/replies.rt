@@ -4,9 +4,9 @@ ghost use Rattle.std.specs.Prelude.{◌≡◌, []};
 use ftp_endpoint::{Endpoint, Host};
 use ftp_facts::Moment;
 use ftp_path::{Path, is_path_text};
-use ftp_server_transfer::{put_dir_line, put_file_line};
 use ftp_server_model::{Facts, FixedReply};
 use ftp_server_replies::Output;
+use ftp_server_transfer::{put_dir_line, put_file_line};
 use rows_base::{Paper, Refusing};
 use std::alloc::Global;
 
