@@ -1,6 +1,6 @@
 -- What turns say, put together, and how a drive ends.
-use Rattle.std.proofs.Common.{◌≡◌, ◌∙◌, ◌⊎◌, ℕ, ◌+◌, ◌≤◌, inl, inr, List, [], ◌∷◌, ◌++◌, length, take, drop, Option, refl, sym, ap, subst, Result, Ok, Err}
-use Rattle.std.specs.Prelude.{IsErr, true, false}
+use Rattle.std.proofs.Common.{◌≡◌, ◌≢◌, ◌∙◌, ◌⊎◌, ℕ, ◌+◌, ◌≤◌, inl, inr, List, [], ◌∷◌, ◌++◌, length, take, drop, Option, Some, None, refl, sym, ap, subst, Result, Ok, Err, eqb-true, eq-eqb, true≢false, arith}
+use Rattle.std.specs.Prelude.{◌==◌, Bool, IsErr, true, false}
 use Rattle.std.proofs.KnownBytes.{Keeps-refl}
 use Rattle.std.specs.Io.KnownBytes.{Consumes}
 use Rattle.std.proofs.Math.Seq.{take-append-add}
@@ -11,13 +11,16 @@ use Rattle.ftp_control.specs.Driving.{Breaks, Fails, Goes, Leads, Quietly, Settl
 use Rattle.ftp_control.specs.Lane.{IsLeft, IsRead, IsWaited, IsWritten, Lane, with_asked, with_given, with_untold}
 use Rattle.ftp_control.specs.declared.pieces.Failed.{Failed}
 use Rattle.ftp_control.proofs.Courses.{Carrier, carries}
+use Rattle.ftp_control.proofs.Lanes.{asked_for}
 use Rattle.ftp_control.proofs.Leading.{leads_by, leads_then, quiet_call, quiet_nothing, quiet_then}
 use Rattle.ftp_control.proofs.Totals.{cuts, sums}
 use Rattle.ftp_server_model.specs.Far.{Hears, Server, Steps}
-use Rattle.ftp_server_model.specs.Failing.{GiveFails}
+use Rattle.ftp_server_model.specs.Failing.{Counts, GiveFails}
 use Rattle.ftp_server_model.specs.Calls.{given_step, to_give}
+use Rattle.ftp_server_model.proofs.LinesDecided.{reading_exists}
+use Rattle.ftp_ends.specs.declared.link.Wants.{Wants}
 use Rattle.ftp_server_drive.specs.Beside.{held, untaken}
-use Rattle.ftp_server_drive.specs.Side.{Call, Clock, Gave, Gives, Got, Left, LetGo, Waited, Wrote, Held, WantsNone, ended, move_of, server_side}
+use Rattle.ftp_server_drive.specs.Side.{AreWanted, Call, Clock, Gave, Gives, Got, IsWanted, Left, LetGo, Waited, Wrote, Held, WantsNone, ended, move_of, server_side}
 use Rattle.ftp_server_drive.specs.declared.drive.Life.{Life}
 use Rattle.ftp_server_drive.specs.Driving.{BrokeOff, Drove, EndsOver, Idles, IsOver, Timed, Turns}
 
@@ -62,16 +65,16 @@ pub idles_then : (a b c : Lane) → Idles a b → Idles b c → Idles a c
 idles_then a b c first second server = quiet_then server_side (held server a) (held server b) (held server c) (first server) (second server)
 
 pub idles_waited : (old new : Lane) → IsWaited old new → Idles old new
-idles_waited old new waited server = quiet_call server_side Waited (held server old) (held server new) (refl, waited)
+idles_waited old new waited server = quiet_call server_side Waited (held server old) (held server new) (refl, waited, tt)
 
 pub idles_read : (octets : List ℕ) (old new : Lane) → IsRead octets old new → Idles old new
-idles_read octets old new read server = quiet_call server_side (Got octets) (held server old) (held server new) (refl, read)
+idles_read octets old new read server = quiet_call server_side (Got octets) (held server old) (held server new) (refl, read, tt)
 
 pub idles_wrote : (octets : List ℕ) (old new : Lane) → IsWritten octets old new → Idles old new
-idles_wrote octets old new wrote server = quiet_call server_side (Wrote octets) (held server old) (held server new) (refl, wrote)
+idles_wrote octets old new wrote server = quiet_call server_side (Wrote octets) (held server old) (held server new) (refl, wrote, tt)
 
 pub idles_left : (asked : Asked) (old new : Lane) → IsLeft asked old new → Idles old new
-idles_left asked old new left server = quiet_call server_side (Left asked) (held server old) (held server new) (refl, left)
+idles_left asked old new left server = quiet_call server_side (Left asked) (held server old) (held server new) (refl, left, tt)
 
 -- of none that came there are none
 pub none_came : (old new : Option (List ℕ)) (count : ℕ) (room : List ℕ) → count ≡ 0 → Consumes old new (take count room) → Consumes old new []
@@ -108,7 +111,54 @@ settles_idle start old lane settles idles =
 -- octets that it no longer wants are let go
 pub lets_go : (server : Server) (lane : Lane) (octets : List ℕ) → WantsNone server → Quietly server_side (held server (with_untold octets lane)) (held server (with_untold [] lane))
 lets_go server lane octets none =
-    quiet_call server_side (LetGo octets) (held server (with_untold octets lane)) (held server (with_untold [] lane)) ((refl, none), (sym (append-nil octets), refl))
+    quiet_call server_side (LetGo octets) (held server (with_untold octets lane)) (held server (with_untold [] lane)) ((refl, none), (sym (append-nil octets), refl), tt)
+
+-- what is asked where one is had, after what stood, is wanted where that one is
+pub all_wanted : {S : Type 0} (remaining contents : S → Option (List ℕ)) (before : Option S) (had : Asked) (want : Wants) → IsWanted want had
+    → AreWanted want (asked_for remaining contents before had)
+all_wanted remaining contents (Some before) had want wanted = (tt, (wanted, tt))
+all_wanted remaining contents None had want wanted = (wanted, tt)
+
+-- ---- an octet that is not taken
+
+decided : (b : Bool) → (b ≡ true) ⊎ (b ≡ false)
+decided true = inl refl
+decided false = inr refl
+
+same_number : (m n : ℕ) → (m ≡ n) ⊎ (m ≢ n)
+same_number m n =
+    elim (decided (m == n)) [
+      | inl e ↦ inl (eqb-true m n e)
+      | inr e ↦ inr (λ same. true≢false (sym (eq-eqb m n same) ∙ e))
+    ]
+
+same_counts : (a b : Counts) → (a ≡ b) ⊎ (a ≢ b)
+same_counts a b = both (same_number a.refusals b.refusals) (same_number a.failures b.failures)
+  where
+    both : (a.refusals ≡ b.refusals) ⊎ (a.refusals ≢ b.refusals) → (a.failures ≡ b.failures) ⊎ (a.failures ≢ b.failures) → (a ≡ b) ⊎ (a ≢ b)
+    both (inl p) (inl q) = inl (λ i. record { refusals = p i; failures = q i })
+    both (inl p) (inr q) = inr (λ same. q (ap (λ (c : Counts). c.failures) same))
+    both (inr p) q = inr (λ same. p (ap (λ (c : Counts). c.refusals) same))
+
+none_heard : (old new : Server) → Hears [] old new → new.view ≡ old.view
+none_heard old new hears =
+    let by = hears reading_exists.0 reading_exists.1 in
+    elim (same_counts new.counts old.counts) [
+      | inl same ↦ by.done same
+      | inr other ↦ by.failed other
+    ]
+
+-- a server that does not take the one octet that it is given holds what it held
+pub unheard_stays : (count : ℕ) (octets : List ℕ) (old new : Server) → count ≤ length octets → length octets ≡ 1 → (count == 1) ≡ false → Hears (take count octets) old new
+    → new.view ≡ old.view
+unheard_stays count octets old new within one other hears =
+    elim (same_number count 1) [
+      | inl taken ↦ absurd (true≢false (sym (eq-eqb count 1 taken) ∙ other))
+      | inr differs ↦ none_heard old new (subst (λ n. Hears (take n octets) old new) (none count (length octets) within one differs) hears)
+    ]
+  where
+    none : (n m : ℕ) → n ≤ m → m ≡ 1 → n ≢ 1 → n ≡ 0
+    none n m le is other = omega (arith, le, is, other)
 
 -- ---- octets that the server gives
 
@@ -125,7 +175,7 @@ pub given_more : (old mid new : Server) (lane : Lane) (at count : ℕ) (room fro
 given_more old mid new lane at count room front out before is len fits gave steps =
     quiet_then server_side (held old lane) (held mid (with_given (take at room) lane)) (held new (with_given (take (at + count) (front ++ out)) lane)) before
     (quiet_call server_side (Gave count (take count out)) (held mid (with_given (take at room) lane)) (held new (with_given (take (at + count) (front ++ out)) lane))
-    ((gave, steps), ap (λ l. record lane { unwritten = l }) (more_given lane.unwritten at count room front out is len fits)))
+    ((gave, steps), ap (λ l. record lane { unwritten = l }) (more_given lane.unwritten at count room front out is len fits), tt))
 
 -- ---- how a drive ends
 
@@ -143,7 +193,7 @@ carrier = record {
 pub drove : (start mid now : Stand server_side) (asked : Asked) → start.owner.lane.unwritten ≡ [] → start.owner.lane.untold ≡ [] → Leads start mid → IsOver mid
     → IsLeft asked mid.owner.lane now.owner.lane → now ≡ with_owner (held mid.owner.server now.owner.lane) mid → Drove start now
 drove start mid now asked unwritten untold leads over left same =
-    let led : Led {side = server_side} (Other (Left asked) ∷ leads.deeds) start now = (mid, leads.led, ((ap (λ s. s.owner.server) same, left), subst (λ s. now ≡ with_owner s mid) (ap (λ s. s.owner) (sym same)) same)) in
+    let led : Led {side = server_side} (Other (Left asked) ∷ leads.deeds) start now = (mid, leads.led, ((ap (λ s. s.owner.server) same, left, tt), subst (λ s. now ≡ with_owner s mid) (ap (λ s. s.owner) (sym same)) same)) in
     record {
       deeds = leads.deeds;
       asked = asked;

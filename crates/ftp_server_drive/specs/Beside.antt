@@ -1,12 +1,16 @@
 -- A server between its connections, of values of the program.
-use Rattle.std.specs.Prelude.{ℕ, List, [], drop, take, Option}
+use Rattle.std.specs.Prelude.{◌≡◌, ℕ, true, List, [], drop, take, Option}
+use Rattle.std.specs.Option.{is_some}
+use Rattle.std.specs.Io.KnownBytes.{IsAtEnd}
 use Rattle.std.specs.declared.result.Result.{Result}
 use Rattle.std.specs.declared.result.Result.TheVariants.{Ok, Err}
 use Rattle.ftp_control.specs.Asking.{Asked}
+use Rattle.ftp_control.specs.Carrying.{told_by}
 use Rattle.ftp_control.specs.Deeds.{Stand}
 use Rattle.ftp_control.specs.Lane.{Lane, lane_of, with_untold}
 use Rattle.ftp_control.specs.Unheard.{left_of, unheard_of, written_of}
 use Rattle.ftp_control.specs.declared.control.Control.{Control}
+use Rattle.ftp_control.specs.declared.data.DataConnection.{DataConnection}
 use Rattle.ftp_control.specs.declared.pieces.Failed.{Failed}
 use Rattle.ftp_server_model.specs.Far.{Server}
 use Rattle.ftp_server_drive.specs.Side.{Held, server_side}
@@ -29,6 +33,10 @@ handing remaining contents server control lane untold = beside remaining content
 -- a data connection of which these octets were read and not told
 abbrev pub lane_at : {S : Type 0} → (remaining contents : S → Option (List ℕ)) → Option (List Asked) → Data S → (untold : List ℕ) → Lane
 lane_at remaining contents asked connection untold = lane_of remaining contents asked connection.connection connection.room untold
+
+-- one stands, and its stream is at its end
+abbrev pub HasEnded : {S : Type 0} → (remaining : S → Option (List ℕ)) → DataConnection S → Type 0
+HasEnded remaining connection = (is_some connection.stream ≡ true) × IsAtEnd (told_by remaining connection.stream)
 
 -- the octets that came and are in hand
 abbrev pub in_hand : Came → (room : List ℕ) → List ℕ

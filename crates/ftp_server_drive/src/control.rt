@@ -23,6 +23,7 @@ where
     ensures leads { (lane : Lane) → Leads (beside R.remaining W.contents (held (F.server server.old) lane) control.old) (beside R.remaining W.contents (held (F.server server.new) lane) control.new) }
     ensures took { IsTrue result → length (unheard_of control.new) + 1 ≡ length (unheard_of control.old) }
     ensures none { result ≡ false → unheard_of control.new ≡ unheard_of control.old }
+    ensures still { result ≡ false → (F.server server.new).view ≡ (F.server server.old).view }
 {
     let (octet, _) = control.unheard().split_at(1);
     let taken = server.hear(octet);

@@ -1,12 +1,10 @@
 // The octets of a data connection, between a stream and the server, and those of a download that are not written yet.
 ghost use Rattle.std.specs.Prelude.{◌≡◌, ◌≢◌, ◌<◌, ◌≤◌, ℕ, List, [], IfOk, OnOk, Option, None, length, take};
 ghost use Rattle.ftp_server_model.specs.Calls.{wants};
-ghost use Rattle.std.specs.Io.KnownBytes.{IsAtEnd};
 ghost use Rattle.ftp_control.specs.Asking.{Asked};
-ghost use Rattle.ftp_control.specs.Carrying.{left_of};
 ghost use Rattle.ftp_control.specs.Driving.{Goes, Quietly};
 ghost use Rattle.ftp_control.specs.Lane.{IsLeft, IsWritten, Lane, no_lane, with_given, with_untold};
-ghost use Rattle.ftp_server_drive.specs.Beside.{beside, held, in_hand, lane_at, untaken};
+ghost use Rattle.ftp_server_drive.specs.Beside.{HasEnded, beside, held, in_hand, lane_at, untaken};
 ghost use Rattle.ftp_server_drive.specs.Driving.{Idles, Timed};
 ghost use Rattle.ftp_server_drive.specs.Side.{Break, End, server_side};
 
@@ -63,10 +61,10 @@ impl<S: Read + Write> Data<S> {
         self.connection.note(rest_of(server));
     }
 
-    /// What it has: octets that are read now, or room where the server wants to send; its end only where its stream is at its end.
+    /// What it has: octets that are read now, or room where the server wants to send; its end only where it stands and its stream is at its end.
     pub(crate) fn come(&mut self, wants: Wants) -> Came
         ensures moved { (asked : Option (List Asked)) → Idles (lane_at S.remaining S.contents asked self.old []) (lane_at S.remaining S.contents asked self.new (in_hand result self.new.room)) }
-        ensures ended { result ≡ Came.End → IsAtEnd (left_of S.remaining self.new.connection) }
+        ensures ended { result ≡ Came.End → HasEnded S.remaining self.new.connection }
     {
         if wants == Wants::Send || self.connection.has_unwritten() {
             return Came::Room;
@@ -164,7 +162,7 @@ where
     F: Far<A, T>,
     C: Watch,
     S: Read + Write,
-    requires ended { IsAtEnd (left_of S.remaining _ended.now.connection) }
+    requires ended { HasEnded S.remaining _ended.now.connection }
     requires before { _spoken ≢ Spoken.Ended }
     ensures { (asked : Option (List Asked)) → Timed End (held (F.server server.old) (lane_at S.remaining S.contents asked _ended.now [])) (held (F.server server.new) (lane_at S.remaining S.contents asked _ended.now [])) }
 {

@@ -1,14 +1,13 @@
 // The drive: what the server wants is done, turn by turn.
 ghost use Rattle.std.specs.Prelude.{◌≡◌, ◌≢◌, [], ◌∷◌, ℕ, List, Option};
-ghost use Rattle.std.specs.Io.KnownBytes.{IsAtEnd};
 ghost use Rattle.ftp_control.specs.Asking.{Adds, Asked};
-ghost use Rattle.ftp_control.specs.Carrying.{left_of};
 ghost use Rattle.ftp_control.specs.Driving.{Goes, GoesSettled, Quietly};
 ghost use Rattle.ftp_control.specs.Lane.{IsHad, Lane, no_lane, with_asked};
 ghost use Rattle.ftp_control.specs.Unheard.{unheard_of};
-ghost use Rattle.ftp_server_drive.specs.Beside.{beside, held, in_hand, lane_at};
+ghost use Rattle.ftp_server_drive.specs.Beside.{HasEnded, beside, held, in_hand, lane_at};
 ghost use Rattle.ftp_server_drive.specs.Driving.{Drives, EndsOver, Idles, Turns};
-ghost use Rattle.ftp_server_drive.specs.Side.{server_side};
+ghost use Rattle.ftp_server_drive.specs.Side.{IsWanted, server_side};
+ghost use Rattle.ftp_server_model.specs.Calls.{wants};
 
 use crate::control::{flush, hear_one};
 use crate::data::{Came, Data, end, fault, hand, send, wait_at};
@@ -283,7 +282,7 @@ where
     P: Ports,
     C: Watch,
     requires before { spoken ≢ Spoken.Ended }
-    requires ended { came ≡ Came.End → IsAtEnd (left_of P.Stream.remaining «data».old.connection) }
+    requires ended { came ≡ Came.End → HasEnded P.Stream.remaining «data».old.connection }
     ensures { Goes (beside R.remaining W.contents (held (F.server server.old) (lane_at P.Stream.remaining P.Stream.contents (P.history ports.old) «data».old (in_hand came «data».old.room))) control.old) (beside R.remaining W.contents (held (F.server server.new) (lane_at P.Stream.remaining P.Stream.contents (P.history ports.new) «data».new [])) control.new) result }
 {
     match came {
@@ -319,7 +318,7 @@ where
     P: Ports,
     C: Watch,
     requires before { spoken ≢ Spoken.Ended }
-    requires ended { IsAtEnd (left_of P.Stream.remaining «data».old.connection) }
+    requires ended { HasEnded P.Stream.remaining «data».old.connection }
     ensures { Quietly server_side (held (F.server server.old) (lane_at P.Stream.remaining P.Stream.contents (P.history ports.old) «data».old [])) (held (F.server server.new) (lane_at P.Stream.remaining P.Stream.contents (P.history ports.new) «data».new [])) }
 {
     end(server, watch, data, spoken);
@@ -426,6 +425,7 @@ where
     W: Write + Drop,
     P: Ports,
     C: Watch,
+    requires { wants (F.server server.old).view ≡ Wants.Accept }
     ensures { GoesSettled (beside R.remaining W.contents (held (F.server server.old) (lane_at P.Stream.remaining P.Stream.contents (P.history ports.old) «data».old [])) control.old) (beside R.remaining W.contents (held (F.server server.new) (lane_at P.Stream.remaining P.Stream.contents (P.history ports.new) «data».new [])) control.new) result }
 {
     if !control.has_unheard() {
@@ -454,7 +454,8 @@ where
     W: Write + Drop,
     P: Ports,
     C: Watch,
-    requires { unheard_of control.old ≡ [] }
+    requires heard { unheard_of control.old ≡ [] }
+    requires wanted { wants (F.server server.old).view ≡ Wants.Accept }
     ensures { GoesSettled (beside R.remaining W.contents (held (F.server server.old) (lane_at P.Stream.remaining P.Stream.contents (P.history ports.old) «data».old [])) control.old) (beside R.remaining W.contents (held (F.server server.new) (lane_at P.Stream.remaining P.Stream.contents (P.history ports.new) «data».new [])) control.new) result }
 {
     match ports.accept(true) {
@@ -477,6 +478,7 @@ where
     T: Tree<A>,
     F: Far<A, T>,
     P: Ports,
+    requires { wants (F.server server.old).view ≡ Wants.Accept }
     ensures { Quietly server_side (held (F.server server.old) (lane_at P.Stream.remaining P.Stream.contents (P.history ports.old) «data».old [])) (held (F.server server.new) (lane_at P.Stream.remaining P.Stream.contents (P.history ports.new) «data».new [])) }
 {
     match ports.accept(false) {
@@ -493,6 +495,7 @@ where
     T: Tree<A>,
     F: Far<A, T>,
     P: Ports,
+    requires { wants (F.server server.old).view ≡ Wants.Listen }
     ensures { (lane : Lane) → Quietly server_side (held (F.server server.old) (with_asked (P.history ports.old) lane)) (held (F.server server.new) (with_asked (P.history ports.new) lane)) }
 {
     match ports.listen() {
@@ -513,6 +516,7 @@ where
     T: Tree<A>,
     F: Far<A, T>,
     P: Ports,
+    requires { wants (F.server server.old).view ≡ Wants.Connect endpoint }
     ensures { Quietly server_side (held (F.server server.old) (lane_at P.Stream.remaining P.Stream.contents (P.history ports.old) «data».old [])) (held (F.server server.new) (lane_at P.Stream.remaining P.Stream.contents (P.history ports.new) «data».new [])) }
 {
     match ports.connect(endpoint) {
@@ -534,7 +538,7 @@ where
     T: Tree<A>,
     F: Far<A, T>,
     P: Ports,
-    ensures { (before : Option (List Asked)) (had : Asked) → Adds before (P.history ports.old) (had ∷ []) → IsHad host had (P.Stream.remaining stream) (P.Stream.contents stream) → Quietly server_side (held (F.server server.old) (lane_at P.Stream.remaining P.Stream.contents before «data».old [])) (held (F.server server.new) (lane_at P.Stream.remaining P.Stream.contents (P.history ports.new) «data».new [])) }
+    ensures { (before : Option (List Asked)) (had : Asked) → Adds before (P.history ports.old) (had ∷ []) → IsHad host had (P.Stream.remaining stream) (P.Stream.contents stream) → IsWanted (wants (F.server server.old).view) had → Quietly server_side (held (F.server server.old) (lane_at P.Stream.remaining P.Stream.contents before «data».old [])) (held (F.server server.new) (lane_at P.Stream.remaining P.Stream.contents (P.history ports.new) «data».new [])) }
 {
     data.connection.begin(ports, stream);
     server.data_opened(host);

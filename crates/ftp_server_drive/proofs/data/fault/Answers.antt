@@ -3,4 +3,4 @@ use Rattle.ftp_server_drive.specs.Beside.{held}
 use Rattle.ftp_server_drive.proofs.data.fault.Goals as goal
 
 pub returns : goal.returns
-returns g c lane = (c.moment.result.seconds, held (g.F.Far.server c.clock.new.self) lane, (c.clock.ensures, refl), (c.data_fault.ensures, refl))
+returns g c lane = (c.moment.result.seconds, held (g.F.Far.server c.clock.new.self) lane, (c.clock.ensures, refl, tt), (c.data_fault.ensures, refl, tt))

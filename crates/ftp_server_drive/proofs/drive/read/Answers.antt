@@ -32,4 +32,4 @@ returns g c lane start settles =
     leads_then start (stand new) _
     (reads_next start (stand c.args.control.now) (stand new) _ settles c.requires
     c.in_ok-count.ensures.ok refl c.in_ok-count.ensures.written refl)
-    (call_leads (stand new) (Clock c.moment.result.seconds) (held (g.F.Far.server c.clock.new.self) lane) (c.clock.ensures, refl))
+    (call_leads (stand new) (Clock c.moment.result.seconds) (held (g.F.Far.server c.clock.new.self) lane) (c.clock.ensures, refl, tt))

@@ -10,7 +10,7 @@ pub loop-init : goal.loop-init
 loop-init g c =
     let lane = (lane_at g.P.Stream.Read.remaining g.P.Stream.Write.contents (g.P.Ports.history c.args.ports.now) c.args.data.now []) in
     let old = (beside g.R.Read.remaining g.W.Write.contents (held (g.F.Far.server c.args.server.now) (lane_at g.P.Stream.Read.remaining g.P.Stream.Write.contents (g.P.Ports.history c.args.ports.now) c.args.data.now [])) c.args.control.now) in
-    call_leads old (Clock c.moment.result.seconds) (held (g.F.Far.server c.clock.new.self) lane) (c.clock.ensures, refl)
+    call_leads old (Clock c.moment.result.seconds) (held (g.F.Far.server c.clock.new.self) lane) (c.clock.ensures, refl, tt)
 
 pub returns-in_err-turn : goal.returns-in_err-turn
 returns-in_err-turn g c =

@@ -10,7 +10,7 @@ pub returns-in-Came : goal.returns-in-Came
 returns-in-Came g c start settles =
     let old = (beside g.R.Read.remaining g.W.Write.contents (held (g.F.Far.server c.args.server.now) (lane_at g.P.Stream.Read.remaining g.P.Stream.Write.contents (g.P.Ports.history c.args.ports.now) c.args.data.now [])) c.args.control.now) in
     leads_then start old _ (settled_leads start old settles) (c.opened.ensures (g.P.Ports.history c.args.ports.now) (Came c.in-Came.host (g.P.Stream.Read.remaining c.in-Came.stream) (g.P.Stream.Write.contents c.in-Came.stream))
-    (subst (λ r. Accepts g.P.Stream.Read.remaining g.P.Stream.Write.contents r (g.P.Ports.history c.args.ports.now) (g.P.Ports.history c.accept.new.self)) c.in-Came.is c.accept.ensures) (inl refl) _ _ _)
+    (subst (λ r. Accepts g.P.Stream.Read.remaining g.P.Stream.Write.contents r (g.P.Ports.history c.args.ports.now) (g.P.Ports.history c.accept.new.self)) c.in-Came.is c.accept.ensures) (inl refl) c.requires.wanted _ _ _)
 
 pub returns-in-Spoken : goal.returns-in-Spoken
 returns-in-Spoken g c start settles =
@@ -24,4 +24,4 @@ returns-in-Refused g c start settles =
     let old = (beside g.R.Read.remaining g.W.Write.contents (held (g.F.Far.server c.args.server.now) (lane_at g.P.Stream.Read.remaining g.P.Stream.Write.contents (g.P.Ports.history c.args.ports.now) c.args.data.now [])) c.args.control.now) in
     let lane = (lane_at g.P.Stream.Read.remaining g.P.Stream.Write.contents (g.P.Ports.history c.accept.new.self) c.args.data.now []) in
     leads_then start old _ (settled_leads start old settles) (call_leads old (Refused (NotCame ∷ [])) (held (g.F.Far.server c.data_refused.new.self) lane)
-    (c.data_refused.ensures, ((subst (λ r. Accepts g.P.Stream.Read.remaining g.P.Stream.Write.contents r (g.P.Ports.history c.args.ports.now) (g.P.Ports.history c.accept.new.self)) c.in-Refused.is c.accept.ensures), refl)))
+    (c.data_refused.ensures, ((subst (λ r. Accepts g.P.Stream.Read.remaining g.P.Stream.Write.contents r (g.P.Ports.history c.args.ports.now) (g.P.Ports.history c.accept.new.self)) c.in-Refused.is c.accept.ensures), refl), c.requires.wanted))
