@@ -14,11 +14,12 @@ use Rattle.ftp_control.specs.Whole.{IsWhole}
 use Rattle.ftp_control.specs.declared.data.DataConnection.{DataConnection}
 use Rattle.ftp_control.specs.declared.data.Halt.{Halt}
 use Rattle.ftp_control.specs.declared.pieces.Failed.{Failed}
-use Rattle.ftp_control.proofs.Lanes.{keeps_consumes, reads, way_none}
+use Rattle.ftp_control.proofs.Lanes.{asked_for, keeps_consumes, reads, way_none}
 use Rattle.ftp_control.proofs.Leading.{fails_here, fails_lets, leads_then, quiet_call, quiet_nothing, quiet_then, settled_leads}
+use Rattle.ftp_ends.specs.declared.link.Wants.{Wants}
 use Rattle.ftp_client_model.specs.Failing.{Client, ReceivesIfRoom}
 use Rattle.ftp_client_drive.specs.Beside.{held, in_hand}
-use Rattle.ftp_client_drive.specs.Side.{Got, Held, Left, LetGo, Received, Waited, WantsNone, Wrote, client_side}
+use Rattle.ftp_client_drive.specs.Side.{AreWanted, Got, Held, IsWanted, Left, LetGo, Received, Waited, WantsNone, Wrote, client_side}
 use Rattle.ftp_client_drive.specs.Driving.{Hands, Idles, IsDropped, IsReset}
 
 pub idles_nothing : (lane : Lane) → Idles lane lane
@@ -28,16 +29,16 @@ pub idles_then : (a b c : Lane) → Idles a b → Idles b c → Idles a c
 idles_then a b c first second client = quiet_then client_side (held client a) (held client b) (held client c) (first client) (second client)
 
 pub idles_waited : (old new : Lane) → IsWaited old new → Idles old new
-idles_waited old new waited client = quiet_call client_side Waited (held client old) (held client new) (refl, waited)
+idles_waited old new waited client = quiet_call client_side Waited (held client old) (held client new) (refl, waited, tt)
 
 pub idles_read : (octets : List ℕ) (old new : Lane) → IsRead octets old new → Idles old new
-idles_read octets old new read client = quiet_call client_side (Got octets) (held client old) (held client new) (refl, read)
+idles_read octets old new read client = quiet_call client_side (Got octets) (held client old) (held client new) (refl, read, tt)
 
 pub idles_wrote : (octets : List ℕ) (old new : Lane) → IsWritten octets old new → Idles old new
-idles_wrote octets old new wrote client = quiet_call client_side (Wrote octets) (held client old) (held client new) (refl, wrote)
+idles_wrote octets old new wrote client = quiet_call client_side (Wrote octets) (held client old) (held client new) (refl, wrote, tt)
 
 pub idles_left : (asked : Asked) (old new : Lane) → IsLeft asked old new → Idles old new
-idles_left asked old new left client = quiet_call client_side (Left asked) (held client old) (held client new) (refl, left)
+idles_left asked old new left client = quiet_call client_side (Left asked) (held client old) (held client new) (refl, left, tt)
 
 -- nothing was asked
 pub idles_asked : (lane : Lane) (h0 h1 : Option (List Asked)) → Adds h0 h1 [] → Idles (with_asked h0 lane) (with_asked h1 lane)
@@ -68,6 +69,12 @@ settles_idle start old lane settles idles =
 pub idle_leads : (start old : Stand client_side) (lane : Lane) → Settles start old → Idles old.owner.lane lane → Leads start (with_owner (held old.owner.client lane) old)
 idle_leads start old lane settles idles =
     settled_leads start (with_owner (held old.owner.client lane) old) (settles_idle start old lane settles idles)
+
+-- what is asked where one is had, after what stood, is wanted where that one is
+pub all_wanted : {S : Type 0} (remaining contents : S → Option (List ℕ)) (before : Option S) (had : Asked) (want : Wants) → IsWanted want had
+    → AreWanted want (asked_for remaining contents before had)
+all_wanted remaining contents (Some before) had want wanted = (tt, (wanted, tt))
+all_wanted remaining contents None had want wanted = (wanted, tt)
 
 -- ---- octets that come
 
@@ -112,7 +119,7 @@ module _ {S : Type 0} (remaining contents : S → Option (List ℕ)) where
 -- octets that it no longer wants are let go
 pub lets_go : (client : Client) (lane : Lane) (octets : List ℕ) → WantsNone client → Quietly client_side (held client (with_untold octets lane)) (held client (with_untold [] lane))
 lets_go client lane octets none =
-    quiet_call client_side (LetGo octets) (held client (with_untold octets lane)) (held client (with_untold [] lane)) ((refl, none), (sym (append-nil octets), refl))
+    quiet_call client_side (LetGo octets) (held client (with_untold octets lane)) (held client (with_untold [] lane)) ((refl, none), (sym (append-nil octets), refl), tt)
 
 -- what it was handed it was told; or that fails, and what it was not told is let go
 pub hands : {T : Type 0} (start : Stand client_side) (old new : Client) (octets : List ℕ) (lane : Lane) (left : Option (List ℕ)) (unheard : List ℕ) (written : Option (List ℕ))
@@ -137,4 +144,4 @@ pub told_more : (old mid new : Client) (lane : Lane) (at count : ℕ) (octets re
 told_more old mid new lane at count octets rest before is took =
     quiet_then client_side (held old (with_untold octets lane)) (held mid (with_untold (drop at octets) lane)) (held new (with_untold (drop (at + count) octets) lane)) before
     (quiet_call client_side (Received rest count) (held mid (with_untold (drop at octets) lane)) (held new (with_untold (drop (at + count) octets) lane))
-    (took, (rest_told at count octets rest is, refl)))
+    (took, (rest_told at count octets rest is, refl), tt))

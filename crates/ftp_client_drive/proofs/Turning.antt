@@ -5,7 +5,7 @@ use Rattle.std.proofs.lemmas.List.{length-take-le, take-append-drop}
 use Rattle.ftp_control.specs.Asking.{Asked, Shut}
 use Rattle.ftp_control.specs.Deeds.{Heard, Led, Other, Stand, with_owner}
 use Rattle.ftp_control.specs.Driving.{Breaks, Cuts, Fails, Leads}
-use Rattle.ftp_control.specs.Lane.{IsEnded, IsLeft, Lane, Moves, with_untold}
+use Rattle.ftp_control.specs.Lane.{IsEnded, IsLeft, Lane, with_untold}
 use Rattle.ftp_control.specs.declared.pieces.Failed.{Failed}
 use Rattle.ftp_control.proofs.Courses.{Carrier, carries}
 use Rattle.ftp_control.proofs.Leading.{call_leads, leads_by, leads_then}
@@ -19,7 +19,7 @@ use Rattle.ftp_client_model.specs.declared.client.Failure.TheVariants as Failure
 use Rattle.ftp_client_model.specs.declared.client.Standing.{Standing}
 use Rattle.ftp_client_model.specs.declared.client.Standing.TheVariants as Stands
 use Rattle.ftp_client_drive.specs.Beside.{held}
-use Rattle.ftp_client_drive.specs.Side.{Call, Report, Listening, Opened, Refused, Received, Gave, NoPort, End, Break, Closed, Waited, Got, Wrote, LetGo, Left, Called, Does, Gives, Held, IsCut, client_side, move_of}
+use Rattle.ftp_client_drive.specs.Side.{Closed, Does, Gives, Held, IsCut, Left, Report, client_side, move_of}
 use Rattle.ftp_client_drive.specs.Driving.{Answers, BrokeOff, Drove, GivesUp, IsReset, Tells, is_under_way}
 
 -- it heard the first of the octets that were read
@@ -69,13 +69,13 @@ gave_up said asked last old cut closed new mid lane closes reports is_cut reset 
   is_cut = is_cut;
   asked = asked;
   mid = held cut mid;
-  leaves = (refl, reset.left);
+  leaves = (refl, reset.left, tt);
   dropped = reset.dropped;
   shut = held cut lane;
-  shuts = (refl, is_shut last mid lane (reset.left).stands left);
+  shuts = (refl, is_shut last mid lane (reset.left).stands left, tt);
   closed = held closed lane;
-  closes = (closes, (refl, left.stands));
-  reports = (reports, refl);
+  closes = (closes, (refl, left.stands), tt);
+  reports = (reports, refl, tt);
   lost = λ sound under. reports.0 ∙ ap report_of (closes.0 ∙ ap data_closed (is_cut.0).0) ∙ cut_loses old.client.view sound under;
 }
 
@@ -85,12 +85,12 @@ gave_up said asked last old cut closed new mid lane closes reports is_cut reset 
 pub asked_none : (start mid : Stand client_side) (client : Client) (said : Option Said) → Leads start mid → Does (Report said) mid.owner.client client
     → Leads start (with_owner (held client mid.owner.lane) mid)
 asked_none start mid client said leads reports =
-    leads_then start mid (with_owner (held client mid.owner.lane) mid) leads (call_leads mid (Report said) (held client mid.owner.lane) (reports, refl))
+    leads_then start mid (with_owner (held client mid.owner.lane) mid) leads (call_leads mid (Report said) (held client mid.owner.lane) (reports, refl, tt))
 
 -- it was asked for its report
 pub tells : (start mid : Stand client_side) (client : Client) (said : Option Said) → Leads start mid → Does (Report said) mid.owner.client client
     → Tells said start (with_owner (held client mid.owner.lane) mid)
-tells start mid client said leads reports = (mid, leads, ((reports, refl), refl))
+tells start mid client said leads reports = (mid, leads, ((reports, refl, tt), refl))
 
 pub answers_err : {A : Type 0} (a b : Stand client_side) (r : Result (Answer A) Failed) → IsErr r → Fails a b → Answers a b r
 answers_err a b (Ok answer) failed fails = absurd (let e : false ≡ true = failed in cc)
@@ -98,27 +98,10 @@ answers_err a b (Err e) failed fails = fails
 
 -- ---- a drive
 
-moved : (call : Call) (old new : Held) → Called call old new → Moves (move_of call) old.lane new.lane
-moved (Report said) old new called = called.1
-moved (Listening port) old new called = called.1
-moved (Opened host asked at_first so_far) old new called = called.1
-moved (Refused asked) old new called = called.1
-moved (Received octets count) old new called = called.1
-moved (Gave count octets) old new called = called.1
-moved NoPort old new called = called.1
-moved End old new called = called.1
-moved Break old new called = called.1
-moved Closed old new called = called.1
-moved Waited old new called = called.1
-moved (Got octets) old new called = called.1
-moved (Wrote octets) old new called = called.1
-moved (LetGo octets) old new called = called.1
-moved (Left asked) old new called = called.1
-
 abbrev carrier : Carrier client_side move_of
 carrier = record {
   lane = λ end. end.lane;
-  called = moved;
+  called = λ call old new called. called.1;
   heard = λ octets unheard old new hears. hears.1;
   gave = λ octets old new gives. gives.lane;
   owed = λ old new owes. owes.lane;
@@ -131,7 +114,7 @@ pub drove : (start mid now : Stand client_side) (answer : Said) (asked : Asked) 
 drove start mid now answer asked unwritten untold tells left closed same =
     let gone = with_owner (held mid.owner.client now.owner.lane) mid in
     let led : Led {side = client_side} (Other Closed ∷ Other (Left asked) ∷ Other (Report (Some answer)) ∷ tells.1.deeds) start now =
-    (gone, (mid, (tells.0, tells.1.led, tells.2), ((refl, left), refl)), ((closed, (refl, left.stands)), same)) in
+    (gone, (mid, (tells.0, tells.1.led, tells.2), ((refl, left, tt), refl)), ((closed, (refl, left.stands), tt), same)) in
     record {
       answer = answer;
       answered = refl;

@@ -1,10 +1,11 @@
 -- A client as the end of a session that is driven: what its calls do, as `Near` says it, and how its data connection moves (RFC 959, section 2.3).
 use Rattle.std.proofs.Common.{◌∙◌, ap}
-use Rattle.std.specs.Prelude.{◌≡◌, ◌≢◌, ℕ, true, List, [], ◌∷◌, length, take, Option, Some, None, refl}
-use Rattle.ftp_control.specs.Asking.{Asked, Listened}
+use Rattle.std.specs.Prelude.{◌≡◌, ◌≢◌, ⊤, ℕ, true, List, [], ◌∷◌, length, take, Option, Some, None, refl}
+use Rattle.ftp_control.specs.Asking.{Asked, Listened, Came, Connected, NotCame, NotConnected}
 use Rattle.ftp_control.specs.Lane.{Lane, Move, Moves, Stays, Waits, Reads, Writes, Gives as GivesOctets, Takes, Ends, Stops, Asks, Opens, Leaves, with_untold}
 use Rattle.ftp_control.specs.Side.{Side}
 use Rattle.ftp_endpoint.specs.declared.host.Host.{Host}
+use Rattle.ftp_ends.specs.declared.link.Wants.{Wants}
 use Rattle.ftp_ends.specs.declared.link.Wants.TheVariants as Want
 use Rattle.ftp_operation.specs.Answer as Answers
 use Rattle.ftp_client_model.specs.Calls.{control_end, data_closed, data_end, data_fault, data_opened, data_refused, gives_control, gives_data, listen_refused, listening, report_of, reports, to_give, wants}
@@ -70,10 +71,37 @@ move_of (Wrote octets) = Writes octets
 move_of (LetGo octets) = Takes octets
 move_of (Left asked) = Leaves asked
 
--- both; it is told of an end only while its data connection stands
+-- what is asked, as the client wants it: that one is waited for, or that one is opened, to just that endpoint; closing is asked at any time
+abbrev pub IsWanted : Wants → Asked → Type 0
+IsWanted want (Listened port) = want ≡ Want.Listen
+IsWanted want (Came host left written) = want ≡ Want.Accept
+IsWanted want NotCame = want ≡ Want.Accept
+IsWanted want (Connected endpoint left written) = want ≡ Want.Connect endpoint
+IsWanted want (NotConnected endpoint) = want ≡ Want.Connect endpoint
+IsWanted want other = ⊤
+
+-- the same of all that is asked, one thing after another
+abbrev pub AreWanted : Wants → List Asked → Type 0
+AreWanted want [] = ⊤
+AreWanted want (asked ∷ more) = IsWanted want asked × AreWanted want more
+
+-- none is had, and one was wanted: the answer says so
+abbrev pub IsRefused : Wants → List Asked → Type 0
+IsRefused want (NotCame ∷ []) = want ≡ Want.Accept
+IsRefused want (NotConnected endpoint ∷ []) = want ≡ Want.Connect endpoint
+IsRefused want other = ⊥
+
+-- when each of them may be done: as the client wants it, and an end is told only while its data connection stands
+abbrev pub IsDue : Call → Held → Type 0
+IsDue (Listening port) old = wants old.client.view ≡ Want.Listen
+IsDue NoPort old = wants old.client.view ≡ Want.Listen
+IsDue (Opened host asked at_first so_far) old = AreWanted (wants old.client.view) asked
+IsDue (Refused asked) old = IsRefused (wants old.client.view) asked
+IsDue End old = old.lane.stands ≡ true
+IsDue other old = ⊤
+
 abbrev pub Called : Call → (old new : Held) → Type 0
-Called End old new = Does End old.client new.client × Moves Ends old.lane new.lane × (old.lane.stands ≡ true)
-Called call old new = Does call old.client new.client × Moves (move_of call) old.lane new.lane
+Called call old new = Does call old.client new.client × Moves (move_of call) old.lane new.lane × IsDue call old
 
 -- control octets are heard
 abbrev pub HearsBeside : (octets unheard : List ℕ) → (old new : Held) → Type 0

@@ -10,7 +10,8 @@ ghost use Rattle.ftp_control.specs.Unheard.{unheard_of};
 ghost use Rattle.ftp_operation.specs.Answer.{said_of};
 ghost use Rattle.ftp_client_drive.specs.Beside.{beside, held, lane_at};
 ghost use Rattle.ftp_client_drive.specs.Driving.{Answers, Drives, Hands};
-ghost use Rattle.ftp_client_drive.specs.Side.{client_side};
+ghost use Rattle.ftp_client_drive.specs.Side.{IsWanted, client_side};
+ghost use Rattle.ftp_client_model.specs.Calls.{wants};
 
 use crate::control::{flush, hear, read};
 use crate::data::{Data, is_spoken_first};
@@ -166,6 +167,7 @@ where
     A: Allocator,
     N: Near<A>,
     P: Ports,
+    requires { wants (N.client client.old).view ≡ Wants.Listen }
     ensures { (lane : Lane) → Quietly client_side (held (N.client client.old) (with_asked (P.history ports.old) lane)) (held (N.client client.new) (with_asked (P.history ports.new) lane)) }
 {
     match ports.listen() {
@@ -180,6 +182,7 @@ where
     A: Allocator,
     N: Near<A>,
     P: Ports,
+    requires { wants (N.client client.old).view ≡ Wants.Connect endpoint }
     ensures { Quietly client_side (held (N.client client.old) (lane_at P.Stream.remaining P.Stream.contents (P.history ports.old) «data».old [])) (held (N.client client.new) (lane_at P.Stream.remaining P.Stream.contents (P.history ports.new) «data».new [])) }
 {
     match ports.connect(endpoint) {
@@ -200,7 +203,7 @@ where
     A: Allocator,
     N: Near<A>,
     P: Ports,
-    ensures { (before : Option (List Asked)) (had : Asked) → Adds before (P.history ports.old) (had ∷ []) → IsHad host had (P.Stream.remaining stream) (P.Stream.contents stream) → Quietly client_side (held (N.client client.old) (lane_at P.Stream.remaining P.Stream.contents before «data».old [])) (held (N.client client.new) (lane_at P.Stream.remaining P.Stream.contents (P.history ports.new) «data».new [])) }
+    ensures { (before : Option (List Asked)) (had : Asked) → Adds before (P.history ports.old) (had ∷ []) → IsHad host had (P.Stream.remaining stream) (P.Stream.contents stream) → IsWanted (wants (N.client client.old).view) had → Quietly client_side (held (N.client client.old) (lane_at P.Stream.remaining P.Stream.contents before «data».old [])) (held (N.client client.new) (lane_at P.Stream.remaining P.Stream.contents (P.history ports.new) «data».new [])) }
 {
     data.connection.begin(ports, stream);
     client.data_opened(host);
@@ -219,7 +222,8 @@ where
     R: Read + Drop,
     W: Write + Drop,
     P: Ports,
-    requires { unheard_of control.old ≡ [] }
+    requires heard { unheard_of control.old ≡ [] }
+    requires wanted { wants (N.client client.old).view ≡ Wants.Accept }
     ensures { GoesSettled (beside R.remaining W.contents (held (N.client client.old) (lane_at P.Stream.remaining P.Stream.contents (P.history ports.old) «data».old [])) control.old) (beside R.remaining W.contents (held (N.client client.new) (lane_at P.Stream.remaining P.Stream.contents (P.history ports.new) «data».new [])) control.new) result }
 {
     match ports.accept(true) {

@@ -15,7 +15,7 @@ returns-in-Came g c start settles =
     let lane = lane_at remaining contents (history c.args.ports.now) c.args.data.now [] in
     let old = beside g.R.Read.remaining g.W.Write.contents (held (g.N.Near.client c.args.client.now) lane) c.args.control.now in
     leads_then start old _ (settled_leads start old settles) (c.opened.ensures (history c.args.ports.now) (Came c.in-Came.host (remaining stream) (contents stream))
-    (subst (λ r. Accepts remaining contents r (history c.args.ports.now) (history c.accept.new.self)) c.in-Came.is c.accept.ensures) (inl refl) _ _ _)
+    (subst (λ r. Accepts remaining contents r (history c.args.ports.now) (history c.accept.new.self)) c.in-Came.is c.accept.ensures) (inl refl) c.requires.wanted _ _ _)
 
 pub returns-in-Spoken : goal.returns-in-Spoken
 returns-in-Spoken g c start settles =
@@ -37,4 +37,4 @@ returns-in-Refused g c start settles =
     let new = lane_at remaining contents (history c.accept.new.self) c.args.data.now [] in
     let old = beside g.R.Read.remaining g.W.Write.contents (held (g.N.Near.client c.args.client.now) lane) c.args.control.now in
     leads_then start old _ (settled_leads start old settles) (call_leads old (Refused (NotCame ∷ [])) (held (g.N.Near.client c.data_refused.new.self) new)
-    (c.data_refused.ensures, (subst (λ r. Accepts remaining contents r (history c.args.ports.now) (history c.accept.new.self)) c.in-Refused.is c.accept.ensures, refl)))
+    (c.data_refused.ensures, (subst (λ r. Accepts remaining contents r (history c.args.ports.now) (history c.accept.new.self)) c.in-Refused.is c.accept.ensures, refl), c.requires.wanted))

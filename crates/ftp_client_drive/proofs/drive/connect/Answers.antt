@@ -13,7 +13,7 @@ returns-in-Some g c =
     let stream = c.in-Some.stream in
     c.opened.ensures (history c.args.ports.now) (Connected endpoint (remaining stream) (contents stream))
     (subst (λ r. Connects remaining contents endpoint r (history c.args.ports.now) (history c.connect.new.self)) c.in-Some.is c.connect.ensures)
-    (inr (endpoint, refl, refl))
+    (inr (endpoint, refl, refl)) c.requires
 
 pub returns-in-None : goal.returns-in-None
 returns-in-None g c =
@@ -24,4 +24,5 @@ returns-in-None g c =
     quiet_call client_side (Refused (NotConnected endpoint ∷ [])) _ _ (
       c.data_refused.ensures,
       (subst (λ r. Connects remaining contents endpoint r (history c.args.ports.now) (history c.connect.new.self)) c.in-None.is c.connect.ensures, refl),
+      c.requires,
     )

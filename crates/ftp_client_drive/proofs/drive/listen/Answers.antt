@@ -10,6 +10,7 @@ returns-in-Some g c lane =
     quiet_call client_side (Listening c.in-Some.port) _ _ (
       c.listening.ensures,
       (subst (λ r. Adds (history c.args.ports.now) (history c.listen.new.self) (Listened r ∷ [])) c.in-Some.is c.listen.ensures, refl),
+      c.requires,
     )
 
 pub returns-in-None : goal.returns-in-None
@@ -18,4 +19,5 @@ returns-in-None g c lane =
     quiet_call client_side NoPort _ _ (
       c.listen_refused.ensures,
       (subst (λ r. Adds (history c.args.ports.now) (history c.listen.new.self) (Listened r ∷ [])) c.in-None.is c.listen.ensures, refl),
+      c.requires,
     )

@@ -7,5 +7,5 @@ use Rattle.ftp_client_drive.proofs.drive.lose.Goals as goal
 pub returns : goal.returns
 returns g c =
     let reset = c.reset.ensures in
-    quiet_then client_side _ _ _ (quiet_call client_side Break _ _ (c.data_fault.ensures, refl))
+    quiet_then client_side _ _ _ (quiet_call client_side Break _ _ (c.data_fault.ensures, refl, tt))
     (idles_left reset.0 _ _ (reset.1).left (g.N.Near.client c.data_fault.new.self))

@@ -17,4 +17,5 @@ returns-clause-quiet g c asked =
       (gave.ensures.gave, gave.ensures.now),
       fills remaining contents old.connection c.note.new.self asked old.room gave.new.room count (c.note.ensures.stream ∙ c.took.ensures.stream)
           c.requires (c.note.ensures.at ∙ c.took.ensures.at) (c.note.ensures.end ∙ c.took.ensures.end),
+      tt,
     )
