@@ -12,15 +12,15 @@ use Rattle.ftp_control.proofs.Leading.{call_leads, leads_by, leads_then}
 use Rattle.ftp_control.proofs.Totals.{cuts, sums}
 use Rattle.ftp_operation.specs.declared.answer.Answer.{Answer}
 use Rattle.ftp_operation.specs.Answer.{Said, Lost}
-use Rattle.ftp_client_model.specs.Calls.{control_end, data_closed, is_sound, report_of, report_of_job}
+use Rattle.ftp_client_model.specs.Calls.{control_end, data_closed, is_sound, report_of, report_of_job, reported_by, reports}
 use Rattle.ftp_client_model.specs.Failing.{Client, HearsIfRoom}
 use Rattle.ftp_client_model.specs.View.{View, Job, Idle, Waiting, Doing, Transferring, Told, failed_job, fails_by}
 use Rattle.ftp_client_model.specs.declared.client.Failure.TheVariants as Failures
 use Rattle.ftp_client_model.specs.declared.client.Standing.{Standing}
 use Rattle.ftp_client_model.specs.declared.client.Standing.TheVariants as Stands
 use Rattle.ftp_client_drive.specs.Beside.{held}
-use Rattle.ftp_client_drive.specs.Side.{Closed, Does, Gives, Held, IsCut, Left, Report, client_side, move_of}
-use Rattle.ftp_client_drive.specs.Driving.{Answers, BrokeOff, Drove, GivesUp, IsReset, Tells, is_under_way}
+use Rattle.ftp_client_drive.specs.Side.{Closed, Does, Gives, Held, IsCut, Left, Report, client_side, is_under_way, move_of}
+use Rattle.ftp_client_drive.specs.Driving.{Answers, BrokeOff, Drove, GivesUp, IsReset, Tells}
 
 -- it heard the first of the octets that were read
 pub hears_next : (old new : Stand client_side) (count : ℕ) → count ≤ length old.unheard → HearsIfRoom old.owner.client new.owner.client old.unheard count
@@ -53,6 +53,29 @@ pub cut_loses : (v : View) → is_sound v.standing ≡ true → is_under_way v.j
 unfolding control_end
 cut_loses v sound under = lost_by v.standing v sound under
 
+-- and the client has failed
+cut_by : (standing : Standing) (v : View) → v.standing ≡ standing → is_sound (fails_by standing Failures.Lost v).standing ≡ false
+cut_by Stands.Greeting v is = refl
+cut_by Stands.User v is = refl
+cut_by Stands.Pass v is = refl
+cut_by Stands.Entered v is = refl
+cut_by (Stands.Failed failure) v is = ap is_sound is
+
+cut_fails : (v : View) → is_sound (control_end v).standing ≡ false
+unfolding control_end
+cut_fails v = cut_by v.standing v refl
+
+-- one that gave its answer is idle
+told_by : (answer : Said) (job : Job) (v : View) → Some answer ≡ report_of_job job → is_under_way (reported_by job v).job ≡ false
+told_by answer (Told said) v is = refl
+told_by answer Idle v is = absurd (cc)
+told_by answer (Waiting op) v is = absurd (cc)
+told_by answer (Doing op step) v is = absurd (cc)
+told_by answer (Transferring op transfer) v is = absurd (cc)
+
+told_is_idle : (answer : Said) (v : View) → Some answer ≡ report_of v → is_under_way (reports v).job ≡ false
+told_is_idle answer v is = told_by answer v.job v is
+
 -- the port alone is closed where none stands
 shut_by : (stands : Bool) (left written : Option (List ℕ)) (unwritten : List ℕ) (asked : Asked) → stands ≡ false → IsEnded stands left written unwritten asked → asked ≡ Shut
 shut_by true left written unwritten asked none ended = absurd (let e : true ≡ false = none in cc)
@@ -74,7 +97,7 @@ gave_up said asked last old cut closed new mid lane closes reports is_cut reset 
   shut = held cut lane;
   shuts = (refl, is_shut last mid lane (reset.left).stands left, tt);
   closed = held closed lane;
-  closes = (closes, (refl, left.stands), tt);
+  closes = (closes, (refl, left.stands), λ sound under. absurd (let e : is_sound cut.view.standing ≡ false = ap (λ v. is_sound v.standing) (is_cut.0).0 ∙ cut_fails old.client.view in let t : is_sound cut.view.standing ≡ true = sound in cc));
   reports = (reports, refl, tt);
   lost = λ sound under. reports.0 ∙ ap report_of (closes.0 ∙ ap data_closed (is_cut.0).0) ∙ cut_loses old.client.view sound under;
 }
@@ -114,7 +137,7 @@ pub drove : (start mid now : Stand client_side) (answer : Said) (asked : Asked) 
 drove start mid now answer asked unwritten untold tells left closed same =
     let gone = with_owner (held mid.owner.client now.owner.lane) mid in
     let led : Led {side = client_side} (Other Closed ∷ Other (Left asked) ∷ Other (Report (Some answer)) ∷ tells.1.deeds) start now =
-    (gone, (mid, (tells.0, tells.1.led, tells.2), ((refl, left, tt), refl)), ((closed, (refl, left.stands), tt), same)) in
+    (gone, (mid, (tells.0, tells.1.led, tells.2), ((refl, left, tt), refl)), ((closed, (refl, left.stands), λ sound under. absurd (let e : is_under_way mid.owner.client.view.job ≡ false = ap (λ v. is_under_way v.job) ((tells.2).0.0.1).0 ∙ told_is_idle answer tells.0.owner.client.view ((tells.2).0.0.0) in let t : is_under_way mid.owner.client.view.job ≡ true = under in cc)), same)) in
     record {
       answer = answer;
       answered = refl;

@@ -12,9 +12,8 @@ use Rattle.ftp_operation.specs.Answer.{Said, Lost, said_of}
 use Rattle.ftp_operation.specs.declared.answer.Answer.{Answer}
 use Rattle.ftp_client_model.specs.Calls.{is_sound}
 use Rattle.ftp_client_model.specs.Failing.{Client}
-use Rattle.ftp_client_model.specs.View.{Job, Idle, Waiting, Doing, Transferring, Told}
 use Rattle.ftp_client_drive.specs.Beside.{held}
-use Rattle.ftp_client_drive.specs.Side.{Closed, Left, Report, Called, Held, IsCut, client_side, move_of}
+use Rattle.ftp_client_drive.specs.Side.{Closed, Left, Report, Called, Held, IsCut, client_side, is_under_way, move_of}
 
 -- the data connection alone moves, whatever the client holds
 abbrev pub Idles : (old new : Lane) → Type 0
@@ -53,14 +52,6 @@ pub record Drove (start now : Stand client_side) (said : Option Said) : Type 0 w
   pub asked : Asked
   pub sums : Sums {side = client_side} (Other Closed ∷ Other (Left asked) ∷ Other (Report said) ∷ deeds) start now
   pub carries : Carries {side = client_side} move_of (Other Closed ∷ Other (Left asked) ∷ Other (Report said) ∷ deeds) start.owner.lane now.owner.lane
-
--- an operation was begun and is not answered
-abbrev pub is_under_way : Job → Bool
-is_under_way Idle = false
-is_under_way (Waiting op) = true
-is_under_way (Doing op step) = true
-is_under_way (Transferring op transfer) = true
-is_under_way (Told answer) = false
 
 -- the client is told that the control connection ended, its data connection is reset and then the port closed, it is told that the data
 -- connection is closed, and gives its report: an operation under way is lost

@@ -1,6 +1,6 @@
 -- A client as the end of a session that is driven: what its calls do, as `Near` says it, and how its data connection moves (RFC 959, section 2.3).
 use Rattle.std.proofs.Common.{◌∙◌, ap}
-use Rattle.std.specs.Prelude.{◌≡◌, ◌≢◌, ⊤, ℕ, true, List, [], ◌∷◌, length, take, Option, Some, None, refl}
+use Rattle.std.specs.Prelude.{◌≡◌, ◌≢◌, ⊤, ℕ, Bool, true, false, IsTrue, List, [], ◌∷◌, length, take, Option, Some, None, refl}
 use Rattle.ftp_control.specs.Asking.{Asked, Listened, Came, Connected, NotCame, NotConnected}
 use Rattle.ftp_control.specs.Lane.{Lane, Move, Moves, Stays, Waits, Reads, Writes, Gives as GivesOctets, Takes, Ends, Stops, Asks, Opens, Leaves, with_untold}
 use Rattle.ftp_control.specs.Side.{Side}
@@ -8,7 +8,8 @@ use Rattle.ftp_endpoint.specs.declared.host.Host.{Host}
 use Rattle.ftp_ends.specs.declared.link.Wants.{Wants}
 use Rattle.ftp_ends.specs.declared.link.Wants.TheVariants as Want
 use Rattle.ftp_operation.specs.Answer as Answers
-use Rattle.ftp_client_model.specs.Calls.{control_end, data_closed, data_end, data_fault, data_opened, data_refused, gives_control, gives_data, listen_refused, listening, report_of, reports, to_give, wants}
+use Rattle.ftp_client_model.specs.Calls.{control_end, data_closed, data_end, data_fault, data_opened, data_refused, gives_control, gives_data, is_sound, listen_refused, listening, report_of, reports, to_give, wants}
+use Rattle.ftp_client_model.specs.View.{Job, Idle, Waiting, Doing, Transferring, Told}
 use Rattle.ftp_client_model.specs.Failing.{Client, HearsIfRoom, Holds, HoldsIfRoom, ReceivesIfRoom, data_end_short, data_fault_short, data_opened_short, data_refused_short, listen_refused_short, listening_short, short}
 
 -- a client and its data connection
@@ -91,13 +92,23 @@ IsRefused want (NotCame ∷ []) = want ≡ Want.Accept
 IsRefused want (NotConnected endpoint ∷ []) = want ≡ Want.Connect endpoint
 IsRefused want other = ⊥
 
--- when each of them may be done: as the client wants it, and an end is told only while its data connection stands
+-- an operation was begun and is not answered
+abbrev pub is_under_way : Job → Bool
+is_under_way Idle = false
+is_under_way (Waiting op) = true
+is_under_way (Doing op step) = true
+is_under_way (Transferring op transfer) = true
+is_under_way (Told answer) = false
+
+-- when each of them may be done: as the client wants it; an end is told only while its data connection stands, and a close only as it wants that,
+-- while an operation is under way and it has not failed
 abbrev pub IsDue : Call → Held → Type 0
 IsDue (Listening port) old = wants old.client.view ≡ Want.Listen
 IsDue NoPort old = wants old.client.view ≡ Want.Listen
 IsDue (Opened host asked at_first so_far) old = AreWanted (wants old.client.view) asked
 IsDue (Refused asked) old = IsRefused (wants old.client.view) asked
 IsDue End old = old.lane.stands ≡ true
+IsDue Closed old = IsTrue (is_sound old.client.view.standing) → IsTrue (is_under_way old.client.view.job) → wants old.client.view ≡ Want.CloseData
 IsDue other old = ⊤
 
 abbrev pub Called : Call → (old new : Held) → Type 0

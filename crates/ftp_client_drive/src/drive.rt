@@ -64,6 +64,7 @@ where
     A: Allocator,
     N: Near<A>,
     P: Ports,
+    requires { wants (N.client client.old).view ≡ Wants.CloseData }
     ensures { Quietly client_side (held (N.client client.old) (lane_at P.Stream.remaining P.Stream.contents (P.history ports.old) «data».old [])) (held (N.client client.new) (lane_at P.Stream.remaining P.Stream.contents (P.history ports.new) «data».new [])) }
 {
     data.leave(ports);

@@ -8,4 +8,4 @@ pub returns : goal.returns
 returns g c =
     let left = c.leave.ensures in
     quiet_then client_side _ _ _ (idles_left left.0 _ _ left.1 (g.N.Near.client c.args.client.now))
-    (quiet_call client_side Closed _ _ (c.data_closed.ensures, (refl, left.1.stands), tt))
+    (quiet_call client_side Closed _ _ (c.data_closed.ensures, (refl, left.1.stands), λ sound under. c.requires))
