@@ -1,59 +1,44 @@
 use crate::report::{is_printed, stretched};
-use crate::wires::{
-    ASCII_BLOCK, ASCII_RECORD_BLOCK, ASCII_RECORD_STREAM, ASCII_STREAM, FILE_BLOCK, FILE_STREAM,
-    RECORD_BLOCK, RECORD_STREAM, comes_back,
-};
+use crate::row::{Row, form_of};
+use crate::wires::comes_back;
 use ftp_mode::FrameFault;
-use ftp_settings::Representation;
-use rows_base::Paper;
+use rows_base::{Paper, split};
 use std::alloc::Global;
 
-const REPRESENTATIONS: &[Representation] = &[
-    FILE_STREAM,
-    RECORD_STREAM,
-    FILE_BLOCK,
-    RECORD_BLOCK,
-    ASCII_STREAM,
-    ASCII_RECORD_STREAM,
-    ASCII_BLOCK,
-    ASCII_RECORD_BLOCK,
-];
-
-/// Files rich in CR, LF, NUL and 255.
-const FILES: &[&'static [u8]] = &[
-    &[],
-    &[0x0A],
-    &[0x0D],
-    &[0xFF],
-    &[0x0A, 0x0A, 0x61],
-    &[
-        0x0D, 0x0A, 0xFF, 0x00, 0x0D, 0x0D, 0x0A, 0x0A, 0xFF, 0xFF, 0x01,
-    ],
-    &[0x0D, 0x00, 0xFF, 0x02, 0x0A, 0xFF, 0x03, 0x00, 0x0D],
-    &[0x00, 0x0A, 0x0D, 0x0A, 0xFF, 0x0A],
-];
-
-/// Whether each file comes back.
-fn all_come_back(alloc: Global, form: Representation) -> bool {
+/// Whether a file comes back in each of these representations.
+fn comes_back_each(alloc: Global, forms: &[u8], file: &[u8]) -> bool {
     let mut all = true;
-    for file in FILES {
-        all &= comes_back(alloc, form, None, file, &[1, 3, 64]);
+    let mut rest = forms;
+    for _ in 0..forms.len() {
+        if rest.is_empty() {
+            break;
+        }
+        let (letters, behind) = split(rest);
+        all &= comes_back(alloc, form_of(letters), None, file, &[1, 3, 64]);
+        rest = behind;
     }
     all
 }
 
-/// Whether each file comes back in each representation.
-fn come_back_each(alloc: Global) -> bool {
-    let mut all = true;
-    for form in REPRESENTATIONS {
-        all &= all_come_back(alloc, *form);
-    }
-    all
+/// Writes whether a file comes back in each of the row's representations.
+pub(crate) fn show(alloc: Global, row: &Row<'_>, paper: &mut Paper) {
+    let comes = comes_back_each(alloc, row.head, row.octets);
+    paper.put(if comes {
+        b"there and back".as_slice()
+    } else {
+        b"WRONG"
+    });
 }
 
 fn seventy_thousand_come_back(alloc: Global) -> bool {
     let file = stretched(alloc, b"", b'x', 70_000, b"");
-    comes_back(alloc, FILE_BLOCK, Some(0), file.text(), &[1, 4096, 70_000])
+    comes_back(
+        alloc,
+        form_of(b"IFB"),
+        Some(0),
+        file.text(),
+        &[1, 4096, 70_000],
+    )
 }
 
 const FAULTS: &[(FrameFault, &'static str)] = &[
@@ -73,7 +58,6 @@ fn are_printed(alloc: Global) -> bool {
 
 /// What is tried here, and whether it holds.
 pub(crate) fn tried(alloc: Global, report: &mut Paper) {
-    report.holds("each representation there and back", come_back_each(alloc));
     report.holds(
         "seventy thousand octets with a marker come back",
         seventy_thousand_come_back(alloc),

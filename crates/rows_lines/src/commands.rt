@@ -1,4 +1,5 @@
 //! Rows of the table of verbs, of RFC 959, RFC 2428 and RFC 3659, and refused growths.
+use crate::endpoints::put_endpoint;
 use crate::report::{put_printed, put_quoted, stretched};
 use ftp_command::{Argument, Command, CommandFault, Endpoint, Host, read, write};
 use rows_base::{Paper, Refusing};
@@ -35,26 +36,22 @@ fn written<A: Allocator, B: Allocator>(
     (write_said(&said, out), endpoint_of(&said))
 }
 
-/// Writes the line that is written for what a line says, or its fault.
-pub(crate) fn put_said(alloc: Global, line: &[u8], paper: &mut Paper) {
-    let mut out = Vec::new(alloc);
-    match written(read(alloc, line), &mut out).0 {
+/// Puts the line that is written for what a line says, or its fault.
+pub(crate) fn put<A: Allocator + Copy>(heap: A, alloc: Global, line: &[u8], paper: &mut Paper) {
+    let mut out = Vec::new(heap);
+    match written(read(heap, line), &mut out).0 {
         Ok(()) => put_quoted(out.as_slice(), paper),
         Err(fault) => put_printed(alloc, &fault, paper),
     }
 }
 
-/// Whether a line says PORT or EPRT of this endpoint.
-fn names(alloc: Global, line: &[u8], host: Host, port: u16) -> bool {
+/// Writes the endpoint of PORT or EPRT.
+pub(crate) fn show_endpoint(alloc: Global, line: &[u8], paper: &mut Paper) {
     let mut out = Vec::new(alloc);
-    written(read(alloc, line), &mut out).1 == Some(Endpoint { host, port })
-}
-
-fn endpoints_of_both_families(alloc: Global) -> bool {
-    let local = Host::V4([127, 0, 0, 1]);
-    let last = Host::V6([0, 0, 0, 0, 0, 0, 0, 0, 0, 0, 0, 0, 0, 0, 0, 1]);
-    names(alloc, b"PORT 127,0,0,1,007,138", local, 1930)
-        & names(alloc, b"EPRT |2|::1|1930|", last, 1930)
+    match written(read(alloc, line), &mut out).1 {
+        Some(endpoint) => put_endpoint(endpoint, paper),
+        None => paper.put(b"none"),
+    }
 }
 
 /// Whether `write` says that no line stands for the command, and leaves the vector, which has one octet, as it was.
@@ -117,43 +114,6 @@ fn words_are_limited(alloc: Global) -> bool {
         & (line_of_words(alloc, 1_018) == Err(CommandFault::BadArgument))
 }
 
-/// Reads and writes a line.
-fn rewrites<A: Allocator + Copy>(alloc: A, line: &[u8]) -> Result<(), CommandFault> {
-    let mut out = Vec::new(alloc);
-    written(read(alloc, line), &mut out).0
-}
-
-/// Whether a line is read and written, or wants memory, where this growth is refused, and how many growths are left.
-fn growth(alloc: Global, line: &[u8], refused: u64) -> (bool, bool, u64) {
-    let heap = Refusing::new(alloc, refused);
-    let answer = rewrites(&heap, line);
-    (
-        answer.is_ok(),
-        answer == Err(CommandFault::Memory),
-        heap.left(),
-    )
-}
-
-/// Whether reading and writing the line asks for memory, and is Memory where any one growth is refused.
-fn is_memory(alloc: Global, line: &[u8]) -> bool {
-    let (mut all, _, left) = growth(alloc, line, 0);
-    let growths = 0u64.wrapping_sub(left);
-    for refused in 1..=growths {
-        all &= growth(alloc, line, refused).1;
-    }
-    all & (growths > 0)
-}
-
-const GROWING: &[&'static [u8]] = &[b"USER guest", b"LIST d", b"EPRT |2|::1|1930|", b"REST 5"];
-
-fn are_memory(alloc: Global) -> bool {
-    let mut all = true;
-    for line in GROWING {
-        all &= is_memory(alloc, line);
-    }
-    all
-}
-
 /// Writes PWD.
 fn add_pwd<A: Allocator>(out: &mut Vec<u8, A>) -> Result<(), CommandFault> {
     let pwd: Command<Argument<Global>> = Command::Pwd;
@@ -179,15 +139,10 @@ fn leaves_the_vector(alloc: Global) -> bool {
 /// What is tried here, and whether it holds.
 pub(crate) fn tried(alloc: Global, report: &mut Paper) {
     report.holds(
-        "endpoints of both families",
-        endpoints_of_both_families(alloc),
-    );
-    report.holds(
         "texts and values that no line stands for",
         have_no_line(alloc),
     );
     report.holds("the longest words", words_are_limited(alloc));
-    report.holds("a refused growth is memory", are_memory(alloc));
     report.holds(
         "a refused growth leaves the vector",
         leaves_the_vector(alloc),

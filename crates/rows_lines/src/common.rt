@@ -1,6 +1,7 @@
 //! Replies and lines for the tests.
-use ftp_reply::{Lines, Reader, Reply, ReplyFault, quoted_of};
-use std::alloc::{Allocator, Global};
+use ftp_reply::{Lines, Reader, Reply, ReplyFault};
+use rows_base::{number, octets_of, quoted, split};
+use std::alloc::Global;
 
 /// A reply from its line.
 pub fn reply_of(alloc: Global, line: &[u8]) -> Option<Reply<Global>> {
@@ -10,19 +11,34 @@ pub fn reply_of(alloc: Global, line: &[u8]) -> Option<Reply<Global>> {
     }
 }
 
-/// The lines of these texts, those that have room.
-fn lines_of(alloc: Global, texts: &[&[u8]]) -> Lines<Global> {
-    let mut lines = Lines::new(alloc);
-    for text in texts {
-        if lines.has_room(text) {
-            let _pushed = lines.push(text);
+/// Puts a line where it has room.
+fn add_line(alloc: Global, text: &[u8], lines: &mut Lines<Global>) {
+    if let Ok(line) = &octets_of(alloc, text) {
+        if lines.has_room(line.as_slice()) {
+            let _pushed = lines.push(line.as_slice());
         }
+    }
+}
+
+/// The quoted lines of a text.
+fn lines_of(alloc: Global, texts: &[u8]) -> Lines<Global> {
+    let mut lines = Lines::new(alloc);
+    let mut rest = texts;
+    for _ in 0..texts.len() {
+        if rest.is_empty() {
+            break;
+        }
+        let (text, behind) = quoted(rest);
+        add_line(alloc, text, &mut lines);
+        rest = behind;
     }
     lines
 }
 
-/// A reply of these lines.
-pub fn reply_with(alloc: Global, code: u16, texts: &[&[u8]]) -> Option<Reply<Global>> {
+/// A reply of a code and quoted lines.
+pub fn reply_with(alloc: Global, row: &[u8]) -> Option<Reply<Global>> {
+    let (code, texts) = split(row);
+    let code = u16::try_from(number(code)).unwrap_or(0);
     let lines = lines_of(alloc, texts);
     if lines.len() == 0 || code < 100 || code > 599 {
         return None;
@@ -31,33 +47,9 @@ pub fn reply_with(alloc: Global, code: u16, texts: &[&[u8]]) -> Option<Reply<Glo
 }
 
 /// Whether a reply ends with the line.
-pub fn hears<A: Allocator + Clone>(
-    reader: &mut Reader<A>,
-    line: &[u8],
-) -> Result<bool, ReplyFault> {
+pub fn hears(reader: &mut Reader<Global>, line: &[u8]) -> Result<bool, ReplyFault> {
     match reader.line(line) {
         Ok(reply) => Ok(reply.is_some()),
-        Err(fault) => Err(fault),
-    }
-}
-
-/// Whether a reply has these texts.
-pub fn texts_are<A: Allocator>(reply: &Reply<A>, texts: &[&[u8]]) -> bool {
-    let mut all = reply.lines.len() == texts.len();
-    for (i, text) in texts.iter().enumerate() {
-        all &= reply.lines.get(i) == Some(*text);
-    }
-    all
-}
-
-/// Whether the path that a reply quotes is this one.
-pub fn quotes<A: Allocator>(
-    alloc: A,
-    reply: &Reply<Global>,
-    path: &[u8],
-) -> Result<bool, ReplyFault> {
-    match quoted_of(alloc, reply) {
-        Ok(read) => Ok(read.as_slice() == path),
         Err(fault) => Err(fault),
     }
 }

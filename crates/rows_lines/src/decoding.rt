@@ -1,9 +1,8 @@
 //! Octets of data connections, and what a decoder makes of them.
-use crate::wires::{ASCII_RECORD_STREAM, ASCII_STREAM, RECORD_BLOCK, RECORD_STREAM};
-use ftp_mode::FrameFault;
-use ftp_settings::Representation;
+use crate::report::{put_printed, put_quoted};
+use crate::row::{Row, form_of};
 use ftp_wire::{Decoded, Decoder, Taken};
-use rows_base::{Paper, Refusing};
+use rows_base::{Paper, Refusing, number, octets_of, quoted, split};
 use std::alloc::{Allocator, Global};
 
 /// Hands a decoder a wire in pieces of this size.
@@ -17,136 +16,125 @@ fn hear_all(decoder: &mut Decoder<Vec<u8>>, wire: &[u8], size: usize) {
     }
 }
 
-/// A wire that has ended, and the file that it gives.
-type Row = (Representation, &'static [u8], &'static [u8]);
-
-const WIRES: &[Row] = &[
-    (ASCII_STREAM, b"a\r\nb\r\0c\r\rd\r", b"a\nb\rc\r\rd\r"),
-    (
-        RECORD_STREAM,
-        b"ab\xFF\x01c\xFF\xFF\xFF\x03",
-        b"ab\nc\xFF\n",
-    ),
-    (ASCII_RECORD_STREAM, b"a\r\xFF\x01\xFF\x02", b"a\r\n"),
-    (RECORD_BLOCK, b"\x80\x00\x02ab\x40\x00\x01cd", b"ab\nc"),
-];
-
-/// Whether a wire that has ended gives this file.
-fn gives(decoder: &mut Decoder<Vec<u8>>, wire: &[u8], file: &[u8], size: usize) -> bool {
+/// Hears a wire in pieces of this size, and its end. Whether all of it is heard, and memory was not refused.
+fn ends(decoder: &mut Decoder<Vec<u8>>, wire: &[u8], size: usize) -> bool {
     hear_all(decoder, wire, size);
     let whole = decoder.is_whole();
-    let ended = decoder.end().is_ok();
-    whole & ended & (decoder.sink().as_slice() == file)
+    whole & decoder.end().is_ok()
 }
 
 /// Whether a wire that has ended gives this file, by pieces of this size.
-fn gives_by(alloc: Global, row: &Row, size: usize) -> bool {
-    let mut decoder = Decoder::new(row.0, Vec::new(alloc));
-    gives(&mut decoder, row.1, row.2, size)
+fn gives(alloc: Global, row: &Row<'_>, file: &[u8], size: usize) -> bool {
+    let mut decoder = Decoder::new(form_of(row.head), Vec::new(alloc));
+    ends(&mut decoder, row.octets, size) & (decoder.sink().as_slice() == file)
 }
 
-fn wires_give_files(alloc: Global) -> bool {
-    let mut all = true;
-    for row in WIRES {
-        all &= gives_by(alloc, row, 1) & gives_by(alloc, row, 2) & gives_by(alloc, row, 100);
+/// Writes the file that a wire that has ended gives, in any pieces.
+pub(crate) fn show_ended(alloc: Global, row: &Row<'_>, paper: &mut Paper) {
+    let mut decoder = Decoder::new(form_of(row.head), Vec::new(alloc));
+    let _whole = ends(&mut decoder, row.octets, 100);
+    show_file(alloc, row, decoder.sink().as_slice(), paper);
+}
+
+fn show_file(alloc: Global, row: &Row<'_>, file: &[u8], paper: &mut Paper) {
+    put_quoted(file, paper);
+    if !(gives(alloc, row, file, 1) & gives(alloc, row, file, 2) & gives(alloc, row, file, 100)) {
+        paper.put(b", but not in any pieces");
     }
-    all
 }
 
-/// Whether a wire that broke settles this.
-fn settles(alloc: Global, form: Representation, wire: &[u8], file: &[u8]) -> bool {
-    let mut decoder = Decoder::new(form, Vec::new(alloc));
-    hear_all(&mut decoder, wire, 3);
+/// Writes what a wire that broke settles, in pieces of three octets.
+pub(crate) fn show_broken(alloc: Global, row: &Row<'_>, paper: &mut Paper) {
+    let mut decoder = Decoder::new(form_of(row.head), Vec::new(alloc));
+    hear_all(&mut decoder, row.octets, 3);
     let sink = decoder.into_sink();
-    sink.as_slice() == file
+    put_quoted(sink.as_slice(), paper);
 }
 
-/// Whether a piece is heard so, with this room.
-fn hears<A: Allocator>(
+/// Writes what a decoder tells of each piece, with a room of so many octets and where this growth is refused.
+pub(crate) fn show_pieces(alloc: Global, row: &Row<'_>, paper: &mut Paper) {
+    let (letters, words) = split(row.text);
+    let (room, words) = split(words);
+    let (refused, pieces) = split(words);
+    let heap = Refusing::new(alloc, number(refused));
+    let mut decoder = Decoder::new(form_of(letters), Vec::new(&heap));
+    tell_pieces(alloc, &mut decoder, pieces, number(room), paper);
+}
+
+fn tell_pieces<A: Allocator>(
+    alloc: Global,
+    decoder: &mut Decoder<Vec<u8, A>>,
+    pieces: &[u8],
+    room: u64,
+    paper: &mut Paper,
+) {
+    let mut rest = pieces;
+    for _ in 0..pieces.len() {
+        if rest.is_empty() {
+            break;
+        }
+        if rest.len() < pieces.len() {
+            paper.put(b"; ");
+        }
+        let (piece, behind) = quoted(rest);
+        tell(alloc, decoder, (rest, piece), room, paper);
+        rest = behind;
+    }
+}
+
+/// Octets between double quotes are heard, and else it is said how many of the file are settled, and whether they may be all.
+fn tell<A: Allocator>(
+    alloc: Global,
+    decoder: &mut Decoder<Vec<u8, A>>,
+    (text, piece): (&[u8], &[u8]),
+    room: u64,
+    paper: &mut Paper,
+) {
+    match text {
+        [b'"', ..] => tell_piece(alloc, decoder, piece, room, paper),
+        _ => {
+            paper.number(decoder.len());
+            paper.put(if decoder.is_whole() {
+                b" whole".as_slice()
+            } else {
+                b" so far"
+            });
+        }
+    }
+}
+
+fn tell_piece<A: Allocator>(
+    alloc: Global,
     decoder: &mut Decoder<Vec<u8, A>>,
     piece: &[u8],
     room: u64,
-    told: Taken,
-) -> bool {
-    decoder.hear(piece, room) == told
-}
-
-fn tells_a_marker(decoder: &mut Decoder<Vec<u8>>) -> bool {
-    let told = Taken {
-        count: 9,
-        mark: Some(2),
-        heard: Decoded::More,
+    paper: &mut Paper,
+) {
+    let Ok(octets) = octets_of(alloc, piece) else {
+        return;
     };
-    let heard = hears(decoder, b"\x00\x00\x02ab\x90\x00\x017\x40", 10, told);
-    heard & (decoder.marker() == b"7".as_slice()) & (decoder.len() == 3)
+    let taken = decoder.hear(octets.as_slice(), room);
+    put_taken(alloc, taken, paper);
+    if taken.mark.is_some() {
+        put_quoted(decoder.marker(), paper);
+    }
 }
 
-fn marker_is_told(alloc: Global) -> bool {
-    let mut decoder = Decoder::new(RECORD_BLOCK, Vec::new(alloc));
-    tells_a_marker(&mut decoder)
-}
-
-fn tells_a_fault(decoder: &mut Decoder<Vec<u8>>) -> bool {
-    let told = Taken {
-        count: 3,
-        mark: None,
-        heard: Decoded::Faulty(FrameFault::BadEscape(2)),
-    };
-    let first = hears(decoder, b"a\xFF\x04b", 10, told);
-    let again = hears(decoder, b"bc", 10, Taken { count: 1, ..told });
-    first & again & !decoder.is_whole()
-}
-
-fn fault_is_told(alloc: Global) -> bool {
-    let mut decoder = Decoder::new(RECORD_STREAM, Vec::new(alloc));
-    tells_a_fault(&mut decoder)
-}
-
-/// With the fourth octet the CR before it is one, and the file has four.
-fn room_is_passed(alloc: Global) -> bool {
-    let mut decoder = Decoder::new(ASCII_STREAM, Vec::new(alloc));
-    let over = Taken {
-        count: 4,
-        mark: None,
-        heard: Decoded::Over,
-    };
-    hears(&mut decoder, b"ab\rcd", 3, over)
-}
-
-fn tells_refusal<A: Allocator>(alloc: A) -> bool {
-    let mut decoder = Decoder::new(RECORD_STREAM, Vec::new(alloc));
-    let refused = Taken {
-        count: 1,
-        mark: None,
-        heard: Decoded::NoMemory,
-    };
-    hears(&mut decoder, b"ab", 10, refused)
-}
-
-fn refusal_is_told(alloc: Global) -> bool {
-    let heap = Refusing::new(alloc, 1);
-    tells_refusal(&heap)
-}
-
-/// What is tried here, and whether it holds.
-pub(crate) fn tried(alloc: Global, report: &mut Paper) {
-    report.holds("decoder: wires give files", wires_give_files(alloc));
-    report.holds(
-        "decoder: a break drops a return",
-        settles(alloc, ASCII_STREAM, b"a\r\nb\r", b"a\nb")
-            & settles(alloc, RECORD_BLOCK, b"\x00\x00\x05ab", b"ab"),
-    );
-    report.holds(
-        "decoder: a marker is told before its end",
-        marker_is_told(alloc),
-    );
-    report.holds(
-        "decoder: a fault comes with its octet",
-        fault_is_told(alloc),
-    );
-    report.holds(
-        "decoder: a room is passed by one octet",
-        room_is_passed(alloc),
-    );
-    report.holds("decoder: a refused growth is told", refusal_is_told(alloc));
+/// Puts how many octets were taken, at how many of the file a marker ended, and what the last told.
+fn put_taken(alloc: Global, taken: Taken, paper: &mut Paper) {
+    paper.number(taken.count as u64);
+    if let Some(mark) = taken.mark {
+        paper.put(b" mark at ");
+        paper.number(mark);
+        paper.put(b" ");
+    }
+    match taken.heard {
+        Decoded::More => {}
+        Decoded::Over => paper.put(b" over"),
+        Decoded::NoMemory => paper.put(b" no memory"),
+        Decoded::Faulty(fault) => {
+            paper.put(b" ");
+            put_printed(alloc, &fault, paper);
+        }
+    }
 }

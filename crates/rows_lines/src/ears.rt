@@ -1,12 +1,10 @@
 //! What octets of a control connection say, in every cutting, and the memory that an ear asks for.
 use crate::caller::events_in;
-use crate::report::stretched;
+use crate::report::{put_quoted, stretched};
+use crate::row::Row;
 use ftp_nvt::{Ear, Event, NvtFault};
-use rows_base::{Paper, Refusing};
+use rows_base::{Paper, Refusing, number, split};
 use std::alloc::{Allocator, Global};
-
-/// Octets, and what they say.
-type Row = (&'static [u8], &'static [u8]);
 
 /// Puts the events of a piece as text: a line between `<` and `>`, a line that is too long as `!`, an owed answer
 /// between `[` and `]`.
@@ -40,88 +38,43 @@ fn put_cut(ear: &mut Ear<Global>, octets: &[u8], at: usize, size: usize, said: &
     }
 }
 
-/// Whether a row is said to an ear, cut so.
-fn is_said(alloc: Global, ear: &mut Ear<Global>, row: &Row, at: usize, size: usize) -> bool {
-    let mut said = Paper::new(alloc);
-    put_cut(ear, row.0, at, size, &mut said);
-    said.text() == row.1
-}
-
-/// Whether a row says the same cut once at this place, and then into pieces of this size.
-fn holds_cut(alloc: Global, limit: usize, row: &Row, at: usize, size: usize) -> bool {
+/// Puts what octets say to an ear of this limit, cut once at this place, and then into pieces of this size.
+fn put_said(alloc: Global, limit: usize, octets: &[u8], at: usize, size: usize, said: &mut Paper) {
     match Ear::new(alloc, limit) {
-        Ok(mut ear) => is_said(alloc, &mut ear, row, at, size),
-        Err(_) => false,
+        Ok(mut ear) => put_cut(&mut ear, octets, at, size, said),
+        Err(_) => said.fill(),
     }
 }
 
-/// Whether a row says the same in every cutting.
-fn holds(alloc: Global, limit: usize, row: &Row) -> bool {
+/// Whether octets say this where they are cut so.
+fn says(alloc: Global, limit: usize, octets: &[u8], at: usize, size: usize, said: &[u8]) -> bool {
+    let mut other = Paper::new(alloc);
+    put_said(alloc, limit, octets, at, size, &mut other);
+    other.text() == said
+}
+
+/// Whether octets say this in every cutting.
+fn says_always(alloc: Global, limit: usize, octets: &[u8], said: &[u8]) -> bool {
     let mut all = true;
-    for at in 0..=row.0.len() {
-        all &= holds_cut(alloc, limit, row, at, 64);
-        all &= holds_cut(alloc, limit, row, at, 1);
-        all &= holds_cut(alloc, limit, row, at, 2);
-        all &= holds_cut(alloc, limit, row, at, 3);
+    for at in 0..=octets.len() {
+        all &= says(alloc, limit, octets, at, 64, said);
+        all &= says(alloc, limit, octets, at, 1, said);
+        all &= says(alloc, limit, octets, at, 2, said);
+        all &= says(alloc, limit, octets, at, 3, said);
     }
     all
 }
 
-/// Whether each row says the same in every cutting.
-fn all_hold(alloc: Global, limit: usize, rows: &[Row]) -> bool {
-    let mut all = true;
-    for row in rows {
-        all &= holds(alloc, limit, row);
+/// Writes what octets say to an ear of the row's limit, in every cutting.
+pub(crate) fn show(alloc: Global, row: &Row<'_>, paper: &mut Paper) {
+    let limit = number(split(row.head).0) as usize;
+    let mut said = Paper::new(alloc);
+    put_said(alloc, limit, row.octets, 0, 64, &mut said);
+    put_quoted(said.text(), paper);
+    if !says_always(alloc, limit, row.octets, said.text()) {
+        paper.put(b", but not in every cutting");
     }
-    all
 }
-
-/// Rows for a limit of ten octets.
-const LINES: &[Row] = &[
-    (b"", b""),
-    (b"NOOP\r\n", b"<NOOP>"),
-    (b"NOOP\n", b"<NOOP>"),
-    (b"NOOP", b""),
-    (b"NOOP\r", b""),
-    (b"\r\n\n", b"<><>"),
-    (b"a\r\0b\r\n", b"<a\rb>"),
-    (b"a\rb\r\r\n", b"<a\rb\r>"),
-    (b"\r\0\n", b"<\r>"),
-    (b"\0\r\0\0\r\n", b"<\0\r\0>"),
-    (b"12345678\r\n1\n", b"<12345678><1>"),
-    (b"123456789\n1\n", b"<123456789><1>"),
-    (b"123456789\r\n1\n", b"!<1>"),
-    (b"1234567890\n1\n", b"!<1>"),
-    (b"1234567890123\r\r\n\n1\n", b"!<><1>"),
-    (b"12\r\0\r\0\r\0\r\n", b"<12\r\r\r>"),
-    (b"123\r\0\r\0\r\0\r\n", b"!"),
-];
-
-/// Rows with Telnet octets, for a limit of four.
-const TELNET: &[Row] = &[
-    (b"NO\xFF\xFD\x01OP\r\n", b"[\xFF\xFC\x01]!"),
-    (b"NO\xFF\xFD\x01P\n", b"[\xFF\xFC\x01]<NOP>"),
-    (b"\xFF\xFB\xFFa\n", b"[\xFF\xFE\xFF]<a>"),
-    (b"\xFF\xFC\x01\xFF\xFE\x01a\n", b"<a>"),
-    (b"\xFF\xFFa\n", b"<\xFFa>"),
-    (b"\xFF\xFF\xFF\xFF\xFF\xFF\n", b"<\xFF\xFF\xFF>"),
-    (b"\xFF\xFF\xFF\xFF\xFF\xFF\xFF\xFF\n", b"!"),
-    (b"\xFF", b""),
-    (b"\xFF\xFD", b""),
-    (b"\xFF\xFD\x0A\n", b"[\xFF\xFC\x0A]<>"),
-    (b"a\xFF\nb\n", b"<ab>"),
-    (b"a\r\xFF\xF1\n", b"<a>"),
-    (b"a\r\xFF\xF1\0\n", b"<a\r>"),
-    (b"a\xFF\xFA\x01b\nc\xFF\xF0d\n", b"<ad>"),
-    (b"a\xFF\xFA\xFF\xFFb\n\xFF\xF0d\n", b"<ad>"),
-    (b"a\xFF\xFA\xFF\xFF\xF0b\n\xFF\xF0d\n", b"<ad>"),
-    (b"a\xFF\xFA\xFF\xFD\x01\xFF\xF0d\n", b"<ad>"),
-    (b"\xFF\xFA\n\xFF\xFB\n", b""),
-    (b"12345\xFF\xFD\x01\n1\n", b"![\xFF\xFC\x01]<1>"),
-    (b"123\xFF\xFD\x01\n1\n", b"[\xFF\xFC\x01]<123><1>"),
-    (b"12345\xFF\n1\n2\n", b"!<2>"),
-    (b"\xFF\xF0\xFF\xF9a\n", b"<a>"),
-];
 
 /// Whether an ear hears these octets as one line of 1,022 octets.
 fn is_a_line(ear: &mut Ear<Global>, octets: &[u8]) -> bool {
@@ -185,8 +138,6 @@ fn asks_once(alloc: Global) -> bool {
 
 /// What is tried here, and whether it holds.
 pub(crate) fn tried(alloc: Global, report: &mut Paper) {
-    report.holds("lines in every cutting", all_hold(alloc, 10, LINES));
-    report.holds("telnet octets in every cutting", all_hold(alloc, 4, TELNET));
     report.holds("a line has 1024 octets at most", is_limited(alloc));
     report.holds("an unfinished line is measured", measures(alloc));
     report.holds("memory is asked for once", asks_once(alloc));

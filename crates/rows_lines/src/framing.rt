@@ -1,57 +1,21 @@
 //! Files to wires, by a sender and a framer, and by the encoder, which puts one behind the other.
-use crate::report::{fill, stretched};
-use crate::wires::{
-    ASCII_BLOCK, ASCII_RECORD_BLOCK, ASCII_RECORD_STREAM, ASCII_STREAM, FILE_BLOCK, FILE_STREAM,
-    RECORD_BLOCK, RECORD_STREAM, encode, encoder, write,
-};
+use crate::report::{fill, put_quoted, stretched};
+use crate::row::{Row, form_of};
+use crate::wires::{encode, encoder, write};
 use ftp_mode::{Framer, Mode, Written};
 use ftp_repr::{Item, Structure};
 use ftp_settings::Representation;
 use ftp_wire::{Encoded, Encoder};
-use rows_base::Paper;
+use rows_base::{Paper, number, split};
 use std::alloc::Global;
 
-/// A file and its wire, by hand from RFC 959, sections 3.4.1 and 3.4.2.
-type Row<'a> = (Representation, &'a [u8], &'a [u8]);
-
-pub const WIRES: &[Row<'static>] = &[
-    (FILE_STREAM, b"", b""),
-    (RECORD_STREAM, b"", b"\xFF\x02"),
-    (FILE_BLOCK, b"", b"\x40\x00\x00"),
-    (RECORD_BLOCK, b"", b"\x40\x00\x00"),
-    // A record and a tail, a record alone, an octet 255.
-    (RECORD_STREAM, b"a\nb", b"a\xFF\x01b\xFF\x02"),
-    (RECORD_STREAM, b"a\n", b"a\xFF\x03"),
-    (RECORD_STREAM, b"\xFF", b"\xFF\xFF\xFF\x02"),
-    (RECORD_BLOCK, b"a\nb", b"\x80\x00\x01a\x40\x00\x01b"),
-    (RECORD_BLOCK, b"a\n", b"\xC0\x00\x01a"),
-    // Empty records.
-    (RECORD_BLOCK, b"\n", b"\xC0\x00\x00"),
-    (RECORD_BLOCK, b"\na", b"\x80\x00\x00\x40\x00\x01a"),
-    (RECORD_BLOCK, b"\n\n", b"\x80\x00\x00\xC0\x00\x00"),
-    (RECORD_STREAM, b"\n\na", b"\xFF\x01\xFF\x01a\xFF\x02"),
-    // File structure keeps LF and 255.
-    (FILE_STREAM, b"\xFF\n", b"\xFF\n"),
-    (FILE_BLOCK, b"\xFF\n", b"\x40\x00\x02\xFF\n"),
-    (ASCII_STREAM, b"a\r\n", b"a\r\x00\r\n"),
-    // Files rich in CR, LF, NUL and 255.
-    (
-        RECORD_STREAM,
-        b"\r\x00\xFF\x02\n\xFF\x03\x00\r",
-        b"\r\x00\xFF\xFF\x02\xFF\x01\xFF\xFF\x03\x00\r\xFF\x02",
-    ),
-    (
-        ASCII_RECORD_STREAM,
-        b"\r\n\xFF\x00",
-        b"\r\x00\xFF\x01\xFF\xFF\x00\xFF\x02",
-    ),
-    (ASCII_BLOCK, b"\n\na", b"\x40\x00\x05\r\n\r\na"),
-    (
-        ASCII_RECORD_BLOCK,
-        b"\x00\n\r\n\xFF\n",
-        b"\x80\x00\x01\x00\x80\x00\x02\r\x00\xC0\x00\x01\xFF",
-    ),
-];
+/// A file in a representation, and the octets that came before it, where markers are counted.
+#[derive(Drop)]
+struct File<'a> {
+    form: Representation,
+    start: Option<u64>,
+    octets: &'a [u8],
+}
 
 /// What makes the wire.
 #[derive(Clone, Copy)]
@@ -60,34 +24,27 @@ enum By {
     Encoder,
 }
 
-/// Whether a file goes as this wire, by pieces and rooms of these sizes.
-fn goes_as(
-    alloc: Global,
-    by: By,
-    row: &Row<'_>,
-    start: Option<u64>,
-    sizes: (usize, usize),
-) -> bool {
-    let mut wire = Paper::new(alloc);
+/// Puts the wire of a file, by pieces and rooms of these sizes.
+fn put_wire(by: By, file: &File<'_>, sizes: (usize, usize), wire: &mut Paper) {
     match by {
-        By::Framer => write(row.0, start, row.1, sizes, &mut wire),
-        By::Encoder => put_encoded(row.0, start, row.1, sizes, &mut wire),
+        By::Framer => write(file.form, file.start, file.octets, sizes, wire),
+        By::Encoder => put_encoded(file, sizes, wire),
     }
-    wire.text() == row.2
 }
 
 /// Puts the wire that an encoder makes, and a word behind it where not all of it is out.
-fn put_encoded(
-    form: Representation,
-    start: Option<u64>,
-    file: &[u8],
-    sizes: (usize, usize),
-    wire: &mut Paper,
-) {
-    let mut encoder = encoder(form, start);
-    if !encode(&mut encoder, file, sizes, wire) {
+fn put_encoded(file: &File<'_>, sizes: (usize, usize), wire: &mut Paper) {
+    let mut encoder = encoder(file.form, file.start);
+    if !encode(&mut encoder, file.octets, sizes, wire) {
         wire.put(b" and more");
     }
+}
+
+/// Whether a file goes as this wire, by pieces and rooms of these sizes.
+fn goes_as(alloc: Global, by: By, file: &File<'_>, sizes: (usize, usize), expected: &[u8]) -> bool {
+    let mut wire = Paper::new(alloc);
+    put_wire(by, file, sizes, &mut wire);
+    wire.text() == expected
 }
 
 /// Sizes of pieces and of rooms.
@@ -103,73 +60,58 @@ const SIZES: &[(usize, usize)] = &[
     (64, 64),
 ];
 
-/// Whether a row holds, by pieces and rooms of several sizes.
-fn holds(alloc: Global, by: By, row: &Row<'_>, start: Option<u64>) -> bool {
+/// Whether a file goes as this wire, by pieces and rooms of several sizes.
+fn goes_always(alloc: Global, by: By, file: &File<'_>, expected: &[u8]) -> bool {
     let mut all = true;
     for sizes in SIZES {
-        all &= goes_as(alloc, by, row, start, *sizes);
+        all &= goes_as(alloc, by, file, *sizes, expected);
     }
     all
 }
 
-fn all_hold(alloc: Global, by: By) -> bool {
-    let mut all = true;
-    for row in WIRES {
-        all &= holds(alloc, by, row, None);
+/// Writes the wire of a file, and where the encoder makes another.
+fn show_file(alloc: Global, file: &File<'_>, paper: &mut Paper) {
+    let mut wire = Paper::new(alloc);
+    put_wire(By::Framer, file, (64, 64), &mut wire);
+    put_quoted(wire.text(), paper);
+    if !goes_always(alloc, By::Framer, file, wire.text()) {
+        paper.put(b", but not in any pieces");
     }
-    all
+    if !goes_always(alloc, By::Encoder, file, wire.text()) {
+        paper.put(b", but otherwise by the encoder");
+    }
 }
 
-/// A start and the wire of four octets behind it.
-pub const STARTS: &[(u64, &'static [u8])] = &[
-    // None at the start, none at the end of the file.
-    (0, b"\x40\x00\x04xxxx"),
-    (65_536, b"\x40\x00\x04xxxx"),
-    (65_532, b"\x40\x00\x04xxxx"),
-    (65_533, b"\x00\x00\x03xxx\x10\x00\x0565536\x40\x00\x01x"),
-    (131_071, b"\x00\x00\x01x\x10\x00\x06131072\x40\x00\x03xxx"),
-];
-
-fn starts_hold(alloc: Global, by: By) -> bool {
-    let mut all = true;
-    for (start, wire) in STARTS {
-        all &= holds(alloc, by, &(FILE_BLOCK, b"xxxx", wire), Some(*start));
+/// The number that there is, if there is one.
+fn start_of(digits: &[u8]) -> Option<u64> {
+    if digits.is_empty() {
+        None
+    } else {
+        Some(number(digits))
     }
-    all
 }
 
-/// Four octets in which a marker would stand, where none is written.
-const UNMARKED: &[Row<'static>] = &[
-    (FILE_STREAM, b"xxxx", b"xxxx"),
-    (RECORD_STREAM, b"xxxx", b"xxxx\xFF\x02"),
-    (RECORD_BLOCK, b"xxxx", b"\x40\x00\x04xxxx"),
-];
-
-fn unmarked_hold(alloc: Global, by: By) -> bool {
-    let mut all = true;
-    for row in UNMARKED {
-        all &= holds(alloc, by, row, Some(65_533));
-    }
-    all
+/// Writes the wire of a file in a representation, in any pieces and rooms; markers are counted from a start where the row has one.
+pub(crate) fn show(alloc: Global, row: &Row<'_>, paper: &mut Paper) {
+    let (letters, start) = split(row.head);
+    let file = File {
+        form: form_of(letters),
+        start: start_of(split(start).0),
+        octets: row.octets,
+    };
+    show_file(alloc, &file, paper);
 }
 
-/// Whether a file goes as this wire by a framer, by pieces and rooms of few and of many octets, counted from this start.
-fn goes_by(
-    alloc: Global,
-    file: &Paper,
-    wire: &Paper,
-    form: Representation,
-    start: Option<u64>,
-) -> bool {
-    let row = (form, file.text(), wire.text());
-    goes_as(alloc, By::Framer, &row, start, (1, 1))
-        & goes_as(alloc, By::Framer, &row, start, (4096, 4096))
-        & goes_as(alloc, By::Framer, &row, start, (70_000, 70_000))
+/// Whether a file goes as this wire by a framer, by pieces and rooms of few and of many octets.
+fn goes_by(alloc: Global, file: &File<'_>, wire: &[u8]) -> bool {
+    goes_as(alloc, By::Framer, file, (1, 1), wire)
+        & goes_as(alloc, By::Framer, file, (4096, 4096), wire)
+        & goes_as(alloc, By::Framer, file, (70_000, 70_000), wire)
 }
 
 /// Whether 70,000 octets go with a marker behind 65,536 of them: eight blocks of 8,192 octets, the marker, and a block of 4,464.
 fn writes_70_000(alloc: Global) -> bool {
-    let file = stretched(alloc, b"", b'x', 70_000, b"");
+    let octets = stretched(alloc, b"", b'x', 70_000, b"");
     let mut wire = Paper::new(alloc);
     for _ in 0..8 {
         wire.put(b"\x00\x20\x00");
@@ -177,14 +119,24 @@ fn writes_70_000(alloc: Global) -> bool {
     }
     wire.put(b"\x10\x00\x0565536\x40\x11\x70");
     fill(&mut wire, b'x', 4464);
-    (wire.text().len() == 70_035) & goes_by(alloc, &file, &wire, FILE_BLOCK, Some(0))
+    let file = File {
+        form: form_of(b"IFB"),
+        start: Some(0),
+        octets: octets.text(),
+    };
+    (wire.text().len() == 70_035) & goes_by(alloc, &file, wire.text())
 }
 
 /// Whether a record of 8,192 octets goes as one block.
 fn writes_a_full_block(alloc: Global) -> bool {
-    let file = stretched(alloc, b"", b'x', 8192, b"\n");
+    let octets = stretched(alloc, b"", b'x', 8192, b"\n");
     let wire = stretched(alloc, b"\xC0\x20\x00", b'x', 8192, b"");
-    goes_by(alloc, &file, &wire, RECORD_BLOCK, None)
+    let file = File {
+        form: form_of(b"IRB"),
+        start: None,
+        octets: octets.text(),
+    };
+    goes_by(alloc, &file, wire.text())
 }
 
 /// Whether an end is taken once all of it is out, and nothing goes behind it.
@@ -207,8 +159,8 @@ fn ends_are_out(stream: &Encoder, records: &Encoder) -> bool {
 }
 
 fn ends_of_both_are_out() -> bool {
-    let stream = encoder(FILE_STREAM, None);
-    let records = encoder(RECORD_STREAM, None);
+    let stream = encoder(form_of(b"IFS"), None);
+    let records = encoder(form_of(b"IRS"), None);
     ends_are_out(&stream, &records)
 }
 
@@ -225,35 +177,21 @@ fn keeps_a_half(encoder: &mut Encoder) -> bool {
 }
 
 fn half_is_kept() -> bool {
-    let mut encoder = encoder(ASCII_STREAM, None);
+    let mut encoder = encoder(form_of(b"AFS"), None);
     keeps_a_half(&mut encoder)
 }
 
 /// What is tried here, and whether it holds.
 pub(crate) fn tried(alloc: Global, report: &mut Paper) {
-    report.holds("wires of small files", all_hold(alloc, By::Framer));
     report.holds(
         "seventy thousand octets with a marker",
         writes_70_000(alloc),
-    );
-    report.holds("markers count from a start", starts_hold(alloc, By::Framer));
-    report.holds(
-        "markers are for blocks in file structure",
-        unmarked_hold(alloc, By::Framer),
     );
     report.holds(
         "a record of 8192 octets is one block",
         writes_a_full_block(alloc),
     );
     report.holds("an end is taken once it is out", takes_it_once());
-    report.holds(
-        "encoder: wires of small files",
-        all_hold(alloc, By::Encoder),
-    );
-    report.holds(
-        "encoder: own markers",
-        starts_hold(alloc, By::Encoder) & unmarked_hold(alloc, By::Encoder),
-    );
     report.holds(
         "encoder: an end that writes nothing is out before it is put",
         ends_of_both_are_out(),

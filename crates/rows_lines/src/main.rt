@@ -11,14 +11,14 @@ mod deframing;
 mod ears;
 mod endpoints;
 mod entries;
-mod fact_memory;
 mod framing;
+mod growing;
 mod moments;
 mod receiving;
 mod refusals;
 mod replies;
-mod reply_memory;
 mod report;
+mod row;
 mod script;
 mod scripts;
 mod sending;
@@ -27,6 +27,7 @@ mod skipping;
 mod values;
 mod wires;
 mod witnesses;
+mod word;
 mod words;
 mod writing;
 mod written;
@@ -50,29 +51,19 @@ fn main(rt: HostRuntime) -> io::Result<()> {
 
 fn try_lines(alloc: Global, report: &mut Paper) {
     ears::tried(alloc, report);
-    written::tried(alloc, report);
     endpoints::tried(report);
     commands::tried(alloc, report);
     replies::tried(alloc, report);
-    values::tried(alloc, report);
     writing::tried(alloc, report);
-    reply_memory::tried(alloc, report);
     entries::tried(alloc, report);
-    moments::tried(report);
-    calendar::tried(report);
-    fact_memory::tried(alloc, report);
     scripts::tried(alloc, report);
 }
 
 fn try_files(alloc: Global, report: &mut Paper) {
     sizes::tried(alloc, report);
-    sending::tried(alloc, report);
-    receiving::tried(alloc, report);
     refusals::tried(alloc, report);
-    skipping::tried(report);
     words::tried(alloc, report);
     framing::tried(alloc, report);
     deframing::tried(alloc, report);
     both_ways::tried(alloc, report);
-    decoding::tried(alloc, report);
 }

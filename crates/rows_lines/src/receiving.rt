@@ -1,108 +1,8 @@
-use ftp_repr::{Item, Kind, Receiver, Structure};
-use rows_base::Paper;
+use crate::report::put_quoted;
+use crate::row::{Row, kind_of, structure_of};
+use ftp_repr::{Item, Receiver};
+use rows_base::{Paper, octets_of, quoted, split};
 use std::alloc::Global;
-
-/// Items in a type and structure, the file at a clean end behind them, and at a break.
-type Reading<'a> = (Kind, Structure, &'a [Item<'a>], &'a [u8], &'a [u8]);
-
-const READINGS: &[Reading<'static>] = &[
-    // CR LF is LF, CR NUL is CR, any other CR or LF is itself.
-    (
-        Kind::Ascii,
-        Structure::File,
-        &[Item::Octets(&[0x61, 0x0D, 0x00, 0x0D, 0x0A])],
-        &[0x61, 0x0D, 0x0A],
-        &[0x61, 0x0D, 0x0A],
-    ),
-    (
-        Kind::Ascii,
-        Structure::File,
-        &[Item::Octets(&[0x61, 0x0A, 0x0D, 0x62, 0x0D, 0x0D, 0x0A, 0x0D, 0x0D, 0x00])],
-        &[0x61, 0x0A, 0x0D, 0x62, 0x0D, 0x0A, 0x0D, 0x0D],
-        &[0x61, 0x0A, 0x0D, 0x62, 0x0D, 0x0A, 0x0D, 0x0D],
-    ),
-    // An unpaired CR is kept at a clean end and dropped at a break.
-    (
-        Kind::Ascii,
-        Structure::File,
-        &[Item::Octets(&[0x78, 0x0D])],
-        &[0x78, 0x0D],
-        &[0x78],
-    ),
-    (
-        Kind::Ascii,
-        Structure::Record,
-        &[Item::Octets(&[0x78, 0x0D])],
-        &[0x78, 0x0D],
-        &[0x78],
-    ),
-    (
-        Kind::Image,
-        Structure::File,
-        &[Item::Octets(&[0x78, 0x0D])],
-        &[0x78, 0x0D],
-        &[0x78, 0x0D],
-    ),
-    // An end that came settles an unpaired CR, the end of the file too.
-    (
-        Kind::Ascii,
-        Structure::Record,
-        &[
-            Item::Octets(&[0x61, 0x0D]),
-            Item::EndRecord,
-            Item::Octets(&[0x0A, 0x0D]),
-        ],
-        &[0x61, 0x0D, 0x0A, 0x0A, 0x0D],
-        &[0x61, 0x0D, 0x0A, 0x0A],
-    ),
-    (
-        Kind::Ascii,
-        Structure::Record,
-        &[Item::Octets(&[0x61, 0x0D]), Item::EndFile],
-        &[0x61, 0x0D],
-        &[0x61, 0x0D],
-    ),
-    // In file structure an end of record is passed over, and the data is read as one.
-    (
-        Kind::Ascii,
-        Structure::File,
-        &[
-            Item::Octets(&[0x61, 0x0D]),
-            Item::EndRecord,
-            Item::Octets(&[0x0A]),
-        ],
-        &[0x61, 0x0A],
-        &[0x61, 0x0A],
-    ),
-    (
-        Kind::Image,
-        Structure::File,
-        &[
-            Item::Octets(&[0x61]),
-            Item::EndRecord,
-            Item::Octets(&[0x62]),
-        ],
-        &[0x61, 0x62],
-        &[0x61, 0x62],
-    ),
-    // An empty record; and nothing comes of what is behind the end of file.
-    (
-        Kind::Image,
-        Structure::Record,
-        &[
-            Item::EndRecord,
-            Item::Octets(&[0xFF]),
-            Item::EndRecord,
-            Item::EndFile,
-            Item::Octets(&[0x61]),
-            Item::EndRecord,
-        ],
-        &[0x0A, 0xFF, 0x0A],
-        &[0x0A, 0xFF, 0x0A],
-    ),
-    (Kind::Ascii, Structure::Record, &[], &[], &[]),
-    (Kind::Image, Structure::Record, &[Item::EndFile], &[], &[]),
-];
 
 /// Hands an item to a receiver, octets in two parts, cut at this place.
 fn takes_cut(receiver: &mut Receiver, item: Item<'_>, cut: usize, out: &mut Vec<u8>) -> bool {
@@ -116,51 +16,82 @@ fn takes_cut(receiver: &mut Receiver, item: Item<'_>, cut: usize, out: &mut Vec<
     }
 }
 
-/// Hands items to a receiver, and a clean end or a break.
-fn takes_all(
+/// Hands an item of a row to a receiver: octets between double quotes, R for an end of record, F for one of the file.
+fn takes_word(
+    alloc: Global,
     receiver: &mut Receiver,
-    items: &[Item<'_>],
+    (text, word): (&[u8], &[u8]),
     cut: usize,
-    breaks: bool,
+    out: &mut Vec<u8>,
+) -> bool {
+    match (text, octets_of(alloc, word)) {
+        ([b'"', ..], Ok(octets)) => takes_cut(receiver, Item::Octets(octets.as_slice()), cut, out),
+        ([b'R', ..], Ok(_)) => takes_cut(receiver, Item::EndRecord, cut, out),
+        ([b'F', ..], Ok(_)) => takes_cut(receiver, Item::EndFile, cut, out),
+        _ => false,
+    }
+}
+
+/// Hands the items of a row to a receiver.
+fn takes_all(
+    alloc: Global,
+    receiver: &mut Receiver,
+    items: &[u8],
+    cut: usize,
     out: &mut Vec<u8>,
 ) -> bool {
     let mut all = true;
-    for item in items {
-        all &= takes_cut(receiver, *item, cut, out);
+    let mut rest = items;
+    for _ in 0..items.len() {
+        if rest.is_empty() {
+            break;
+        }
+        let (word, behind) = quoted(rest);
+        all &= takes_word(alloc, receiver, (rest, word), cut, out);
+        rest = behind;
     }
+    all
+}
+
+/// Receives the items of a row, cut at this place, and a clean end or a break.
+fn receives(alloc: Global, row: &Row<'_>, cut: usize, breaks: bool, out: &mut Vec<u8>) -> bool {
+    let (letters, items) = split(row.text);
+    let mut receiver = Receiver::new(kind_of(letters), structure_of(letters));
+    let all = takes_all(alloc, &mut receiver, items, cut, out);
     if breaks {
         receiver.broken();
     }
     all & receiver.end(out).is_ok()
 }
 
-/// Whether the row's file comes of its items, at a clean end or at a break.
-fn is_received(alloc: Global, reading: &Reading<'_>, cut: usize, breaks: bool) -> bool {
-    let mut receiver = Receiver::new(reading.0, reading.1);
+/// Whether the row's items give this file, cut at this place.
+fn is_received(alloc: Global, row: &Row<'_>, cut: usize, breaks: bool, file: &[u8]) -> bool {
     let mut out = Vec::new(alloc);
-    let taken = takes_all(&mut receiver, reading.2, cut, breaks, &mut out);
-    let expected = if breaks { reading.4 } else { reading.3 };
-    taken & (out.as_slice() == expected)
+    receives(alloc, row, cut, breaks, &mut out) & (out.as_slice() == file)
 }
 
-/// Whether a row holds, cut at each place.
-fn holds(alloc: Global, reading: &Reading<'_>) -> bool {
+/// Whether they give it cut at each place.
+fn is_received_cut(alloc: Global, row: &Row<'_>, breaks: bool, file: &[u8]) -> bool {
     let mut all = true;
     for cut in 0..=10 {
-        all &= is_received(alloc, reading, cut, false) & is_received(alloc, reading, cut, true);
+        all &= is_received(alloc, row, cut, breaks, file);
     }
     all
 }
 
-fn all_hold(alloc: Global) -> bool {
-    let mut all = true;
-    for reading in READINGS {
-        all &= holds(alloc, reading);
+/// Writes the file that the row's items give at a clean end, or at a break.
+fn show_file(alloc: Global, row: &Row<'_>, breaks: bool, paper: &mut Paper) {
+    let mut file = Vec::new(alloc);
+    let all = receives(alloc, row, 100, breaks, &mut file);
+    put_quoted(file.as_slice(), paper);
+    if !(all & is_received_cut(alloc, row, breaks, file.as_slice())) {
+        paper.put(b", but not in any pieces");
     }
-    all
 }
 
-/// What is tried here, and whether it holds.
-pub(crate) fn tried(alloc: Global, report: &mut Paper) {
-    report.holds("items are received in any pieces", all_hold(alloc));
+/// Writes the file that items give at a clean end, and at a break.
+pub(crate) fn show(alloc: Global, row: &Row<'_>, paper: &mut Paper) {
+    show_file(alloc, row, false, paper);
+    paper.put(b" broken ");
+    show_file(alloc, row, true, paper);
 }

@@ -1,170 +1,148 @@
-//! Lines and the replies that they are: rows of RFC 959, section 4.2, and the limits.
-use crate::common::{hears, texts_are};
-use crate::report::stretched;
-use ftp_reply::{Reader, ReplyFault};
-use rows_base::Paper;
-use std::alloc::Global;
+//! Lines and the replies that they are (RFC 959, section 4.2), and the limits.
+use crate::common::hears;
+use crate::report::{put_printed, put_quoted, stretched};
+use ftp_reply::{Reader, Reply, ReplyFault};
+use rows_base::{Paper, Refusing, number, octets_of, quoted, split};
+use std::alloc::{Allocator, Global};
 
-/// Lines, and the code and texts of the reply that they are.
-type Row = (&'static [&'static [u8]], u16, &'static [&'static [u8]]);
-
-/// Lines, and the code and texts of the reply that they are.
-const REPLIES: &[(&[&[u8]], u16, &[&[u8]])] = &[
-    (&[b"200 Ok"], 200, &[b"Ok"]),
-    (&[b"220"], 220, &[b""]),
-    (&[b"599 "], 599, &[b""]),
-    (&[b"100 100 x"], 100, &[b"100 x"]),
-    (
-        &[b"211-x", b"200 y", b"211z", b"211 end"],
-        211,
-        &[b"x", b"200 y", b"211z", b"end"],
-    ),
-    (
-        &[
-            b"123-First line",
-            b"Second line",
-            b"  234 A line beginning with numbers",
-            b"123 The last line",
-        ],
-        123,
-        &[
-            b"First line",
-            b"Second line",
-            b"  234 A line beginning with numbers",
-            b"The last line",
-        ],
-    ),
-    (
-        &[b"250-Listing", b" Type=file;Size=3; /a", b"250 End"],
-        250,
-        &[b"Listing", b" Type=file;Size=3; /a", b"End"],
-    ),
-    (
-        &[b"211-", b"211", b"211-x", b"", b"211 "],
-        211,
-        &[b"", b"211", b"211-x", b"", b""],
-    ),
-];
-
-const NO_REPLIES: &[&[u8]] = &[
-    b"", b"2", b"20", b" 200 x", b"2000 x", b"200x", b"20x y", b"099 x", b"000", b"600 x",
-    b"200\tx",
-];
-
-/// Whether no reply ends with one of these lines.
-fn end_none(reader: &mut Reader<Global>, lines: &[&[u8]]) -> bool {
-    let mut all = true;
-    for line in lines {
-        all &= hears(reader, line) == Ok(false);
+/// Writes what one reader answers to each of these quoted lines, and whether it is otherwise with a growth refused.
+pub(crate) fn show(alloc: Global, lines: &[u8], paper: &mut Paper) {
+    let mut said = Paper::new(alloc);
+    let (none, left) = growth(alloc, lines, 0, &mut said);
+    let growths = 0u64.wrapping_sub(left);
+    let mut all = none == 0 && growths > 0;
+    for refused in 1..=growths {
+        all &= is_wanted_once(alloc, lines, refused, said.text());
     }
-    all
-}
-
-/// Whether a reply of that code and these texts ends with the line.
-fn ends(reader: &mut Reader<Global>, line: &[u8], code: u16, texts: &[&[u8]]) -> bool {
-    match &reader.line(line) {
-        Ok(Some(reply)) => reply.code == code && texts_are(reply, texts),
-        _ => false,
+    paper.put(said.text());
+    if !all {
+        paper.put(b", but otherwise with a growth refused");
     }
 }
 
-/// Whether the lines are to the reader the reply of that code and these texts, and none is one before the last.
-fn is_heard(reader: &mut Reader<Global>, row: &Row) -> bool {
-    match row.0.split_last() {
-        Some((last, begun)) => end_none(reader, begun) && ends(reader, last, row.1, row.2),
-        None => false,
+/// Whether memory is wanted once where this growth is refused, and all is answered as here.
+fn is_wanted_once(alloc: Global, lines: &[u8], refused: u64, expected: &[u8]) -> bool {
+    let mut said = Paper::new(alloc);
+    let (wanted, _) = growth(alloc, lines, refused, &mut said);
+    wanted == 1 && said.text() == expected
+}
+
+/// Puts what is answered where this growth is refused. Gives how often memory was wanted, and how many growths are left.
+fn growth(alloc: Global, lines: &[u8], refused: u64, said: &mut Paper) -> (u64, u64) {
+    let heap = Refusing::new(alloc, refused);
+    let wanted = hear(&heap, alloc, lines, said);
+    (wanted, heap.left())
+}
+
+fn hear<A: Allocator + Clone>(heap: A, alloc: Global, lines: &[u8], said: &mut Paper) -> u64 {
+    let mut reader = Reader::new(heap);
+    hear_each(alloc, &mut reader, lines, said)
+}
+
+fn hear_each<A: Allocator + Clone>(
+    alloc: Global,
+    reader: &mut Reader<A>,
+    lines: &[u8],
+    said: &mut Paper,
+) -> u64 {
+    let mut wanted = 0u64;
+    let mut rest = lines;
+    for _ in 0..lines.len() {
+        if rest.is_empty() {
+            break;
+        }
+        if rest.len() < lines.len() {
+            said.put(b"; ");
+        }
+        let (line, behind) = quoted(rest);
+        wanted = wanted.wrapping_add(hear_line(alloc, reader, line, said));
+        rest = behind;
+    }
+    wanted
+}
+
+/// Hears a line, once more where memory is wanted, and gives how often it was.
+fn hear_line<A: Allocator + Clone>(
+    alloc: Global,
+    reader: &mut Reader<A>,
+    line: &[u8],
+    said: &mut Paper,
+) -> u64 {
+    let Ok(octets) = octets_of(alloc, line) else {
+        return 2;
+    };
+    if put_heard(alloc, &reader.line(octets.as_slice()), said) {
+        return 0;
+    }
+    if put_heard(alloc, &reader.line(octets.as_slice()), said) {
+        1
+    } else {
+        2
     }
 }
 
-/// Whether each row is such a reply to a reader that hears them all.
-fn all_are_heard(reader: &mut Reader<Global>) -> bool {
-    let mut all = true;
-    for row in REPLIES {
-        all &= is_heard(reader, row);
+/// Puts what a reader answers, unless memory is wanted. Says whether it is put.
+fn put_heard<A: Allocator>(
+    alloc: Global,
+    heard: &Result<Option<Reply<A>>, ReplyFault>,
+    said: &mut Paper,
+) -> bool {
+    match heard {
+        Ok(Some(reply)) => put_reply(reply, said),
+        Ok(None) => said.put(b"more"),
+        Err(ReplyFault::Memory) => return false,
+        Err(fault) => put_printed(alloc, fault, said),
     }
-    all
+    true
 }
 
-fn are_heard(alloc: Global) -> bool {
-    let mut reader = Reader::new(alloc);
-    all_are_heard(&mut reader)
-}
-
-/// Whether a reader with one reply behind it is stopped by the line, and stays so.
-fn is_stopped(reader: &mut Reader<Global>, line: &[u8]) -> bool {
-    hears(reader, b"220 Ready") == Ok(true)
-        && hears(reader, line) == Err(ReplyFault::BadCode)
-        && hears(reader, b"200 Ok") == Err(ReplyFault::Failed)
-        && hears(reader, line) == Err(ReplyFault::Failed)
-}
-
-/// Whether each of these lines stops a reader.
-fn all_stop(alloc: Global) -> bool {
-    let mut all = true;
-    for line in NO_REPLIES {
-        let mut reader = Reader::new(alloc);
-        all &= is_stopped(&mut reader, line);
+fn put_reply<A: Allocator>(reply: &Reply<A>, said: &mut Paper) {
+    said.number(u64::from(reply.code));
+    for at in 0..reply.lines.len() {
+        if let Some(text) = reply.lines.get(at) {
+            said.put(b" ");
+            put_quoted(text, said);
+        }
     }
-    all
 }
-
-/// Lines, octets of the first text, octets of the last, and whether they are a reply.
-type Limit = (usize, usize, usize, bool);
-
-/// Lines, octets of the first text, octets of the last, and whether they are a reply.
-const LIMITS: &[(usize, usize, usize, bool)] = &[
-    (64, 5, 5, true),
-    (65, 5, 5, false),
-    (2, 8192, 0, true),
-    (2, 8193, 0, false),
-    (2, 8000, 192, true),
-    (2, 8000, 193, false),
-    (64, 8192, 0, true),
-    (65, 8192, 0, false),
-];
 
 /// What the reader answers to a line of the mark and so many octets: whether a reply ends with it.
 fn hears_long(
     reader: &mut Reader<Global>,
     alloc: Global,
     mark: &[u8],
-    octets: usize,
+    octets: u64,
 ) -> Result<bool, ReplyFault> {
-    let line = stretched(alloc, mark, b'x', octets, b"");
+    let line = stretched(alloc, mark, b'x', octets as usize, b"");
     hears(reader, line.text())
 }
 
-/// What the reader answers to the last of so many lines, those between the first and the last empty, or its first fault.
-fn hears_all(
-    reader: &mut Reader<Global>,
-    alloc: Global,
-    (lines, first, last, _): &Limit,
-) -> Result<bool, ReplyFault> {
-    hears_long(reader, alloc, b"211-", *first)?;
-    for _ in 2..*lines {
+/// What the reader answers to the last of so many lines, those between the first and the last empty, or its first fault. A row has how
+/// many lines they are, the octets of the first text and those of the last.
+fn hears_all(reader: &mut Reader<Global>, alloc: Global, row: &[u8]) -> Result<bool, ReplyFault> {
+    let (lines, octets) = split(row);
+    let (first, last) = split(octets);
+    hears_long(reader, alloc, b"211-", number(first))?;
+    for _ in 2..number(lines) {
         hears(reader, b"")?;
     }
-    hears_long(reader, alloc, b"211 ", *last)
+    hears_long(reader, alloc, b"211 ", number(last))
 }
 
-/// Whether a reply keeps the limits as the row says, or is TooMany at its last line or before.
-fn is_limit(reader: &mut Reader<Global>, alloc: Global, row: &Limit) -> bool {
-    let answer = hears_all(reader, alloc, row);
-    let next = hears(reader, b"200 Ok");
-    if row.3 {
-        answer == Ok(true) && next == Ok(true)
-    } else {
-        answer == Err(ReplyFault::TooMany) && next == Err(ReplyFault::Failed)
-    }
+/// Writes whether a reply of such lines ends, or its fault, and what the reader answers to a reply behind it.
+pub(crate) fn show_limit(alloc: Global, row: &[u8], paper: &mut Paper) {
+    let mut reader = Reader::new(alloc);
+    put_whether(alloc, hears_all(&mut reader, alloc, row), paper);
+    paper.put(b"; ");
+    put_whether(alloc, hears(&mut reader, b"200 Ok"), paper);
 }
 
-fn limits_are_kept(alloc: Global) -> bool {
-    let mut all = true;
-    for row in LIMITS {
-        let mut reader = Reader::new(alloc);
-        all &= is_limit(&mut reader, alloc, row);
+fn put_whether(alloc: Global, heard: Result<bool, ReplyFault>, paper: &mut Paper) {
+    match heard {
+        Ok(true) => paper.put(b"a reply"),
+        Ok(false) => paper.put(b"more"),
+        Err(fault) => put_printed(alloc, &fault, paper),
     }
-    all
 }
 
 /// Whether a reply of one line has 8,192 octets, and one more is too many.
@@ -176,9 +154,6 @@ fn one_line_is_limited(alloc: Global) -> bool {
 
 /// What is tried here, and whether it holds.
 pub(crate) fn tried(alloc: Global, report: &mut Paper) {
-    report.holds("replies of RFC 959, section 4.2", are_heard(alloc));
-    report.holds("lines that begin no reply", all_stop(alloc));
-    report.holds("limits of lines and octets", limits_are_kept(alloc));
     report.holds(
         "a reply of one line has 8192 octets at most",
         one_line_is_limited(alloc),

@@ -1,9 +1,14 @@
-//! Rows of the script: a word for what is tried, and its octets.
-use crate::commands;
-use rows_base::{Paper, cut, octets_of, quoted, split};
+//! Rows of the script: a word for what is tried, and behind it small words and octets.
+use crate::row::Row;
+use crate::word::{FileWord, LineWord, Word, word_of};
+use crate::{
+    both_ways, calendar, commands, decoding, deframing, ears, endpoints, entries, framing, growing,
+    moments, receiving, replies, sending, sizes, skipping, values,
+};
+use rows_base::{Paper, cut, octets_of, split};
 use std::alloc::Global;
 
-/// Writes each line of a script, and behind it what is said of its octets. A line of no such word is a remark.
+/// Writes each line of a script, and behind it what is said of it. A line of no such word is a remark.
 pub(crate) fn play_all(alloc: Global, script: &[u8], paper: &mut Paper) {
     let mut rest = script;
     for _ in 0..script.len() {
@@ -11,20 +16,88 @@ pub(crate) fn play_all(alloc: Global, script: &[u8], paper: &mut Paper) {
             break;
         }
         let (line, behind) = cut(rest, b'\n');
+        paper.put(line);
         play(alloc, line, paper);
+        paper.put(b"\n");
         rest = behind;
     }
 }
 
 fn play(alloc: Global, line: &[u8], paper: &mut Paper) {
-    paper.put(line);
-    let (word, rest) = split(line);
-    match (word, octets_of(alloc, quoted(rest).0)) {
-        (b"command", Ok(octets)) => {
-            paper.put(b" => ");
-            commands::put_said(alloc, octets.as_slice(), paper);
+    let (word, text) = split(line);
+    let (head, quoted) = cut(text, b'"');
+    match octets_of(alloc, cut(quoted, b'"').0) {
+        Ok(octets) => {
+            let octets = octets.as_slice();
+            answer(alloc, word_of(word), &Row { text, head, octets }, paper);
         }
-        _ => {}
+        Err(_) => paper.fill(),
     }
-    paper.put(b"\n");
+}
+
+fn answer(alloc: Global, word: Word, row: &Row<'_>, paper: &mut Paper) {
+    match word {
+        Word::Remark => {}
+        Word::Line(word) => {
+            paper.put(b" => ");
+            answer_line(alloc, word, row, paper);
+        }
+        Word::File(word) => {
+            paper.put(b" => ");
+            answer_file(alloc, word, row, paper);
+        }
+    }
+}
+
+fn answer_line(alloc: Global, word: LineWord, row: &Row<'_>, paper: &mut Paper) {
+    match word {
+        LineWord::Ear => ears::show(alloc, row, paper),
+        LineWord::Line => growing::show(alloc, &growing::Asked::Line(row.octets), row.head, paper),
+        LineWord::Endpoint(asked) => endpoints::show(alloc, asked, row.octets, paper),
+        LineWord::Command => growing::show(
+            alloc,
+            &growing::Asked::Command(row.octets),
+            row.head,
+            paper,
+        ),
+        LineWord::CommandEndpoint => commands::show_endpoint(alloc, row.octets, paper),
+        LineWord::Reply => replies::show(alloc, row.text, paper),
+        LineWord::ReplyLimit => replies::show_limit(alloc, row.head, paper),
+        LineWord::Value(asked) => values::show(alloc, asked, row, paper),
+        LineWord::Entry => growing::show(
+            alloc,
+            &growing::Asked::Entry(row.octets),
+            row.head,
+            paper,
+        ),
+        LineWord::EntryBack => entries::show_back(alloc, row.octets, paper),
+        LineWord::EntryGrowths => entries::show_growths(alloc, row.octets, paper),
+        LineWord::Seconds => moments::show_text(row.head, paper),
+        LineWord::Moment => moments::show_seconds(row.octets, paper),
+        LineWord::Years => calendar::show_years(row.head, paper),
+        LineWord::Centuries => calendar::show_centuries(row.head, paper),
+        LineWord::Script => growing::show(
+            alloc,
+            &growing::Asked::Script(row.octets),
+            row.head,
+            paper,
+        ),
+    }
+}
+
+fn answer_file(alloc: Global, word: FileWord, row: &Row<'_>, paper: &mut Paper) {
+    match word {
+        FileWord::Sizes => sizes::show_sizes(row.octets, paper),
+        FileWord::Run => sizes::show_run(row, paper),
+        FileWord::Skip => skipping::show(row.head, paper),
+        FileWord::Send => sending::show(alloc, row, paper),
+        FileWord::Receive => receiving::show(alloc, row, paper),
+        FileWord::Frame => framing::show(alloc, row, paper),
+        FileWord::Deframe => deframing::show(alloc, row, paper),
+        FileWord::Parts => deframing::show_parts(alloc, row, paper),
+        FileWord::BothWays => both_ways::show(alloc, row, paper),
+        FileWord::Decode => decoding::show_ended(alloc, row, paper),
+        FileWord::Pieces => decoding::show_pieces(alloc, row, paper),
+        FileWord::Break => decoding::show_broken(alloc, row, paper),
+    }
 }

@@ -1,81 +1,8 @@
-use ftp_repr::{Item, Kind, Sender, Structure};
+use crate::report::put_quoted;
+use crate::row::{Row, kind_of, structure_of};
+use ftp_repr::{Item, Sender};
 use rows_base::Paper;
 use std::alloc::Global;
-
-/// A file in a type and structure, and its items, by hand from RFC 959, sections 3.1.1.1 and 3.1.2.2.
-type Row<'a> = (Kind, Structure, &'a [u8], &'a [Item<'a>]);
-
-const ROWS: &[Row<'static>] = &[
-    (Kind::Ascii, Structure::File, &[], &[Item::EndFile]),
-    (Kind::Ascii, Structure::Record, &[], &[Item::EndFile]),
-    (Kind::Image, Structure::File, &[], &[Item::EndFile]),
-    (Kind::Image, Structure::Record, &[], &[Item::EndFile]),
-    (
-        Kind::Ascii,
-        Structure::File,
-        &[0x61, 0x0D, 0x0A],
-        &[Item::Octets(&[0x61, 0x0D, 0x00, 0x0D, 0x0A]), Item::EndFile],
-    ),
-    (
-        Kind::Ascii,
-        Structure::Record,
-        &[0x61, 0x0D, 0x0A],
-        &[
-            Item::Octets(&[0x61, 0x0D, 0x00]),
-            Item::EndRecord,
-            Item::EndFile,
-        ],
-    ),
-    (
-        Kind::Image,
-        Structure::File,
-        &[0x61, 0x0D, 0x0A],
-        &[Item::Octets(&[0x61, 0x0D, 0x0A]), Item::EndFile],
-    ),
-    (
-        Kind::Image,
-        Structure::Record,
-        &[0x61, 0x0A, 0x62],
-        &[
-            Item::Octets(&[0x61]),
-            Item::EndRecord,
-            Item::Octets(&[0x62]),
-            Item::EndFile,
-        ],
-    ),
-    (
-        Kind::Image,
-        Structure::Record,
-        &[0x61, 0x0A],
-        &[Item::Octets(&[0x61]), Item::EndRecord, Item::EndFile],
-    ),
-    (
-        Kind::Image,
-        Structure::Record,
-        &[0xFF],
-        &[Item::Octets(&[0xFF]), Item::EndFile],
-    ),
-    (
-        Kind::Image,
-        Structure::Record,
-        &[0x0A, 0x0A, 0x0D],
-        &[
-            Item::EndRecord,
-            Item::EndRecord,
-            Item::Octets(&[0x0D]),
-            Item::EndFile,
-        ],
-    ),
-    (
-        Kind::Ascii,
-        Structure::File,
-        &[0x0D, 0x0A, 0x00, 0xFF, 0x0A, 0x0D],
-        &[
-            Item::Octets(&[0x0D, 0x00, 0x0D, 0x0A, 0x00, 0xFF, 0x0D, 0x0A, 0x0D, 0x00]),
-            Item::EndFile,
-        ],
-    ),
-];
 
 /// Puts an item in its least parts: each octet behind an `o`, an end of record as `R`, and that of the file as `F`.
 fn put_item(item: Item<'_>, parts: &mut Paper) {
@@ -116,41 +43,35 @@ fn send(sender: &mut Sender, file: &[u8], cut: Option<usize>, parts: &mut Paper)
     send_piece(sender, &[], true, parts);
 }
 
-/// Whether these parts are given for the row's file, cut at this place or into octets, and nothing behind the end.
-fn is_sent(alloc: Global, row: &Row<'_>, cut: Option<usize>, expected: &[u8]) -> bool {
-    let mut parts = Paper::new(alloc);
-    let mut sender = Sender::new(row.0, row.1);
-    send(&mut sender, row.2, cut, &mut parts);
+/// Puts what the row's file gives, cut at this place or into octets. Whether nothing comes behind the end.
+fn send_row(row: &Row<'_>, cut: Option<usize>, parts: &mut Paper) -> bool {
+    let mut sender = Sender::new(kind_of(row.head), structure_of(row.head));
+    send(&mut sender, row.octets, cut, parts);
     let (_, more) = sender.next(&[0x61], true);
-    more.is_none() & (parts.text() == expected)
+    more.is_none()
 }
 
-/// Whether a row holds, cut at each place and by octets.
+/// Whether these parts are given for the row's file, cut so, and nothing behind the end.
+fn is_sent(alloc: Global, row: &Row<'_>, cut: Option<usize>, expected: &[u8]) -> bool {
+    let mut parts = Paper::new(alloc);
+    send_row(row, cut, &mut parts) & (parts.text() == expected)
+}
+
+/// Whether they are given cut at each place and by octets.
 fn is_sent_cut(alloc: Global, row: &Row<'_>, expected: &[u8]) -> bool {
     let mut all = is_sent(alloc, row, None, expected);
-    for cut in 0..=row.2.len() {
+    for cut in 0..=row.octets.len() {
         all &= is_sent(alloc, row, Some(cut), expected);
     }
     all
 }
 
-fn holds(alloc: Global, row: &Row<'_>) -> bool {
-    let mut expected = Paper::new(alloc);
-    for item in row.3 {
-        put_item(*item, &mut expected);
+/// Writes what a file gives, in any pieces.
+pub(crate) fn show(alloc: Global, row: &Row<'_>, paper: &mut Paper) {
+    let mut parts = Paper::new(alloc);
+    let ends = send_row(row, Some(0), &mut parts);
+    put_quoted(parts.text(), paper);
+    if !(ends & is_sent_cut(alloc, row, parts.text())) {
+        paper.put(b", but not in any pieces");
     }
-    is_sent_cut(alloc, row, expected.text())
-}
-
-fn all_hold(alloc: Global) -> bool {
-    let mut all = true;
-    for row in ROWS {
-        all &= holds(alloc, row);
-    }
-    all
-}
-
-/// What is tried here, and whether it holds.
-pub(crate) fn tried(alloc: Global, report: &mut Paper) {
-    report.holds("files are sent in any pieces", all_hold(alloc));
 }

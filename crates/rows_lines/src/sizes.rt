@@ -1,26 +1,14 @@
 use crate::report::is_printed;
+use crate::row::Row;
 use ftp_repr::{Kind, ReprFault, Structure, first_ff, plain_run, wire_size};
 use rows_base::Paper;
 use std::alloc::Global;
 
-/// Octets and their sizes in type A and in type I.
-type Size<'a> = (&'a [u8], u64, u64);
-
-const SIZES: &[Size<'static>] = &[
-    (&[], 0, 0),
-    (&[0x61, 0x0D, 0x0A], 5, 3),
-    (&[0x0A; 33], 66, 33),
-    (&[0x0D; 33], 66, 33),
-    (&[0xFF, 0x00, 0x0A, 0x0B], 5, 4),
-];
-
-fn are_sized() -> bool {
-    let mut all = true;
-    for (octets, ascii, image) in SIZES {
-        all &= wire_size(Kind::Ascii, octets) == *ascii;
-        all &= wire_size(Kind::Image, octets) == *image;
-    }
-    all
+/// Writes the sizes of octets in type A and in type I.
+pub(crate) fn show_sizes(octets: &[u8], paper: &mut Paper) {
+    paper.number(wire_size(Kind::Ascii, octets));
+    paper.put(b" ");
+    paper.number(wire_size(Kind::Image, octets));
 }
 
 /// Counts of octets about those that are looked at at once.
@@ -59,40 +47,25 @@ fn counts_are_sized() -> bool {
     all
 }
 
-/// A structure, octets, how many of them go as they are in type A and in type I, and how many stand before an octet 255.
-type Run = (Structure, &'static [u8], usize, usize, usize);
-
-const RUNS: &[Run] = &[
-    (Structure::File, &[], 0, 0, 0),
-    (Structure::Record, &[], 0, 0, 0),
-    (Structure::File, &[0x61, 0x62], 2, 2, 2),
-    (Structure::Record, &[0x61, 0x62], 2, 2, 2),
-    (Structure::File, &[0x61, 0x0D, 0x0A], 1, 3, 3),
-    (Structure::Record, &[0x61, 0x0D, 0x0A], 1, 2, 3),
-    (Structure::File, &[0x0A, 0xFF], 0, 2, 1),
-    (Structure::Record, &[0x0A, 0xFF], 0, 0, 1),
-    (Structure::File, &[0xFF, 0x00, 0x0D], 2, 3, 0),
-    (Structure::Record, &[0xFF, 0x00, 0x0D], 2, 3, 0),
-];
-
-fn are_run() -> bool {
-    let mut all = true;
-    for (structure, octets, ascii, image, escape) in RUNS {
-        all &= plain_run(Kind::Ascii, *structure, octets) == *ascii;
-        all &= plain_run(Kind::Image, *structure, octets) == *image;
-        all &= first_ff(octets) == *escape;
-    }
-    all
+/// Writes how many octets go as they are in type A and in type I, and how many stand before an octet 255.
+pub(crate) fn show_run(row: &Row<'_>, paper: &mut Paper) {
+    let structure = match row.head {
+        [b'R', ..] => Structure::Record,
+        _ => Structure::File,
+    };
+    paper.number(plain_run(Kind::Ascii, structure, row.octets) as u64);
+    paper.put(b" ");
+    paper.number(plain_run(Kind::Image, structure, row.octets) as u64);
+    paper.put(b" ");
+    paper.number(first_ff(row.octets) as u64);
 }
 
 /// What is tried here, and whether it holds.
 pub(crate) fn tried(alloc: Global, report: &mut Paper) {
-    report.holds("wire sizes of type A and I", are_sized());
     report.holds(
         "sizes and runs with a line end at each place",
         counts_are_sized(),
     );
-    report.holds("runs before what changes", are_run());
     report.holds(
         "the refusal prints its number and name",
         is_printed(alloc, &ReprFault::Memory, "P1 Memory"),

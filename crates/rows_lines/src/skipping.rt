@@ -1,27 +1,9 @@
+use crate::row::kind_of;
 use ftp_repr::{Kind, Skipped, skip};
-use rows_base::Paper;
+use rows_base::{Paper, number, split};
 
 /// A line end and a carriage return: seven octets in type A.
 const FILE: &[u8] = &[0x61, 0x0A, 0x62, 0x0D, 0x63];
-
-/// A type, a count of octets of the wire, and where it leads to in the file.
-type Row = (Kind, u64, Skipped);
-
-const ROWS: &[Row] = &[
-    (Kind::Ascii, 0, Skipped::Within(0)),
-    (Kind::Ascii, 1, Skipped::Within(1)),
-    (Kind::Ascii, 2, Skipped::Inside),
-    (Kind::Ascii, 3, Skipped::Within(2)),
-    (Kind::Ascii, 4, Skipped::Within(3)),
-    (Kind::Ascii, 5, Skipped::Inside),
-    (Kind::Ascii, 6, Skipped::Within(4)),
-    (Kind::Ascii, 7, Skipped::Within(5)),
-    (Kind::Ascii, 8, Skipped::Left(1)),
-    (Kind::Image, 0, Skipped::Within(0)),
-    (Kind::Image, 2, Skipped::Within(2)),
-    (Kind::Image, 5, Skipped::Within(5)),
-    (Kind::Image, 7, Skipped::Left(2)),
-];
 
 /// What a piece answers behind so many octets, of which this was the answer.
 fn go_on(kind: Kind, skipped: Skipped, before: usize, piece: &[u8]) -> Skipped {
@@ -34,43 +16,53 @@ fn go_on(kind: Kind, skipped: Skipped, before: usize, piece: &[u8]) -> Skipped {
     }
 }
 
-/// Whether a row holds in two pieces, cut at this place.
-fn holds_cut(row: &Row, cut: usize) -> bool {
-    let (kind, left, expected) = *row;
+/// Where so many octets lead to in two pieces, cut at this place.
+fn skip_cut(kind: Kind, left: u64, cut: usize) -> Skipped {
     let (front, back) = FILE.split_at(cut.min(FILE.len()));
-    go_on(kind, skip(kind, left, front), front.len(), back) == expected
+    go_on(kind, skip(kind, left, front), front.len(), back)
 }
 
-/// Whether a row holds octet by octet.
-fn holds_by_octets(row: &Row) -> bool {
-    let (kind, left, expected) = *row;
+/// Where they lead to octet by octet.
+fn skip_octets(kind: Kind, left: u64) -> Skipped {
     let mut skipped = skip(kind, left, &[]);
     let mut at = 0usize;
     for octet in FILE {
         skipped = go_on(kind, skipped, at, &[*octet]);
         at = at.wrapping_add(1);
     }
-    skipped == expected
+    skipped
 }
 
-fn holds(row: &Row) -> bool {
-    let (kind, left, expected) = *row;
-    let mut all = (skip(kind, left, FILE) == expected) & holds_by_octets(row);
+/// Whether they lead there in every cutting.
+fn leads_always(kind: Kind, left: u64, skipped: Skipped) -> bool {
+    let mut all = skip_octets(kind, left) == skipped;
     for cut in 0..=FILE.len() {
-        all &= holds_cut(row, cut);
+        all &= skip_cut(kind, left, cut) == skipped;
     }
     all
 }
 
-fn all_hold() -> bool {
-    let mut all = true;
-    for row in ROWS {
-        all &= holds(row);
+/// Writes where so many octets of the wire lead to in the file, in every cutting.
+pub(crate) fn show(row: &[u8], paper: &mut Paper) {
+    let (letter, left) = split(row);
+    let (kind, left) = (kind_of(letter), number(left));
+    let skipped = skip(kind, left, FILE);
+    put_skipped(skipped, paper);
+    if !leads_always(kind, left, skipped) {
+        paper.put(b", but not in every cutting");
     }
-    all
 }
 
-/// What is tried here, and whether it holds.
-pub(crate) fn tried(report: &mut Paper) {
-    report.holds("places of a file whole and in every cut", all_hold());
+fn put_skipped(skipped: Skipped, paper: &mut Paper) {
+    match skipped {
+        Skipped::Within(place) => {
+            paper.put(b"within ");
+            paper.number(place as u64);
+        }
+        Skipped::Left(left) => {
+            paper.put(b"left ");
+            paper.number(left);
+        }
+        Skipped::Inside => paper.put(b"inside"),
+    }
 }

@@ -1,58 +1,10 @@
 //! Files to wires, in pieces and rooms, and wires to files.
 use ftp_mode::{Deframer, FrameFault, Framer, Part};
 use ftp_repr::{Item, Receiver, ReprFault, Sender};
-use ftp_settings::{Kind, Mode, Representation, Structure};
+use ftp_settings::Representation;
 use ftp_wire::Encoder;
 use rows_base::Paper;
 use std::alloc::Global;
-
-pub const FILE_STREAM: Representation = Representation {
-    kind: Kind::Image,
-    structure: Structure::File,
-    mode: Mode::Stream,
-};
-
-pub const RECORD_STREAM: Representation = Representation {
-    kind: Kind::Image,
-    structure: Structure::Record,
-    mode: Mode::Stream,
-};
-
-pub const FILE_BLOCK: Representation = Representation {
-    kind: Kind::Image,
-    structure: Structure::File,
-    mode: Mode::Block,
-};
-
-pub const RECORD_BLOCK: Representation = Representation {
-    kind: Kind::Image,
-    structure: Structure::Record,
-    mode: Mode::Block,
-};
-
-pub const ASCII_STREAM: Representation = Representation {
-    kind: Kind::Ascii,
-    structure: Structure::File,
-    mode: Mode::Stream,
-};
-
-pub const ASCII_RECORD_STREAM: Representation = Representation {
-    kind: Kind::Ascii,
-    structure: Structure::Record,
-    mode: Mode::Stream,
-};
-
-pub const ASCII_BLOCK: Representation = Representation {
-    kind: Kind::Ascii,
-    structure: Structure::File,
-    mode: Mode::Block,
-};
-
-pub const ASCII_RECORD_BLOCK: Representation = Representation {
-    kind: Kind::Ascii,
-    structure: Structure::Record,
-    mode: Mode::Block,
-};
 
 /// Puts an item until it is taken, into rooms of this size.
 fn put_item(framer: &mut Framer, item: Item<'_>, room: usize, wire: &mut Paper) {
@@ -189,7 +141,7 @@ fn read(
 }
 
 /// Reads a wire in this representation, and gives its fault.
-fn read_in(
+pub fn read_in(
     form: Representation,
     wire: &[u8],
     piece: usize,

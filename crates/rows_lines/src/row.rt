@@ -1,0 +1,43 @@
+//! What stands on a line of the script.
+use ftp_settings::{Kind, Mode, Representation, Structure};
+
+/// What stands behind the word of a line: small words, and then octets between double quotes.
+#[derive(Drop)]
+pub(crate) struct Row<'a> {
+    /// All of it, as it is written.
+    pub text: &'a [u8],
+    /// The small words.
+    pub head: &'a [u8],
+    /// The first octets that are quoted.
+    pub octets: &'a [u8],
+}
+
+/// The representation of up to three letters: A or I, F or R, S or B.
+pub(crate) fn form_of(letters: &[u8]) -> Representation {
+    Representation {
+        kind: kind_of(letters),
+        structure: structure_of(letters),
+        mode: mode_of(letters),
+    }
+}
+
+pub(crate) fn kind_of(letters: &[u8]) -> Kind {
+    match letters {
+        [b'A', ..] => Kind::Ascii,
+        _ => Kind::Image,
+    }
+}
+
+pub(crate) fn structure_of(letters: &[u8]) -> Structure {
+    match letters {
+        [_, b'R', ..] => Structure::Record,
+        _ => Structure::File,
+    }
+}
+
+fn mode_of(letters: &[u8]) -> Mode {
+    match letters {
+        [_, _, b'B', ..] => Mode::Block,
+        _ => Mode::Stream,
+    }
+}
