@@ -8,9 +8,9 @@ use crate::talk::{Answered, Talk, Told};
 use crate::telling::{Asked, Guest, Quoted, tells, touched_by};
 use ftp_control::Watch;
 use ftp_facts::moment_text;
+use ftp_operation::Rights;
 use ftp_tool_sockets::{Over, SystemWatch, pause};
 use ftp_tree_folder::Touches;
-use ftp_operation::Rights;
 use std::alloc::AllocError;
 use std::cell::{Cell, RefCell};
 use std::fmt::{Display, Formatter};
@@ -23,7 +23,7 @@ use std::{fmt, io};
 const SLOW_MILLIS: u16 = 1_000;
 
 /// Whether sessions are told on standard error.
-#[derive(Clone, Copy, Debug, PartialEq, Eq)]
+#[derive(Clone, Copy, PartialEq, Eq)]
 pub enum Log {
     Silent,
     Told,

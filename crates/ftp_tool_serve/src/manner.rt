@@ -20,7 +20,7 @@ const SLOW_FROM: u8 = 3;
 const LAST: u8 = 10;
 
 /// How the logins of a connection went.
-#[derive(Clone, Copy, PartialEq, Eq)]
+#[derive(Clone, Copy)]
 pub(crate) struct Manner {
     pub(crate) logged_in: bool,
     /// How many logins were refused, 10 for more.
@@ -80,7 +80,7 @@ impl Manner {
 }
 
 /// What an answer says of who is logged in.
-#[derive(Clone, Copy, PartialEq, Eq)]
+#[derive(Clone, Copy)]
 pub(crate) enum Login {
     /// Who was before, if anybody.
     Same,

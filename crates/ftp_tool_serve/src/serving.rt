@@ -22,7 +22,7 @@ use std::{fs, io};
 const AGAIN_MILLIS: u16 = 1_000;
 
 /// What is to be served.
-#[derive(Clone, Copy, Debug, PartialEq, Eq)]
+#[derive(Clone, Copy)]
 pub struct Serving<'a> {
     /// The address to listen at.
     pub host: IpAddr,
@@ -42,7 +42,7 @@ pub struct Serving<'a> {
 }
 
 /// Whether anybody else changes the folder while it is served.
-#[derive(Clone, Copy, Debug, PartialEq, Eq)]
+#[derive(Clone, Copy, PartialEq, Eq)]
 pub enum Others {
     /// Others may: each session begins with the folder as it is then.
     Change,
