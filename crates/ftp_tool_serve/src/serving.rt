@@ -53,7 +53,7 @@ pub enum Others {
 /// What stays the same over all sessions.
 #[derive(Clone, Copy)]
 struct Desk<'a> {
-    job: Serving<'a>,
+    job: &'a Serving<'a>,
     listener: &'a TcpListener,
     reasons: &'a Reasons,
     passive: &'a PassivePorts,
@@ -88,7 +88,7 @@ where
     if users_told(rt, job.accounts).is_none() {
         return Ok(Status::Failed);
     }
-    serve_dir(rt, job)
+    serve_dir(rt, &job)
 }
 
 /// Who may log in; where that can't be had, it is told why.
@@ -106,7 +106,7 @@ where
 }
 
 /// Loads the folder and serves it.
-fn serve_dir<R>(rt: &R, job: Serving<'_>) -> io::Result<Status>
+fn serve_dir<R>(rt: &R, job: &Serving<'_>) -> io::Result<Status>
 where
     R: Net<Listener = TcpListener, Stream = TcpStream>
         + Files
@@ -133,7 +133,7 @@ where
 }
 
 /// Tries whether the folder can be written, where nobody is served: by an empty file of a name that no client can say.
-fn try_writing<R: Files + AllocGlobal>(rt: &R, job: Serving<'_>) -> io::Result<()> {
+fn try_writing<R: Files + AllocGlobal>(rt: &R, job: &Serving<'_>) -> io::Result<()> {
     if job.sessions != Sessions::Count(0) {
         return Ok(());
     }
@@ -147,7 +147,7 @@ fn try_writing<R: Files + AllocGlobal>(rt: &R, job: Serving<'_>) -> io::Result<(
 fn serve_mirror<'b, R>(
     rt: &'b R,
     mirror: Mirror<Global, DiskFolder<'_, &'b R>>,
-    job: Serving<'_>,
+    job: &Serving<'_>,
     reasons: &Reasons,
 ) -> io::Result<Status>
 where
@@ -158,25 +158,29 @@ where
         + Eprint
         + AllocGlobal,
 {
-    if let Err(error) = try_writing(rt, job) {
-        eprintln!(rt; "error: the folder can't be written: {error}")?;
-        return Ok(Status::Failed);
+    match listener_for(rt, job) {
+        Ok(Some(listener)) => Ok(serve_by(rt, mirror, job, &listener, reasons)),
+        Ok(None) => Ok(Status::Failed),
+        Err(error) => Err(error),
     }
-    let Some(listener) = listener_at(rt, job)? else {
-        return Ok(Status::Failed);
-    };
-    let passive = PassivePorts::new(job.passive.0, job.passive.1);
-    let desk = Desk {
-        job,
-        listener: &listener,
-        reasons,
-        passive: &passive,
-    };
-    Ok(serve_at(rt, mirror, desk))
+}
+
+/// Listens at the port, where the folder can be written; else it is told why not.
+fn listener_for<R>(rt: &R, job: &Serving<'_>) -> io::Result<Option<TcpListener>>
+where
+    R: Net<Listener = TcpListener, Stream = TcpStream> + Files + Print + Eprint + AllocGlobal,
+{
+    match try_writing(rt, job) {
+        Ok(()) => listener_at(rt, job),
+        Err(error) => {
+            eprintln!(rt; "error: the folder can't be written: {error}")?;
+            Ok(None)
+        }
+    }
 }
 
 /// Listens at the port, and tells where, or why not.
-fn listener_at<R>(rt: &R, job: Serving<'_>) -> io::Result<Option<TcpListener>>
+fn listener_at<R>(rt: &R, job: &Serving<'_>) -> io::Result<Option<TcpListener>>
 where
     R: Net<Listener = TcpListener, Stream = TcpStream> + Print + Eprint,
 {
@@ -190,6 +194,27 @@ where
             Ok(None)
         }
     }
+}
+
+/// Serves a folder at a port that is listened at.
+fn serve_by<'b, R>(
+    rt: &'b R,
+    mirror: Mirror<Global, DiskFolder<'_, &'b R>>,
+    job: &Serving<'_>,
+    listener: &TcpListener,
+    reasons: &Reasons,
+) -> Status
+where
+    R: Net<Listener = TcpListener, Stream = TcpStream> + Files + Clock + Eprint + AllocGlobal,
+{
+    let passive = PassivePorts::new(job.passive.0, job.passive.1);
+    let desk = Desk {
+        job,
+        listener,
+        reasons,
+        passive: &passive,
+    };
+    serve_at(rt, mirror, desk)
 }
 
 /// Serves control connections one after another; a session that failed counts, and makes the status a failure.
@@ -256,7 +281,7 @@ fn looked_at<'a, 'b, R>(
     rt: &'b R,
     mirror: Mirror<Global, DiskFolder<'a, &'b R>>,
     seen: &mut Seen,
-    job: Serving<'_>,
+    job: &Serving<'_>,
 ) -> Mirror<Global, DiskFolder<'a, &'b R>>
 where
     R: Files + Clock + Eprint + AllocGlobal,
