@@ -98,11 +98,27 @@ where
     T: Tree<Global>,
 {
     let mut server = server;
-    let ended = match Journal::new(rt, peer, service) {
-        Ok(journal) => connected(rt, &mut server, stream, &journal, service),
-        Err(AllocError) => Err(Failed),
-    };
+    let ended = with_journal(rt, &mut server, stream, peer, service);
     (server.into_tree(), ended)
+}
+
+/// Serves a control connection by a server, of which a journal tells.
+fn with_journal<R, T, F>(
+    rt: &R,
+    server: &mut F,
+    stream: &TcpStream,
+    peer: SocketAddr,
+    service: Service<'_>,
+) -> Result<(), Failed>
+where
+    R: Net<Listener = TcpListener, Stream = TcpStream> + Clock + Eprint + AllocGlobal,
+    T: Tree<Global>,
+    F: Far<Global, T>,
+{
+    match Journal::new(rt, peer, service) {
+        Ok(journal) => connected(rt, server, stream, &journal, service),
+        Err(AllocError) => Err(Failed),
+    }
 }
 
 /// Serves a control connection by a server, with data connections.
