@@ -46,7 +46,10 @@ where
 {
     let answered = converse_as(rt, server, user, noticed, play);
     match loss_of(&answered) {
-        Some(Loss::Ended) => ask_again(rt, server, user, noticed, play),
+        Some(Loss::Ended) => {
+            drop(answered);
+            ask_again(rt, server, user, noticed, play)
+        }
         _ => answered,
     }
 }
@@ -69,7 +72,10 @@ where
         pause(seconds.saturating_mul(SECOND_MILLIS));
         let answered = converse_as(rt, server, user, noticed, play);
         match loss_of(&answered) {
-            Some(found) => loss = found,
+            Some(found) => {
+                drop(answered);
+                loss = found;
+            }
             None => return answered,
         }
     }
