@@ -1,5 +1,5 @@
 -- An upload over breaks begins with its first operation.
-use Rattle.std.proofs.Common.{◌≡◌, ◌⊎◌, inl, inr, ℕ, ◌+◌, ◌≤◌, ◌&&◌, Bool, true, false, List, [], ◌∷◌, ◌++◌, length, Option, Some, None, refl, sym, ap, subst, ◌∙◌, arith, append-nil}
+use Rattle.std.proofs.Common.{◌≡◌, inl, inr, ℕ, ◌+◌, ◌≤◌, Bool, true, false, List, [], ◌∷◌, ◌++◌, length, Some, None, refl, sym, ap, subst, ◌∙◌, arith, append-nil}
 use Rattle.std.specs.Prelude.{if◌then◌else◌}
 use Rattle.ftp_operation.specs.Answer.{Said, Lost}
 use Rattle.ftp_operation.specs.Operation.{can_be_sent, is_path_text}
@@ -24,7 +24,7 @@ use Rattle.ftp_pair_world.specs.Outcome.{Nothing}
 use Rattle.ftp_pair_world.specs.Serving.{after_event}
 use Rattle.ftp_pair_world.specs.World.{World, Mark}
 use Rattle.ftp_pair_agreement.specs.Follows.{Told, IsFree, IsLost, IsLinked, IsUnlinked, Follows}
-use Rattle.ftp_pair_agreement.specs.Over.{Going, orders_of, marks_of, IsTrying, OverRuns}
+use Rattle.ftp_pair_agreement.specs.Over.{Going, OverRuns}
 use Rattle.ftp_pair_agreement.specs.Runs.{Runs}
 use Rattle.ftp_pair_agreement.proofs.Items.{state_more, one_told}
 use Rattle.ftp_pair_agreement.proofs.OverClient.{Along, along, amid_along, begins_amid, none_behind}

@@ -1,17 +1,16 @@
 -- A client that is at an operation of an upload over breaks does what it does at that operation alone, up to its answer; then it goes on with the
 -- next operation, if there is one.
-use Rattle.std.proofs.Common.{◌≡◌, ℕ, List, [], ◌∷◌, ◌++◌, Bool, true, false, ◌&&◌, ◌==◌, Option, Some, None, refl, sym, ap, subst, ◌∙◌}
+use Rattle.std.proofs.Common.{◌≡◌, ℕ, List, ◌++◌, Bool, true, false, ◌&&◌, ◌==◌, Option, Some, None, refl, sym, ap, subst, ◌∙◌}
 use Rattle.std.specs.Prelude.{if◌then◌else◌}
 use Rattle.ftp_command.specs.declared.command.Command.{Command}
 use Rattle.ftp_nvt.specs.Lines.{NvtEvent, line, too_long, owed}
-use Rattle.ftp_operation.specs.Answer.{Said, Refused, Foreign, Unopened}
+use Rattle.ftp_operation.specs.Answer.{Said, Refused, Foreign}
 use Rattle.ftp_operation.specs.declared.op.Op.{Op}
 use Rattle.ftp_endpoint.specs.declared.endpoint.Endpoint.{Endpoint}
-use Rattle.ftp_endpoint.specs.declared.host.Host.{Host}
 use Rattle.ftp_reply.specs.Lines.{Text, joined}
 use Rattle.ftp_ends.specs.Link.{same_host}
-use Rattle.ftp_client_model.specs.Tries.{Run, next_in, next_of, after_size, after_try, is_size, run_at}
-use Rattle.ftp_client_model.specs.Calls.{report_of_job, heard_flow, receives_octet, receives, with_flow, line_taken, event_taken, listening_by, listening, connected, accepted, opened_by, data_opened, unopened_by, data_refused, ending_of, over_by, data_end, data_fault, heard_by, went, goes_by, gives_data, control_end}
+use Rattle.ftp_client_model.specs.Tries.{Run, next_in, after_size, after_try, is_size, run_at}
+use Rattle.ftp_client_model.specs.Calls.{report_of_job, line_taken, event_taken, accepted}
 use Rattle.ftp_client_model.specs.Dialogue.{sends, sends_if, last_job, placed, goes_on, next_job, finishes_by, finishes_read, is_to_abort, sends_abort, aborts_once_enough, abort_answered, begins, finishes, greeted, enters_with, login_ends, user_answered, pass_answered, set_accepted, dials, endpoint_named, port_named, passive_named, step_done, intermediate, awaits_reply, step_answered, answer_in, judged, answers_by, answers_job, answers_once_over, closes_once_given_by, closes_once_given, carries_on, with_reply, awaited, transfer_opened, marked_flow, noted, unless_open, before_opening, behind_opening, transfer_answered, job_answered, stand_answered, judged_reply, answered, closes, has_begun, is_given}
 use Rattle.ftp_client_model.specs.Octets.{flow_of}
 use Rattle.ftp_client_model.specs.Plan.{asked_settings, command_of, first_step, next_step, settings_behind as set_by, is_extended}
@@ -21,8 +20,6 @@ use Rattle.ftp_reply.specs.Values.{passive_value, extended_value, mark_value}
 use Rattle.ftp_client_model.specs.View.{View, Job, Idle, Waiting, Doing, Transferring, Told, Transfer, Flow, strange, silent, dropped, fails_by, failed_job, failure_said}
 use Rattle.ftp_client_model.specs.declared.client.Abort.{Abort}
 use Rattle.ftp_client_model.specs.declared.client.Abort.TheVariants as Aborts
-use Rattle.ftp_client_model.specs.declared.client.Ending.{Ending}
-use Rattle.ftp_client_model.specs.declared.client.Ending.TheVariants as Endings
 use Rattle.ftp_client_model.specs.declared.client.Failure.{Failure}
 use Rattle.ftp_client_model.specs.declared.client.Failure.TheVariants as Failures
 use Rattle.ftp_client_model.specs.declared.client.ClientLink.{ClientLink}

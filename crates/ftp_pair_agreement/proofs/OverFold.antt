@@ -1,17 +1,16 @@
 -- What is told of the operations of an upload over breaks, one by one, is told of that upload; and so what agrees with them agrees with it.
-use Rattle.std.proofs.Common.{◌≡◌, ◌⊎◌, inl, inr, ℕ, zero, suc, ◌+◌, ◌<◌, ◌≤◌, List, [], ◌∷◌, ◌++◌, length, Option, Some, None, refl, sym, ap, subst, ◌∙◌, arith, length-append, append-nil}
+use Rattle.std.proofs.Common.{◌≡◌, ◌⊎◌, inl, inr, ℕ, zero, suc, ◌+◌, ◌<◌, ◌≤◌, List, [], ◌∷◌, ◌++◌, length, Option, Some, None, refl, sym, ap, subst, ◌∙◌, arith, append-nil}
 use Rattle.ftp_operation.specs.Answer.{Said}
 use Rattle.ftp_operation.specs.declared.op.Op.{Op}
 use Rattle.ftp_direct.specs.Direct.{State}
 use Rattle.ftp_tree.specs.Tree.{Table}
 use Rattle.ftp_client_model.specs.Tries.{OverBreaks, Run, first_try, run_of}
 use Rattle.ftp_pair_world.specs.Agreement as Agreement
-use Rattle.ftp_pair_world.specs.Agreement.{Order, Single, Tries, Item, state_after, Agrees}
-use Rattle.ftp_pair_world.specs.World.{World, Mark}
+use Rattle.ftp_pair_world.specs.Agreement.{Order, Single, Tries, Agrees}
+use Rattle.ftp_pair_world.specs.World.{Mark}
 use Rattle.ftp_pair_agreement.specs.Follows.{Told}
-use Rattle.ftp_pair_agreement.specs.Tried.{Tried, tried_orders, tried_marks, tried_said, all_marks, IsChain, told_of, IsLast}
-use Rattle.ftp_pair_agreement.proofs.Items.{marks_of_each}
-use Rattle.ftp_pair_agreement.proofs.OverItems.{Matches, Folded, fold}
+use Rattle.ftp_pair_agreement.specs.Tried.{Tried, tried_orders, tried_marks, tried_said, all_marks, IsChain, IsLast}
+use Rattle.ftp_pair_agreement.proofs.OverItems.{Matches, fold}
 use Rattle.ftp_pair_agreement.proofs.Phases.{both_longer, length-more}
 
 -- what is at most something is less or the same

@@ -1,18 +1,18 @@
 -- Where the last operation of an upload over breaks is answered and nothing follows it, the world follows with that upload.
-use Rattle.std.proofs.Common.{◌≡◌, ◌⊎◌, inl, inr, ℕ, suc, ◌+◌, ◌≤◌, true, false, List, [], ◌∷◌, ◌++◌, length, Option, Some, None, refl, sym, ap, subst, ◌∙◌, arith, length-append}
+use Rattle.std.proofs.Common.{◌≡◌, inl, inr, ℕ, suc, ◌+◌, true, false, List, [], ◌∷◌, ◌++◌, length, Option, Some, None, refl, sym, ap, subst, ◌∙◌, arith, length-append}
 use Rattle.ftp_operation.specs.Answer.{Said}
 use Rattle.ftp_direct.specs.Direct.{State}
 use Rattle.ftp_server_model.specs.Machine.{Reading}
 use Rattle.ftp_client_model.specs.Calls.{is_busy_job}
 use Rattle.ftp_client_model.specs.View.{Idle}
-use Rattle.ftp_pair_world.specs.Agreement.{Order, Single, Tries}
+use Rattle.ftp_pair_world.specs.Agreement.{Order, Tries}
 use Rattle.ftp_pair_world.specs.World.{World, Mark}
 use Rattle.ftp_pair_dialogues.specs.Login.{AtFree}
 use Rattle.ftp_pair_dialogues.specs.Stage.{Way, Asking, Answering}
 use Rattle.ftp_pair_agreement.specs.Cut.{Cut, world_at, StandsAt}
-use Rattle.ftp_pair_agreement.specs.Follows.{Told, IsFree, IsUnder, IsLost, IsLinked, Phase, Follows}
+use Rattle.ftp_pair_agreement.specs.Follows.{Told, IsFree, IsLost, Phase, Follows}
 use Rattle.ftp_pair_agreement.specs.Over.{Going, orders_of, marks_of}
-use Rattle.ftp_pair_agreement.specs.Tried.{Tried, tried_orders, tried_marks, tried_said, all_marks, IsLast}
+use Rattle.ftp_pair_agreement.specs.Tried.{Tried, tried_marks, tried_said, all_marks, IsLast}
 use Rattle.ftp_pair_agreement.proofs.Events.{under_busy}
 use Rattle.ftp_pair_agreement.proofs.OverFold.{early_matches, late_matches, told_folded}
 use Rattle.ftp_pair_agreement.proofs.Phases.{length-more}

@@ -1,11 +1,10 @@
 -- No operation of an upload over breaks is a Peek that has sent ABOR.
-use Rattle.std.proofs.Common.{◌≡◌, ◌⊎◌, inl, inr, ℕ, Bool, true, false, List, [], ◌∷◌, ◌++◌, Option, Some, None, refl, sym, ap, subst, ◌∙◌}
-use Rattle.ftp_operation.specs.Answer.{Said, BadOperation, Octets, Refused}
+use Rattle.std.proofs.Common.{◌≡◌, ◌⊎◌, inl, inr, ℕ, Bool, true, false, List, [], ◌++◌, Option, Some, None, refl, sym, ap, subst, ◌∙◌}
+use Rattle.ftp_operation.specs.Answer.{Said, Octets}
 use Rattle.ftp_operation.specs.declared.op.Op.{Op}
 use Rattle.ftp_operation.specs.declared.op.Op.TheVariants as Ops
 use Rattle.ftp_wire.specs.Decoder.{decoder_of}
 use Rattle.ftp_direct.specs.Direct.{State, answer, done}
-use Rattle.ftp_direct.specs.Refusal.{code_of}
 use Rattle.ftp_client_model.specs.Octets.{content_answer}
 use Rattle.ftp_client_model.specs.Plan.{how_of}
 use Rattle.ftp_client_model.specs.Tries.{is_size}

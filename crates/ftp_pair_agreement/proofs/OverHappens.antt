@@ -1,57 +1,35 @@
 -- Every event that begins nothing keeps what follows of an upload over breaks under way.
-use Rattle.std.proofs.Common.{◌≡◌, ◌⊎◌, inl, inr, ℕ, ◌+◌, ◌≤◌, ◌==◌, Bool, true, false, not, ◌&&◌, List, [], ◌∷◌, ◌++◌, length, take, drop, Option, Some, None, refl, sym, ap, subst, ◌∙◌, arith, append_assoc, append-nil}
-use Rattle.std.specs.Prelude.{IsTrue, min}
-use Rattle.ftp_operation.specs.Answer.{Said}
-use Rattle.ftp_operation.specs.declared.op.Op.{Op}
+use Rattle.std.proofs.Common.{◌≡◌, inl, inr, ℕ, ◌+◌, ◌==◌, Bool, true, false, not, ◌&&◌, List, [], ◌++◌, length, Option, Some, None, refl, sym, ap, subst, ◌∙◌}
+use Rattle.std.specs.Prelude.{IsTrue}
 use Rattle.ftp_direct.specs.Direct.{State}
-use Rattle.ftp_ends.specs.Link.{is_connecting, is_wanted}
+use Rattle.ftp_ends.specs.Link.{is_wanted}
 use Rattle.ftp_ends.specs.Octets.{has_octets}
 use Rattle.ftp_client_model.specs.Calls as near
 use Rattle.ftp_client_model.specs.Calls.{is_busy_job, report_of_job}
-use Rattle.ftp_client_model.specs.Tries.{Run, is_size, next_in}
 use Rattle.ftp_client_model.specs.View.{View as Near, Job, Idle, Waiting, Doing, Transferring, Told as Answered}
 use Rattle.ftp_client_model.specs.declared.client.ClientLink.{ClientLink}
-use Rattle.ftp_client_model.specs.declared.client.ClientLink.TheVariants as Data
 use Rattle.ftp_server_model.specs.Calls as far
 use Rattle.ftp_server_model.specs.Machine.{Reading, IsReading}
-use Rattle.ftp_pair_world.specs.Agreement.{Order, Single, Tries}
-use Rattle.ftp_pair_world.specs.Events.{Does, can_begin, Queue, ControlToServer, ControlToClient, DataToServer, DataToClient, Event, Deliver, Open, Refuse, End, Break, EndControl, Next, Upload, Happens, can_happen, pulled, pushed, filled, in_queue, DeliversBy, link_opens, link_refused, refused_by, told, link_breaks, broken_by, ends_control, is_asked_for, is_gone, is_closed_by_far, is_closed_by_near, is_left_by_near, is_left_by_far}
+use Rattle.ftp_pair_world.specs.Agreement.{Order}
+use Rattle.ftp_pair_world.specs.Events.{Does, can_begin, Queue, ControlToServer, ControlToClient, DataToServer, DataToClient, Event, Deliver, Open, Refuse, End, Break, EndControl, Next, Upload, Happens, can_happen, ends_control, is_asked_for, is_gone, is_closed_by_far, is_closed_by_near, is_left_by_near, is_left_by_far}
 use Rattle.ftp_pair_world.specs.Serving.{after_event}
-use Rattle.ftp_pair_world.specs.World.{World, Link, Gone, Opened, ClosedByNear, ClosedByFar, Mark, Refused, Broken, marked_last, with_mark, gone}
-use Rattle.ftp_pair_agreement.specs.Follows.{IsFree, IsUnder, Phase, Follows}
-use Rattle.ftp_pair_agreement.specs.Over.{Going, orders_of, marks_of, IsTrying, IsTailing, OverRuns}
-use Rattle.ftp_client_model.specs.Plan.{how_of}
-use Rattle.ftp_pair_dialogues.specs.Fetches.{Rise}
-use Rattle.ftp_pair_agreement.specs.Cut.{PlacedAt}
-use Rattle.ftp_pair_agreement.specs.Rising.{Lift, Offered, Rising, Risen, Settled, Declined, Unjoined, lifts}
-use Rattle.ftp_pair_agreement.specs.Stages as Stages
-use Rattle.ftp_pair_agreement.proofs.UploadData.{AtRise}
-use Rattle.ftp_pair_agreement.proofs.OverTries.{kind_of}
-use Rattle.ftp_pair_agreement.specs.Runs.{IsFetching, IsFetchingOn, IsTrailing, Runs}
-use Rattle.ftp_pair_agreement.specs.Tried.{Tried, tried_orders, tried_marks, tried_said, all_marks, IsUnderWay}
-use Rattle.ftp_pair_agreement.proofs.Deliveries as plain
-use Rattle.ftp_pair_agreement.proofs.Events.{IsNoBeginning, both_false, lent_again, never, no_data, under_busy}
+use Rattle.ftp_pair_world.specs.World.{World}
+use Rattle.ftp_pair_agreement.specs.Follows.{Follows}
+use Rattle.ftp_pair_agreement.specs.Over.{orders_of, marks_of, IsTrying, OverRuns}
+use Rattle.ftp_pair_agreement.specs.Tried.{tried_said, IsUnderWay}
+use Rattle.ftp_pair_agreement.proofs.Events.{IsNoBeginning, both_false, never, no_data}
 use Rattle.ftp_pair_agreement.proofs.FetchParting.{fetch_parts}
 use Rattle.ftp_pair_agreement.proofs.FetchQuiet.{runs_answered}
-use Rattle.ftp_pair_agreement.proofs.FetchRuns as fetches
 use Rattle.ftp_pair_world.specs.Still.{IsStill}
-use Rattle.ftp_pair_agreement.proofs.FetchTold.{closed_is, marks_last}
 use Rattle.ftp_pair_agreement.proofs.FetchWants.{flows_or_none, rises_or_none}
-use Rattle.ftp_pair_agreement.proofs.OverClient.{Beside, Under, Behind, turns_to, under}
-use Rattle.ftp_pair_agreement.proofs.OverLink.{control_end_beside, control_end_none, data_end_beside, data_fault_beside, data_opened_beside, data_refused_beside}
-use Rattle.ftp_pair_agreement.proofs.OverFollows.{Stands, Parts}
-use Rattle.ftp_pair_agreement.proofs.OverMoments.{filled_client_footing, filled_server_footing, gives_footing_is, hears_footing}
-use Rattle.ftp_pair_agreement.proofs.OverMoves as moves
-use Rattle.ftp_pair_agreement.proofs.OverMoves.{Parted, untold_job}
-use Rattle.ftp_pair_agreement.proofs.OverServed.{with_run, by_itself, Kept, Alike, IsWorking, Working, wants_same, working_after}
-use Rattle.ftp_pair_agreement.proofs.OverSettles.{Turned, last_order, last_same, single_same, answers_fetch, answers_under, settle_end, settle_next, settle_under}
-use Rattle.ftp_pair_agreement.proofs.OverTold.{IsToldAt, some_told, fetch_told, under_told}
+use Rattle.ftp_pair_agreement.proofs.OverClient.{Beside, Under, Behind, under}
+use Rattle.ftp_pair_agreement.proofs.OverLink.{control_end_beside, control_end_none}
+use Rattle.ftp_pair_agreement.proofs.OverFollows.{Parts}
+use Rattle.ftp_pair_agreement.proofs.OverServed.{Working, wants_same, working_after}
+use Rattle.ftp_pair_agreement.proofs.OverSettles.{Turned, settle_end}
 use Rattle.ftp_pair_agreement.proofs.Parting.{parts_from_under}
-use Rattle.ftp_pair_agreement.proofs.Phases.{HasFollowed, follows_after, free_untold}
+use Rattle.ftp_pair_agreement.proofs.Phases.{HasFollowed}
 use Rattle.ftp_pair_agreement.proofs.Running.{no_octet, not_so, three_parts}
-use Rattle.ftp_pair_agreement.proofs.Still.{free_job, seen, seen_placed}
-use Rattle.ftp_pair_agreement.proofs.UploadRuns as uploads
-use Rattle.ftp_pair_dialogues.specs.Login.{AtFree}
 use Rattle.ftp_pair_agreement.proofs.OverEvents.{Fetch, Plain, Way, way, stands, delivers_server, delivers_client, with_own, works_busy, real_is}
 use Rattle.ftp_pair_agreement.proofs.OverLinks.{delivers_up, delivers_down, opens, refuses, ends_client, ends_server, breaks}
 

@@ -1,9 +1,9 @@
 -- Octets of the control connection, heard by a client with a run and by one without.
-use Rattle.std.proofs.Common.{◌≡◌, ◌⊎◌, inl, inr, ℕ, ◌==◌, Bool, true, false, List, [], ◌∷◌, ◌++◌, Option, Some, None, refl, sym, ap, subst, ◌∙◌, append-nil}
+use Rattle.std.proofs.Common.{◌≡◌, ℕ, ◌==◌, Bool, true, false, List, [], ◌∷◌, ◌++◌, Option, None, refl, sym, ap, subst, ◌∙◌, append-nil}
 use Rattle.std.specs.Prelude.{if◌then◌else◌, flat_map, map}
-use Rattle.ftp_nvt.specs.Fold.{Unfinished, line_out, liner, unit_says}
-use Rattle.ftp_nvt.specs.Lines.{NvtEvent, line, too_long, owed}
-use Rattle.ftp_nvt.specs.Telnet.{TelnetUnit, data_octet, command, option, subnegotiation, unit_ended, bare_of, owed_of, is_verb}
+use Rattle.ftp_nvt.specs.Fold.{Unfinished, line_out, unit_says}
+use Rattle.ftp_nvt.specs.Lines.{NvtEvent, line, owed}
+use Rattle.ftp_nvt.specs.Telnet.{TelnetUnit, data_octet, command, option, subnegotiation, unit_ended, owed_of, is_verb}
 use Rattle.ftp_nvt.specs.declared.line.Stage.{Stage}
 use Rattle.ftp_nvt.specs.declared.line.Stage.TheVariants.{Start, Inside, AfterReturn, Past}
 use Rattle.ftp_nvt.specs.declared.line.TheConstants.{LF}

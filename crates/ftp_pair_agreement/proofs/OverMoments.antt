@@ -1,5 +1,5 @@
 -- The server's moment stays where it is: what is served behind an event, and octets of the control connection, leave it.
-use Rattle.std.proofs.Common.{◌≡◌, ℕ, List, [], ◌∷◌, ◌++◌, Option, Some, None, refl, sym, ap, ◌∙◌, take}
+use Rattle.std.proofs.Common.{◌≡◌, ℕ, List, [], ◌∷◌, Option, Some, None, refl, ap, ◌∙◌}
 use Rattle.ftp_operation.specs.Answer.{Said}
 use Rattle.ftp_nvt.specs.Lines.{NvtEvent, line, too_long, owed}
 use Rattle.ftp_client_model.specs.Calls as near
@@ -12,8 +12,8 @@ use Rattle.ftp_server_model.specs.Machine as machine
 use Rattle.ftp_server_model.specs.Machine.{Reading, heard_event, heard_events}
 use Rattle.ftp_server_model.specs.View.{View as Far, line_limit}
 use Rattle.ftp_server_model.specs.declared.heard.HeardLine.TheVariants.{TooLong}
-use Rattle.ftp_pair_world.specs.Events.{ControlToServer, ControlToClient, pulled, pushed, filled}
-use Rattle.ftp_pair_world.specs.Serving.{near_served_by, far_served_by, near_served, far_served, served, link_closed_by_near, link_closed_by_far, left_by_near, left_by_far, collected_by, collected, after_event}
+use Rattle.ftp_pair_world.specs.Events.{ControlToServer, ControlToClient, pulled, filled}
+use Rattle.ftp_pair_world.specs.Serving.{near_served_by, far_served_by, near_served, far_served, served, link_closed_by_near, link_closed_by_far, left_by_near, left_by_far, collected_by, after_event}
 use Rattle.ftp_pair_world.specs.World.{World, Link, Gone, Opened, ClosedByNear, ClosedByFar, Control, Stands, LeftByNear, LeftByFar, Parted, port_at}
 use Rattle.ftp_pair_dialogues.proofs.Footing.{line_footing, waited_footing}
 

@@ -1,23 +1,23 @@
 -- Octets move in a world whose client has a run as they move in one whose client has none.
-use Rattle.std.proofs.Common.{◌≡◌, ◌⊎◌, inl, inr, ℕ, ◌+◌, ◌≤◌, Bool, true, false, List, [], ◌∷◌, ◌++◌, length, take, drop, Option, Some, None, refl, sym, ap, subst, ◌∙◌, append_assoc}
+use Rattle.std.proofs.Common.{◌≡◌, ℕ, ◌+◌, ◌≤◌, List, [], ◌∷◌, ◌++◌, length, take, drop, Option, Some, None, refl, sym, ap, subst, ◌∙◌, append_assoc}
 use Rattle.std.proofs.Math.Seq.{take-append_seam, drop-append_seam}
 use Rattle.std.proofs.lemmas.List.{take-append-drop}
-use Rattle.std.specs.Prelude.{if◌then◌else◌, not, ◌&&◌}
+use Rattle.std.specs.Prelude.{not}
 use Rattle.ftp_operation.specs.Answer.{Said}
 use Rattle.ftp_operation.specs.declared.op.Op.{Op}
 use Rattle.ftp_client_model.specs.Calls as near
-use Rattle.ftp_client_model.specs.Calls.{report_of_job, transfer_over, given_of}
+use Rattle.ftp_client_model.specs.Calls.{report_of_job}
 use Rattle.ftp_client_model.specs.Tries.{Run}
 use Rattle.ftp_client_model.specs.View.{View as Near, Job, Idle, Waiting, Doing, Transferring, Told as Answered}
 use Rattle.ftp_server_model.specs.Calls as far
 use Rattle.ftp_server_model.specs.Machine as machine
 use Rattle.ftp_server_model.specs.Machine.{Reading}
-use Rattle.ftp_pair_world.specs.Events.{Queue, ControlToServer, ControlToClient, DataToServer, DataToClient, pulled, pushed, filled, in_queue}
-use Rattle.ftp_pair_world.specs.World.{World, Mark, Gone, counted}
-use Rattle.ftp_pair_agreement.proofs.OverClient.{Works, Along, Beside, Under, Behind, on, off}
+use Rattle.ftp_pair_world.specs.Events.{ControlToServer, ControlToClient, DataToServer, DataToClient, pulled, pushed, filled}
+use Rattle.ftp_pair_world.specs.World.{World, Mark, counted}
+use Rattle.ftp_pair_agreement.proofs.OverClient.{Works, Beside, Under, Behind}
 use Rattle.ftp_pair_agreement.proofs.OverLink.{gives_data_beside, receives_along}
-use Rattle.ftp_pair_agreement.proofs.OverHears.{Untold, hears_beside}
-use Rattle.ftp_pair_agreement.proofs.OverServed.{with_run, by_itself, Kept, Alike, alike, alike_then, Working}
+use Rattle.ftp_pair_agreement.proofs.OverHears.{hears_beside}
+use Rattle.ftp_pair_agreement.proofs.OverServed.{with_run, by_itself, Kept, alike, alike_then, Working}
 use Rattle.ftp_pair_agreement.proofs.OverTold.{some_told}
 
 -- a client that has told nothing is not told

@@ -1,5 +1,5 @@
 -- The next operation of a run begins as soon as the one before is answered: as if its report were taken first, and the next then begun by itself.
-use Rattle.std.proofs.Common.{◌≡◌, ℕ, ◌+◌, ◌%◌, Bool, true, false, List, [], ◌∷◌, ◌++◌, Option, Some, None, refl, sym, ap, subst, ◌∙◌}
+use Rattle.std.proofs.Common.{◌≡◌, ℕ, ◌+◌, ◌%◌, Bool, true, false, List, [], ◌∷◌, ◌++◌, Option, Some, None, refl, sym, ap, ◌∙◌}
 use Rattle.std.specs.Prelude.{if◌then◌else◌}
 use Rattle.ftp_command.specs.declared.command.Command.{Command}
 use Rattle.ftp_operation.specs.Answer.{Said}
@@ -11,7 +11,7 @@ use Rattle.ftp_client_model.specs.Calls.{started_by, unsendable_by}
 use Rattle.ftp_client_model.specs.Dialogue.{sends_if, last_job, placed, begins}
 use Rattle.ftp_client_model.specs.Octets.{flow_of}
 use Rattle.ftp_client_model.specs.Plan.{command_of, first_step}
-use Rattle.ftp_client_model.specs.View.{View as Near, Job, Idle, Doing, Told}
+use Rattle.ftp_client_model.specs.View.{View as Near, Job, Doing, Told}
 use Rattle.ftp_client_model.specs.declared.client.Standing.TheVariants as Standings
 use Rattle.ftp_client_model.specs.declared.client.Step.{Step}
 use Rattle.ftp_client_model.specs.declared.client.Step.TheVariants as Steps
@@ -23,12 +23,12 @@ use Rattle.ftp_server_model.specs.declared.session.Pending.{Pending}
 use Rattle.ftp_server_model.specs.declared.session.Pending.TheVariants as Pendings
 use Rattle.ftp_pair_world.specs.Events.{operation_begins}
 use Rattle.ftp_pair_world.specs.Serving.{near_served, far_served, served, collected, after_event}
-use Rattle.ftp_pair_world.specs.World.{World, Link, Gone, ClosedByNear, port_at}
-use Rattle.ftp_pair_dialogues.specs.Dialogue.{resting, is_aside}
+use Rattle.ftp_pair_world.specs.World.{World, Gone, ClosedByNear, port_at}
+use Rattle.ftp_pair_dialogues.specs.Dialogue.{resting}
 use Rattle.ftp_pair_dialogues.specs.Fetches.{leaving, linked}
 use Rattle.ftp_pair_dialogues.specs.Stage.{calm, still, rest}
 use Rattle.ftp_pair_agreement.specs.Cut.{world_at}
-use Rattle.ftp_pair_agreement.specs.Stages.{Leaving, Aside, LinkOpen, LinkLeft, LinkParting, is_to_close}
+use Rattle.ftp_pair_agreement.specs.Stages.{Leaving, Aside, LinkLeft, LinkParting, is_to_close}
 use Rattle.ftp_pair_agreement.proofs.FetchLink.{far_linked}
 use Rattle.ftp_pair_agreement.proofs.FetchTold.{told_at, taken_base}
 use Rattle.ftp_pair_agreement.proofs.OverClient.{begins_job}

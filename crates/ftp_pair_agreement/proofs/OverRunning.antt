@@ -1,5 +1,5 @@
 -- Every event keeps what follows, uploads over breaks among it, and so every list of them; and what follows is agreement.
-use Rattle.std.proofs.Common.{◌≡◌, ◌⊎◌, inl, inr, ℕ, ◌≤◌, Bool, true, false, List, [], ◌∷◌, ◌++◌, length, None, refl, sym, ap, subst, ◌∙◌, append-nil, append_assoc}
+use Rattle.std.proofs.Common.{◌≡◌, inl, inr, ℕ, ◌≤◌, Bool, true, false, List, [], ◌∷◌, ◌++◌, refl, sym, ap, subst, ◌∙◌, append-nil, append_assoc}
 use Rattle.std.specs.Prelude.{IsTrue}
 use Rattle.ftp_operation.specs.Operation.{can_be_sent}
 use Rattle.ftp_operation.specs.declared.op.Op.{Op}
@@ -13,8 +13,8 @@ use Rattle.ftp_pair_world.specs.Events.{Event, Deliver, Open, Refuse, End, Break
 use Rattle.ftp_pair_world.specs.Serving.{after_event}
 use Rattle.ftp_pair_world.specs.Still.{IsStill}
 use Rattle.ftp_pair_world.specs.World.{World}
-use Rattle.ftp_pair_agreement.specs.Follows.{IsFree, Phase, Follows}
-use Rattle.ftp_pair_agreement.specs.Over.{marks_of, orders_of, IsTrying, IsTailing, OverRuns}
+use Rattle.ftp_pair_agreement.specs.Follows.{Phase, Follows}
+use Rattle.ftp_pair_agreement.specs.Over.{marks_of, orders_of, OverRuns}
 use Rattle.ftp_pair_agreement.specs.Runs.{Runs}
 use Rattle.ftp_pair_agreement.specs.Tried.{all_marks, tried_said}
 use Rattle.ftp_pair_agreement.proofs.Agreeing.{runs_agree}

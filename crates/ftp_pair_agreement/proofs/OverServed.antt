@@ -4,7 +4,7 @@ use Rattle.std.specs.Prelude.{if◌then◌else◌}
 use Rattle.ftp_operation.specs.Answer.{Said}
 use Rattle.ftp_operation.specs.declared.op.Op.{Op}
 use Rattle.ftp_client_model.specs.Calls as near
-use Rattle.ftp_client_model.specs.Calls.{is_sound, link_wants, report_of, report_of_job, reported_by, listening_by}
+use Rattle.ftp_client_model.specs.Calls.{is_sound, link_wants, report_of_job, reported_by, listening_by}
 use Rattle.ftp_client_model.specs.Tries.{Run}
 use Rattle.ftp_client_model.specs.View.{View as Near, Job, Idle, Waiting, Doing, Transferring, Told}
 use Rattle.ftp_client_model.specs.declared.client.ClientLink.{ClientLink}
@@ -12,9 +12,9 @@ use Rattle.ftp_client_model.specs.declared.client.ClientLink.TheVariants as Data
 use Rattle.ftp_ends.specs.declared.link.Wants.{Wants}
 use Rattle.ftp_ends.specs.declared.link.Wants.TheVariants as Want
 use Rattle.ftp_server_model.specs.Calls as far
-use Rattle.ftp_pair_world.specs.Serving.{near_served_by, far_served_by, near_served, far_served, served, link_closed_by_near, link_closed_by_far, left_by_near, left_by_far, near_closes, far_closes, collected_by, collected, after_event}
+use Rattle.ftp_pair_world.specs.Serving.{near_served_by, far_served_by, near_served, far_served, served, link_closed_by_near, link_closed_by_far, left_by_near, left_by_far, collected_by, collected, after_event}
 use Rattle.ftp_pair_world.specs.World.{World, Link, Gone, Opened, ClosedByNear, ClosedByFar, Control, Stands, LeftByNear, LeftByFar, Parted, Mark, port_at}
-use Rattle.ftp_pair_agreement.proofs.OverClient.{Works, Along}
+use Rattle.ftp_pair_agreement.proofs.OverClient.{Works}
 use Rattle.ftp_pair_agreement.proofs.OverLink.{listening_along}
 
 -- the world with this client, whose run is this, and with these marks and reports and this cutoff

@@ -1,5 +1,5 @@
 -- Behind an event an upload over breaks goes on with the operation under way, goes on with its next, or is answered.
-use Rattle.std.proofs.Common.{◌≡◌, ◌⊎◌, inl, inr, ℕ, ◌+◌, ◌≤◌, Bool, true, false, not, ◌&&◌, List, [], ◌∷◌, ◌++◌, length, Option, Some, None, refl, sym, ap, subst, ◌∙◌, arith, append_assoc, append-nil}
+use Rattle.std.proofs.Common.{◌≡◌, ◌⊎◌, inl, inr, ℕ, ◌+◌, ◌≤◌, Bool, true, false, not, List, [], ◌∷◌, ◌++◌, length, Option, Some, None, refl, sym, ap, subst, ◌∙◌, arith, append_assoc, append-nil}
 use Rattle.std.specs.Option.{option_map}
 use Rattle.ftp_operation.specs.Answer.{Said}
 use Rattle.ftp_operation.specs.Operation.{can_be_sent}
@@ -14,27 +14,26 @@ use Rattle.ftp_client_model.specs.Plan.{how_of}
 use Rattle.ftp_client_model.specs.Tries.{OverBreaks, Run, first_try, is_size, next_in, run_at, run_of}
 use Rattle.ftp_client_model.specs.View.{View as Near, Idle, Told as Answered}
 use Rattle.ftp_client_model.specs.declared.client.ClientLink.TheVariants as Data
-use Rattle.ftp_operation.specs.declared.op.How.{How}
 use Rattle.ftp_server_model.specs.Machine.{Reading, IsReading}
 use Rattle.ftp_settings.specs.declared.representation.Representation.{Representation}
-use Rattle.ftp_pair_world.specs.Agreement.{Order, Single, Tries, Allows, IsAmong}
+use Rattle.ftp_pair_world.specs.Agreement.{Order, Single, Allows, IsAmong}
 use Rattle.ftp_pair_world.specs.Events.{is_gone, operation_begins}
 use Rattle.ftp_pair_world.specs.Outcome.{Outcome, did, Whole, Cut, Unopened, Lost, Nothing, All, Front}
 use Rattle.ftp_pair_world.specs.Serving.{after_event}
-use Rattle.ftp_pair_world.specs.World.{World, Link, Gone, ClosedByNear, Mark}
+use Rattle.ftp_pair_world.specs.World.{World, Mark}
 use Rattle.ftp_pair_dialogues.specs.Fetches.{Ask, Direction, Down, Up, IsStore, IsTimely, carrying}
-use Rattle.ftp_pair_agreement.specs.Follows.{IsFree, IsUnder, IsLinked, Phase, Follows}
+use Rattle.ftp_pair_agreement.specs.Follows.{Phase, Follows}
 use Rattle.ftp_pair_agreement.specs.Over.{Going, orders_of, marks_of, IsTrying, IsTailing, OverRuns}
 use Rattle.ftp_pair_agreement.specs.Runs.{IsFetching, IsFetchingOn, IsTrailing, Runs}
 use Rattle.ftp_pair_agreement.specs.Stages.{Fared}
-use Rattle.ftp_pair_agreement.specs.Tried.{Tried, tried_orders, tried_marks, tried_said, all_marks, IsChain, IsLast, IsTryOf, IsUnderWay}
+use Rattle.ftp_pair_agreement.specs.Tried.{Tried, tried_orders, tried_marks, tried_said, all_marks, IsChain, IsTryOf}
 use Rattle.ftp_pair_agreement.proofs.Events.{under_busy}
 use Rattle.ftp_pair_agreement.proofs.FetchTold.{closed_is}
 use Rattle.ftp_pair_agreement.proofs.FetchWants.{lasting_busy}
 use Rattle.ftp_pair_agreement.proofs.OverClient.{Along, on, off, turns_to, begins_amid, amid_along}
 use Rattle.ftp_pair_agreement.proofs.OverFollows.{Ends, Stands, Parts, follows_folded, with_told}
 use Rattle.ftp_pair_agreement.proofs.OverMoments.{after_footing}
-use Rattle.ftp_pair_agreement.proofs.OverServed.{with_run, by_itself, Kept, Alike, IsWorking, Working, working_after, Telling, IsTold, Collected, told_after}
+use Rattle.ftp_pair_agreement.proofs.OverServed.{with_run, by_itself, Kept, Working, working_after, Telling, Collected, told_after}
 use Rattle.ftp_pair_agreement.proofs.OverTold.{IsToldAt, some_told, is_open, BeginsNext, begins_next, fetch_told, under_told}
 use Rattle.ftp_pair_agreement.proofs.OverTries.{kind_of, try_sent, of_next, put_try, size_try, none_direct}
 use Rattle.ftp_pair_agreement.proofs.PeekRuns.{halt_busy}

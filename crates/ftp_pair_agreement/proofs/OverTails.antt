@@ -1,5 +1,5 @@
 -- An upload over breaks is answered, and the server is still to be told that the link of its last operation is closed.
-use Rattle.std.proofs.Common.{◌≡◌, ◌⊎◌, inl, inr, ℕ, suc, ◌+◌, ◌<◌, ◌==◌, ◌&&◌, Bool, true, false, not, List, [], ◌∷◌, ◌++◌, length, Option, Some, None, refl, sym, ap, subst, ◌∙◌, arith, append_assoc, length-append}
+use Rattle.std.proofs.Common.{◌≡◌, inl, inr, ℕ, suc, ◌+◌, ◌<◌, true, false, List, [], ◌∷◌, ◌++◌, length, Option, Some, None, refl, sym, ap, subst, ◌∙◌, arith, append_assoc, length-append}
 use Rattle.std.specs.Prelude.{IsTrue}
 use Rattle.ftp_operation.specs.Answer.{Said, Lost as LostSaid}
 use Rattle.ftp_direct.specs.Direct.{State}
@@ -11,12 +11,12 @@ use Rattle.ftp_client_model.specs.declared.client.Standing.TheVariants as Standi
 use Rattle.ftp_server_model.specs.Calls as far
 use Rattle.ftp_server_model.specs.Machine.{Reading, IsReading}
 use Rattle.ftp_pair_world.specs.Agreement.{Order, Single, Tries, Agrees, ItemsHold, WorldAgrees}
-use Rattle.ftp_pair_world.specs.Events.{Does, broken_by, Queue, ControlToServer, ControlToClient, DataToServer, DataToClient, Event, Deliver, Open, Refuse, End, Break, EndControl, Next, Upload, Happens, can_begin, can_happen, told, link_breaks, ends_control, is_asked_for, is_left_by_near, is_left_by_far}
+use Rattle.ftp_pair_world.specs.Events.{broken_by, ControlToServer, ControlToClient, DataToServer, DataToClient, Event, Deliver, Open, Refuse, End, Break, EndControl, Next, Upload, Happens, can_begin, can_happen, told, link_breaks, ends_control, is_asked_for, is_left_by_near, is_left_by_far}
 use Rattle.ftp_pair_world.specs.Serving.{after_event}
 use Rattle.ftp_pair_world.specs.Still.{IsStill}
 use Rattle.ftp_pair_world.specs.World.{World, Link, Gone, ClosedByNear, Mark, Broken, gone, marked_last, with_mark}
 use Rattle.ftp_pair_agreement.specs.Follows.{Follows}
-use Rattle.ftp_pair_agreement.specs.Over.{Going, orders_of, marks_of, IsTailing, OverRuns}
+use Rattle.ftp_pair_agreement.specs.Over.{Going, orders_of, marks_of, IsTailing}
 use Rattle.ftp_pair_agreement.specs.Runs.{IsTrailing}
 use Rattle.ftp_pair_agreement.specs.Tried.{Tried, tried_orders, tried_marks, tried_said, all_marks}
 use Rattle.ftp_pair_agreement.proofs.Events.{IsNoBeginning, never}
@@ -26,7 +26,7 @@ use Rattle.ftp_pair_agreement.proofs.OverEvents.{all_marked, with_own}
 use Rattle.ftp_pair_agreement.proofs.OverFollows.{Ends, Stands, Parts, follows_folded, with_told}
 use Rattle.ftp_pair_agreement.proofs.Agreeing.{runs_agree}
 use Rattle.ftp_pair_agreement.proofs.OverItems.{fold}
-use Rattle.ftp_pair_agreement.proofs.OverServed.{Resting, Rested, idle_after}
+use Rattle.ftp_pair_agreement.proofs.OverServed.{Resting, idle_after}
 use Rattle.ftp_pair_agreement.proofs.Running.{trailing_taken, trails_deliver, trails_on}
 
 -- as many answers as operations

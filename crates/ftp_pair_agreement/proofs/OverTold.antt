@@ -1,5 +1,5 @@
 -- Where an operation has just been answered: both ends, as they are before its report is taken; and the next of a run begins there.
-use Rattle.std.proofs.Common.{◌≡◌, ◌⊎◌, inl, inr, ℕ, Bool, true, false, List, [], ◌∷◌, ◌++◌, Option, Some, None, refl, sym, ap, subst, ◌∙◌}
+use Rattle.std.proofs.Common.{◌≡◌, ◌⊎◌, inl, inr, ℕ, Bool, true, false, List, [], ◌∷◌, ◌++◌, Some, None, refl, sym, ap, subst, ◌∙◌}
 use Rattle.ftp_operation.specs.Answer.{Said}
 use Rattle.ftp_operation.specs.Operation.{can_be_sent}
 use Rattle.ftp_operation.specs.declared.op.Op.{Op}
@@ -7,11 +7,9 @@ use Rattle.ftp_path.specs.Path.{Names}
 use Rattle.ftp_direct.specs.Direct.{State, answer}
 use Rattle.ftp_client_model.specs.Calls.{report_of_job}
 use Rattle.ftp_client_model.specs.Dialogue.{begins}
-use Rattle.ftp_client_model.specs.View.{View as Near, Job, Told as Answered}
-use Rattle.ftp_client_model.specs.declared.client.ClientLink.{ClientLink as NearConnection}
+use Rattle.ftp_client_model.specs.View.{Job, Told as Answered}
 use Rattle.ftp_server_model.specs.Machine.{Reading}
-use Rattle.ftp_server_model.specs.View.{Session, Transfer}
-use Rattle.ftp_server_model.specs.declared.session.Life.TheVariants as Lives
+use Rattle.ftp_server_model.specs.View.{Transfer}
 use Rattle.ftp_server_model.specs.declared.session.ServerLink.{ServerLink as FarConnection}
 use Rattle.ftp_server_model.specs.declared.session.ServerLink.TheVariants as FarData
 use Rattle.ftp_server_model.specs.declared.session.Pending.{Pending}
@@ -19,20 +17,20 @@ use Rattle.ftp_server_model.specs.declared.session.Pending.TheVariants as Pendin
 use Rattle.ftp_pair_world.specs.Agreement.{Order}
 use Rattle.ftp_pair_world.specs.Events.{operation_begins}
 use Rattle.ftp_pair_world.specs.Serving.{after_event}
-use Rattle.ftp_pair_world.specs.World.{World, Gone, Mark}
+use Rattle.ftp_pair_world.specs.World.{World, Gone}
 use Rattle.ftp_pair_dialogues.specs.Dialogue.{Ends, FarWaits, is_aside}
-use Rattle.ftp_pair_dialogues.specs.Fetches.{IsTimely, Rise, busy, leaving, linked}
+use Rattle.ftp_pair_dialogues.specs.Fetches.{IsTimely, Rise, linked}
 use Rattle.ftp_pair_dialogues.specs.Login.{AtOperation}
 use Rattle.ftp_pair_dialogues.specs.Stage.{Way, Asking, Answering, calm, still, rest}
 use Rattle.ftp_pair_agreement.specs.Cut.{Cut, world_at}
 use Rattle.ftp_pair_agreement.specs.Follows.{IsUnder, IsUnlinked}
 use Rattle.ftp_pair_agreement.specs.Rising.{Lift, Offered, Rising, Risen, Settled, Declined, Unjoined}
 use Rattle.ftp_pair_agreement.specs.Runs.{IsFetching}
-use Rattle.ftp_pair_agreement.specs.Stages.{Stage, PortAsked, PortTold, Dials, PortWanted, PortSaid, PortTaken, PortDenied, Restarts, Retrieves, Awaits, Unaccepted, Dismissed, Carries, Rises, Tells, Answers, Leaving, Aside, LinkOpen, LinkLeft, LinkParting, Holds, AtFetch, Fared, is_to_close, no_link}
+use Rattle.ftp_pair_agreement.specs.Stages.{PortAsked, PortTold, Dials, PortWanted, PortSaid, PortTaken, PortDenied, Restarts, Retrieves, Awaits, Unaccepted, Dismissed, Carries, Rises, Tells, Answers, Leaving, Aside, LinkOpen, LinkLeft, LinkParting, Holds, AtFetch, Fared, no_link}
 use Rattle.ftp_pair_agreement.proofs.FetchLink.{far_linked}
 use Rattle.ftp_pair_agreement.proofs.FetchServed.{leads_still}
 use Rattle.ftp_pair_agreement.proofs.FetchTold.{told_at, taken_base, aside_served, left_served, parting_served, is_told}
-use Rattle.ftp_pair_agreement.proofs.OverNext.{begun_base, going_on, begins_at, goes_on_aside, goes_on_left, goes_on_parting}
+use Rattle.ftp_pair_agreement.proofs.OverNext.{begins_at, goes_on_aside, goes_on_left, goes_on_parting}
 use Rattle.ftp_pair_agreement.proofs.Still.{IsMoving, IsSeen, no_octets, operation_on, rest_world, seen, seen_placed}
 use Rattle.ftp_pair_agreement.proofs.UploadTold as uploads
 

@@ -1,8 +1,8 @@
 -- The operations of an upload over breaks: which follow which, that each can be sent, and that nothing follows an answer of the direct run to a put.
-use Rattle.std.proofs.Common.{◌≡◌, ◌⊎◌, inl, inr, ℕ, ◌-◌, ◌==◌, ◌&&◌, Bool, true, false, List, [], length, Option, Some, None, refl, sym, ap, subst, ◌∙◌}
+use Rattle.std.proofs.Common.{◌≡◌, ◌⊎◌, inl, inr, ℕ, ◌-◌, ◌==◌, ◌&&◌, Bool, true, false, List, length, Option, Some, None, refl, sym, ap, subst, ◌∙◌}
 use Rattle.std.specs.Prelude.{if◌then◌else◌, nat_le}
 use Rattle.std.specs.Option.{option_or}
-use Rattle.ftp_operation.specs.Answer.{Said, BadOperation, Number, Refused, Broken, Unopened}
+use Rattle.ftp_operation.specs.Answer.{Said, BadOperation, Refused, Broken, Unopened}
 use Rattle.ftp_operation.specs.Operation.{can_be_sent, is_number, is_path_text}
 use Rattle.ftp_operation.specs.declared.op.Op.{Op}
 use Rattle.ftp_operation.specs.declared.op.Op.TheVariants as Ops

@@ -1,5 +1,5 @@
 -- Every event keeps what follows of operations without a transfer and of downloads, listings and uploads, and so every list of them.
-use Rattle.std.proofs.Common.{◌≡◌, ◌⊎◌, inl, inr, ℕ, ◌≤◌, ◌==◌, List, [], ◌∷◌, ◌++◌, Bool, true, false, not, ◌&&◌, refl, sym, ap, subst, ◌∙◌, append-nil, append_assoc}
+use Rattle.std.proofs.Common.{◌≡◌, ◌⊎◌, inl, inr, ℕ, ◌≤◌, ◌==◌, List, [], ◌∷◌, ◌++◌, Bool, true, false, not, ◌&&◌, refl, sym, ap, subst, ◌∙◌, append-nil}
 use Rattle.std.specs.Prelude.{IsTrue}
 use Rattle.std.proofs.lemmas.Bool.{and_parts}
 use Rattle.ftp_operation.specs.Operation.{can_be_sent}
@@ -9,9 +9,8 @@ use Rattle.ftp_client_model.specs.Calls as near
 use Rattle.ftp_server_model.specs.Calls as far
 use Rattle.ftp_server_model.specs.Machine.{Reading, IsReading}
 use Rattle.ftp_client_model.specs.Tries.{OverBreaks, first_try}
-use Rattle.ftp_pair_world.specs.Agreement.{Order, Single, Tries, Leads, begun_by}
+use Rattle.ftp_pair_world.specs.Agreement.{Order, Single, Tries, begun_by}
 use Rattle.ftp_ends.specs.Octets.{has_octets}
-use Rattle.ftp_pair_world.specs.Claims.{AreTimed, IsTimed}
 use Rattle.ftp_tree.specs.Sound.{last_second}
 use Rattle.ftp_pair_world.specs.Events.{Queue, ControlToServer, ControlToClient, DataToServer, DataToClient, Event, Deliver, Open, Refuse, End, Break, EndControl, Next, Upload, Happens, can_happen, can_begin, operation_begins, upload_begins, is_asked_for, is_gone, is_closed_by_far, is_closed_by_near, is_left_by_near, is_left_by_far}
 use Rattle.ftp_pair_world.specs.Serving.{after_event}

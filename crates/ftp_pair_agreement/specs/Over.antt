@@ -1,5 +1,5 @@
 -- An upload over breaks that is under way: its operations stand as if each were begun by itself, in a world whose client has no run.
-use Rattle.std.specs.Prelude.{◌≡◌, ◌⊎◌, ℕ, ◌≤◌, true, false, List, [], ◌∷◌, ◌++◌, length, Some, None}
+use Rattle.std.specs.Prelude.{◌≡◌, ◌⊎◌, ℕ, ◌≤◌, true, List, [], ◌∷◌, ◌++◌, length, Some, None}
 use Rattle.ftp_operation.specs.Answer.{Said}
 use Rattle.ftp_operation.specs.Operation.{is_path_text}
 use Rattle.ftp_operation.specs.declared.op.Op.{Op}

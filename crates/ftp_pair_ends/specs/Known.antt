@@ -1,5 +1,5 @@
 -- That a beginning is fair is known in one way alone, so that a value can keep it.
-use Rattle.std.specs.Prelude.{ℕ, ◌<◌, length}
+use Rattle.std.specs.Prelude.{◌<◌, length}
 use Rattle.std.specs.Coded.{×_prop, Unit-prop, le_prop, Coded-set, coded_ℕ}
 use Rattle.std.specs.List.{AllByRecursion-prop}
 use Rattle.ftp_endpoint.specs.Written.{IsTypedHost}

@@ -7,7 +7,6 @@ use Rattle.ftp_ends.specs.Link.{is_accepting, is_connecting, is_wanted, same_hos
 use Rattle.ftp_ends.specs.declared.link.Wants.{Wants}
 use Rattle.ftp_ends.specs.declared.link.Wants.TheVariants as Want
 use Rattle.ftp_client_model.specs.Calls as near
-use Rattle.ftp_client_model.specs.Calls.{is_sound}
 use Rattle.ftp_client_model.specs.View.{View as Near}
 use Rattle.ftp_server_model.specs.Bounds as far_left
 use Rattle.ftp_server_model.specs.Calls as far

@@ -20,11 +20,11 @@ use Rattle.ftp_pair_settling.proofs.FarLinesOwe.{out_asks}
 use Rattle.ftp_pair_settling.proofs.FarCallsApart.{gives_control_apart, gives_data_apart}
 use Rattle.ftp_server_model.proofs.ServerBounds.{given_step_lowers}
 use Rattle.ftp_pair_settling.proofs.FarLow.{later_cases}
-use Rattle.ftp_client_model.proofs.ClientBounds.{both, if_low, positive}
+use Rattle.ftp_client_model.proofs.ClientBounds.{both}
 use Rattle.ftp_client_model.proofs.ClientBounds as bounds
 use Rattle.ftp_client_model.proofs.ClientCalls.{receiving_lowers}
 use Rattle.ftp_client_model.proofs.ClientGiving.{giving_pays}
-use Rattle.ftp_server_model.specs.Calls.{connection_of, given_by, given_step, takes_given}
+use Rattle.ftp_server_model.specs.Calls.{connection_of, given_by, takes_given}
 use Rattle.ftp_server_model.specs.Machine.{completed, given_out}
 use Rattle.ftp_server_model.specs.View.{Transfer as FarTransfer}
 use Rattle.ftp_server_model.specs.declared.session.ServerLink.{ServerLink}
