@@ -27,7 +27,6 @@ pub struct World<A: Allocator + Copy, T: Tree<A>, N: Near<A>, F: Far<A, T>> {
 }
 
 impl<A: Allocator + Copy, T: Tree<A>, N: Near<A>, F: Far<A, T>> Model for World<A, T, N, F> {
-    ghost use Rattle.std.specs.Prelude.{◌<◌};
     ghost use Rattle.ftp_pair_parts.specs.Shown.{HasRoom};
     ghost use Rattle.ftp_pair.specs.Session.{Seen, seen};
     ghost use Rattle.std.specs.Coded.{codes};
@@ -39,7 +38,7 @@ impl<A: Allocator + Copy, T: Tree<A>, N: Near<A>, F: Far<A, T>> Model for World<
 
     ghost view = { λ w. seen N.client F.server w.parts };
 
-    ghost invariant = { λ w. (w.parts.listens < 16384) × HasRoom N.client w.parts };
+    ghost invariant = { λ w. HasRoom N.client w.parts };
 }
 
 impl<A: Allocator + Copy, T: Tree<A>, N: Near<A>, F: Far<A, T>> World<A, T, N, F> {

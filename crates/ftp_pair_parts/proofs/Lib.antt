@@ -4,6 +4,7 @@ pub mod Taking
 pub mod Busy
 pub mod Beginning
 pub mod Marking
+pub mod Ports
 pub mod Whole
 pub mod Resting
 pub mod Turning

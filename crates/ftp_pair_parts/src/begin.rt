@@ -28,11 +28,9 @@ impl<A: Allocator, T: Tree<A>, N: Near<A>, F: Far<A, T>> Parts<A, T, N, F> {
     ) -> Result<bool, AllocError>
         ghost op: { Op (List ℕ) }
         requires given { given.old ≡ Some op }
-        requires ports { self.old.listens < 16384 }
         requires report { HasRoom N.client self.old }
         ensures ok { IfOk result (λ possible. Steps self.old.calm self.new.calm (λ read. Happens read (Next op moment.seconds) (shown N.client F.server self.old) possible (shown N.client F.server self.new))) }
         ensures err { OnErr result ((shown N.client F.server self.new ≡ shown N.client F.server self.old) × (self.new.calm ≡ self.old.calm)) }
-        ensures few { self.new.listens < 16384 }
         ensures report { HasRoom N.client self.new }
     {
         if !self.is_unlinked() {
@@ -57,11 +55,9 @@ impl<A: Allocator, T: Tree<A>, N: Near<A>, F: Far<A, T>> Parts<A, T, N, F> {
         how: How,
         moment: Moment,
     ) -> Result<bool, AllocError>
-        requires ports { self.old.listens < 16384 }
         requires report { HasRoom N.client self.old }
         ensures ok { IfOk result (λ possible. Steps self.old.calm self.new.calm (λ read. Happens read (Upload (over_breaks path octets how) moment.seconds) (shown N.client F.server self.old) possible (shown N.client F.server self.new))) }
         ensures err { OnErr result ((shown N.client F.server self.new ≡ shown N.client F.server self.old) × (self.new.calm ≡ self.old.calm)) }
-        ensures few { self.new.listens < 16384 }
         ensures report { HasRoom N.client self.new }
     {
         if !self.is_unlinked() {
@@ -91,7 +87,6 @@ impl<A: Allocator, T: Tree<A>, N: Near<A>, F: Far<A, T>> Parts<A, T, N, F> {
         ensures report { HasRoom N.client self.old → HasRoom N.client self.new }
         ensures marks { OnOk result (vec_len self.new.marks < vec_capacity self.new.marks) }
         ensures calm { self.new.calm ≡ self.old.calm }
-        ensures few { self.new.listens ≡ self.old.listens }
     {
         self.reports.reserve(1)?;
         self.marks.reserve(1)?;
@@ -109,7 +104,6 @@ impl<A: Allocator, T: Tree<A>, N: Near<A>, F: Far<A, T>> Parts<A, T, N, F> {
         ensures busy { result ≡ false → (is_busy (N.client self.old.near).view ≡ true) × (shown N.client F.server self.new ≡ shown N.client F.server self.old) × (self.new.calm ≡ self.old.calm) }
         ensures marks { self.new.marks ≡ self.old.marks }
         ensures reports { self.new.reports ≡ self.old.reports }
-        ensures few { self.new.listens ≡ self.old.listens }
     {
         let refusals = self.near.refusals();
         self.near.start(given);
@@ -127,7 +121,6 @@ impl<A: Allocator, T: Tree<A>, N: Near<A>, F: Far<A, T>> Parts<A, T, N, F> {
         ensures busy { result ≡ false → (is_busy (N.client self.old.near).view ≡ true) × (shown N.client F.server self.new ≡ shown N.client F.server self.old) × (self.new.calm ≡ self.old.calm) }
         ensures marks { self.new.marks ≡ self.old.marks }
         ensures reports { self.new.reports ≡ self.old.reports }
-        ensures few { self.new.listens ≡ self.old.listens }
     {
         let mut given = Some((path, octets));
         let refusals = self.near.refusals();
@@ -145,7 +138,6 @@ impl<A: Allocator, T: Tree<A>, N: Near<A>, F: Far<A, T>> Parts<A, T, N, F> {
         requires none { marks.items ≡ [] }
         ensures moved { Calmly self.old self.new (shown N.client F.server self.new ≡ begun_at moment.seconds (N.client self.old.near).view (lends_none (shown N.client F.server self.old))) }
         ensures reports { self.new.reports ≡ self.old.reports }
-        ensures few { self.new.listens ≡ self.old.listens }
     {
         self.set_clock(moment);
         keep(&mut self.marks, marks);
@@ -158,7 +150,6 @@ impl<A: Allocator, T: Tree<A>, N: Near<A>, F: Far<A, T>> Parts<A, T, N, F> {
         ensures moved { Calmly self.old self.new (shown N.client F.server self.new ≡ record (shown N.client F.server self.old) { far = clocked moment.seconds (shown N.client F.server self.old).far }) }
         ensures marks { self.new.marks ≡ self.old.marks }
         ensures reports { self.new.reports ≡ self.old.reports }
-        ensures few { self.new.listens ≡ self.old.listens }
     {
         let counts = self.far.counts();
         self.far.clock(moment);

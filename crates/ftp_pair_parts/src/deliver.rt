@@ -14,11 +14,9 @@ use std::alloc::{AllocError, Allocator};
 impl<A: Allocator, T: Tree<A>, N: Near<A>, F: Far<A, T>> Parts<A, T, N, F> {
     /// So many octets go over a queue; it answers whether any could. Room for them is made first.
     pub(crate) fn step_deliver(&mut self, queue: Queue, count: usize) -> Result<bool, AllocError>
-        requires ports { self.old.listens < 16384 }
         requires report { HasRoom N.client self.old }
         ensures ok { IfOk result (λ possible. Steps self.old.calm self.new.calm (λ read. Happens read (Deliver (queue_of queue) count) (shown N.client F.server self.old) possible (shown N.client F.server self.new))) }
         ensures err { OnErr result ((shown N.client F.server self.new ≡ shown N.client F.server self.old) × (self.new.calm ≡ self.old.calm)) }
-        ensures few { self.new.listens < 16384 }
         ensures report { HasRoom N.client self.new }
     {
         if !self.can_deliver(queue, count) {
@@ -46,7 +44,6 @@ impl<A: Allocator, T: Tree<A>, N: Near<A>, F: Far<A, T>> Parts<A, T, N, F> {
         ensures lent { OnOk result (count ≤ vec_capacity self.new.taken.octets) }
         ensures calm { self.new.calm ≡ self.old.calm }
         ensures report { HasRoom N.client self.old → HasRoom N.client self.new }
-        ensures few { self.new.listens ≡ self.old.listens }
     {
         self.reserve_in(queue, count.max(ROOM))?;
         self.taken.reserve(count)
@@ -58,7 +55,6 @@ impl<A: Allocator, T: Tree<A>, N: Near<A>, F: Far<A, T>> Parts<A, T, N, F> {
         ensures ok { OnOk result (len_of queue self.new + count ≤ room_of queue self.new) }
         ensures calm { self.new.calm ≡ self.old.calm }
         ensures report { HasRoom N.client self.old → HasRoom N.client self.new }
-        ensures few { self.new.listens ≡ self.old.listens }
     {
         match queue {
             Queue::ControlToServer => self.control_to_server.reserve(count),
@@ -71,14 +67,12 @@ impl<A: Allocator, T: Tree<A>, N: Near<A>, F: Far<A, T>> Parts<A, T, N, F> {
     /// A delivery that is possible, and for which there is room. Takes no memory.
     #[tactic(auto, using(crate::proofs::Filling::same_len, crate::proofs::Filling::same_room))]
     pub(crate) fn deliver(&mut self, queue: Queue, count: usize)
-        requires ports { self.old.listens < 16384 }
         requires report { HasRoom N.client self.old }
         requires possible { IsTrue (can_happen (Deliver (queue_of queue) count) (shown N.client F.server self.old)) }
         requires some { count ≡ 0 → len_of queue self.old + 4096 ≤ room_of queue self.old }
         requires room { count ≤ room_of queue self.old }
         requires lent { count ≤ vec_capacity self.old.taken.octets }
         ensures does { Steps self.old.calm self.new.calm (λ read. Happens read (Deliver (queue_of queue) count) (shown N.client F.server self.old) true (shown N.client F.server self.new)) }
-        ensures few { self.new.listens < 16384 }
         ensures report { HasRoom N.client self.new }
     {
         self.lend_none();
@@ -94,7 +88,6 @@ impl<A: Allocator, T: Tree<A>, N: Near<A>, F: Far<A, T>> Parts<A, T, N, F> {
         requires lent { count ≤ vec_capacity self.old.taken.octets }
         ensures done { Calmly self.old self.new ((read : Reading) → IsReading read → Carries read (queue_of queue) count (shown N.client F.server self.old) (shown N.client F.server self.new)) }
         ensures report { HasRoom N.client self.old → HasRoom N.client self.new }
-        ensures few { self.new.listens ≡ self.old.listens }
     {
         if count == 0 {
             self.pull(queue, ROOM);
@@ -110,7 +103,6 @@ impl<A: Allocator, T: Tree<A>, N: Near<A>, F: Far<A, T>> Parts<A, T, N, F> {
         requires lent { count ≤ vec_capacity self.old.taken.octets }
         ensures done { Calmly self.old self.new ((read : Reading) → IsReading read → Offers read (queue_of queue) count (shown N.client F.server self.old) (shown N.client F.server self.new)) }
         ensures report { HasRoom N.client self.old → HasRoom N.client self.new }
-        ensures few { self.new.listens ≡ self.old.listens }
     {
         self.fill(queue, count);
         self.push(queue, count);
@@ -121,7 +113,6 @@ impl<A: Allocator, T: Tree<A>, N: Near<A>, F: Far<A, T>> Parts<A, T, N, F> {
         requires room { count ≤ room_of queue self.old }
         ensures taken { self.new.taken ≡ self.old.taken }
         ensures report { HasRoom N.client self.old → HasRoom N.client self.new }
-        ensures few { self.new.listens ≡ self.old.listens }
         ensures filled { Calmly self.old self.new (FillsTo (queue_of queue) count (shown N.client F.server self.old) (shown N.client F.server self.new)) }
     {
         while self.len_of(queue) < count && self.owes(queue) {

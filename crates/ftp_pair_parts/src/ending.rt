@@ -14,10 +14,8 @@ use std::alloc::Allocator;
 impl<A: Allocator, T: Tree<A>, N: Near<A>, F: Far<A, T>> Parts<A, T, N, F> {
     /// The control connection ends; it answers whether an end was on it. Takes no memory.
     pub(crate) fn step_end_control(&mut self) -> bool
-        requires ports { self.old.listens < 16384 }
         requires report { HasRoom N.client self.old }
         ensures does { Steps self.old.calm self.new.calm (λ read. Happens read EndControl (shown N.client F.server self.old) result (shown N.client F.server self.new)) }
-        ensures few { self.new.listens < 16384 }
         ensures report { HasRoom N.client self.new }
     {
         if !self.is_joined() {
@@ -42,7 +40,6 @@ impl<A: Allocator, T: Tree<A>, N: Near<A>, F: Far<A, T>> Parts<A, T, N, F> {
         ensures moved { shown N.client F.server self.new ≡ ends_control (shown N.client F.server self.old) }
         ensures calm { self.new.calm ≡ self.old.calm }
         ensures report { HasRoom N.client self.old → HasRoom N.client self.new }
-        ensures few { self.new.listens ≡ self.old.listens }
     {
         self.near.control_end();
         self.far.control_end();
@@ -52,11 +49,9 @@ impl<A: Allocator, T: Tree<A>, N: Near<A>, F: Far<A, T>> Parts<A, T, N, F> {
 
     /// The receiver of a queue is told of its end; it answers whether it could be. Takes no memory.
     pub(crate) fn step_end(&mut self, queue: Queue) -> bool
-        requires ports { self.old.listens < 16384 }
         requires report { HasRoom N.client self.old }
         ensures does { Steps self.old.calm self.new.calm (λ read. Happens read (End (queue_of queue)) (shown N.client F.server self.old) result (shown N.client F.server self.new)) }
         ensures possible { result ≡ can_happen (End (queue_of queue)) (shown N.client F.server self.old) }
-        ensures few { self.new.listens < 16384 }
         ensures report { HasRoom N.client self.new }
     {
         if !self.can_end(queue) {
@@ -93,7 +88,6 @@ impl<A: Allocator, T: Tree<A>, N: Near<A>, F: Far<A, T>> Parts<A, T, N, F> {
     pub(crate) fn tell(&mut self, queue: Queue)
         ensures moved { Calmly self.old self.new (shown N.client F.server self.new ≡ told (queue_of queue) (shown N.client F.server self.old)) }
         ensures report { HasRoom N.client self.old → HasRoom N.client self.new }
-        ensures few { self.new.listens ≡ self.old.listens }
     {
         match queue {
             Queue::ControlToServer => self.far.control_end(),
@@ -107,7 +101,6 @@ impl<A: Allocator, T: Tree<A>, N: Near<A>, F: Far<A, T>> Parts<A, T, N, F> {
     pub(crate) fn tell_data_to_server(&mut self)
         ensures moved { Calmly self.old self.new (shown N.client F.server self.new ≡ told DataToServer (shown N.client F.server self.old)) }
         ensures report { HasRoom N.client self.old → HasRoom N.client self.new }
-        ensures few { self.new.listens ≡ self.old.listens }
     {
         let counts = self.far.counts();
         self.far.data_end();
@@ -119,7 +112,6 @@ impl<A: Allocator, T: Tree<A>, N: Near<A>, F: Far<A, T>> Parts<A, T, N, F> {
     fn tell_data_to_client(&mut self)
         ensures moved { Calmly self.old self.new (shown N.client F.server self.new ≡ told DataToClient (shown N.client F.server self.old)) }
         ensures report { HasRoom N.client self.old → HasRoom N.client self.new }
-        ensures few { self.new.listens ≡ self.old.listens }
     {
         let refusals = self.near.refusals();
         self.near.data_end();

@@ -64,11 +64,9 @@ impl<A: Allocator, T: Tree<A>, N: Near<A>, F: Far<A, T>> Parts<A, T, N, F> {
 
     /// A wanted link opens; it answers whether one was wanted. Takes no memory.
     pub(crate) fn step_open(&mut self) -> bool
-        requires ports { self.old.listens < 16384 }
         requires report { HasRoom N.client self.old }
         ensures does { Steps self.old.calm self.new.calm (λ read. Happens read Open (shown N.client F.server self.old) result (shown N.client F.server self.new)) }
         ensures possible { result ≡ can_happen Open (shown N.client F.server self.old) }
-        ensures few { self.new.listens < 16384 }
         ensures report { HasRoom N.client self.new }
     {
         if !self.is_asked_for() {
@@ -84,7 +82,6 @@ impl<A: Allocator, T: Tree<A>, N: Near<A>, F: Far<A, T>> Parts<A, T, N, F> {
     pub(crate) fn open_link(&mut self)
         ensures moved { Calmly self.old self.new (shown N.client F.server self.new ≡ link_opens (shown N.client F.server self.old)) }
         ensures report { HasRoom N.client self.old → HasRoom N.client self.new }
-        ensures few { self.new.listens ≡ self.old.listens }
     {
         let near_refusals = self.near.refusals();
         let counts = self.far.counts();
@@ -100,11 +97,9 @@ impl<A: Allocator, T: Tree<A>, N: Near<A>, F: Far<A, T>> Parts<A, T, N, F> {
 
     /// A wanted link is refused; it answers whether one was wanted. Room for the mark and for a report is made first.
     pub(crate) fn step_refuse(&mut self) -> Result<bool, AllocError>
-        requires ports { self.old.listens < 16384 }
         requires report { HasRoom N.client self.old }
         ensures ok { IfOk result (λ possible. Steps self.old.calm self.new.calm (λ read. Happens read Refuse (shown N.client F.server self.old) possible (shown N.client F.server self.new))) }
         ensures err { OnErr result ((shown N.client F.server self.new ≡ shown N.client F.server self.old) × (self.new.calm ≡ self.old.calm)) }
-        ensures few { self.new.listens < 16384 }
         ensures report { HasRoom N.client self.new }
     {
         if !self.is_asked_for() {
@@ -123,7 +118,6 @@ impl<A: Allocator, T: Tree<A>, N: Near<A>, F: Far<A, T>> Parts<A, T, N, F> {
         ensures room { OnOk result (vec_len self.new.reports < vec_capacity self.new.reports) }
         ensures report { HasRoom N.client self.old → HasRoom N.client self.new }
         ensures calm { self.new.calm ≡ self.old.calm }
-        ensures few { self.new.listens ≡ self.old.listens }
     {
         self.reports.reserve(1)?;
         self.add_mark(mark)?;
@@ -135,7 +129,6 @@ impl<A: Allocator, T: Tree<A>, N: Near<A>, F: Far<A, T>> Parts<A, T, N, F> {
     fn refuse_link(&mut self)
         ensures moved { Calmly self.old self.new (shown N.client F.server self.new ≡ refused_by (is_connecting (near.wants (N.client self.old.near).view)) (shown N.client F.server self.old)) }
         ensures reports { self.new.reports ≡ self.old.reports }
-        ensures few { self.new.listens ≡ self.old.listens }
     {
         if is_connecting(self.near.wants()) {
             self.refuse_near();
@@ -147,7 +140,6 @@ impl<A: Allocator, T: Tree<A>, N: Near<A>, F: Far<A, T>> Parts<A, T, N, F> {
     fn refuse_near(&mut self)
         ensures moved { Calmly self.old self.new (shown N.client F.server self.new ≡ refused_by true (shown N.client F.server self.old)) }
         ensures reports { self.new.reports ≡ self.old.reports }
-        ensures few { self.new.listens ≡ self.old.listens }
     {
         let refusals = self.near.refusals();
         self.near.data_refused();
@@ -158,7 +150,6 @@ impl<A: Allocator, T: Tree<A>, N: Near<A>, F: Far<A, T>> Parts<A, T, N, F> {
     fn refuse_far(&mut self)
         ensures moved { Calmly self.old self.new (shown N.client F.server self.new ≡ refused_by false (shown N.client F.server self.old)) }
         ensures reports { self.new.reports ≡ self.old.reports }
-        ensures few { self.new.listens ≡ self.old.listens }
     {
         let counts = self.far.counts();
         self.far.data_refused();
@@ -167,11 +158,9 @@ impl<A: Allocator, T: Tree<A>, N: Near<A>, F: Far<A, T>> Parts<A, T, N, F> {
 
     /// The link breaks; it answers whether there was one. Room for the mark and for a report is made first.
     pub(crate) fn step_break(&mut self) -> Result<bool, AllocError>
-        requires ports { self.old.listens < 16384 }
         requires report { HasRoom N.client self.old }
         ensures ok { IfOk result (λ possible. Steps self.old.calm self.new.calm (λ read. Happens read Break (shown N.client F.server self.old) possible (shown N.client F.server self.new))) }
         ensures err { OnErr result ((shown N.client F.server self.new ≡ shown N.client F.server self.old) × (self.new.calm ≡ self.old.calm)) }
-        ensures few { self.new.listens < 16384 }
         ensures report { HasRoom N.client self.new }
     {
         if !self.is_linked() {
@@ -193,7 +182,6 @@ impl<A: Allocator, T: Tree<A>, N: Near<A>, F: Far<A, T>> Parts<A, T, N, F> {
     fn break_link(&mut self)
         ensures moved { Calmly self.old self.new (shown N.client F.server self.new ≡ gone (broken_by (link_of self.old.link) (shown N.client F.server self.old))) }
         ensures report { HasRoom N.client self.old → HasRoom N.client self.new }
-        ensures few { self.new.listens ≡ self.old.listens }
     {
         self.tell_break();
         self.lose_link();
@@ -203,7 +191,6 @@ impl<A: Allocator, T: Tree<A>, N: Near<A>, F: Far<A, T>> Parts<A, T, N, F> {
     fn tell_break(&mut self)
         ensures moved { Calmly self.old self.new (shown N.client F.server self.new ≡ broken_by (link_of self.old.link) (shown N.client F.server self.old)) }
         ensures report { HasRoom N.client self.old → HasRoom N.client self.new }
-        ensures few { self.new.listens ≡ self.old.listens }
     {
         match self.link {
             Link::Gone => {}
@@ -220,7 +207,6 @@ impl<A: Allocator, T: Tree<A>, N: Near<A>, F: Far<A, T>> Parts<A, T, N, F> {
     fn fault_near(&mut self)
         ensures moved { Calmly self.old self.new (shown N.client F.server self.new ≡ record (shown N.client F.server self.old) { near = near.data_fault (N.client self.old.near).view }) }
         ensures report { HasRoom N.client self.old → HasRoom N.client self.new }
-        ensures few { self.new.listens ≡ self.old.listens }
     {
         let refusals = self.near.refusals();
         self.near.data_fault();
@@ -231,7 +217,6 @@ impl<A: Allocator, T: Tree<A>, N: Near<A>, F: Far<A, T>> Parts<A, T, N, F> {
     fn fault_far(&mut self)
         ensures moved { Calmly self.old self.new (shown N.client F.server self.new ≡ record (shown N.client F.server self.old) { far = far.data_fault (F.server self.old.far).view }) }
         ensures report { HasRoom N.client self.old → HasRoom N.client self.new }
-        ensures few { self.new.listens ≡ self.old.listens }
     {
         let counts = self.far.counts();
         self.far.data_fault();
@@ -245,7 +230,6 @@ impl<A: Allocator, T: Tree<A>, N: Near<A>, F: Far<A, T>> Parts<A, T, N, F> {
         ensures calm { self.new.calm ≡ self.old.calm }
         ensures reports { self.new.reports ≡ self.old.reports }
         ensures near { self.new.near ≡ self.old.near }
-        ensures few { self.new.listens ≡ self.old.listens }
     {
         mark_last(&mut self.marks, mark)
     }

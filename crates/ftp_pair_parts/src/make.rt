@@ -16,7 +16,6 @@ impl<A: Allocator + Copy, T: Tree<A>, N: Near<A>, F: Far<A, T>> Parts<A, T, N, F
     pub fn new(alloc: A, near: N, far: F) -> Result<Self, (N, F)>
         ensures ok { IfOk result (λ parts. shown N.client F.server parts ≡ world (N.client near).view (F.server far).view) }
         ensures calm { IfOk result (λ parts. parts.calm ≡ true) }
-        ensures few { IfOk result (λ parts. parts.listens ≡ 0) }
         ensures report { IfOk result (λ parts. HasRoom N.client parts) }
         ensures err { IfErr result (λ ends. ends ≡ (near, far)) }
     {

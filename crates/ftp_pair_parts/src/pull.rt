@@ -20,7 +20,6 @@ impl<A: Allocator, T: Tree<A>, N: Near<A>, F: Far<A, T>> Parts<A, T, N, F> {
         ensures gives { Gives most (due ControlToServer (shown N.client F.server self.old)) result }
         ensures taken { self.new.taken ≡ self.old.taken }
         ensures report { HasRoom N.client self.old → HasRoom N.client self.new }
-        ensures few { self.new.listens ≡ self.old.listens }
         ensures len { vec_len self.new.control_to_server.octets ≡ vec_len self.old.control_to_server.octets + result }
         ensures room { vec_capacity self.old.control_to_server.octets ≤ vec_capacity self.new.control_to_server.octets }
     {
@@ -38,7 +37,6 @@ impl<A: Allocator, T: Tree<A>, N: Near<A>, F: Far<A, T>> Parts<A, T, N, F> {
         ensures gives { Gives most (due ControlToClient (shown N.client F.server self.old)) result }
         ensures taken { self.new.taken ≡ self.old.taken }
         ensures report { HasRoom N.client self.old → HasRoom N.client self.new }
-        ensures few { self.new.listens ≡ self.old.listens }
         ensures len { vec_len self.new.control_to_client.octets ≡ vec_len self.old.control_to_client.octets + result }
         ensures room { vec_capacity self.old.control_to_client.octets ≤ vec_capacity self.new.control_to_client.octets }
     {
@@ -58,7 +56,6 @@ impl<A: Allocator, T: Tree<A>, N: Near<A>, F: Far<A, T>> Parts<A, T, N, F> {
         ensures gives { Gives most (due DataToServer (shown N.client F.server self.old)) result }
         ensures taken { self.new.taken ≡ self.old.taken }
         ensures report { HasRoom N.client self.old → HasRoom N.client self.new }
-        ensures few { self.new.listens ≡ self.old.listens }
         ensures len { vec_len self.new.data_to_server.octets ≡ vec_len self.old.data_to_server.octets + result }
         ensures room { vec_capacity self.old.data_to_server.octets ≤ vec_capacity self.new.data_to_server.octets }
     {
@@ -78,7 +75,6 @@ impl<A: Allocator, T: Tree<A>, N: Near<A>, F: Far<A, T>> Parts<A, T, N, F> {
         ensures gives { Calmly self.old self.new (Gives most (due DataToClient (shown N.client F.server self.old)) result) }
         ensures taken { self.new.taken ≡ self.old.taken }
         ensures report { HasRoom N.client self.old → HasRoom N.client self.new }
-        ensures few { self.new.listens ≡ self.old.listens }
         ensures len { vec_len self.new.data_to_client.octets ≡ vec_len self.old.data_to_client.octets + result }
         ensures room { vec_capacity self.old.data_to_client.octets ≤ vec_capacity self.new.data_to_client.octets }
     {
@@ -98,7 +94,6 @@ impl<A: Allocator, T: Tree<A>, N: Near<A>, F: Far<A, T>> Parts<A, T, N, F> {
         ensures gives { Calmly self.old self.new (Gives most (due (queue_of queue) (shown N.client F.server self.old)) result) }
         ensures taken { self.new.taken ≡ self.old.taken }
         ensures report { HasRoom N.client self.old → HasRoom N.client self.new }
-        ensures few { self.new.listens ≡ self.old.listens }
         ensures len { len_of queue self.new ≡ len_of queue self.old + result }
         ensures room { room_of queue self.old ≤ room_of queue self.new }
     {

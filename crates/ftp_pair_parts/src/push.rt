@@ -17,7 +17,6 @@ impl<A: Allocator, T: Tree<A>, N: Near<A>, F: Far<A, T>> Parts<A, T, N, F> {
         requires room { most ≤ vec_capacity self.old.taken.octets }
         ensures moved { Calmly self.old self.new ((read : Reading) → IsReading read → shown N.client F.server self.new ≡ pushed read ControlToClient result (taking ControlToClient result (shown N.client F.server self.old))) }
         ensures report { HasRoom N.client self.old → HasRoom N.client self.new }
-        ensures few { self.new.listens ≡ self.old.listens }
         ensures takes { Calmly self.old self.new ((read : Reading) → IsReading read → Takes read ControlToClient most (shown N.client F.server self.old) result) }
     {
         let limit = self.control_to_client.len().min(most);
@@ -36,7 +35,6 @@ impl<A: Allocator, T: Tree<A>, N: Near<A>, F: Far<A, T>> Parts<A, T, N, F> {
         requires room { most ≤ vec_capacity self.old.taken.octets }
         ensures moved { Calmly self.old self.new ((read : Reading) → IsReading read → shown N.client F.server self.new ≡ pushed read ControlToServer result (taking ControlToServer result (shown N.client F.server self.old))) }
         ensures report { HasRoom N.client self.old → HasRoom N.client self.new }
-        ensures few { self.new.listens ≡ self.old.listens }
         ensures takes { Calmly self.old self.new ((read : Reading) → IsReading read → Takes read ControlToServer most (shown N.client F.server self.old) result) }
     {
         let limit = self.control_to_server.len().min(most);
@@ -55,7 +53,6 @@ impl<A: Allocator, T: Tree<A>, N: Near<A>, F: Far<A, T>> Parts<A, T, N, F> {
         requires room { most ≤ vec_capacity self.old.taken.octets }
         ensures moved { Calmly self.old self.new ((read : Reading) → IsReading read → shown N.client F.server self.new ≡ pushed read DataToClient result (taking DataToClient result (shown N.client F.server self.old))) }
         ensures report { HasRoom N.client self.old → HasRoom N.client self.new }
-        ensures few { self.new.listens ≡ self.old.listens }
         ensures takes { Calmly self.old self.new ((read : Reading) → IsReading read → Takes read DataToClient most (shown N.client F.server self.old) result) }
     {
         let limit = self.data_to_client.len().min(most);
@@ -76,7 +73,6 @@ impl<A: Allocator, T: Tree<A>, N: Near<A>, F: Far<A, T>> Parts<A, T, N, F> {
         requires room { most ≤ vec_capacity self.old.taken.octets }
         ensures moved { Calmly self.old self.new ((read : Reading) → IsReading read → shown N.client F.server self.new ≡ pushed read DataToServer result (taking DataToServer result (shown N.client F.server self.old))) }
         ensures report { HasRoom N.client self.old → HasRoom N.client self.new }
-        ensures few { self.new.listens ≡ self.old.listens }
         ensures takes { Calmly self.old self.new ((read : Reading) → IsReading read → Takes read DataToServer most (shown N.client F.server self.old) result) }
     {
         let limit = self.data_to_server.len().min(most);
@@ -96,7 +92,6 @@ impl<A: Allocator, T: Tree<A>, N: Near<A>, F: Far<A, T>> Parts<A, T, N, F> {
         ensures moved { Calmly self.old self.new ((read : Reading) → IsReading read → shown N.client F.server self.new ≡ pushed read (queue_of queue) result (taking (queue_of queue) result (shown N.client F.server self.old))) }
         ensures takes { Calmly self.old self.new ((read : Reading) → IsReading read → Takes read (queue_of queue) most (shown N.client F.server self.old) result) }
         ensures report { HasRoom N.client self.old → HasRoom N.client self.new }
-        ensures few { self.new.listens ≡ self.old.listens }
     {
         match queue {
             Queue::ControlToServer => self.push_control_to_server(most),

@@ -1,7 +1,7 @@
 // What a world does for its ends after each event: a wanted close is done, a wanted listen gets its port, and an end that leaves has left.
-ghost use Rattle.std.specs.Prelude.{◌≡◌, ◌<◌};
+ghost use Rattle.std.specs.Prelude.{◌≡◌};
 ghost use Rattle.ftp_pair_world.specs.Serving.{near_served, near_closes, near_listens, left_by_near, far_served, far_closes, far_listens, left_by_far, served};
-ghost use Rattle.ftp_pair_world.specs.World.{gone, parted};
+ghost use Rattle.ftp_pair_world.specs.World.{gone, next_listen, parted, port_at};
 ghost use Rattle.ftp_pair_parts.specs.Shown.{shown, Calmly, HasRoom};
 
 use crate::counts::{both_stay, stays};
@@ -19,11 +19,24 @@ const FIRST_PORT: u16 = 49152;
 /// How many ports there are (own choice).
 const PORTS: u16 = 16384;
 
+/// The port of the next listen, where so many came before.
+fn port_of(listens: u16) -> u16
+    ensures { result ≡ port_at listens }
+{
+    FIRST_PORT + listens % PORTS
+}
+
+/// How many listens there are after one more, counted as ports are.
+#[tactic(auto, using(crate::proofs::Ports::next_is))]
+fn next_of(listens: u16) -> u16
+    ensures { result ≡ next_listen listens }
+{
+    (listens % PORTS + 1) % PORTS
+}
+
 impl<A: Allocator, T: Tree<A>, N: Near<A>, F: Far<A, T>> Parts<A, T, N, F> {
     pub(crate) fn serve_near(&mut self)
-        requires { self.old.listens < 16384 }
         ensures moved { Calmly self.old self.new (shown N.client F.server self.new ≡ near_served (shown N.client F.server self.old)) }
-        ensures few { self.new.listens < 16384 }
         ensures report { HasRoom N.client self.old → HasRoom N.client self.new }
     {
         match self.near.wants() {
@@ -37,7 +50,6 @@ impl<A: Allocator, T: Tree<A>, N: Near<A>, F: Far<A, T>> Parts<A, T, N, F> {
     #[tactic(auto, using(crate::proofs::Busy::data_closed_busy))]
     fn near_closes(&mut self)
         ensures moved { Calmly self.old self.new (shown N.client F.server self.new ≡ near_closes (shown N.client F.server self.old)) }
-        ensures few { self.new.listens ≡ self.old.listens }
         ensures report { HasRoom N.client self.old → HasRoom N.client self.new }
     {
         self.near.data_closed();
@@ -50,20 +62,17 @@ impl<A: Allocator, T: Tree<A>, N: Near<A>, F: Far<A, T>> Parts<A, T, N, F> {
 
     #[tactic(auto, using(crate::proofs::Busy::listening_busy))]
     fn near_listens(&mut self)
-        requires { self.old.listens < 16384 }
         ensures moved { Calmly self.old self.new (shown N.client F.server self.new ≡ near_listens (shown N.client F.server self.old)) }
-        ensures few { self.new.listens < 16384 }
         ensures report { HasRoom N.client self.old → HasRoom N.client self.new }
     {
         let refusals = self.near.refusals();
-        self.near.listening(FIRST_PORT + self.listens % PORTS);
-        self.listens = (self.listens + 1) % PORTS;
+        self.near.listening(port_of(self.listens));
+        self.listens = next_of(self.listens);
         self.calm = stays(self.calm, refusals, self.near.refusals());
     }
 
     fn near_leaves(&mut self)
         ensures moved { Calmly self.old self.new (shown N.client F.server self.new ≡ left_by_near (shown N.client F.server self.old).control (shown N.client F.server self.old)) }
-        ensures few { self.new.listens ≡ self.old.listens }
         ensures report { HasRoom N.client self.old → HasRoom N.client self.new }
     {
         match self.control {
@@ -76,7 +85,6 @@ impl<A: Allocator, T: Tree<A>, N: Near<A>, F: Far<A, T>> Parts<A, T, N, F> {
     pub(crate) fn lose_link(&mut self)
         ensures moved { shown N.client F.server self.new ≡ gone (shown N.client F.server self.old) }
         ensures calm { self.new.calm ≡ self.old.calm }
-        ensures few { self.new.listens ≡ self.old.listens }
         ensures report { HasRoom N.client self.old → HasRoom N.client self.new }
     {
         self.link = Link::Gone;
@@ -87,7 +95,6 @@ impl<A: Allocator, T: Tree<A>, N: Near<A>, F: Far<A, T>> Parts<A, T, N, F> {
     pub(crate) fn part(&mut self)
         ensures moved { shown N.client F.server self.new ≡ parted (shown N.client F.server self.old) }
         ensures calm { self.new.calm ≡ self.old.calm }
-        ensures few { self.new.listens ≡ self.old.listens }
         ensures report { HasRoom N.client self.old → HasRoom N.client self.new }
     {
         self.control = Control::Parted;
@@ -96,9 +103,7 @@ impl<A: Allocator, T: Tree<A>, N: Near<A>, F: Far<A, T>> Parts<A, T, N, F> {
     }
 
     pub(crate) fn serve_far(&mut self)
-        requires { self.old.listens < 16384 }
         ensures moved { Calmly self.old self.new (shown N.client F.server self.new ≡ far_served (shown N.client F.server self.old)) }
-        ensures few { self.new.listens < 16384 }
         ensures report { HasRoom N.client self.old → HasRoom N.client self.new }
     {
         match self.far.wants() {
@@ -112,7 +117,6 @@ impl<A: Allocator, T: Tree<A>, N: Near<A>, F: Far<A, T>> Parts<A, T, N, F> {
     #[tactic(auto, unfolding(ftp_server_model::specs::Calls::data_closed))]
     fn far_closes(&mut self)
         ensures moved { Calmly self.old self.new (shown N.client F.server self.new ≡ far_closes (shown N.client F.server self.old)) }
-        ensures few { self.new.listens ≡ self.old.listens }
         ensures report { HasRoom N.client self.old → HasRoom N.client self.new }
     {
         let counts = self.far.counts();
@@ -127,20 +131,17 @@ impl<A: Allocator, T: Tree<A>, N: Near<A>, F: Far<A, T>> Parts<A, T, N, F> {
 
     #[tactic(auto, unfolding(ftp_server_model::specs::Calls::listening))]
     fn far_listens(&mut self)
-        requires { self.old.listens < 16384 }
         ensures moved { Calmly self.old self.new (shown N.client F.server self.new ≡ far_listens (shown N.client F.server self.old)) }
-        ensures few { self.new.listens < 16384 }
         ensures report { HasRoom N.client self.old → HasRoom N.client self.new }
     {
         let counts = self.far.counts();
-        self.far.listening(FIRST_PORT + self.listens % PORTS);
-        self.listens = (self.listens + 1) % PORTS;
+        self.far.listening(port_of(self.listens));
+        self.listens = next_of(self.listens);
         self.calm = both_stay(self.calm, counts, self.far.counts());
     }
 
     fn far_leaves(&mut self)
         ensures moved { Calmly self.old self.new (shown N.client F.server self.new ≡ left_by_far (shown N.client F.server self.old).control (shown N.client F.server self.old)) }
-        ensures few { self.new.listens ≡ self.old.listens }
         ensures report { HasRoom N.client self.old → HasRoom N.client self.new }
     {
         match self.control {
@@ -152,9 +153,7 @@ impl<A: Allocator, T: Tree<A>, N: Near<A>, F: Far<A, T>> Parts<A, T, N, F> {
 
     /// A close, then a port, then leaving, of each end.
     pub(crate) fn serve(&mut self)
-        requires { self.old.listens < 16384 }
         ensures moved { Calmly self.old self.new (shown N.client F.server self.new ≡ served (shown N.client F.server self.old)) }
-        ensures few { self.new.listens < 16384 }
         ensures report { HasRoom N.client self.old → HasRoom N.client self.new }
     {
         self.serve_near();

@@ -16,11 +16,9 @@ use std::alloc::{AllocError, Allocator};
 impl<A: Allocator, T: Tree<A>, N: Near<A>, F: Far<A, T>> Parts<A, T, N, F> {
     /// An event happens where it is possible; it answers whether it was. The room that it takes is made first.
     pub fn step(&mut self, alloc: A, event: Event<A>) -> Result<bool, AllocError>
-        requires ports { self.old.listens < 16384 }
         requires report { HasRoom N.client self.old }
         ensures ok { IfOk result (λ possible. Steps self.old.calm self.new.calm (λ read. Happens read (event_of event) (shown N.client F.server self.old) possible (shown N.client F.server self.new))) }
         ensures err { OnErr result ((shown N.client F.server self.new ≡ shown N.client F.server self.old) × (self.new.calm ≡ self.old.calm)) }
-        ensures few { self.new.listens < 16384 }
         ensures report { HasRoom N.client self.new }
     {
         match event {
@@ -44,17 +42,14 @@ impl<A: Allocator, T: Tree<A>, N: Near<A>, F: Far<A, T>> Parts<A, T, N, F> {
         ensures lent { vec_capacity self.new.taken.octets ≡ vec_capacity self.old.taken.octets }
         ensures calm { self.new.calm ≡ self.old.calm }
         ensures report { HasRoom N.client self.old → HasRoom N.client self.new }
-        ensures few { self.new.listens ≡ self.old.listens }
     {
         self.taken.clear();
     }
 
     /// What is wanted after an event is served, and the report is taken.
     pub(crate) fn finish(&mut self)
-        requires ports { self.old.listens < 16384 }
         requires report { HasRoom N.client self.old }
         ensures moved { Calmly self.old self.new (shown N.client F.server self.new ≡ after_event (shown N.client F.server self.old)) }
-        ensures few { self.new.listens < 16384 }
         ensures report { HasRoom N.client self.new }
     {
         self.serve();
@@ -68,7 +63,6 @@ impl<A: Allocator, T: Tree<A>, N: Near<A>, F: Far<A, T>> Parts<A, T, N, F> {
         ensures moved { shown N.client F.server self.new ≡ collected (shown N.client F.server self.old) }
         ensures report { HasRoom N.client self.new }
         ensures calm { self.new.calm ≡ self.old.calm }
-        ensures few { self.new.listens ≡ self.old.listens }
     {
         if let Some(answer) = self.near.report() {
             keep(&mut self.reports, answer);

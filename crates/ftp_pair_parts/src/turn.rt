@@ -23,12 +23,10 @@ pub enum Turn {
 impl<A: Allocator, T: Tree<A>, N: Near<A>, F: Far<A, T>> Parts<A, T, N, F> {
     /// One delivery of at most 4,096 octets, opening or end happens, if one is possible; it answers whether one was. Takes no memory.
     pub fn turn(&mut self) -> bool
-        requires ports { self.old.listens < 16384 }
         requires report { HasRoom N.client self.old }
         ensures does { result ≡ true → Stirs self.old.calm self.new.calm (shown N.client F.server self.old) (shown N.client F.server self.new) }
         ensures still { result ≡ false → IsStill (shown N.client F.server self.old) }
         ensures same { result ≡ false → self.new ≡ self.old }
-        ensures few { self.new.listens < 16384 }
         ensures report { HasRoom N.client self.new }
     {
         let Some(turn) = self.next_turn() else {
@@ -98,11 +96,9 @@ impl<A: Allocator, T: Tree<A>, N: Near<A>, F: Far<A, T>> Parts<A, T, N, F> {
     /// It happens.
     #[tactic(auto, using(crate::proofs::Filling::roomy, crate::proofs::Filling::lends_some))]
     fn take_turn(&mut self, turn: Turn)
-        requires ports { self.old.listens < 16384 }
         requires report { HasRoom N.client self.old }
         requires possible { IsTrue (can_happen (turn_of turn) (shown N.client F.server self.old)) }
         ensures does { Steps self.old.calm self.new.calm (λ read. Happens read (turn_of turn) (shown N.client F.server self.old) true (shown N.client F.server self.new)) }
-        ensures few { self.new.listens < 16384 }
         ensures report { HasRoom N.client self.new }
     {
         match turn {

@@ -18,7 +18,6 @@ loop-self-preserved g c = record {
       );
   taken = c.pull.ensures.taken ∙ c.loop-self.invariant.taken;
   report = λ had. c.pull.ensures.report (c.loop-self.invariant.report had);
-  few = c.pull.ensures.few ∙ c.loop-self.invariant.few;
   room = omega (arith, c.loop-self.invariant.room, c.pull.ensures.room);
 }
 
@@ -26,7 +25,6 @@ pub returns-else-owes : goal.returns-else-owes
 returns-else-owes g c = record {
   taken = c.loop-self.invariant.taken;
   report = c.loop-self.invariant.report;
-  few = c.loop-self.invariant.few;
   filled = λ calm.
       let so = c.loop-self.invariant.so calm in
       (so.0, none_due (queue_of c.args.queue) c.args.count (shown g.N.Near.client g.F.Far.server c.args.self.now) (shown g.N.Near.client g.F.Far.server c.loop-self.self) so.1 c.if-owes.ensures);
@@ -36,7 +34,6 @@ pub returns-after-loop-self : goal.returns-after-loop-self
 returns-after-loop-self g c = record {
   taken = c.loop-self.invariant.taken;
   report = c.loop-self.invariant.report;
-  few = c.loop-self.invariant.few;
   filled = λ calm.
       let so = c.loop-self.invariant.so calm in (
         so.0,

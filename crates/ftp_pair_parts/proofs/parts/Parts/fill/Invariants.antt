@@ -7,7 +7,6 @@ invariant-loop-self g l = record {
   so : Calmly l.fn.self l.self (FillsSo (queue_of l.queue) l.count (shown g.N.Near.client g.F.Far.server l.fn.self) (shown g.N.Near.client g.F.Far.server l.self));
   taken : l.self.taken ≡ l.fn.self.taken;
   report : HasRoom g.N.Near.client l.fn.self → HasRoom g.N.Near.client l.self;
-  few : l.self.listens ≡ l.fn.self.listens;
   room : l.count ≤ room_of l.queue l.self;
 }
 
