@@ -45,7 +45,11 @@ class Rows:
 
     def tool(self, *words, seconds=SECONDS):
         """Runs the tool in the folder: its status, standard output and standard error."""
-        done = subprocess.run([TOOL, *words], cwd=self.folder, stdin=subprocess.DEVNULL, capture_output=True, timeout=seconds)
+        return self.tool_in(self.folder, None, *words, seconds=seconds)
+
+    def tool_in(self, folder, script, *words, seconds=SECONDS):
+        """The same in another folder, with a script on standard input."""
+        done = subprocess.run([TOOL, *words], cwd=folder, input=script or b"", capture_output=True, timeout=seconds)
         return done.returncode, done.stdout, done.stderr
 
 

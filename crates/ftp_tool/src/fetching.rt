@@ -1,10 +1,10 @@
 // The subcommands `get`, `put` and `ls`: their words.
 use crate::help;
-use crate::words::{BadValue, Form, MODE, STRU, Subcommand, TYPE, Value, Word};
+use crate::words::{BadValue, Form, MODE, STRU, Subcommand, TIMEOUT, TYPE, Value, Word};
 use clap::ArgMatches;
 use ftp_operation::How;
 use ftp_tool_fetch::{Download, Target, Task};
-use ftp_tool_files::representation_of;
+use ftp_tool_files::{number_of, representation_of};
 use ftp_tool_words::place_of;
 
 /// The words of `get`.
@@ -91,6 +91,7 @@ const OPTIONS: &[Word<'static>] = &[
         form: Form::Flag,
         help: "tells how far a transfer is, each second; without it where standard error is a terminal",
     },
+    TIMEOUT,
     Word {
         name: "type",
         form: Form::Else(TYPE, "I"),
@@ -108,7 +109,7 @@ const OPTIONS: &[Word<'static>] = &[
     },
 ];
 
-/// The value that is none: the place, or the file that has no name where the place is one.
+/// The value that is none: the place, the seconds, or the file that has no name where both are.
 pub fn bad_value<'a>(words: &'a ArgMatches<'_>) -> Option<BadValue<'a>> {
     let place = words.get_str("place")?;
     if place_of(place).is_none() {
@@ -116,6 +117,14 @@ pub fn bad_value<'a>(words: &'a ArgMatches<'_>) -> Option<BadValue<'a>> {
             option: "<HOST:PORT/PATH>",
             value: place,
             wanted: "an address or a name, a port from 1 to 65535 and a path are wanted",
+        });
+    }
+    let timeout = words.get_str("timeout")?;
+    if number_of(timeout).is_none() {
+        return Some(BadValue {
+            option: "--timeout <SECONDS>",
+            value: timeout,
+            wanted: "decimal digits alone are wanted",
         });
     }
     Some(BadValue {
@@ -137,6 +146,7 @@ pub fn asked_of<'a>(words: &'a ArgMatches<'_>, is_terminal: bool) -> Option<Targ
         user: words.get_str("user")?,
         password_file: words.get_str("password-file"),
         how: how_of(words)?,
+        timeout: number_of(words.get_str("timeout")?)?,
         progress: is_terminal || words.get_flag("progress"),
     })
 }

@@ -57,7 +57,8 @@ Input: a script, lines with LF at their ends. The first is login USER PASS; each
 upload H P T or get H P. P and T are fields: octets 33 to 126, with \\s for SP, \\n for LF, \\r for CR, \\\\ for a backslash, \\xHH for any
 octet, and \\e alone for none. H is type, structure, mode, p passive or a active, n plain or e extended, as IFSpn. The README of
 ftp_tool_script has each form. Everything goes in cleartext, passwords too.
-Output: the report of each operation, once it is done, as done, octets T or refused 550; all go over one control connection.
+Output: the report of each operation, once it is done, as done, octets T or refused 550; all go over one control connection, which a
+server ends that says, takes and sends nothing for the seconds of --timeout.
 Status: 0 done; 1 an operation was refused, could not be sent or broke; 2 bad command line, or a line of the script fits no form, and then
 nothing is sent; 3 the control connection or a device failed, or memory was refused.
 
@@ -94,7 +95,8 @@ Example:
 pub const GET: &str = "\
 HOST is an address or a name, an IPv6 address in brackets; PATH is sent to the server as it stands behind the slash. The file is
 written beside its name, as FILE.ftp-part, and moved over it once it is whole; it keeps the permissions of the file that it replaces.
-A file of that name stays, and FILE.ftp-part-1 is written in its place, and so on to 99.
+A file of that name stays, and FILE.ftp-part-1 is written in its place, and so on to 99. Where FILE is a link, that is done where it leads;
+what is no file, as a pipe, is written as it stands and never replaced; - is standard output.
 In type I and file structure the server is asked for the size first. Where it tells that, the file is whole once what came has it; where a
 data connection was cut, or broke, the download goes on there, by at most 16 tries in all, and ends with 1 where it is not whole then. In
 type A, and where the server tells no size, a cut that looks like the end of the file is not noticed; with --progress a note says so.
@@ -102,7 +104,7 @@ With --keep what came of a file that is not whole stays beside it; standard erro
 when PATH was changed last, which FILE has then; where the server does not know it, standard error has a note. With --progress, and where
 standard error is a terminal, it has the octets of a transfer that takes more than a second, each second at most.
 Where the control connection ends, all is done anew over another one, at most four times, behind 1, 2, 4 and 8 seconds; each is told
-on standard error.
+on standard error. A server that says, takes and sends nothing for the seconds of --timeout counts as one that ended it.
 The password of anonymous is none; that of another user is in the environment, in FTP_PASSWORD, or in the file that --password-file
 names. Everything goes in cleartext, passwords too.
 Status: 0 done; 1 refused, or not all came; 2 bad command line, login or path; 3 the control connection or a device failed, or memory

@@ -153,7 +153,7 @@ where
         + Net<Listener = TcpListener, Stream = TcpStream>,
 {
     match running::server_of(words) {
-        Some((host, port)) => Ok(ftp_tool_fetch::run(rt, host, port)?.number()),
+        Some(server) => Ok(ftp_tool_fetch::run(rt, server)?.number()),
         None => bad_words(rt, None),
     }
 }

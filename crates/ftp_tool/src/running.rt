@@ -1,7 +1,9 @@
 // The subcommand `run`: its words.
 use crate::help;
-use crate::words::{Form, Subcommand, Value, Word};
+use crate::words::{Form, Subcommand, TIMEOUT, Value, Word};
 use clap::ArgMatches;
+use ftp_tool_fetch::ServerAddress;
+use ftp_tool_files::number_of;
 use ftp_tool_words::server_port_of;
 
 /// The words of `run`.
@@ -21,15 +23,20 @@ pub const RUN: Subcommand<'static> = Subcommand {
             help: "the port that it listens at, 1 to 65535",
         },
     ],
-    options: &[],
+    options: &[TIMEOUT],
 };
 
-/// The host and the port of the server; none where a value is none of its option.
-pub fn server_of<'a>(words: &'a ArgMatches<'_>) -> Option<(&'a str, u16)> {
+/// The server that is asked; none where a value is none of its option.
+pub fn server_of<'a>(words: &'a ArgMatches<'_>) -> Option<ServerAddress<'a>> {
     let host = words.get_str("host")?;
     let port = server_port_of(words.get_str("port")?)?;
     if host.is_empty() {
         return None;
     }
-    Some((host, port))
+    Some(ServerAddress {
+        host,
+        port,
+        timeout: number_of(words.get_str("timeout")?)?,
+        progress: false,
+    })
 }

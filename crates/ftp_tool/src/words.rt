@@ -12,6 +12,13 @@ pub const MODE: Value<'static> = Value::One("S|B", &["S", "B"]);
 
 pub const MOST: u64 = 4_294_967_295;
 
+/// For how many seconds a server may be silent, for all programs of a client.
+pub const TIMEOUT: Word<'static> = Word {
+    name: "timeout",
+    form: Form::Else(Value::Number("SECONDS", 0, MOST), "60"),
+    help: "ends a control connection whose server says, takes and sends nothing for so long; 0: never",
+};
+
 /// The name of a value, and what it has to be.
 #[derive(Clone, Copy)]
 pub enum Value<'a> {

@@ -1,7 +1,7 @@
-// What is noticed of a server beside its answer: the line of its replies that came last, and how many data connections were opened.
+// What is noticed of a server beside its answer: the line of its replies that came last, how many data connections were opened, and that it fell silent.
+use ftp_tool_sockets::ControlReader;
 use std::fmt::{Display, Formatter};
 use std::io::Read;
-use std::net::TcpStream;
 use std::{fmt, io};
 
 /// The most octets of a line that are kept.
@@ -29,6 +29,8 @@ pub struct LastReply {
     is_whole: bool,
     /// How many data connections were opened, over all control connections.
     opened: u32,
+    /// For how many seconds it was silent, where that ended the last control connection.
+    silence: Option<u32>,
 }
 
 impl LastReply {
@@ -39,7 +41,13 @@ impl LastReply {
             len: 0,
             is_whole: false,
             opened: 0,
+            silence: None,
         }
+    }
+
+    /// The control connection ended since the server was silent for so many seconds.
+    pub(crate) fn fell_silent(&mut self, seconds: u32) {
+        self.silence = Some(seconds);
     }
 
     /// So many data connections more were opened.
@@ -60,10 +68,11 @@ impl LastReply {
         }
     }
 
-    /// Why the server ends the control connection, as it is told behind a sentence; nothing where it does not say.
+    /// Why the control connection ended, as it is told behind a sentence: the server was silent, or says why; nothing where neither is known.
     pub fn farewell(&self) -> Said<'_> {
         Said {
             line: self.last(NOT_AVAILABLE),
+            silence: self.silence,
         }
     }
 
@@ -71,6 +80,7 @@ impl LastReply {
     pub fn said(&self) -> Said<'_> {
         Said {
             line: self.line.get(..self.len).unwrap_or(&[]),
+            silence: None,
         }
     }
 
@@ -100,6 +110,7 @@ impl LastReply {
     fn begin(&mut self) {
         self.len = 0;
         self.is_whole = false;
+        self.silence = None;
     }
 
     /// Keeps octets of replies.
@@ -139,21 +150,20 @@ fn code_of(line: &[u8]) -> Option<u16> {
 /// Reads a control connection, and notices what is read.
 #[derive(Drop)]
 pub(crate) struct Noticing<'a> {
-    stream: &'a TcpStream,
+    reader: ControlReader<'a>,
     noticed: &'a mut LastReply,
 }
 
 impl<'a> Noticing<'a> {
-    pub(crate) fn new(stream: &'a TcpStream, noticed: &'a mut LastReply) -> Noticing<'a> {
+    pub(crate) fn new(reader: ControlReader<'a>, noticed: &'a mut LastReply) -> Noticing<'a> {
         noticed.begin();
-        Noticing { stream, noticed }
+        Noticing { reader, noticed }
     }
 }
 
 impl<'a> Read for Noticing<'a> {
     fn read(&mut self, room: &mut [u8]) -> io::Result<usize> {
-        let mut stream = self.stream;
-        let count = stream.read(room)?;
+        let count = self.reader.read(room)?;
         self.noticed.keep(room.get(..count).unwrap_or(&[]));
         Ok(count)
     }
@@ -176,14 +186,18 @@ impl<'a> Display for Refusal<'a> {
     }
 }
 
-/// A colon and what a server said, or nothing where that is not known.
+/// A colon and that a server was silent, or what it said; nothing where neither is known.
 #[derive(Clone, Copy)]
 pub struct Said<'a> {
     line: &'a [u8],
+    silence: Option<u32>,
 }
 
 impl<'a> Display for Said<'a> {
     fn fmt<W: fmt::Write>(&self, formatter: &mut Formatter<W>) -> fmt::Result {
+        if let Some(seconds) = self.silence {
+            return write!(formatter, ": the server was silent for {seconds} s");
+        }
         if self.line.is_empty() {
             return Ok(());
         }

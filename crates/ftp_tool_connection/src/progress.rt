@@ -5,7 +5,7 @@ ghost use Rattle.ftp_control.specs.Asking.{Closes};
 use crate::live::Opens;
 use ftp_control::{Accepted, For, Ports, Ready, Spoken, Whole};
 use ftp_endpoint::Endpoint;
-use ftp_tool_sockets::{Link, SocketPorts};
+use ftp_tool_sockets::{Link, Patience, SocketPorts};
 use std::io;
 use std::io::{Eprint, Read, Write};
 use std::net::{Net, TcpListener, TcpStream};
@@ -42,9 +42,10 @@ where
     pub(crate) fn hearing(
         rt: &'a R,
         control: &'a TcpStream,
+        patience: &'a Patience<'a>,
         is_told: bool,
     ) -> io::Result<MeteredPorts<'a, R>> {
-        let ports = SocketPorts::hearing(rt, control)?;
+        let ports = SocketPorts::hearing(rt, control, patience)?;
         Ok(MeteredPorts { rt, ports, is_told })
     }
 

@@ -1,8 +1,9 @@
 // A control connection to a server: how it is opened, and how it ends.
 use ftp_tool_sockets::{keep_alive, say_goodbye};
 use std::io;
-use std::io::Write;
-use std::net::{Net, TcpListener, TcpStream};
+use std::io::{Error, ErrorKind, Write};
+use std::net::{Net, SocketAddr, TcpListener, TcpStream, ToSocketAddrs};
+use std::time::Duration;
 
 /// Which server is asked.
 #[derive(Clone, Copy)]
@@ -10,6 +11,8 @@ pub struct ServerAddress<'a> {
     /// An address or a name.
     pub host: &'a str,
     pub port: u16,
+    /// For how many seconds the server may say, take and send nothing, before its control connection counts as ended; 0: without a limit.
+    pub timeout: u32,
     /// Whether a transfer that takes more than a second is told of, each second at most.
     pub progress: bool,
 }
@@ -19,10 +22,37 @@ pub(crate) fn connected<R>(rt: &R, server: ServerAddress<'_>) -> io::Result<TcpS
 where
     R: Net<Listener = TcpListener, Stream = TcpStream>,
 {
-    let stream = TcpStream::connect(rt, (server.host, server.port))?;
+    let stream = opened(rt, server)?;
     stream.set_nodelay(true)?;
     keep_alive(&stream)?;
     Ok(stream)
+}
+
+/// A connection to the first address of a server that answers in time.
+fn opened<R>(rt: &R, server: ServerAddress<'_>) -> io::Result<TcpStream>
+where
+    R: Net<Listener = TcpListener, Stream = TcpStream>,
+{
+    let mut last = Error::from(ErrorKind::NotFound);
+    for address in (server.host, server.port).to_socket_addrs(rt)? {
+        match open(rt, address, server.timeout) {
+            Ok(stream) => return Ok(stream),
+            Err(error) => last = error,
+        }
+    }
+    Err(last)
+}
+
+/// A connection to an address, within so many seconds; 0: as long as the system tries.
+fn open<R>(rt: &R, address: SocketAddr, seconds: u32) -> io::Result<TcpStream>
+where
+    R: Net<Listener = TcpListener, Stream = TcpStream>,
+{
+    if seconds == 0 {
+        TcpStream::connect(rt, address)
+    } else {
+        TcpStream::connect_timeout(rt, &address, Duration::from_secs(u64::from(seconds)))
+    }
 }
 
 /// Says that no more commands come, and waits a moment for the server's last reply.

@@ -11,7 +11,7 @@ use ftp_client_model::Near;
 use ftp_client_transfer::OperationTransfer;
 use ftp_endpoint::Host;
 use ftp_operation::Login;
-use ftp_tool_sockets::host_of;
+use ftp_tool_sockets::{ControlReader, ControlWriter, Patience, host_of};
 use std::alloc::Global;
 use std::env::Env;
 use std::fs::Files;
@@ -52,15 +52,15 @@ where
 {
     let mut login = Some(login);
     let stream = at(Phase::Connection, connected(rt, server))?;
-    let done = talk(rt, server.progress, &mut login, &stream, noticed, play);
+    let done = talk(rt, server, &mut login, &stream, noticed, play);
     let _gone = leave(&stream);
     done
 }
 
-/// Plays over a control connection that is open.
+/// Plays over a control connection that is open, while patience lasts.
 fn talk<R, T, P>(
     rt: &R,
-    is_told: bool,
+    server: ServerAddress<'_>,
     login: &mut Option<Login<Global>>,
     stream: &TcpStream,
     noticed: &mut LastReply,
@@ -72,12 +72,18 @@ where
     P: SessionTask<Result<T, SessionFault>>,
 {
     let hosts = at(Phase::Talking, hosts_of(stream))?;
-    let mut ports = at(Phase::Talking, MeteredPorts::hearing(rt, stream, is_told))?;
-    let mut control = Control::new(Noticing::new(stream, noticed), stream);
+    let patience = Patience::of_client(server.timeout);
+    let ports = MeteredPorts::hearing(rt, stream, &patience, server.progress);
+    let mut ports = at(Phase::Talking, ports)?;
+    let reader = Noticing::new(ControlReader::new(stream, &patience), noticed);
+    let mut control = Control::new(reader, ControlWriter::new(stream, &patience));
     let done = play_between(rt.alloc(), hosts, login, &mut control, &mut ports, play);
     drop(control);
     ports.finish();
     noticed.add_opened(ports.opened());
+    if patience.over().is_some() {
+        noticed.fell_silent(server.timeout);
+    }
     done
 }
 

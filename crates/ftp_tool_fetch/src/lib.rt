@@ -19,6 +19,7 @@ pub use came::Came;
 pub use download::Download;
 pub use downloading::Downloading;
 pub use fetching::{Task, fetch};
+pub use ftp_tool_connection::ServerAddress;
 pub use running::run;
 pub use target::Target;
 pub use uploading::Uploading;

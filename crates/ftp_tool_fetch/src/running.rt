@@ -19,7 +19,7 @@ type Orders = Vec<Order<Text<Global>>, Global>;
 /// Does the script of standard input over one control connection to a server, and writes a report of each of its orders to standard output once it
 /// is done. Gives the exit status: 0; 1 where an order was refused or broke; 2 for a line that fits no form, and then nothing is sent; 3 where the
 /// control connection or a device failed, or memory was refused for the script or a report. What keeps it from a report is told on standard error.
-pub fn run<R>(rt: &R, host: &str, port: u16) -> io::Result<Status>
+pub fn run<R>(rt: &R, server: ServerAddress<'_>) -> io::Result<Status>
 where
     R: Net<Listener = TcpListener, Stream = TcpStream>
         + Input
@@ -28,14 +28,14 @@ where
         + Clock
         + AllocGlobal,
 {
-    match read_and_do(rt, host, port) {
+    match read_and_do(rt, server) {
         Ok(status) => Ok(status),
         Err(stop) => stop.tell(rt),
     }
 }
 
 /// Reads the script, and does it.
-fn read_and_do<R>(rt: &R, host: &str, port: u16) -> Result<Status, SessionFault>
+fn read_and_do<R>(rt: &R, server: ServerAddress<'_>) -> Result<Status, SessionFault>
 where
     R: Net<Listener = TcpListener, Stream = TcpStream>
         + Input
@@ -45,7 +45,7 @@ where
         + AllocGlobal,
 {
     match read_script(rt.alloc(), &mut rt.reader()) {
-        Ok(script) => do_script(rt, host, port, script),
+        Ok(script) => do_script(rt, server, script),
         Err(NoScript::Line(number)) => at(Phase::Report, tell_line(rt, number)),
         Err(NoScript::Failed(error)) => at(Phase::Script, Err(error)),
     }
@@ -60,19 +60,13 @@ fn tell_line<R: Eprint>(rt: &R, number: usize) -> io::Result<Status> {
 /// Does a script over a control connection.
 fn do_script<R>(
     rt: &R,
-    host: &str,
-    port: u16,
+    server: ServerAddress<'_>,
     script: Script<Global>,
 ) -> Result<Status, SessionFault>
 where
     R: Net<Listener = TcpListener, Stream = TcpStream> + Print + Eprint + Clock + AllocGlobal,
 {
     let Script { login, orders } = script;
-    let server = ServerAddress {
-        host,
-        port,
-        progress: false,
-    };
     let mut all = All {
         rt,
         orders: Some(orders),

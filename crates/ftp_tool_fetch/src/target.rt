@@ -11,6 +11,8 @@ pub struct Target<'a> {
     /// The file that has the password; its owner alone may use it.
     pub password_file: Option<&'a str>,
     pub how: How,
+    /// For how many seconds the server may be silent; 0: without a limit.
+    pub timeout: u32,
     /// Whether a transfer that takes more than a second is told of, each second at most.
     pub progress: bool,
 }
@@ -21,6 +23,7 @@ impl<'a> Target<'a> {
         ServerAddress {
             host: self.place.host,
             port: self.place.port,
+            timeout: self.timeout,
             progress: self.progress,
         }
     }

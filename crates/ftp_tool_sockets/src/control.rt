@@ -159,7 +159,7 @@ impl<'a> Read for ControlReader<'a> {
     }
 }
 
-/// Writes a control connection while patience lasts.
+/// Writes a control connection. Where there is no room it waits for it while patience lasts.
 #[derive(Drop)]
 pub struct ControlWriter<'a> {
     stream: &'a TcpStream,

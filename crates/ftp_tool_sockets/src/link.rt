@@ -22,7 +22,7 @@ pub struct Link<'a> {
     control: &'a TcpStream,
     stream: TcpStream,
     heeds: Heeds,
-    patience: Option<&'a Patience<'a>>,
+    patience: &'a Patience<'a>,
     /// Whether the end of the control connection was met: what goes after it is no sign of life.
     outlives: bool,
 }
@@ -46,7 +46,7 @@ impl<'a> Link<'a> {
         control: &'a TcpStream,
         stream: TcpStream,
         heeds: Heeds,
-        patience: Option<&'a Patience<'a>>,
+        patience: &'a Patience<'a>,
     ) -> io::Result<Link<'a>> {
         stream.set_nonblocking(true)?;
         stream.set_nodelay(true)?;
@@ -61,17 +61,14 @@ impl<'a> Link<'a> {
 
     /// So many octets went over the connection.
     fn moved(&self, count: usize) {
-        match self.patience {
-            Some(patience) if count > 0 && !self.outlives => patience.stir(),
-            _ => {}
+        if count > 0 && !self.outlives {
+            self.patience.stir();
         }
     }
 
     /// Limits how long what was written waits for the peer to take it, where room is waited for: octets that only the system took are no sign of life.
     fn limit(&self) {
-        if let Some(patience) = self.patience {
-            let _limited = limit_untaken(&self.stream, patience.untaken_millis());
-        }
+        let _limited = limit_untaken(&self.stream, self.patience.untaken_millis());
     }
 
     /// Waits until octets can be read or written; where `hears`, octets of the control connection go first.
@@ -91,7 +88,7 @@ impl<'a> Link<'a> {
     /// Waits until octets can be read or written, or what is heeded of the control connection is there. Only where there is no room at once is it
     /// limited how long octets wait for the peer.
     fn await_either(&self, what: For, heeds: Heeds) -> Woke {
-        if what == For::Room && self.patience.is_some() {
+        if what == For::Room {
             match wait_millis(self.control, &self.stream, what, heeds, 0) {
                 Woke::TimeOver => {}
                 woke => return woke,

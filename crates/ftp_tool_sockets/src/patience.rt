@@ -1,4 +1,4 @@
-// How long a server waits for its peer.
+// How long an end waits for its peer.
 ghost use Rattle.std.specs.Prelude.{◌≡◌};
 ghost use Rattle.ftp_tool_sockets.specs.Waiting.{sooner_of, stricter, term_after};
 
@@ -23,7 +23,7 @@ pub struct Limits {
     pub idle_while_waited: u32,
 }
 
-/// Why a server waits no more.
+/// Why nothing is waited for any more.
 #[derive(Clone, Copy, Debug, PartialEq, Eq)]
 pub enum Over {
     /// Nobody logged in for so long.
@@ -53,8 +53,8 @@ pub(crate) enum Waited {
     Failed,
 }
 
-/// The patience of one session. Who serves it says when something was done (`stir`), when somebody logged in, and when nothing is waited for
-/// any more; time is that of the system's monotonic clock.
+/// The patience of one session. Who serves it, or asks in it, says when something was done (`stir`), when somebody logged in, and when nothing is
+/// waited for any more; time is that of the system's monotonic clock.
 #[derive(Drop)]
 pub struct Patience<'a> {
     limits: Limits,
@@ -79,6 +79,16 @@ impl<'a> Patience<'a> {
             logged_in: Cell::new(false),
             over: Cell::new(None),
         }
+    }
+
+    /// The patience of a client whose session begins now: its server may say, take and send nothing for so many seconds; 0: without a limit.
+    pub fn of_client(seconds: u32) -> Patience<'a> {
+        let limits = Limits {
+            login: 0,
+            idle: seconds,
+            idle_while_waited: 0,
+        };
+        Patience::new(limits, None)
     }
 
     /// Something was done: a command, a reply, or octets of a data connection.
@@ -159,17 +169,6 @@ impl<'a> Patience<'a> {
         };
         let mut asked = [asking(door, c::POLLIN)];
         ask(&mut asked, 0) == Polled::Told
-    }
-}
-
-/// Waits while a patience lasts; without one, without a limit.
-pub(crate) fn wait_within(patience: Option<&Patience<'_>>, asked: &mut [pollfd]) -> Waited {
-    match patience {
-        Some(patience) => patience.wait(asked),
-        None => match ask(asked, -1) {
-            Polled::Told => Waited::Told,
-            Polled::TimeOver | Polled::Failed => Waited::Failed,
-        },
     }
 }
 

@@ -28,6 +28,8 @@ pub struct SocketPorts<'a, R: Net<Listener = TcpListener, Stream = TcpStream>> {
     here: IpAddr,
     /// What a read or a write of a data connection that would wait heeds of the control connection.
     heeds: Heeds,
+    /// How long the peer is waited for.
+    patience: &'a Patience<'a>,
     /// What a server's data connections have beside a client's.
     served: Option<Served<'a>>,
     listener: Option<TcpListener>,
@@ -47,23 +49,24 @@ impl<'a, R: Net<Listener = TcpListener, Stream = TcpStream>> SocketPorts<'a, R> 
         passive: &'a PassivePorts,
     ) -> io::Result<SocketPorts<'a, R>> {
         let client = host_of(control.peer_addr()?);
-        let served = Served {
-            patience,
-            passive,
-            client,
-        };
-        SocketPorts::beside(net, control, Heeds::End, Some(served))
+        let served = Served { passive, client };
+        SocketPorts::beside(net, control, patience, Heeds::End, Some(served))
     }
 
-    /// Data connections of a client: a read or a write of one that would wait fails as `WouldBlock` where the control connection has octets
-    /// or ended.
-    pub fn hearing(net: &'a R, control: &'a TcpStream) -> io::Result<SocketPorts<'a, R>> {
-        SocketPorts::beside(net, control, Heeds::Octets, None)
+    /// Data connections of a client, which wait as long as its patience lasts: a read or a write of one that would wait fails as `WouldBlock` where
+    /// the control connection has octets or ended.
+    pub fn hearing(
+        net: &'a R,
+        control: &'a TcpStream,
+        patience: &'a Patience<'a>,
+    ) -> io::Result<SocketPorts<'a, R>> {
+        SocketPorts::beside(net, control, patience, Heeds::Octets, None)
     }
 
     fn beside(
         net: &'a R,
         control: &'a TcpStream,
+        patience: &'a Patience<'a>,
         heeds: Heeds,
         served: Option<Served<'a>>,
     ) -> io::Result<SocketPorts<'a, R>> {
@@ -73,16 +76,12 @@ impl<'a, R: Net<Listener = TcpListener, Stream = TcpStream>> SocketPorts<'a, R> 
             control,
             here,
             heeds,
+            patience,
             served,
             listener: None,
             leaving: None,
             opened: 0,
         })
-    }
-
-    /// How long a peer is waited for.
-    fn patience(&self) -> Option<&'a Patience<'a>> {
-        self.served.map(|served| served.patience)
     }
 
     /// How many data connections were opened so far, by either end.
@@ -148,7 +147,7 @@ impl<'a, R: Net<Listener = TcpListener, Stream = TcpStream>> SocketPorts<'a, R> 
 
     /// An open connection as a link, which is counted.
     fn counted(&mut self, stream: TcpStream) -> Option<Link<'a>> {
-        let link = Link::new(self.control, stream, self.heeds, self.patience()).ok()?;
+        let link = Link::new(self.control, stream, self.heeds, self.patience).ok()?;
         self.opened = self.opened.saturating_add(1);
         Some(link)
     }
@@ -157,7 +156,6 @@ impl<'a, R: Net<Listener = TcpListener, Stream = TcpStream>> SocketPorts<'a, R> 
 /// What a server's data connections have beside a client's.
 #[derive(Clone, Copy)]
 struct Served<'a> {
-    patience: &'a Patience<'a>,
     passive: &'a PassivePorts,
     /// The client's host; one that comes from another host is let go.
     client: Host,
@@ -187,11 +185,11 @@ fn take_next(listener: &TcpListener, served: Option<Served<'_>>) -> Option<Waite
 fn wait_at(
     listener: &TcpListener,
     control: &TcpStream,
+    patience: &Patience<'_>,
     served: Option<Served<'_>>,
     hears: bool,
 ) -> Waited {
     let heeds = if hears { Heeds::Octets } else { Heeds::End };
-    let patience = served.map(|served| served.patience);
     for _ in 0..TURNS {
         if let Some(waited) = take_next(listener, served) {
             return waited;
@@ -218,7 +216,7 @@ impl<'a, R: Net<Listener = TcpListener, Stream = TcpStream>> Ports for SocketPor
         let Some(listener) = &self.listener else {
             return Accepted::Refused;
         };
-        match wait_at(listener, self.control, self.served, hears) {
+        match wait_at(listener, self.control, self.patience, self.served, hears) {
             Waited::Came(stream, peer) => self.linked(stream, peer),
             Waited::Spoken => Accepted::Spoken,
             Waited::Refused => Accepted::Refused,

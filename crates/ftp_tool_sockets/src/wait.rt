@@ -2,7 +2,7 @@
 ghost use Rattle.std.specs.Prelude.{◌≡◌};
 ghost use Rattle.ftp_tool_sockets.specs.Waiting.{wakes};
 
-use crate::patience::{Patience, Waited, monotonic_millis, piece_of, wait_within};
+use crate::patience::{Patience, Waited, monotonic_millis, piece_of};
 use ftp_control::{For, Spoken, TURNS};
 use libc::net as c;
 use libc::types::pollfd;
@@ -46,10 +46,10 @@ pub(crate) fn wait<C: AsRawFd, S: AsRawFd>(
     other: &S,
     what: For,
     heeds: Heeds,
-    patience: Option<&Patience<'_>>,
+    patience: &Patience<'_>,
 ) -> Woke {
     let mut asked = both_of(control, other, what, heeds);
-    match wait_within(patience, &mut asked) {
+    match patience.wait(&mut asked) {
         Waited::Told => told_by(&asked, heeds),
         Waited::Over(_) => Woke::TimeOver,
         Waited::Failed => Woke::Failed,
@@ -135,16 +135,12 @@ pub(crate) fn ask(asked: &mut [pollfd], millis: i32) -> Polled {
 }
 
 /// Whether there is room for octets on a socket within so many milliseconds and while patience lasts, whatever the control connection does.
-pub(crate) fn has_room<S: AsRawFd>(
-    socket: &S,
-    millis: u64,
-    patience: Option<&Patience<'_>>,
-) -> bool {
+pub(crate) fn has_room<S: AsRawFd>(socket: &S, millis: u64, patience: &Patience<'_>) -> bool {
     let mut asked = [asking(socket, c::POLLOUT)];
     let until = monotonic_millis().saturating_add(millis);
     for _ in 0..TURNS {
         let left = until.saturating_sub(monotonic_millis());
-        if left == 0 || patience.is_some_and(|patience| patience.is_over()) {
+        if left == 0 || patience.is_over() {
             return false;
         }
         match ask(&mut asked, piece_of(left)) {

@@ -2,7 +2,7 @@
 use crate::typing::Typing;
 use ftp_operation::How;
 use ftp_settings::{Kind, Mode, Representation, Structure};
-use ftp_tool_fetch::{Download, Target, Task, fetch, run};
+use ftp_tool_fetch::{Download, ServerAddress, Target, Task, fetch, run};
 use ftp_tool_status::Status;
 use ftp_tool_words::Location;
 use rows_base::Paper;
@@ -51,9 +51,18 @@ fn asked(has_password: bool) -> Target<'static> {
         user: if has_password { "anonymous" } else { "guest" },
         password_file: if has_password { None } else { Some(NONE) },
         how: HOW,
+        timeout: 60,
         progress: false,
     }
 }
+
+/// A server that is not there.
+const ABSENT: ServerAddress<'static> = ServerAddress {
+    host: HERE,
+    port: NOBODY,
+    timeout: 60,
+    progress: false,
+};
 
 /// Tasks where nobody listens, and whether there is a password for each.
 const TASKS: &[(&str, bool, Task<'static>)] = &[
@@ -83,7 +92,7 @@ where
         + AllocGlobal,
 {
     for (what, text) in SCRIPTS {
-        let status = run(&Typing { rt, text }, HERE, NOBODY)?;
+        let status = run(&Typing { rt, text }, ABSENT)?;
         put(paper, what, status);
     }
     for (what, has_password, task) in TASKS {

@@ -1,0 +1,137 @@
+#!/usr/bin/env python3
+"""A server that falls silent, at whatever step, holds no program of a client: with --timeout 1 each try ends, and nothing that stood is lost.
+
+What the server said finally stands, though its data connection stays open. All rows run side by side, since a program that finds silence asks
+anew over four more control connections, behind 1, 2, 4 and 8 seconds.
+"""
+import socket
+import tempfile
+import time
+from concurrent.futures import ThreadPoolExecutor
+from pathlib import Path
+
+from hostile import FakeServer, Rows
+
+OLDER = b"older"
+WHOLE = bytes(range(256)) * 4000
+# five tries, the waits between them, and what a busy machine takes
+LIMIT = 60
+
+KEPT = []
+
+
+def hang(session, _=None):
+    """Says nothing more, and leaves all connections open."""
+    KEPT.append(session.data)
+    time.sleep(4 * LIMIT)
+
+
+def hang_in_data(session, _):
+    session.reply("150 here")
+    link = session.data.accept()[0]
+    KEPT.append(link)
+    link.sendall(WHOLE[:1000])
+    hang(session)
+
+
+def open_behind(code):
+    """The final reply comes, and the data connection stays open."""
+
+    def retr(session, _):
+        session.reply("150 here")
+        link = session.data.accept()[0]
+        KEPT.append(link)
+        link.sendall(WHOLE)
+        session.reply(code)
+
+    return retr
+
+
+def takes_nothing(session, _):
+    session.reply("150 here")
+    KEPT.append(session.data.accept()[0])
+    hang(session)
+
+
+def refused_open(session, _):
+    """An upload is refused finally, and its data connection stays open and is not read."""
+    session.reply("150 here")
+    KEPT.append(session.data.accept()[0])
+    session.reply("552 full")
+
+
+def no_greeting():
+    """Accepts connections, and says nothing on them."""
+    listener = socket.create_server(("127.0.0.1", 0))
+
+    def accept():
+        while True:
+            KEPT.append(listener.accept()[0])
+
+    ThreadPoolExecutor(1).submit(accept)
+    return listener.getsockname()[1]
+
+
+def no_answer():
+    """A port of which no connection comes back: its queue is full."""
+    listener = socket.socket()
+    listener.bind(("127.0.0.1", 0))
+    listener.listen(0)
+    for _ in range(4):
+        waiting = socket.socket()
+        waiting.setblocking(False)
+        waiting.connect_ex(listener.getsockname())
+        KEPT.append(waiting)
+    KEPT.append(listener)
+    return listener.getsockname()[1]
+
+
+def row(rows, what, port, words, wanted, told=b"", script=None):
+    folder = Path(tempfile.mkdtemp(dir=rows.folder))
+    (folder / "out").write_bytes(OLDER)
+    (folder / "up").write_bytes(WHOLE * 20)
+    begun = time.monotonic()
+    words = [word.replace("PORT", str(port)) for word in words]
+    try:
+        status, _, error = rows.tool_in(folder, script, *words, "--timeout", "1", seconds=LIMIT)
+    except Exception as error:
+        return what, False, repr(error)[:200]
+    took = time.monotonic() - begun
+    octets = (folder / "out").read_bytes()
+    holds = status == wanted and told in error and octets in ((OLDER,) if wanted else (OLDER, WHOLE))
+    return what, holds, (status, round(took), len(octets), error[-300:])
+
+
+def main():
+    rows = Rows()
+    size = f"213 {len(WHOLE)}"
+    get = ("get", "127.0.0.1:PORT/f", "out")
+    put = ("put", "up", "127.0.0.1:PORT/f")
+    run = ("run", "--host", "127.0.0.1", "--port", "PORT")
+    script = b"login anonymous a\nget IFSpn f\nwhere\n"
+    silent = b"silent for 1 s"
+    cases = [
+        ("get, no connection comes", no_answer(), get, 3, b"error: "),
+        ("get, no greeting", no_greeting(), get, 3, silent),
+        ("get, silent behind USER", FakeServer({"USER": hang}).port, get, 3, silent),
+        ("get, silent behind SIZE", FakeServer({"SIZE": hang}).port, get, 3, silent),
+        ("get, silent behind PASV", FakeServer({"SIZE": size, "PASV": hang}).port, get, 3, silent),
+        ("get, silent behind RETR", FakeServer({"SIZE": size, "RETR": hang}).port, get, 3, silent),
+        ("get, silent behind 1,000 octets", FakeServer({"SIZE": size, "RETR": hang_in_data}).port, get, 3, silent),
+        ("get, 226 and the data connection stays open", FakeServer({"SIZE": size, "RETR": open_behind("226 done")}).port, get, 0, b""),
+        ("get, silent behind QUIT", FakeServer({"SIZE": size, "RETR": lambda s, _: s.send(WHOLE), "QUIT": hang}).port, get, 0, b""),
+        ("put, silent behind STOR", FakeServer({"SIZE": "550 no", "STOR": hang}).port, put, 3, silent),
+        ("put, nothing is taken", FakeServer({"SIZE": "550 no", "STOR": takes_nothing}).port, put, 3, silent),
+        ("put, 552 and the data connection stays open", FakeServer({"SIZE": "550 no", "STOR": refused_open}).port, put, 1, b"552 full"),
+        ("ls, silent behind MLSD", FakeServer({"MLSD": hang}).port, ("ls", "127.0.0.1:PORT/"), 3, silent),
+        ("run, silent behind RETR", FakeServer({"RETR": hang}).port, run, 3, b""),
+        ("run, no greeting", no_greeting(), run, 3, b""),
+    ]
+    with ThreadPoolExecutor(len(cases)) as pool:
+        tried = [pool.submit(row, rows, what, port, words, wanted, told, script if words is run else None) for what, port, words, wanted, told in cases]
+    for it in tried:
+        rows.row(*it.result())
+    rows.finish()
+
+
+main()
