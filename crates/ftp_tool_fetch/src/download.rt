@@ -14,14 +14,17 @@ use std::alloc::Global;
 use std::env::Env;
 use std::fs::Files;
 use std::io;
-use std::io::Eprint;
+use std::io::{Eprint, Print, Write};
 use std::net::{Net, TcpListener, TcpStream};
 use std::time::Clock;
+
+/// The file that stands for standard output.
+const OUTPUT: &str = "-";
 
 /// A download.
 #[derive(Clone, Copy)]
 pub struct Download<'a> {
-    /// The file of this end: written beside its name, and moved over it once it is whole.
+    /// The file of this end: written beside its name, and moved over it once it is whole; `-` is standard output.
     pub file: &'a str,
     /// Whether what came is kept where that is not the whole file, in a file of that name with `.ftp-part` behind.
     pub keep: bool,
@@ -47,7 +50,13 @@ pub(crate) fn get<R>(
     noticed: &mut LastReply,
 ) -> Result<Status, SessionFault>
 where
-    R: Net<Listener = TcpListener, Stream = TcpStream> + Files + Env + Eprint + Clock + AllocGlobal,
+    R: Net<Listener = TcpListener, Stream = TcpStream>
+        + Files
+        + Env
+        + Print
+        + Eprint
+        + Clock
+        + AllocGlobal,
 {
     if !download.moment {
         return get_at(rt, asked, download, None, noticed);
@@ -67,7 +76,13 @@ fn get_at<R>(
     noticed: &mut LastReply,
 ) -> Result<Status, SessionFault>
 where
-    R: Net<Listener = TcpListener, Stream = TcpStream> + Files + Env + Eprint + Clock + AllocGlobal,
+    R: Net<Listener = TcpListener, Stream = TcpStream>
+        + Files
+        + Env
+        + Print
+        + Eprint
+        + Clock
+        + AllocGlobal,
 {
     let mut downloading = Downloading::new(rt, asked.place.path, asked.how);
     get_by(rt, asked, download, moment, &mut downloading, noticed)
@@ -83,7 +98,13 @@ fn get_by<R>(
     noticed: &mut LastReply,
 ) -> Result<Status, SessionFault>
 where
-    R: Net<Listener = TcpListener, Stream = TcpStream> + Files + Env + Eprint + Clock + AllocGlobal,
+    R: Net<Listener = TcpListener, Stream = TcpStream>
+        + Files
+        + Env
+        + Print
+        + Eprint
+        + Clock
+        + AllocGlobal,
 {
     match ask_at(rt, asked, noticed, downloading) {
         Ok(answer) => {
@@ -96,7 +117,7 @@ where
 }
 
 /// Leaves at this end what came, as the server answered.
-fn leave<R: Files + Eprint + AllocGlobal>(
+fn leave<R: Files + Print + Eprint + AllocGlobal>(
     rt: &R,
     asked: &Target<'_>,
     download: Download<'_>,
@@ -153,7 +174,7 @@ fn known_by<R: Eprint>(rt: &R, answer: &Answer<Global>, noticed: &LastReply) -> 
 }
 
 /// Leaves at this end what came of a download that the server says is done, where that may be the whole file.
-fn save<R: Files + Eprint + AllocGlobal>(
+fn save<R: Files + Print + Eprint + AllocGlobal>(
     rt: &R,
     asked: &Target<'_>,
     download: Download<'_>,
@@ -202,17 +223,31 @@ fn keep_wrong<R: Files + Eprint + AllocGlobal>(
     keep_part(rt, download, came, Status::Refused)
 }
 
-/// Writes the file.
-fn write<R: Files + Eprint + AllocGlobal>(
+/// Writes the file, or its octets to standard output.
+fn write<R: Files + Print + Eprint + AllocGlobal>(
     rt: &R,
     file: &str,
     came: &Came,
     moment: Option<Moment>,
 ) -> io::Result<Status> {
-    match at(Phase::Writing, write_over(rt, file, came.pieces(), moment)) {
+    let written = if file == OUTPUT {
+        put_out(rt, came)
+    } else {
+        write_over(rt, file, came.pieces(), moment)
+    };
+    match at(Phase::Writing, written) {
         Ok(()) => Ok(Status::Done),
         Err(stop) => stop.tell(rt),
     }
+}
+
+/// Writes what came to standard output.
+fn put_out<R: Print>(rt: &R, came: &Came) -> io::Result<()> {
+    let mut out = io::writer(rt);
+    for piece in came.pieces() {
+        out.write_all(piece.as_slice())?;
+    }
+    out.flush()
 }
 
 /// Tells why a download is not done, and what becomes of the octets that came.
@@ -248,7 +283,7 @@ fn keep_part<R: Files + Eprint + AllocGlobal>(
     came: &Came,
     status: Status,
 ) -> io::Result<Status> {
-    if !download.keep || came.count() == 0 {
+    if !download.keep || download.file == OUTPUT || came.count() == 0 {
         return Ok(status);
     }
     match write_part(rt, download.file, came.pieces()) {

@@ -1,4 +1,5 @@
 // Files of this end.
+use crate::place::{Place, place_of};
 use ftp_facts::{Moment, Text};
 use itoa::Buffer;
 use std::alloc::{AllocError, Global};
@@ -49,15 +50,39 @@ struct Part<F> {
     opened: F,
 }
 
-/// Writes a file beside its name, flushes it, and moves it over the name. It keeps the permissions of the file that it replaces; its last change
-/// was at the moment, where there is one. Where that fails, what was written beside is removed again.
+/// Writes the octets of a file: beside its name, to where links lead, and moved over it; into what is no file, as it stands.
 pub(crate) fn write_over<R: Files + AllocGlobal>(
     files: &R,
     file: &str,
     pieces: &[Text<Global>],
     moment: Option<Moment>,
 ) -> io::Result<()> {
-    let kept = kept_mode(files, file)?;
+    match place_of(files, file)? {
+        Place::File { name, mode } => replace(files, name.as_str(), mode, pieces, moment),
+        Place::Device => write_into(files, file, pieces),
+    }
+}
+
+/// Writes octets into what is no file, behind what stands there.
+fn write_into<R: Files>(files: &R, file: &str, pieces: &[Text<Global>]) -> io::Result<()> {
+    let mut how = OpenOptions::new();
+    how.append(true);
+    let mut opened = how.open(files, file)?;
+    for piece in pieces {
+        opened.write_all(piece.as_slice())?;
+    }
+    Ok(())
+}
+
+/// Writes a file beside its name, flushes it, and moves it over the name. It keeps the permissions of the file that it replaces; its last change
+/// was at the moment, where there is one. Where that fails, what was written beside is removed again.
+fn replace<R: Files + AllocGlobal>(
+    files: &R,
+    file: &str,
+    kept: Option<u32>,
+    pieces: &[Text<Global>],
+    moment: Option<Moment>,
+) -> io::Result<()> {
     let Part { name, mut opened } = create(files, file, kept.unwrap_or(NEW_MODE))?;
     let written = match write_to(&mut opened, pieces, kept, moment) {
         Ok(()) => fs::rename(files, name.as_str(), file),
@@ -72,9 +97,11 @@ pub(crate) fn write_part<R: Files + AllocGlobal>(
     file: &str,
     pieces: &[Text<Global>],
 ) -> io::Result<String<Global>> {
-    let kept = kept_mode(files, file)?;
-    let Part { name, mut opened } = create(files, file, kept.unwrap_or(NEW_MODE))?;
-    let written = write_to(&mut opened, pieces, kept, None);
+    let Place::File { name, mode } = place_of(files, file)? else {
+        return Err(Error::new(ErrorKind::InvalidInput, "no file stands beside a device"));
+    };
+    let Part { name, mut opened } = create(files, name.as_str(), mode.unwrap_or(NEW_MODE))?;
+    let written = write_to(&mut opened, pieces, mode, None);
     removed_unless(files, name.as_str(), written)?;
     Ok(name)
 }
@@ -104,20 +131,6 @@ fn write_to<F: Write + OpenFile>(
         opened.set_times(FileTimes::new().set_modified(time_of(moment)?))?;
     }
     opened.sync_all()
-}
-
-/// The permissions of the file that is replaced, if there is one; what is neither a file nor a link is not replaced.
-fn kept_mode<R: Files>(files: &R, file: &str) -> io::Result<Option<u32>> {
-    match fs::symlink_metadata(files, file) {
-        Ok(found) if found.is_file() => Ok(Some(found.permissions().mode() & 0o777)),
-        Ok(found) if found.is_symlink() => Ok(None),
-        Ok(_) => Err(Error::new(
-            ErrorKind::InvalidInput,
-            "a directory or a device has that name",
-        )),
-        Err(error) if error.kind() == ErrorKind::NotFound => Ok(None),
-        Err(error) => Err(error),
-    }
 }
 
 /// Makes a file beside another, by the first name that no file has: what stands there may be of another program or of the user, and stays.

@@ -8,6 +8,7 @@ mod downloading;
 mod fetching;
 mod file;
 mod listing;
+mod place;
 mod running;
 mod single;
 mod target;
