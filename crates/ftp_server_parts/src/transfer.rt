@@ -1,5 +1,5 @@
 // What a transfer does, however it holds what came and what is still to be given.
-ghost use Rattle.std.specs.Prelude.{◌≡◌, ◌≤◌, ◌<◌, ◌^◌, IfOk, OnErr, drop, false, length, take, true};
+ghost use Rattle.std.specs.Prelude.{◌≡◌, ◌≤◌, ◌<◌, ◌^◌, IfOk, OnErr, drop, false, length, min, take, true};
 ghost use Rattle.ftp_wire.specs.Decoder.{no_octets};
 ghost use Rattle.ftp_server_model.specs.Ask.{or_empty};
 ghost use Rattle.ftp_server_model.specs.Listing.{entry_lines, list_lines, listing_wire, name_lines};
@@ -128,8 +128,8 @@ pub trait ServerTransfer<A: Allocator, T: Tree<A>>: Drop {
         ensures most { let part = under (T.table tree.now) root.now in result.count ≤ length (given_of (view part self.old)) }
         ensures on { let part = under (T.table tree.now) root.now in view part self.new ≡ behind result.count (view part self.old) }
 
-        // It gives some where there are any, or memory was refused for the next line of a listing.
-        ensures some { result.lost ≡ false → 0 < length room.old → 0 < length (given_of (view (under (T.table tree.now) root.now) self.old)) → 0 < result.count }
+        // It fills the room or gives all that is left, or memory was refused for the next line of a listing.
+        ensures full { result.lost ≡ false → result.count ≡ min (length room.old) (length (given_of (view (under (T.table tree.now) root.now) self.old))) }
         ensures lost { result.lost ≡ true → MayStop result.count (view (under (T.table tree.now) root.now) self.old) };
 
     /// Whether all is given.

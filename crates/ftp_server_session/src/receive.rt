@@ -1,5 +1,5 @@
 // Octets of the data connection (RFC 959, section 3).
-ghost use Rattle.std.specs.Prelude.{◌≡◌, ◌≤◌, ◌<◌, false, length, take, true};
+ghost use Rattle.std.specs.Prelude.{◌≡◌, ◌≤◌, ◌<◌, false, length, min, take, true};
 ghost use Rattle.ftp_server_model.specs.Calls.{connection_of as connection_in, given_by, is_upload};
 ghost use Rattle.ftp_server_model.specs.Machine.{has_room};
 ghost use Rattle.ftp_ends.specs.Octets.{has_octets};
@@ -71,7 +71,7 @@ impl<A: Allocator + Copy, T: Tree<A>, J: ServerTransfer<A, T>> Session<A, T, J> 
         ensures gave { take result.count room.new ≡ take result.count (given_by (connection_in (session_of T.table J.view self.old))) }
         ensures most { result.count ≤ length (given_by (connection_in (session_of T.table J.view self.old))) }
         ensures on { (v : View) → v.session ≡ session_of T.table J.view self.old → Gives v result.count result.lost (session_of T.table J.view self.new) }
-        ensures some { result.lost ≡ false → 0 < length room.old → 0 < length (given_by (connection_in (session_of T.table J.view self.old))) → 0 < result.count }
+        ensures full { result.lost ≡ false → result.count ≡ min (length room.old) (length (given_by (connection_in (session_of T.table J.view self.old)))) }
         ensures tree { self.new.tree ≡ self.old.tree }
         ensures free { result.lost ≡ true → self.new.connection ≡ ServerLink.Free }
         ensures busy { has_transfer self.new.connection ≡ true → has_transfer self.old.connection ≡ true }
