@@ -7,3 +7,4 @@ pub mod PathLemmas
 pub mod ReaderLemmas
 pub mod ReadingLemmas
 pub mod ShortLemmas
+pub mod TakenLemmas

@@ -1,8 +1,9 @@
 // The calls of the data connection (RFC 959, section 3).
-ghost use Rattle.std.specs.Prelude.{◌≡◌, ◌≤◌, ◌<◌, IsTrue, length, take};
+ghost use Rattle.std.specs.Prelude.{◌≡◌, ◌≤◌, ◌<◌, IsTrue, length, min, take};
 ghost use Rattle.ftp_server_model.specs.Calls.{break_step, end_step, given_step, may_receive, to_give};
 ghost use Rattle.ftp_server_model.specs.Failing.{EndFails, GiveFails};
 ghost use Rattle.ftp_server_model.specs.Far.{Receives, Steps};
+ghost use Rattle.ftp_server.specs.Data.{IsMost};
 
 use crate::server::Server;
 use ftp_server_session::ServerTransfer;
@@ -10,16 +11,19 @@ use ftp_tree::Tree;
 use std::alloc::Allocator;
 
 impl<A: Allocator + Copy, T: Tree<A>, J: ServerTransfer<A, T>> Server<A, T, J> {
-    ghost use Rattle.ftp_server.specs.Server.{server_of, view_of};
+    ghost use Rattle.ftp_server.specs.Server.{counts_of, server_of, view_of};
 
-    /// Takes octets of the data connection, and says how many: none behind those of which something is to be said.
+    /// Takes octets of the data connection, and says how many.
     pub fn data_hear(&mut self, piece: &[u8]) -> usize
         ensures within { result ≤ length piece.now }
         ensures took { Receives (take result piece.now) (server_of T.table T.failures J.view self.old) (server_of T.table T.failures J.view self.new) }
         ensures some { IsTrue (may_receive (view_of T.table J.view self.old)) → 0 < length piece.now → 0 < result }
+
+        // Where nothing failed it takes all of them, or as many as it may.
+        ensures most { counts_of T.failures self.new ≡ counts_of T.failures self.old → IsMost result piece.now (view_of T.table J.view self.new) }
     {
         let failures = self.session.tree.device_failures();
-        let taken = self.receive(piece);
+        let taken = self.receive_octets(piece);
         self.count(taken.outcome, failures);
         taken.count
     }
@@ -48,6 +52,9 @@ impl<A: Allocator + Copy, T: Tree<A>, J: ServerTransfer<A, T>> Server<A, T, J> {
         ensures gave { take result room.new ≡ take result (to_give (view_of T.table J.view self.old)) }
         ensures now { Steps (GiveFails result) (given_step result) (server_of T.table T.failures J.view self.old) (server_of T.table T.failures J.view self.new) }
         ensures some { let old = server_of T.table T.failures J.view self.old in (server_of T.table T.failures J.view self.new).counts ≡ old.counts → 0 < length room.old → 0 < length (to_give old.view) → 0 < result }
+
+        // Where nothing failed it gives all that is left, or fills the room.
+        ensures most { counts_of T.failures self.new ≡ counts_of T.failures self.old → result ≡ min (length room.old) (length (to_give (view_of T.table J.view self.old))) }
     {
         let failures = self.session.tree.device_failures();
         let given = self.give(room);

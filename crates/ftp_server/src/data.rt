@@ -1,9 +1,9 @@
 // The octets of the data connection (RFC 959, section 3).
-ghost use Rattle.std.specs.Prelude.{◌≡◌, ◌≤◌, ◌<◌, OnErr, OnOk, length, take, true};
+ghost use Rattle.std.specs.Prelude.{◌≡◌, ◌≤◌, ◌<◌, OnErr, OnOk, length, min, take, true};
 ghost use Rattle.ftp_server_model.specs.Calls.{given_step, may_receive, to_give};
 ghost use Rattle.ftp_server_model.specs.Failing.{AreReceived, GiveFails, Late};
 ghost use Rattle.ftp_server_model.specs.View.{View};
-ghost use Rattle.ftp_server.specs.Data.{IsSaid, ReceivesTo, SayingFails};
+ghost use Rattle.ftp_server.specs.Data.{IsMost, IsSaid, ReceivesTo, SayingFails};
 
 use crate::line::{Failed, Moved};
 use crate::server::Server;
@@ -15,8 +15,39 @@ use std::alloc::Allocator;
 impl<A: Allocator + Copy, T: Tree<A>, J: ServerTransfer<A, T>> Server<A, T, J> {
     ghost use Rattle.ftp_server.specs.Server.{counts_of, view_of};
 
-    /// Takes octets where there is room for what is to be said of them, and says it.
-    pub(crate) fn receive(&mut self, piece: &[u8]) -> Moved
+    /// Takes octets as long as it may, and says how many; the last of them may have failed.
+    pub(crate) fn receive_octets(&mut self, piece: &[u8]) -> Moved
+        ensures within { result.count ≤ length piece.now }
+        ensures done { OnOk result.outcome (ReceivesTo (take result.count piece.now) (view_of T.table J.view self.old) (view_of T.table J.view self.new)) }
+        ensures steady { OnOk result.outcome (counts_of T.failures self.new ≡ counts_of T.failures self.old) }
+        ensures lost { OnErr result.outcome (AreReceived (view_of T.table J.view self.old) (take result.count piece.now) (view_of T.table J.view self.new)) }
+        ensures refusals { self.new.refusals ≡ self.old.refusals }
+        ensures some { may_receive (view_of T.table J.view self.old) ≡ true → 0 < length piece.now → 0 < result.count }
+        ensures most { OnOk result.outcome (IsMost result.count piece.now (view_of T.table J.view self.new)) }
+    {
+        let mut count = 0;
+        while count < piece.len() {
+            if !self.may_receive() {
+                break;
+            }
+            let (_, rest) = piece.split_at(count);
+            let taken = self.receive(rest);
+            count += taken.count;
+            if taken.outcome.is_err() {
+                return Moved {
+                    count,
+                    outcome: taken.outcome,
+                };
+            }
+        }
+        Moved {
+            count,
+            outcome: Ok(()),
+        }
+    }
+
+    /// Takes octets where there is room for what is to be said of them, and says it: all, or up to the first of which something is to be said.
+    fn receive(&mut self, piece: &[u8]) -> Moved
         ensures within { result.count ≤ length piece.now }
         ensures done { OnOk result.outcome (ReceivesTo (take result.count piece.now) (view_of T.table J.view self.old) (view_of T.table J.view self.new)) }
         ensures steady { OnOk result.outcome (counts_of T.failures self.new ≡ counts_of T.failures self.old) }
@@ -70,7 +101,7 @@ impl<A: Allocator + Copy, T: Tree<A>, J: ServerTransfer<A, T>> Server<A, T, J> {
         ensures gave { take result.count room.new ≡ take result.count (to_give (view_of T.table J.view self.old)) }
         ensures done { OnOk result.outcome (view_of T.table J.view self.new ≡ given_step result.count (view_of T.table J.view self.old)) }
         ensures lost { OnErr result.outcome ((x : View) → Late (view_of T.table J.view self.new) x → GiveFails result.count (view_of T.table J.view self.old) x) }
-        ensures some { OnOk result.outcome (0 < length room.old → 0 < length (to_give (view_of T.table J.view self.old)) → 0 < result.count) }
+        ensures full { OnOk result.outcome (result.count ≡ min (length room.old) (length (to_give (view_of T.table J.view self.old)))) }
         ensures steady { counts_of T.failures self.new ≡ counts_of T.failures self.old }
     {
         let ServerLink::Transferring(_) = &self.session.connection else {

@@ -1,17 +1,29 @@
-use Rattle.std.proofs.Common.{◌≡◌, ◌∙◌, sym, take}
+use Rattle.std.proofs.Common.{◌≡◌, ◌∙◌, subst, sym, take}
 use Rattle.ftp_server_model.specs.Failing.{Counts}
+use Rattle.ftp_server.proofs.CallLemmas.{unfailed}
 use Rattle.ftp_server.proofs.DataLemmas.{received}
 use Rattle.ftp_server.proofs.HearLemmas.{on_both, on_err}
+use Rattle.ftp_server.specs.Data.{IsMost}
 use Rattle.ftp_server.specs.Server.{counts_of, server_of, view_of}
 use Rattle.ftp_server.proofs.server.Server.data_hear.Goals as goal
 
 pub returns-clause-took : goal.returns-clause-took
 returns-clause-took g c =
     let table = g.T.Tree.table in let failures = g.T.Tree.failures in let view = g.J.ServerTransfer.view in
-    let r = c.receive-taken.result.outcome in let mid = c.receive-taken.new.self in
+    let r = c.receive_octets-taken.result.outcome in let mid = c.receive_octets-taken.new.self in
     let before : Counts = record { refusals = mid.refusals; failures = c.device_failures-failures.result } in
-    let same : before ≡ counts_of failures c.args.self.now = λ i. record { refusals = c.receive-taken.ensures.refusals i; failures = c.device_failures-failures.ensures i } in
-    received (take c.receive-taken.result.count c.args.piece.now) (server_of table failures view c.args.self.now) (server_of table failures view c.count.new.self) (view_of table view mid)
-    r c.receive-taken.ensures.done c.receive-taken.ensures.lost c.count.ensures.view
-    (on_both r (λ p q. p ∙ q) c.count.ensures.done c.receive-taken.ensures.steady)
+    let same : before ≡ counts_of failures c.args.self.now = λ i. record { refusals = c.receive_octets-taken.ensures.refusals i; failures = c.device_failures-failures.ensures i } in
+    received (take c.receive_octets-taken.result.count c.args.piece.now) (server_of table failures view c.args.self.now) (server_of table failures view c.count.new.self) (view_of table view mid)
+    r c.receive_octets-taken.ensures.done c.receive_octets-taken.ensures.lost c.count.ensures.view
+    (on_both r (λ p q. p ∙ q) c.count.ensures.done c.receive_octets-taken.ensures.steady)
     (on_err r (λ h e. h (e ∙ sym same)) c.count.ensures.failed)
+
+pub returns-clause-most : goal.returns-clause-most
+returns-clause-most g c = λ fine.
+    let failures = g.T.Tree.failures in
+    let r = c.receive_octets-taken.result in let mid = c.receive_octets-taken.new.self in
+    let before : Counts = record { refusals = mid.refusals; failures = c.device_failures-failures.result } in
+    let same : before ≡ counts_of failures c.args.self.now = λ i. record { refusals = c.receive_octets-taken.ensures.refusals i; failures = c.device_failures-failures.ensures i } in
+    subst (λ w. IsMost r.count c.args.piece.now w) (sym c.count.ensures.view)
+    (unfailed (counts_of failures c.args.self.now) (counts_of failures c.count.new.self) r.outcome
+    (on_err r.outcome (λ h e. h (e ∙ sym same)) c.count.ensures.failed) c.receive_octets-taken.ensures.most fine)

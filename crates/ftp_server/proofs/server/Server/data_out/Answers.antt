@@ -1,8 +1,9 @@
-use Rattle.std.proofs.Common.{ap}
-use Rattle.ftp_server_model.specs.Calls.{given_step}
+use Rattle.std.proofs.Common.{ap, length}
+use Rattle.ftp_server_model.specs.Calls.{given_step, to_give}
 use Rattle.ftp_server_model.specs.Failing.{GiveFails}
 use Rattle.ftp_server.proofs.DataLemmas.{not_failed, on_any, steps}
-use Rattle.ftp_server.specs.Server.{server_of}
+use Rattle.ftp_server.proofs.TakenLemmas.{some_given}
+use Rattle.ftp_server.specs.Server.{server_of, view_of}
 use Rattle.ftp_server.proofs.server.Server.data_out.Goals as goal
 
 pub returns-clause-now : goal.returns-clause-now
@@ -14,8 +15,17 @@ returns-clause-now g c =
     r.ensures.lost c.settle_behind.ensures
 
 pub returns-clause-some : goal.returns-clause-some
-returns-clause-some g c = λ same.
+returns-clause-some g c = λ same wide more.
+    let table = g.T.Tree.table in let failures = g.T.Tree.failures in let view = g.J.ServerTransfer.view in
+    let r = c.give-given in
+    some_given (length c.args.room.now) (length (to_give (view_of table view c.args.self.now))) r.result.count
+    (not_failed r.result.outcome c.device_failures-failures.result (server_of table failures view c.args.self.now) (server_of table failures view r.new.self)
+    (server_of table failures view c.settle_behind.new.self) c.device_failures-failures.ensures (ap (λ n. n.refusals) r.ensures.steady) c.settle_behind.ensures same r.ensures.full)
+    wide more
+
+pub returns-clause-most : goal.returns-clause-most
+returns-clause-most g c = λ same.
     let table = g.T.Tree.table in let failures = g.T.Tree.failures in let view = g.J.ServerTransfer.view in
     let r = c.give-given in
     not_failed r.result.outcome c.device_failures-failures.result (server_of table failures view c.args.self.now) (server_of table failures view r.new.self)
-    (server_of table failures view c.settle_behind.new.self) c.device_failures-failures.ensures (ap (λ n. n.refusals) r.ensures.steady) c.settle_behind.ensures same r.ensures.some
+    (server_of table failures view c.settle_behind.new.self) c.device_failures-failures.ensures (ap (λ n. n.refusals) r.ensures.steady) c.settle_behind.ensures same r.ensures.full
