@@ -1,0 +1,11 @@
+use Rattle.std.proofs.Common.{◌∙◌, arith}
+use Rattle.ftp_server.specs.Server.{server_of}
+use Rattle.ftp_server_play.proofs.CallLemmas.{control_gives}
+use Rattle.ftp_server_play.proofs.calling.control_out.Goals as goal
+
+pub returns-clause-gives : goal.returns-clause-gives
+returns-clause-gives g c =
+    let server = server_of g.T.Tree.table g.T.Tree.failures g.J.ServerTransfer.view in
+    control_gives c.args.room c.control_out-count.result c.truncate.new.self.items (server c.args.server.now) (server c.control_out-count.new.self)
+    (omega (arith, c.control_out-count.ensures.most, c.as_mut_slice.ensures.len, c.in_ok-octets.ensures))
+    (c.truncate.ensures.items ∙ c.control_out-count.ensures.gave) c.control_out-count.ensures.now

@@ -1,0 +1,2 @@
+pub mod Cues
+pub mod Playing

@@ -1,0 +1,9 @@
+//! Calls of a server made by a list, and what they give (own choice). No IO.
+#![tactic(auto)]
+
+mod calling;
+mod cue;
+mod playing;
+
+pub use cue::{Cue, Gift};
+pub use playing::play;
