@@ -22,3 +22,6 @@ returns-clause-done g c =
     let table = g.T.Tree.table in let view = g.J.ServerTransfer.view in
     let r = c.give-given in let v = view_of table view c.args.self.now in let s = session_of table view r.new.self in
     c.complete.ensures.done ∙ ap completed (sym (subst (λ b. Gives v r.result.count b s) c.if-given.false (r.ensures.on v refl)))
+
+pub returns-clause-full : goal.returns-clause-full
+returns-clause-full g c = c.give-given.ensures.full c.if-given.false

@@ -13,7 +13,7 @@ returns-then-is_err-clause-lost g c =
     let n = c.receive-taken.result.count in
     on_err c.receive-taken.result.outcome
     (λ h. row_lost c.args.piece.now c.loop-count.count n v x w c.loop-count.invariant.taken
-    (subst (λ (l : List ℕ). AreReceived x (take n l) w) c.split_at-rest.ensures.back h))
+    (subst (λ (l : List ℕ). AreReceived x (take n l) w) c.split_at.ensures.back h))
     c.receive-taken.ensures.lost
 
 pub loop-count-preserved : goal.loop-count-preserved
@@ -22,12 +22,12 @@ loop-count-preserved g c =
     let w = view_of g.T.Tree.table g.J.ServerTransfer.view c.receive-taken.new.self in
     let n = c.receive-taken.result.count in
     let fine = sym c.is_err.ensures.value ∙ c.if-is_err.false in
-    let more : 0 < length c.split_at-rest.result.1.now = omega (arith, c.loop-count-test.true, c.split_at-rest.ensures.back_len) in
+    let more : 0 < length c.split_at.result.1.now = omega (arith, c.loop-count-test.true, c.split_at.ensures.back_len) in
     let some : 0 < n = c.receive-taken.ensures.some (sym c.may_receive.ensures ∙ c.if-not-may_receive.false) more in
     record {
-      count = omega (arith, c.receive-taken.ensures.within, c.split_at-rest.ensures.back_len);
+      count = omega (arith, c.receive-taken.ensures.within, c.split_at.ensures.back_len);
       taken = row_more c.args.piece.now c.loop-count.count n v x w c.loop-count.invariant.taken
-          (subst (λ (l : List ℕ). ReceivesTo (take n l) x w) c.split_at-rest.ensures.back (of_ok c.receive-taken.result.outcome fine c.receive-taken.ensures.done));
+          (subst (λ (l : List ℕ). ReceivesTo (take n l) x w) c.split_at.ensures.back (of_ok c.receive-taken.result.outcome fine c.receive-taken.ensures.done));
       steady = of_ok c.receive-taken.result.outcome fine c.receive-taken.ensures.steady ∙ c.loop-count.invariant.steady;
       first = λ e. absurd (omega (arith, e, some));
     }
@@ -42,12 +42,12 @@ returns-then-not-may_receive-clause-most g c = inr (sym c.may_receive.ensures �
 
 pub returns-then-is_err-clause-some : goal.returns-then-is_err-clause-some
 returns-then-is_err-clause-some g c = λ may wide.
-    let more : 0 < length c.split_at-rest.result.1.now = omega (arith, c.loop-count-test.true, c.split_at-rest.ensures.back_len) in
+    let more : 0 < length c.split_at.result.1.now = omega (arith, c.loop-count-test.true, c.split_at.ensures.back_len) in
     let some : 0 < c.receive-taken.result.count = c.receive-taken.ensures.some (sym c.may_receive.ensures ∙ c.if-not-may_receive.false) more in
     omega (arith, some)
 
 pub loop-count-smaller : goal.loop-count-smaller
 loop-count-smaller g c =
-    let more : 0 < length c.split_at-rest.result.1.now = omega (arith, c.loop-count-test.true, c.split_at-rest.ensures.back_len) in
+    let more : 0 < length c.split_at.result.1.now = omega (arith, c.loop-count-test.true, c.split_at.ensures.back_len) in
     let some : 0 < c.receive-taken.result.count = c.receive-taken.ensures.some (sym c.may_receive.ensures ∙ c.if-not-may_receive.false) more in
-    omega (arith, some, c.loop-count-test.true, c.receive-taken.ensures.within, c.split_at-rest.ensures.back_len)
+    omega (arith, some, c.loop-count-test.true, c.receive-taken.ensures.within, c.split_at.ensures.back_len)
