@@ -1,6 +1,7 @@
 -- What one call gives, from what its clauses say.
-use Rattle.std.proofs.Common.{◌≡◌, ◌≤◌, ◌⊎◌, inl, inr, ℕ, zero, suc, true, false, List, [], ◌∷◌, length, min, take, Result, refl, sym, ap, subst, ◌∙◌, arith}
+use Rattle.std.proofs.Common.{◌≡◌, ◌≤◌, ◌⊎◌, inl, inr, ℕ, zero, suc, false, List, [], ◌∷◌, ◌++◌, length, min, take, drop, Result, sym, ap, subst, ◌∙◌, arith}
 use Rattle.std.specs.Prelude.{IfOk, if◌then◌else◌}
+use Rattle.std.proofs.Math.Seq.{take-append_seam}
 use Rattle.std.proofs.lemmas.List.{take_min}
 use Rattle.ftp_endpoint.specs.declared.host.Host.{Host}
 use Rattle.ftp_server.specs.Data.{IsMost as IsMostReceived}
@@ -9,7 +10,7 @@ use Rattle.ftp_server_model.specs.Calls.{MayReceive, break_step, clock_step, clo
 use Rattle.ftp_server_model.specs.Failing.{EndFails, GiveFails}
 use Rattle.ftp_server_model.specs.Far.{Acts, Hears, Receives, Server, Steps}
 use Rattle.ftp_server_model.specs.Machine.{MayHear, Reading, hears, hears_octet, later, may_hear}
-use Rattle.ftp_server_model.specs.Play.{Cue, Gift, Clock, Hear, ControlOut, ControlEnd, Listening, ListenRefused, DataOpened, DataRefused, DataHear, DataOut, DataEnd, DataFault, DataClosed, AsksWants, Nothing, Took, Octets, Wanted, most_given, most_heard, most_received}
+use Rattle.ftp_server_model.specs.Play.{Cue, Gift, Clock, Hear, ControlOut, ControlEnd, Listening, ListenRefused, DataOpened, DataRefused, DataHear, DataOut, DataEnd, DataFault, DataClosed, AsksWants, Nothing, Took, Octets, Wanted, most_heard, most_received}
 use Rattle.ftp_server_model.specs.View.{View}
 use Rattle.ftp_ends.specs.declared.link.Wants.{Wants as Want}
 use Rattle.ftp_server_play.specs.Cues.{gift_of}
@@ -87,6 +88,11 @@ receive_gives octets count old new few took most = λ same read is.
     λ i. (Took (n i), w i)
 
 -- ---- calls that give octets
+
+-- what a call wrote into a vector, cut to what it gave
+pub cut_back : (count len : ℕ) (room items octets : List ℕ) → length room ≡ len → items ≡ take count (take len (room ++ drop (length room) octets)) → items ≡ take count room
+cut_back count len room items octets long is =
+    is ∙ ap (take count) (ap (λ n. take n (room ++ drop (length room) octets)) (sym long) ∙ take-append_seam room (drop (length room) octets))
 
 pub control_gives : (room count : ℕ) (octets : List ℕ) (old new : Server) → count ≡ min room (length old.view.owed) → octets ≡ take count old.view.owed
     → Acts (control_step count) old new → Gives (ControlOut room) (Octets octets) old new

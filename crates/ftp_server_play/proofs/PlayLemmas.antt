@@ -10,8 +10,9 @@ use Rattle.ftp_server_model.specs.Machine.{Reading}
 use Rattle.ftp_server_model.specs.Play.{Cue, Gift, IsApart, LogsInAt, call, left_by, played}
 use Rattle.ftp_server_model.specs.View.{View}
 use Rattle.ftp_server_roots.proofs.Theorems.{roots_are_apart}
-use Rattle.ftp_server_play.specs.Cues.{cue_of, cues_of}
+use Rattle.ftp_server_play.specs.Cues.{cue_of, cues_of, gift_of, gifts_of}
 use Rattle.ftp_server_play.specs.declared.cue.Cue.{Cue as Held}
+use Rattle.ftp_server_play.specs.declared.cue.Gift.{Gift as Given}
 use Rattle.ftp_server_play.specs.Playing.{Gives, KeepsApart, Plays, PlaysNext, PlaysSome, RunsTo}
 
 -- ---- one more call
@@ -26,9 +27,9 @@ unfolding left_by
 left_more read [] cue v = refl
 left_more read (first ∷ cues) cue v = left_more read cues cue (call read first v).1
 
-pub runs_none : (v : View) → RunsTo [] [] v v
+pub runs_none : {A : Type 0} (gifts : List (Given A)) (v : View) → gifts ≡ [] → RunsTo [] (gifts_of gifts) v v
 unfolding played left_by
-runs_none v = λ read is. (refl, refl)
+runs_none gifts v none = λ read is. (ap gifts_of none, refl)
 
 pub runs_more : (cues : List Cue) (cue : Cue) (before after : List Gift) (v : View) (mid new : Server) → RunsTo cues before v mid.view → PlaysNext cue before after mid new
     → new.counts ≡ mid.counts → RunsTo (cues ++ cue ∷ []) after v new.view
@@ -46,6 +47,12 @@ next_kept cue gift before after old new kept gives = λ same read is.
     (kept ∙ ap (λ (x : Gift × View). before ++ x.0 ∷ []) both, ap (λ (x : Gift × View). x.1) both)
 
 -- ---- lists
+
+-- one gift more
+pub kept_on : {A : Type 0} (items before after : List (Given A)) (gift : Given A) → before ≡ items → after ≡ before ++ gift ∷ []
+    → gifts_of after ≡ gifts_of items ++ gift_of gift ∷ []
+kept_on items before after gift same more =
+    ap gifts_of more ∙ map-append gift_of before (gift ∷ []) ∙ ap (λ l. gifts_of l ++ gift_of gift ∷ []) same
 
 -- the first of them are one more with the next
 taken_on : {X Y : Type 0} (f : X → Y) (items : List X) (i : ℕ) (item other : X) → i < length items → item ≡ get_or items i other

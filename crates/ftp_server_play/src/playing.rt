@@ -53,7 +53,7 @@ where
             return Err(AllocError);
         };
         if !is_calm {
-            break;
+            return Ok(gifts);
         }
     }
     Ok(gifts)

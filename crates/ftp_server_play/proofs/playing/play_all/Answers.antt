@@ -1,4 +1,4 @@
-use Rattle.std.proofs.Common.{◌∙◌, arith, rules}
+use Rattle.std.proofs.Common.{◌≡◌, ◌∙◌, [], arith, rules}
 use Rattle.ftp_server.specs.Server.{server_of}
 use Rattle.ftp_server_play.proofs.PlayLemmas.{all_made, none_said, one_more, runs_none, some_made}
 use Rattle.ftp_server_play.specs.Cues.{cues_of, gifts_of}
@@ -7,7 +7,8 @@ use Rattle.ftp_server_play.proofs.playing.play_all.Goals as goal
 pub loop-cue-init : goal.loop-cue-init
 loop-cue-init g c =
     let server = server_of g.T.Tree.table g.T.Tree.failures g.J.ServerTransfer.view in
-    record { steady = search rules; runs = runs_none (server c.args.server.now).view }
+    let none : c.new-gifts.result.items ≡ [] = search rules in
+    record { steady = search rules; runs = runs_none c.new-gifts.result.items (server c.args.server.now).view none }
 
 pub loop-cue-preserved : goal.loop-cue-preserved
 loop-cue-preserved g c =

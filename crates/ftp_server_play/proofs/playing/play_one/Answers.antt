@@ -1,8 +1,7 @@
-use Rattle.std.proofs.Common.{[], ◌∷◌, ◌++◌, ◌∙◌, ap, sym}
+use Rattle.std.proofs.Common.{◌∙◌, ap, sym}
 use Rattle.ftp_server.specs.Server.{server_of}
-use Rattle.std.proofs.lemmas.List.{map-append}
 use Rattle.ftp_server_model.specs.Far.{counts_told}
-use Rattle.ftp_server_play.proofs.PlayLemmas.{next_kept, told_apart}
+use Rattle.ftp_server_play.proofs.PlayLemmas.{kept_on, next_kept, told_apart}
 use Rattle.ftp_server_play.specs.Cues.{cue_of, gift_of, gifts_of}
 use Rattle.ftp_server_play.proofs.playing.play_one.Goals as goal
 
@@ -19,5 +18,5 @@ returns-clause-next g c =
     let server = server_of g.T.Tree.table g.T.Tree.failures g.J.ServerTransfer.view in
     next_kept (cue_of c.args.cue.now) (gift_of c.in_ok-gift.gift) (gifts_of c.args.gifts.now.items) (gifts_of c.keep.new.gifts.items)
     (server c.args.server.now) (server c.call.new.server)
-    (ap gifts_of c.keep.ensures ∙ map-append gift_of c.reserve.new.self.items (c.in_ok-gift.gift ∷ []) ∙ ap (λ l. gifts_of l ++ gift_of c.in_ok-gift.gift ∷ []) c.reserve.ensures.items)
+    (kept_on c.args.gifts.now.items c.reserve.new.self.items c.keep.new.gifts.items c.in_ok-gift.gift c.reserve.ensures.items c.keep.ensures)
     c.in_ok-gift.ensures.gives
