@@ -1,5 +1,5 @@
 -- Octets of the data connection, one row behind another.
-use Rattle.std.proofs.Common.{◌≡◌, inl, ℕ, ◌+◌, ◌-◌, ◌<◌, min, zero, suc, take, drop, arith, true, false, List, [], ◌∷◌, ◌++◌, refl, sym, ap, subst, ◌∙◌}
+use Rattle.std.proofs.Common.{◌≡◌, inl, ℕ, ◌+◌, ◌<◌, min, zero, suc, take, drop, arith, true, false, List, [], ◌∷◌, ◌++◌, refl, sym, ap, subst, ◌∙◌}
 use Rattle.std.proofs.Math.Nat.{sub-add-min_cancel}
 use Rattle.std.proofs.Math.Seq.{take-add}
 use Rattle.ftp_server_model.specs.Calls.{MayReceive, may_receive, receives, receives_octet}

@@ -1,4 +1,4 @@
-use Rattle.std.proofs.Common.{◌≡◌, ◌+◌, ◌<◌, ◌∙◌, List, ℕ, arith, drop, inr, length, subst, sym, take}
+use Rattle.std.proofs.Common.{◌<◌, ◌∙◌, List, ℕ, arith, inr, length, subst, sym, take}
 use Rattle.ftp_server_model.specs.Failing.{AreReceived}
 use Rattle.ftp_server.proofs.HearLemmas.{of_ok, on_err}
 use Rattle.ftp_server.proofs.TakenLemmas.{row_lost, row_more, some_taken}
