@@ -1,4 +1,5 @@
 pub mod FieldLemmas
+pub mod PlainLemmas
 pub mod ReportLemmas
 pub mod Reporting
 pub mod ScriptLemmas

@@ -1,5 +1,6 @@
 // A field: octets, some of them written by an escape.
-ghost use Rattle.std.specs.Prelude.{◌≡◌, ◌≤◌, ◌++◌, ◌∷◌, [], Some, flat_map, option_map, OnOk, IfSome};
+ghost use Rattle.std.specs.Prelude.{◌≡◌, ◌≤◌, ◌++◌, ◌∷◌, [], Some, true, flat_map, option_map, OnOk, IfSome};
+ghost use Rattle.std.specs.List.{list_all};
 ghost use Rattle.ftp_tool_script.specs.Field.{backslash, digit_octet, digit_value, digits_octet, field_text, field_value, is_plain, letter_octet, other_written, said_before, said_from, stepped, turn, with_front, written};
 ghost use Rattle.ftp_tool_script.specs.Line.{Reads};
 ghost use Rattle.ftp_tool_script.specs.declared.field.FieldState.TheVariants.{Between};
@@ -43,9 +44,28 @@ fn copied<A: Allocator>(alloc: A, octets: &[u8]) -> Result<Text<A>, LineFault>
     }
 }
 
-/// The octets that a text says.
-#[tactic(auto, using(crate::proofs::FieldLemmas::alone))]
+/// The octets that a text says: where none is escaped, those of the text, which are copied in one go.
+#[tactic(auto, using(crate::proofs::PlainLemmas::plain_said))]
 fn said<A: Allocator + Copy>(alloc: A, text: &[u8]) -> Result<Text<A>, LineFault>
+    ensures { Reads (λ octets. octets) result (said_from text.now Between) }
+{
+    if are_plain(text) {
+        copied(alloc, text)
+    } else {
+        said_each(alloc, text)
+    }
+}
+
+/// Whether each octet stands for itself.
+fn are_plain(octets: &[u8]) -> bool
+    ensures { result ≡ list_all is_plain octets.now }
+{
+    octets.iter().all(|octet| is_plain(*octet))
+}
+
+/// The octets that a text says, octet by octet.
+#[tactic(auto, using(crate::proofs::FieldLemmas::alone))]
+fn said_each<A: Allocator + Copy>(alloc: A, text: &[u8]) -> Result<Text<A>, LineFault>
     ensures { Reads (λ octets. octets) result (said_from text.now Between) }
 {
     let mut octets = Vec::new(alloc);
@@ -178,14 +198,26 @@ fn digit_value(digit: u8) -> Option<u8>
     }
 }
 
-/// Appends the field that says these octets. Refused memory, a part of it may stand there.
+/// Appends the field that says these octets. Refused memory, a part of it may stand there. Octets that stand for themselves go in one go.
 pub fn put_field<A: Allocator>(octets: &[u8], out: &mut Vec<u8, A>) -> Result<(), AllocError>
     ensures { OnOk result (out.new.items ≡ out.old.items ++ field_text octets.now) }
 {
     if octets.is_empty() {
         return out.extend_from_slice(b"\\e");
     }
+    if are_plain(octets) {
+        return put_plain(octets, out);
+    }
     put_octets(octets, out)
+}
+
+/// Appends octets that stand for themselves.
+#[tactic(auto, using(crate::proofs::PlainLemmas::plain_put))]
+fn put_plain<A: Allocator>(octets: &[u8], out: &mut Vec<u8, A>) -> Result<(), AllocError>
+    requires { list_all is_plain octets.now ≡ true }
+    ensures { OnOk result (out.new.items ≡ out.old.items ++ flat_map written octets.now) }
+{
+    out.extend_from_slice(octets)
 }
 
 fn put_octets<A: Allocator>(octets: &[u8], out: &mut Vec<u8, A>) -> Result<(), AllocError>
