@@ -25,6 +25,8 @@ pub struct Link<'a> {
     patience: &'a Patience<'a>,
     /// Whether the end of the control connection was met: what goes after it is no sign of life.
     outlives: bool,
+    /// Whether the peer's end was read, behind all that it sent.
+    has_ended: bool,
 }
 
 /// The control connection ended before.
@@ -56,6 +58,7 @@ impl<'a> Link<'a> {
             heeds,
             patience,
             outlives: false,
+            has_ended: false,
         })
     }
 
@@ -108,6 +111,11 @@ impl<'a> Link<'a> {
         }
     }
 
+    /// Whether the peer's end was read, behind all that it sent: such a connection can be dropped, and nothing of what was sent is lost.
+    pub(crate) fn has_ended(&self) -> bool {
+        self.has_ended
+    }
+
     /// Sends nothing more: the peer finds the end behind all that was sent.
     pub(crate) fn end(&self) -> io::Result<()> {
         self.stream.shutdown(Shutdown::Write)
@@ -151,6 +159,7 @@ impl<'a> Read for Link<'a> {
                 Err(error) if error.kind() == ErrorKind::WouldBlock => {}
                 Ok(count) => {
                     self.moved(count);
+                    self.has_ended = count == 0 && !room.is_empty();
                     return Ok(count);
                 }
                 failed => return failed,

@@ -26,21 +26,34 @@ impl PassivePorts {
         }
     }
 
-    /// Listens at the next of the ports that is free.
-    pub(crate) fn listen<R>(&self, net: &R, here: IpAddr) -> io::Result<TcpListener>
+    /// Listens at the next of the ports that is free, and says which.
+    pub(crate) fn listen<R>(&self, net: &R, here: IpAddr) -> io::Result<(TcpListener, u16)>
     where
         R: Net<Listener = TcpListener, Stream = TcpStream>,
     {
         for _ in self.first..=self.last {
             let port = self.next.get();
             self.next.set(port_after(self.first, self.last, port));
-            match TcpListener::bind(net, SocketAddr::new(here, port)) {
+            match listen_at(net, here, port) {
                 Err(error) if error.kind() == ErrorKind::AddrInUse => {}
                 other => return other,
             }
         }
         Err(io::Error::from(ErrorKind::AddrInUse))
     }
+}
+
+/// Listens at a port, and says which: the system is asked only where it chooses one, as of port 0.
+pub(crate) fn listen_at<R>(net: &R, here: IpAddr, port: u16) -> io::Result<(TcpListener, u16)>
+where
+    R: Net<Listener = TcpListener, Stream = TcpStream>,
+{
+    let listener = TcpListener::bind(net, SocketAddr::new(here, port))?;
+    if port != 0 {
+        return Ok((listener, port));
+    }
+    let chosen = listener.local_addr()?.port();
+    Ok((listener, chosen))
 }
 
 /// The port after one, in turn among those from `first` to `last`.

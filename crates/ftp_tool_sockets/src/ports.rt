@@ -4,7 +4,7 @@ ghost use Rattle.ftp_control.specs.Asking.{Closes};
 
 use crate::host::{addr_of, host_of};
 use crate::link::Link;
-use crate::passive::PassivePorts;
+use crate::passive::{PassivePorts, listen_at};
 use crate::patience::Patience;
 use crate::wait::{Heeds, Woke, look_at, wait, wait_millis};
 use ftp_control::{Accepted, For, Ports, Ready, Spoken, TURNS, Whole};
@@ -97,10 +97,10 @@ impl<'a, R: Net<Listener = TcpListener, Stream = TcpStream>> SocketPorts<'a, R> 
         self.drain(LEAVING_MILLIS);
     }
 
-    /// Ends a data connection; what the peer sends too much is read later.
+    /// Ends a data connection; what the peer sends too much is read later. One whose peer has ended is dropped at once.
     fn leave(&mut self, link: Link<'a>) {
         self.drain(0);
-        if link.end().is_ok() {
+        if !link.has_ended() && link.end().is_ok() {
             self.leaving = Some(link);
         }
     }
@@ -114,12 +114,11 @@ impl<'a, R: Net<Listener = TcpListener, Stream = TcpStream>> SocketPorts<'a, R> 
 
     /// Listens at one of the passive ports of a server, or at a port that the system chooses.
     fn bind(&mut self) -> io::Result<u16> {
-        let listener = match self.served {
+        let (listener, port) = match self.served {
             Some(served) => served.passive.listen(self.net, self.here)?,
-            None => TcpListener::bind(self.net, SocketAddr::new(self.here, 0))?,
+            None => listen_at(self.net, self.here, 0)?,
         };
         listener.set_nonblocking(true)?;
-        let port = listener.local_addr()?.port();
         self.listener = Some(listener);
         Ok(port)
     }
