@@ -1,11 +1,6 @@
-//! Plays the rows of a script on a client, and writes what comes of each as a dialogue.
+//! A client on which rows are played.
 mod answer;
-mod lines;
-mod plays;
-mod request;
-mod row;
+mod played;
 mod run;
-mod stage;
-mod verb;
 
-pub use row::play_all;
+pub use run::run;

@@ -1,10 +1,11 @@
 // Rows in which connections drive an end: its control octets come from a reader that gives few of them a call, what it owes goes to a writer that
 // takes few, and each read or each write may fail.
-use crate::desk::{Desk, ROOM};
+use crate::desk::Desk;
 use crate::peer::Peer;
-use crate::script::{Runs, Turn};
+use crate::plays::Plays;
+use crate::row::play_once;
+use crate::turn::Turn;
 use rows_base::{FailingReader, FailingWriter, Paper, number, said, split};
-use std::alloc::Global;
 
 /// The number of no call, and more waits than there are.
 const NEVER: u32 = 4_000_000_000;
@@ -51,19 +52,6 @@ pub enum Owner<'a> {
     Page(&'a [u8]),
 }
 
-/// An end that connections can drive.
-pub trait Driven {
-    /// Writes what it reports in the end, nothing where it was broken off, and hands the writer back.
-    fn drive(
-        &mut self,
-        alloc: Global,
-        owner: Owner<'_>,
-        control: (FailingReader<'_>, FailingWriter),
-        peer: &mut Peer,
-        paper: &mut Paper,
-    ) -> FailingWriter;
-}
-
 /// What is said of connections: `moves 7 sends 3 silent 7 full 1000 breaks 2`.
 pub fn drive_of(text: &[u8]) -> Drive {
     Drive {
@@ -98,9 +86,9 @@ fn limits(drive: Drive, tried: Try) -> (usize, u32, u32) {
     }
 }
 
-/// Drives an end by the control octets so far, and writes the lines that it sends behind this mark; where it was not broken off, what it reports
-/// and what came over data connections too.
-pub fn run<D: Driven>(end: &mut D, desk: &mut Desk, owner: Owner<'_>, mark: &[u8]) {
+/// Drives an end by the control octets so far, and writes the lines that it sends; where it was not broken off, what it reports and what came
+/// over data connections too.
+pub fn run<P: Plays>(end: &mut P, desk: &mut Desk, owner: Owner<'_>) {
     let Some(drive) = desk.drive else {
         desk.paper.line(b"= nothing drives it");
         return;
@@ -109,9 +97,9 @@ pub fn run<D: Driven>(end: &mut D, desk: &mut Desk, owner: Owner<'_>, mark: &[u8
     let writer = FailingWriter::new(desk.alloc, moves, write);
     let mut peer = Peer::new(desk.alloc, drive);
     let mut told = Paper::new(desk.alloc);
-    let reader = FailingReader::new(desk.said(), moves, read);
+    let reader = FailingReader::new(desk.octets.as_slice(), moves, read);
     let writer = end.drive(desk.alloc, owner, (reader, writer), &mut peer, &mut told);
-    desk.paper.lines(mark, writer.taken());
+    desk.paper.lines(desk.side.mark, writer.taken());
     desk.is_broken = told.text().is_empty();
     if !desk.is_broken {
         desk.paper.end_line();
@@ -121,7 +109,7 @@ pub fn run<D: Driven>(end: &mut D, desk: &mut Desk, owner: Owner<'_>, mark: &[u8
 }
 
 /// What came of a try.
-#[derive(Clone, Copy, PartialEq, Eq)]
+#[derive(Clone, Copy)]
 enum Outcome {
     /// The same as of the whole row.
     Same,
@@ -130,10 +118,14 @@ enum Outcome {
     Other,
 }
 
-fn came_of<R: Runs>(runs: &R, alloc: Global, turn: Turn<'_>, whole: &[u8], tried: Try) -> Outcome {
-    let mut desk = Desk::new(alloc, ROOM);
+fn came_of(turn: Turn<'_>, whole: &[u8], tried: Try) -> Outcome {
+    let mut desk = Desk::new(turn, turn.side.size);
     desk.tried = tried;
-    runs.run(alloc, turn, 0, &mut desk);
+    play_once(turn, 0, &mut desk);
+    outcome_of(&desk, whole)
+}
+
+fn outcome_of(desk: &Desk, whole: &[u8]) -> Outcome {
     let text = desk.paper.text();
     if !desk.is_broken && text == whole {
         Outcome::Same
@@ -145,13 +137,13 @@ fn came_of<R: Runs>(runs: &R, alloc: Global, turn: Turn<'_>, whole: &[u8], tried
 }
 
 /// Drives a row again as it says: in calls of each size behind `also`, and with so many reads and writes failed in turn.
-pub fn again<R: Runs>(runs: &R, alloc: Global, turn: Turn<'_>, whole: &[u8], paper: &mut Paper) {
-    each_size(runs, alloc, turn, whole, paper);
-    each_failed(runs, alloc, turn, whole, (Call::Read, b"reads"), paper);
-    each_failed(runs, alloc, turn, whole, (Call::Write, b"writes"), paper);
+pub fn again(turn: Turn<'_>, whole: &[u8], paper: &mut Paper) {
+    each_size(turn, whole, paper);
+    each_failed(turn, whole, (Call::Read, b"reads"), paper);
+    each_failed(turn, whole, (Call::Write, b"writes"), paper);
 }
 
-fn each_size<R: Runs>(runs: &R, alloc: Global, turn: Turn<'_>, whole: &[u8], paper: &mut Paper) {
+fn each_size(turn: Turn<'_>, whole: &[u8], paper: &mut Paper) {
     let mut rest = said(turn.row, b"also").unwrap_or(b"");
     for _ in 0..rest.len() {
         let (word, behind) = split(rest);
@@ -159,29 +151,22 @@ fn each_size<R: Runs>(runs: &R, alloc: Global, turn: Turn<'_>, whole: &[u8], pap
             break;
         }
         let tried = Try::Moves(number(word).min(NEVER as u64) as usize);
-        if came_of(runs, alloc, turn, whole, tried) != Outcome::Same {
-            paper.put(b"= otherwise in calls of ");
-            paper.line(word);
+        match came_of(turn, whole, tried) {
+            Outcome::Same => {}
+            _ => paper.line(b"= otherwise in calls of another size"),
         }
         rest = behind;
     }
 }
 
 /// The first calls that fail break the row off, and those behind them are not made: how many are the first ones.
-fn each_failed<R: Runs>(
-    runs: &R,
-    alloc: Global,
-    turn: Turn<'_>,
-    whole: &[u8],
-    (call, word): (Call, &[u8]),
-    paper: &mut Paper,
-) {
+fn each_failed(turn: Turn<'_>, whole: &[u8], (call, word): (Call, &[u8]), paper: &mut Paper) {
     let Some(count) = said(turn.row, word) else {
         return;
     };
     let mut broken = 0;
     for at in 0..number(count).min(1_000) {
-        match came_of(runs, alloc, turn, whole, Try::Fails(call, at as u32)) {
+        match came_of(turn, whole, Try::Fails(call, at as u32)) {
             Outcome::Broken if broken == at => broken += 1,
             Outcome::Same => {}
             _ => paper.line(b"= otherwise where a call fails"),

@@ -8,9 +8,9 @@ pub const YEAR_2000: Moment = Moment {
     seconds: 946_684_800,
 };
 
-/// What a word says that happens.
+/// What happens.
 #[derive(Clone, Copy)]
-pub enum Happening {
+pub enum Event {
     Listening,
     Portless,
     Opened,
@@ -22,32 +22,20 @@ pub enum Happening {
     Clock,
 }
 
-/// What happens.
+/// What is said of an event, where it has that.
 #[derive(Clone, Copy)]
-pub enum Event {
-    Listening(u16),
-    Portless,
-    Opened(Host),
-    Refused,
-    Ended,
-    Broke,
-    Closed,
-    Cut,
-    Clock(Moment),
+pub struct Told {
+    pub port: u16,
+    pub host: Host,
+    pub moment: Moment,
 }
 
-/// The event that a word names, with what stands behind it; this host is at the other end where nothing else is said.
-pub fn event_of(happening: Happening, rest: &[u8], peer: Host) -> Event {
-    match happening {
-        Happening::Listening => Event::Listening((number(rest) % 65_536) as u16),
-        Happening::Portless => Event::Portless,
-        Happening::Opened => Event::Opened(host_or(rest, peer)),
-        Happening::Refused => Event::Refused,
-        Happening::Ended => Event::Ended,
-        Happening::Broke => Event::Broke,
-        Happening::Closed => Event::Closed,
-        Happening::Cut => Event::Cut,
-        Happening::Clock => Event::Clock(moment_or(rest, YEAR_2000)),
+/// What stands behind the word of an event; this host is at the other end where nothing else is said.
+pub fn told_of(rest: &[u8], peer: Host) -> Told {
+    Told {
+        port: (number(rest) % 65_536) as u16,
+        host: host_or(rest, peer),
+        moment: moment_of_text(rest).unwrap_or(YEAR_2000),
     }
 }
 
@@ -55,13 +43,6 @@ pub fn event_of(happening: Happening, rest: &[u8], peer: Host) -> Event {
 pub fn host_or(text: &[u8], other: Host) -> Host {
     match extended_endpoint(text) {
         Ok(endpoint) => endpoint.host,
-        Err(_) => other,
-    }
-}
-
-fn moment_or(text: &[u8], other: Moment) -> Moment {
-    match moment_of_text(text) {
-        Ok(moment) => moment,
         Err(_) => other,
     }
 }

@@ -7,40 +7,71 @@ mod desk;
 mod driven;
 mod embedded;
 mod event;
+mod lines;
 mod peer;
+mod plays;
 mod programs;
 mod replies;
-mod script;
+mod row;
 mod server;
+mod stage;
+mod tree;
+mod turn;
+mod verb;
 
+use rows_base::{Paper, row_in_front};
+use std::alloc::Global;
 use std::io;
 use std::io::{Read, Write};
+use turn::{CLIENT, SERVER, Side};
 
-/// What stands before the rows of a client, and before those of what the programs read and write.
-const CLIENTS: &[u8] = b"\n== on a client\n\n";
-
-const PROGRAMS: &[u8] = b"\n== on a program\n\n";
+/// What a row is played on.
+#[derive(Clone, Copy)]
+enum On {
+    End(Side),
+    Program,
+}
 
 fn main(rt: HostRuntime) -> io::Result<()> {
     let mut script = Vec::new(rt.alloc());
     rt.reader().read_to_end(&mut script)?;
-    let (servers, rest) = divided(script.as_slice(), CLIENTS);
-    let (clients, programs) = divided(rest, PROGRAMS);
-    let mut out = io::writer(&rt);
-    out.write_all(server::play_all(rt.alloc(), servers).text())?;
-    out.write_all(client::play_all(rt.alloc(), clients).text())?;
-    out.write_all(programs::play_all(rt.alloc(), programs).text())?;
-    out.write_all(programs::try_all(rt.alloc()).text())?;
-    out.write_all(replies::try_all(rt.alloc()).text())
+    io::writer(&rt).write_all(play_all(rt.alloc(), script.as_slice()).text())
 }
 
-/// What stands before a divider, and what behind it.
-fn divided<'a>(script: &'a [u8], divider: &[u8]) -> (&'a [u8], &'a [u8]) {
-    for at in 0..script.len() {
-        let (before, rest) = script.split_at(at);
-        if let Some(behind) = rest.strip_prefix(divider) {
-            return (before, behind);
+/// Plays each row of a script, and then those that are no lines of it. Rows are paragraphs; they are a server's at first.
+fn play_all(alloc: Global, script: &[u8]) -> Paper {
+    let mut paper = Paper::new(alloc);
+    let mut on = On::End(SERVER);
+    let mut rest = script;
+    for _ in 0..script.len() {
+        if rest.is_empty() {
+            break;
         }
+        let (row, behind) = row_in_front(rest);
+        match divider(row) {
+            Some(other) => on = other,
+            None => play(alloc, on, row, &mut paper),
+        }
+        rest = behind;
     }
-    (script, b"")
+    replies::try_all(alloc, &mut paper);
+    paper
+}
+
+/// What the rows behind a line between rows are played on.
+fn divider(row: &[u8]) -> Option<On> {
+    if row == b"== on a client".as_slice() {
+        Some(On::End(CLIENT))
+    } else if row == b"== on a program".as_slice() {
+        Some(On::Program)
+    } else {
+        None
+    }
+}
+
+fn play(alloc: Global, on: On, row: &[u8], paper: &mut Paper) {
+    match on {
+        On::End(side) => row::play_row(alloc, side, row, paper),
+        On::Program => programs::play_row(alloc, row, paper),
+    }
 }

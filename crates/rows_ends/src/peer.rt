@@ -16,7 +16,7 @@ use std::io;
 use std::io::{Error, ErrorKind, Read, Write};
 
 /// The host at the other end of data connections.
-pub const PEER: Host = Host::V4([10, 0, 0, 2]);
+const PEER: Host = Host::V4([10, 0, 0, 2]);
 
 /// How many octets a data connection takes before it breaks.
 const TAKES: usize = 4;

@@ -213,10 +213,8 @@ fn lists(alloc: Global) -> bool {
 }
 
 /// Tries all rows, and writes a line for each table.
-pub fn try_all(alloc: Global) -> Paper {
-    let mut paper = Paper::new(alloc);
+pub fn try_all(alloc: Global, paper: &mut Paper) {
     paper.holds("replies as they go out", all_go_out(alloc));
     paper.holds("room is reserved once", reserves_once(alloc));
     paper.holds("lines of LIST", lists(alloc));
-    paper
 }

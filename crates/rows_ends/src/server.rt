@@ -1,13 +1,6 @@
-//! Plays the rows of a script on a server, and writes what comes of each as a dialogue.
+//! A server on which rows are played.
 mod begun;
-mod files;
-mod lines;
-mod plays;
-mod refusals;
-mod row;
+mod played;
 mod run;
-mod stage;
-mod uploads;
-mod verb;
 
-pub use row::play_all;
+pub use run::run;

@@ -1,6 +1,4 @@
-// What a client reports and wants.
-use ftp_endpoint::write_extended;
-use ftp_ends::Wants;
+// What a client reports.
 use ftp_facts::{Entry, moment_text, write_entry};
 use ftp_operation::Answer;
 use rows_base::Paper;
@@ -73,27 +71,4 @@ fn show_entry<A: Allocator>(alloc: Global, entry: &Entry<A>, paper: &mut Paper) 
     let mut line = Vec::new(alloc);
     let _ = write_entry(entry, &mut line);
     paper.octets(line.as_slice());
-}
-
-/// What is wanted of the connections, on a line behind `? `.
-pub fn show_wants(wants: Wants, paper: &mut Paper) {
-    paper.put(b"? ");
-    paper.put(wanted(wants));
-    if let Wants::Connect(endpoint) = wants {
-        paper.put(write_extended(endpoint).as_slice());
-    }
-    paper.put(b"\n");
-}
-
-fn wanted(wants: Wants) -> &'static [u8] {
-    match wants {
-        Wants::Nothing => b"nothing",
-        Wants::Listen => b"listen",
-        Wants::Accept => b"accept",
-        Wants::Connect(_) => b"connect ",
-        Wants::Receive => b"receive",
-        Wants::Send => b"send",
-        Wants::CloseData => b"close data",
-        Wants::CloseAll => b"close all",
-    }
 }

@@ -1,33 +1,29 @@
 // A run of a row on a client.
-use crate::client::lines::play;
-use crate::client::plays::{Holds, Played};
+use crate::client::played::Played;
 use crate::desk::Desk;
 use crate::event::host_or;
+use crate::lines::play;
+use crate::plays::Holds;
+use crate::turn::Turn;
 use ftp_client::Client;
+use ftp_client_model::Near;
 use ftp_client_transfer::OperationTransfer;
-use ftp_endpoint::Host;
 use ftp_facts::Text;
 use ftp_operation::Login;
 use rows_base::{Refusing, said};
-use std::alloc::{Allocator, Global};
+use std::alloc::Allocator;
 
-/// The hosts of both ends, where nothing else is said.
-const HERE: Host = Host::V4([192, 0, 2, 7]);
-
-pub const PEER: Host = Host::V4([192, 0, 2, 1]);
+/// What is written where the client was not had.
+const NO_CLIENT: &[u8] = b"! no client";
 
 /// Plays a row with this growth refused, and says how many growths were asked for.
-pub fn run(alloc: Global, row: &[u8], refused: u64, desk: &mut Desk) -> u64 {
-    let heap = Refusing::new(alloc, refused);
-    begin(&heap, row, desk);
-    refused.wrapping_sub(heap.left())
-}
-
-fn begin<A: Allocator + Copy>(heap: A, row: &[u8], desk: &mut Desk) {
-    match login(heap, row) {
-        Some(login) => enter(heap, login, row, desk),
-        None => desk.paper.line(b"! no client"),
+pub fn run(turn: Turn<'_>, refused: u64, desk: &mut Desk) -> u64 {
+    let heap = Refusing::new(turn.alloc, refused);
+    match login(&heap, turn.row) {
+        Some(login) => enter(&heap, login, turn, desk),
+        None => desk.paper.line(NO_CLIENT),
     }
+    refused.wrapping_sub(heap.left())
 }
 
 /// The login of a row; none where memory is refused.
@@ -41,17 +37,21 @@ fn login<A: Allocator + Copy>(heap: A, row: &[u8]) -> Option<Login<A>> {
 }
 
 /// Plays a row on a client before the greeting.
-fn enter<A: Allocator + Copy>(heap: A, login: Login<A>, row: &[u8], desk: &mut Desk) {
-    let here = host_or(said(row, b"here").unwrap_or(b""), HERE);
-    let peer = host_or(said(row, b"peer").unwrap_or(b""), PEER);
+fn enter<A: Allocator + Copy>(heap: A, login: Login<A>, turn: Turn<'_>, desk: &mut Desk) {
+    let here = host_or(said(turn.row, b"here").unwrap_or(b""), turn.side.here);
+    let peer = host_or(said(turn.row, b"peer").unwrap_or(b""), turn.side.peer);
     let begun: Result<Client<A, OperationTransfer<A>>, _> = Client::new(heap, login, here, peer);
     match begun {
-        Ok(client) => play_on(client, heap, row, desk),
-        Err(_) => desk.paper.line(b"! no client"),
+        Ok(client) => play_on(client, heap, turn, desk),
+        Err(_) => desk.paper.line(NO_CLIENT),
     }
 }
 
-fn play_on<A: Allocator + Copy, C: Holds<A>>(client: C, heap: A, row: &[u8], desk: &mut Desk) {
-    let mut end = Played::new(client, heap);
-    play(&mut end, desk, row);
+fn play_on<A: Allocator + Copy, C: Near<A> + Holds>(
+    client: C,
+    heap: A,
+    turn: Turn<'_>,
+    desk: &mut Desk,
+) {
+    play(&mut Played::new(client, heap), desk, turn);
 }

@@ -1,17 +1,31 @@
 // The lines of a row: which program it is of, what that reads, and what has to come.
-use ftp_mode::Mode;
-use ftp_repr::{Kind, Structure};
-use ftp_tool_files::{Direction, Representation};
+use ftp_tool_files::{Direction, Representation, representation_of};
 use rows_base::{Paper, cut, found, number, octets_of, said, split};
 use std::alloc::Global;
+use std::str;
 
-/// A program that reads and writes octets.
+/// A program that reads and writes octets, or a call of one.
 #[derive(Clone, Copy)]
 pub enum Program {
     Dialogue,
     Facts,
     Frame(Representation, Direction),
+    /// Letters that are no type, structure and mode.
+    NoForm,
+    /// The number that a word of a command line is.
+    Number,
+    /// Octets are written.
+    Put,
+    /// One read of up to four octets.
+    Get,
 }
+
+const PROGRAMS: &[(&'static [u8], Program)] = &[
+    (b"facts", Program::Facts),
+    (b"number", Program::Number),
+    (b"put", Program::Put),
+    (b"get", Program::Get),
+];
 
 /// What a program is tried on, and what has to come.
 #[derive(Drop)]
@@ -36,57 +50,34 @@ pub fn row_of(alloc: Global, text: &[u8]) -> Row {
 }
 
 fn program_of(text: &[u8]) -> Program {
+    let marks = said(text, b"marks").is_some();
     if let Some(form) = said(text, b"wire") {
-        let marks = said(text, b"marks").is_some();
-        Program::Frame(form_of(form), Direction::ToWire { marks })
+        frame_of(form, Direction::new(false, marks))
     } else if let Some(form) = said(text, b"file") {
-        Program::Frame(form_of(form), Direction::ToFile)
-    } else if said(text, b"facts").is_some() {
-        Program::Facts
+        frame_of(form, Direction::new(true, marks))
     } else {
-        Program::Dialogue
+        found(
+            PROGRAMS,
+            said(text, b"program").unwrap_or(b""),
+            Program::Dialogue,
+        )
     }
 }
 
-/// Type, structure and mode by their letters.
-fn form_of(letters: &[u8]) -> Representation {
-    Representation {
-        kind: if letters.starts_with(b"A") {
-            Kind::Ascii
-        } else {
-            Kind::Image
-        },
-        structure: if letters.starts_with(b"A R") || letters.starts_with(b"I R") {
-            Structure::Record
-        } else {
-            Structure::File
-        },
-        mode: if letters.ends_with(b"B") {
-            Mode::Block
-        } else {
-            Mode::Stream
-        },
+/// Type, structure and mode, each by its letter.
+fn frame_of(letters: &[u8], direction: Direction) -> Program {
+    let (kind, rest) = split(letters);
+    let (structure, mode) = split(rest);
+    match representation_of(word(kind), word(structure), word(mode)) {
+        Some(form) => Program::Frame(form, direction),
+        None => Program::NoForm,
     }
 }
 
-/// How a part of a text is written.
-#[derive(Clone, Copy)]
-enum How {
-    /// As it stands.
-    Text,
-    /// So many times.
-    Times,
-    /// Each number below a count, between two texts that `|` divides.
-    Each,
-    /// So many octets of 251 values that begin with this one, again and again.
-    Up,
+/// A word of a command line; none where it is no text.
+pub fn word(octets: &[u8]) -> &str {
+    str::from_utf8(octets).unwrap_or("")
 }
-
-const HOWS: &[(&'static [u8], How)] = &[
-    (b"times", How::Times),
-    (b"each", How::Each),
-    (b"up", How::Up),
-];
 
 /// The parts of all lines that begin with a word.
 fn written(alloc: Global, text: &[u8], word: &[u8]) -> Paper {
@@ -103,14 +94,17 @@ fn written(alloc: Global, text: &[u8], word: &[u8]) -> Paper {
     paper
 }
 
+/// A part as it stands; so many times, and between two texts that `|` divides the number of each time; or so many octets of 251 values that begin
+/// with this one, again and again.
 fn put_part(alloc: Global, part: &[u8], paper: &mut Paper) {
     let (how, rest) = split(part);
     let (count, text) = split(rest);
-    match found(HOWS, how, How::Text) {
-        How::Text => put_text(alloc, rest, paper),
-        How::Times => put_times(alloc, number(count), text, paper),
-        How::Each => put_each(alloc, number(count), cut(text, b'|'), paper),
-        How::Up => put_up(number(count), (number(text) % 256) as u8, paper),
+    if how == b"each".as_slice() {
+        put_each(alloc, number(count), cut(text, b'|'), paper);
+    } else if how == b"up".as_slice() {
+        put_up(number(count), (number(text) % 256) as u8, paper);
+    } else {
+        put_text(alloc, rest, paper);
     }
 }
 
@@ -121,17 +115,13 @@ fn put_text(alloc: Global, text: &[u8], paper: &mut Paper) {
     }
 }
 
-fn put_times(alloc: Global, count: u64, text: &[u8], paper: &mut Paper) {
-    for _ in 0..count {
-        put_text(alloc, text, paper);
-    }
-}
-
 fn put_each(alloc: Global, count: u64, (front, back): (&[u8], &[u8]), paper: &mut Paper) {
     for place in 0..count {
         put_text(alloc, front, paper);
-        paper.number(place);
-        put_text(alloc, back, paper);
+        if !back.is_empty() {
+            paper.number(place);
+            put_text(alloc, back, paper);
+        }
     }
 }
 

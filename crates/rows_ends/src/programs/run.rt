@@ -1,7 +1,9 @@
 // A program runs on a row.
-use crate::programs::row::{Program, Row};
+use crate::programs::row::{Program, Row, word};
+use ftp_control::{Failed, get, put};
 use ftp_tool_dialogue::dialogue;
-use ftp_tool_files::{Direction, facts, frame};
+use ftp_tool_files::{Direction, facts, frame, number_of};
+use itoa::Buffer;
 use rows_base::{FailingReader, FailingWriter, Refusing};
 use std::alloc::{Allocator, Global};
 
@@ -14,6 +16,11 @@ pub struct Calls {
     pub most: usize,
     pub fails: u32,
 }
+
+/// How a word is refused, and how a program ends where a call failed.
+const REFUSED: u8 = 1;
+
+const FAILED: u8 = 3;
 
 /// Calls that move all and do not fail.
 pub const AMPLE: Calls = Calls {
@@ -49,14 +56,7 @@ pub fn run(alloc: Global, row: &Row, way: Way) -> Came {
     let mut reader = FailingReader::new(row.input.text(), way.reads.most, way.reads.fails);
     let mut output = FailingWriter::new(alloc, way.writes.most, way.writes.fails);
     let mut told = FailingWriter::new(alloc, tells.most, tells.fails);
-    let status = run_on(
-        &heap,
-        row.program,
-        way.piece,
-        &mut reader,
-        &mut output,
-        &mut told,
-    );
+    let status = run_on(&heap, row, way.piece, &mut reader, &mut output, &mut told);
     let left = heap.left();
     Came {
         status,
@@ -76,15 +76,42 @@ fn tells_of(program: Program, tells: Calls) -> Calls {
 
 fn run_on<A: Allocator + Copy>(
     heap: A,
-    program: Program,
+    row: &Row,
     piece: u32,
     reader: &mut FailingReader<'_>,
     output: &mut FailingWriter,
     told: &mut FailingWriter,
 ) -> u8 {
-    match program {
+    match row.program {
         Program::Dialogue => dialogue(heap, reader, output, piece),
         Program::Facts => facts(heap, reader, output),
         Program::Frame(form, direction) => frame(heap, form, direction, reader, output, told),
+        Program::NoForm => REFUSED,
+        Program::Number => tell_number(row.input.text(), output),
+        Program::Put => put_status(output, row.input.text()),
+        Program::Get => get_once(reader, output),
+    }
+}
+
+/// The number that is written, where the input is one.
+fn tell_number(input: &[u8], output: &mut FailingWriter) -> u8 {
+    match number_of(word(input)) {
+        Some(number) => put_status(output, Buffer::new().format(number).as_bytes()),
+        None => REFUSED,
+    }
+}
+
+fn put_status(output: &mut FailingWriter, octets: &[u8]) -> u8 {
+    match put(output, octets) {
+        Ok(()) => 0,
+        Err(Failed) => FAILED,
+    }
+}
+
+fn get_once(reader: &mut FailingReader<'_>, output: &mut FailingWriter) -> u8 {
+    let mut room = [0; 4];
+    match get(reader, &mut room) {
+        Ok(count) => put_status(output, &room[..count]),
+        Err(Failed) => FAILED,
     }
 }

@@ -1,7 +1,7 @@
 // A row is played in pieces of each size, and with each read, each write and each growth failed in turn.
 use crate::programs::row::{Program, Row, row_of};
 use crate::programs::run::{AMPLE, Calls, Came, NEVER, Way, run};
-use rows_base::{Paper, number, row_in_front, said, split};
+use rows_base::{Paper, number, said, split};
 use std::alloc::Global;
 
 /// The calls of which each fails in turn.
@@ -22,22 +22,12 @@ const WHOLE: Way = Way {
     refused: 0,
 };
 
-/// Plays each row of a script. Rows are paragraphs.
-pub fn play_all(alloc: Global, script: &[u8]) -> Paper {
-    let mut paper = Paper::new(alloc);
-    let mut rest = script;
-    for _ in 0..script.len() {
-        if rest.is_empty() {
-            break;
-        }
-        let (text, behind) = row_in_front(rest);
-        play_row(alloc, text, &row_of(alloc, text), &mut paper);
-        rest = behind;
-    }
-    paper
+/// Plays a row: whether it holds, and how many of the first calls break it off.
+pub fn play_row(alloc: Global, text: &[u8], paper: &mut Paper) {
+    play(alloc, text, &row_of(alloc, text), paper);
 }
 
-fn play_row(alloc: Global, text: &[u8], row: &Row, paper: &mut Paper) {
+fn play(alloc: Global, text: &[u8], row: &Row, paper: &mut Paper) {
     let holds = holds_in_pieces(alloc, text, row);
     paper.put(if holds { b"holds: " } else { b"WRONG: " });
     paper.line(said(text, b"#").unwrap_or(b""));

@@ -1,6 +1,7 @@
 // What a server begins with.
 use crate::event::YEAR_2000;
-use crate::server::files::path;
+use crate::tree::below;
+use crate::turn::Turn;
 use ftp_facts::Text;
 use ftp_operation::{Account, Accounts};
 use ftp_path::Path;
@@ -9,10 +10,10 @@ use rows_base::{cut, number, octets_of, split};
 use std::alloc::{AllocError, Allocator, Global};
 
 /// `guest` with the password `secret`, and `anonymous` without one, both at this root.
-pub fn accounts<A: Allocator + Copy>(alloc: A, root: &[u8]) -> Result<Accounts<A>, AllocError> {
-    let mut list = Vec::new(alloc);
-    list.push(account(alloc, b"guest", Some(b"secret"), root)?)?;
-    list.push(account(alloc, b"anonymous", None, root)?)?;
+pub fn accounts<A: Allocator + Copy>(heap: A, root: &[u8]) -> Result<Accounts<A>, AllocError> {
+    let mut list = Vec::new(heap);
+    list.push(account(heap, b"guest", Some(b"secret"), root)?)?;
+    list.push(account(heap, b"anonymous", None, root)?)?;
     match Accounts::new(list) {
         Ok(accounts) => Ok(accounts),
         Err(_) => Err(AllocError),
@@ -20,35 +21,26 @@ pub fn accounts<A: Allocator + Copy>(alloc: A, root: &[u8]) -> Result<Accounts<A
 }
 
 fn account<A: Allocator + Copy>(
-    alloc: A,
+    heap: A,
     user: &[u8],
     pass: Option<&[u8]>,
     root: &[u8],
 ) -> Result<Account<Text<A>, Path<A>>, AllocError> {
-    let user = Text::copy_of(alloc, user)?;
-    let root = path(alloc, root)?;
+    let user = Text::copy_of(heap, user)?;
+    let root = below(heap, &Path::root(heap), root)?;
     let pass = match pass {
-        Some(pass) => Some(Text::copy_of(alloc, pass)?),
+        Some(pass) => Some(Text::copy_of(heap, pass)?),
         None => None,
     };
     Ok(Account { user, pass, root })
 }
 
-/// A tree with what a row puts into it; none where memory is refused.
-pub fn planted<A: Allocator + Copy>(own: Global, alloc: A, row: &[u8]) -> Option<MemTree<A>> {
-    let mut tree = MemTree::new(alloc);
-    if plants(own, alloc, &mut tree, row) {
-        Some(tree)
-    } else {
-        None
-    }
-}
-
-fn plants<A: Allocator + Copy>(own: Global, alloc: A, tree: &mut MemTree<A>, row: &[u8]) -> bool {
-    let mut rest = row;
-    for _ in 0..row.len() {
+/// Puts what a row says into the tree; whether memory was not refused.
+pub fn plants<A: Allocator + Copy>(turn: Turn<'_>, heap: A, tree: &mut MemTree<A>) -> bool {
+    let mut rest = turn.row;
+    for _ in 0..turn.row.len() {
         let (line, behind) = cut(rest, b'\n');
-        if !gives(own, alloc, tree, line) {
+        if !gives(turn.alloc, heap, tree, line) {
             return false;
         }
         rest = behind;
@@ -57,67 +49,66 @@ fn plants<A: Allocator + Copy>(own: Global, alloc: A, tree: &mut MemTree<A>, row
 }
 
 /// Puts what a line says into the tree.
-fn gives<A: Allocator + Copy>(own: Global, alloc: A, tree: &mut MemTree<A>, line: &[u8]) -> bool {
+fn gives<A: Allocator + Copy>(own: Global, heap: A, tree: &mut MemTree<A>, line: &[u8]) -> bool {
     let (word, rest) = split(line);
     if word == b"dir".as_slice() {
-        makes_dir(alloc, tree, rest)
+        makes_dir(heap, tree, rest)
     } else if word == b"dirs".as_slice() {
-        fills_up(alloc, tree, number(rest))
+        fills_up(heap, tree, number(rest));
+        true
     } else if word == b"file".as_slice() {
-        makes_file(own, alloc, tree, rest)
+        makes_file(own, heap, tree, split(rest))
     } else {
         true
     }
 }
 
-fn makes_dir<A: Allocator + Copy>(alloc: A, tree: &mut MemTree<A>, text: &[u8]) -> bool {
-    match path(alloc, text) {
-        Ok(path) => tree.make_dir(&Path::root(alloc), &path).is_ok(),
+fn makes_dir<A: Allocator + Copy>(heap: A, tree: &mut MemTree<A>, text: &[u8]) -> bool {
+    match below(heap, &Path::root(heap), text) {
+        Ok(path) => tree.make_dir(&Path::root(heap), &path).is_ok(),
         Err(_) => false,
     }
 }
 
 fn makes_file<A: Allocator + Copy>(
     own: Global,
-    alloc: A,
+    heap: A,
     tree: &mut MemTree<A>,
-    rest: &[u8],
+    (text, octets): (&[u8], &[u8]),
 ) -> bool {
-    let (text, octets) = split(rest);
     match octets_of(own, octets) {
-        Ok(octets) => puts(alloc, tree, text, octets.as_slice()),
+        Ok(octets) => puts(heap, tree, text, octets.as_slice()),
         Err(_) => false,
     }
 }
 
-fn puts<A: Allocator + Copy>(alloc: A, tree: &mut MemTree<A>, text: &[u8], octets: &[u8]) -> bool {
-    match path(alloc, text) {
-        Ok(path) => installs(alloc, tree, &path, octets),
+fn puts<A: Allocator + Copy>(heap: A, tree: &mut MemTree<A>, text: &[u8], octets: &[u8]) -> bool {
+    match below(heap, &Path::root(heap), text) {
+        Ok(path) => installs(heap, tree, &path, octets),
         Err(_) => false,
     }
 }
 
 fn installs<A: Allocator + Copy>(
-    alloc: A,
+    heap: A,
     tree: &mut MemTree<A>,
     path: &Path<A>,
     octets: &[u8],
 ) -> bool {
-    let mut content = Content::new(alloc);
+    let mut content = Content::new(heap);
     content.push(octets).is_ok()
         && tree
-            .install(&Path::root(alloc), path, &mut content, YEAR_2000)
+            .install(&Path::root(heap), path, &mut content, YEAR_2000)
             .is_ok()
 }
 
 /// Puts so many directories into the tree, `/00000` and on, or as many as it takes.
-fn fills_up<A: Allocator + Copy>(alloc: A, tree: &mut MemTree<A>, count: u64) -> bool {
+fn fills_up<A: Allocator + Copy>(heap: A, tree: &mut MemTree<A>, count: u64) {
     for place in 0..count.min(100_000) {
-        if !makes_dir(alloc, tree, &numbered(place)) {
+        if !makes_dir(heap, tree, &numbered(place)) {
             break;
         }
     }
-    true
 }
 
 /// The path of a number of five digits.

@@ -1,52 +1,17 @@
-// What rows are played on.
-use crate::driven::{Driven, Owner};
+// A server, as rows are played on it.
+use crate::driven::Owner;
 use crate::embedded::server::serve;
-use crate::event::Event;
+use crate::event::{Event, Told};
 use crate::peer::{Peer, Still};
-use crate::server::files::{show_file, show_tree};
+use crate::plays::{Holds, Plays};
+use crate::tree::show_tree;
 use ftp_ends::Wants;
-use ftp_server::Server;
 use ftp_server_drive::{Control, drive_server};
 use ftp_server_model::Far;
-use ftp_server_transfer::TreeTransfer;
-use ftp_tree::{MemTree, Tree};
+use ftp_tree::MemTree;
 use rows_base::{FailingReader, FailingWriter, Paper};
 use std::alloc::{Allocator, Global};
 use std::marker::PhantomData;
-
-/// What meets the server's calls, and tells how many octets it holds.
-pub trait Holds<A: Allocator, T: Tree<A>>: Far<A, T> {
-    fn held(&self) -> usize;
-}
-
-impl<A: Allocator + Copy> Holds<A, MemTree<A>> for Server<A, MemTree<A>, TreeTransfer<A>> {
-    fn held(&self) -> usize {
-        self.held()
-    }
-}
-
-/// The calls of a server, of which nothing is said here, so that what plays rows on it is proved without the server's clauses.
-pub trait Plays: Driven + Drop {
-    fn hear(&mut self, piece: &[u8]) -> usize;
-
-    fn control_out(&mut self, room: &mut [u8]) -> usize;
-
-    fn data_hear(&mut self, piece: &[u8]) -> usize;
-
-    fn data_out(&mut self, room: &mut [u8]) -> usize;
-
-    fn happens(&mut self, event: Event);
-
-    fn wants(&self) -> Wants;
-
-    fn held(&self) -> usize;
-
-    /// Writes its tree.
-    fn show_tree(&self, alloc: Global, paper: &mut Paper);
-
-    /// Writes the file `/f` of its tree.
-    fn show_file(&self, alloc: Global, paper: &mut Paper);
-}
 
 /// A server, and how its tree grows.
 #[derive(Drop)]
@@ -55,7 +20,7 @@ pub struct Played<A, S: Drop> {
     growth: PhantomData<A>,
 }
 
-impl<A: Allocator + Copy, S: Holds<A, MemTree<A>>> Played<A, S> {
+impl<A: Allocator + Copy, S: Far<A, MemTree<A>> + Holds> Played<A, S> {
     pub fn new(server: S) -> Played<A, S> {
         Played {
             server,
@@ -64,7 +29,7 @@ impl<A: Allocator + Copy, S: Holds<A, MemTree<A>>> Played<A, S> {
     }
 }
 
-impl<A: Allocator + Copy, S: Holds<A, MemTree<A>>> Plays for Played<A, S> {
+impl<A: Allocator + Copy, S: Far<A, MemTree<A>> + Holds> Plays for Played<A, S> {
     fn hear(&mut self, piece: &[u8]) -> usize {
         self.server.hear(piece)
     }
@@ -81,17 +46,17 @@ impl<A: Allocator + Copy, S: Holds<A, MemTree<A>>> Plays for Played<A, S> {
         self.server.data_out(room)
     }
 
-    fn happens(&mut self, event: Event) {
+    fn happens(&mut self, event: Event, told: Told) {
         match event {
-            Event::Listening(port) => self.server.listening(port),
+            Event::Listening => self.server.listening(told.port),
             Event::Portless => self.server.listen_refused(),
-            Event::Opened(host) => self.server.data_opened(host),
+            Event::Opened => self.server.data_opened(told.host),
             Event::Refused => self.server.data_refused(),
             Event::Ended => self.server.data_end(),
             Event::Broke => self.server.data_fault(),
             Event::Closed => self.server.data_closed(),
             Event::Cut => self.server.control_end(),
-            Event::Clock(moment) => self.server.clock(moment),
+            Event::Clock => self.server.clock(told.moment),
         }
     }
 
@@ -103,16 +68,16 @@ impl<A: Allocator + Copy, S: Holds<A, MemTree<A>>> Plays for Played<A, S> {
         self.server.held()
     }
 
+    fn begin(&mut self, _alloc: Global, _line: &[u8], paper: &mut Paper) {
+        paper.line(b"! no such word");
+    }
+
+    fn report(&mut self, _alloc: Global, _paper: &mut Paper) {}
+
     fn show_tree(&self, alloc: Global, paper: &mut Paper) {
         show_tree(alloc, self.server.tree(), paper);
     }
 
-    fn show_file(&self, alloc: Global, paper: &mut Paper) {
-        show_file(alloc, self.server.tree(), paper);
-    }
-}
-
-impl<A: Allocator + Copy, S: Holds<A, MemTree<A>>> Driven for Played<A, S> {
     fn drive(
         &mut self,
         _alloc: Global,

@@ -1,0 +1,190 @@
+// A client, as rows are played on it.
+use crate::client::answer::show_answer;
+use crate::driven::Owner;
+use crate::embedded::client::perform;
+use crate::event::{Event, Told};
+use crate::peer::Peer;
+use crate::plays::{Holds, Plays};
+use ftp_client_drive::{Control, drive_client};
+use ftp_client_model::Near;
+use ftp_ends::Wants;
+use ftp_facts::Text;
+use ftp_operation::{Answer, How, Op};
+use ftp_tool_script::{LineFault, Order, order_of, put_field};
+use rows_base::{FailingReader, FailingWriter, Paper, cut, fixed, number};
+use std::alloc::{AllocError, Allocator, Global};
+
+/// A client, and what the texts of its operations grow by.
+#[derive(Drop)]
+pub struct Played<A, C: Drop> {
+    client: C,
+    heap: A,
+}
+
+impl<A: Allocator + Copy, C: Near<A> + Holds> Played<A, C> {
+    pub fn new(client: C, heap: A) -> Played<A, C> {
+        Played { client, heap }
+    }
+
+    /// Begins what an order asks, from the next place where it is past that of the line; whether no other is begun.
+    fn starts(&mut self, order: Order<Text<A>>, is_past: bool) -> bool {
+        match order.into_parts() {
+            Ok(mut op) => {
+                if is_past {
+                    count_up(&mut op);
+                }
+                self.start(op)
+            }
+            Err((path, octets, how)) => self.upload(path, octets, how),
+        }
+    }
+
+    fn start(&mut self, op: Op<Text<A>>) -> bool {
+        let mut op = Some(op);
+        self.client.start(&mut op);
+        let is_begun = op.is_none();
+        drop(op);
+        is_begun
+    }
+
+    fn upload(&mut self, path: Text<A>, octets: Text<A>, how: How) -> bool {
+        let mut texts = Some((path, octets));
+        self.client.upload(&mut texts, how);
+        texts.is_none()
+    }
+}
+
+/// The same from the place behind: no line can say 10^18.
+fn count_up<A: Allocator>(op: &mut Op<Text<A>>) {
+    match op {
+        Op::GetFrom(_, place, _) | Op::Peek(_, place, _) | Op::PutFrom(_, place, _, _) => {
+            *place = place.saturating_add(1);
+        }
+        _ => {}
+    }
+}
+
+/// The order of a line; its last field may be written as `@10000`, so many octets of the fixed sequence.
+fn ordered<A: Allocator + Copy>(
+    alloc: Global,
+    heap: A,
+    line: &[u8],
+) -> Result<Order<Text<A>>, LineFault> {
+    let (front, count) = cut(line, b'@');
+    if count.is_empty() {
+        return order_of(heap, line);
+    }
+    match spelled(alloc, front, number(count)) {
+        Ok(line) => order_of(heap, line.as_slice()),
+        Err(AllocError) => Err(LineFault::Memory),
+    }
+}
+
+/// A line, and behind it a field of so many octets.
+fn spelled(alloc: Global, front: &[u8], count: u64) -> Result<Vec<u8>, AllocError> {
+    let mut line = Vec::new(alloc);
+    line.extend_from_slice(front)?;
+    for place in 0..count {
+        put_field(&[fixed(place)], &mut line)?;
+    }
+    Ok(line)
+}
+
+impl<A: Allocator + Copy, C: Near<A> + Holds> Plays for Played<A, C> {
+    fn hear(&mut self, piece: &[u8]) -> usize {
+        self.client.hear(piece)
+    }
+
+    fn control_out(&mut self, room: &mut [u8]) -> usize {
+        self.client.control_out(room)
+    }
+
+    fn data_hear(&mut self, piece: &[u8]) -> usize {
+        self.client.data_hear(piece)
+    }
+
+    fn data_out(&mut self, room: &mut [u8]) -> usize {
+        self.client.data_out(room)
+    }
+
+    fn happens(&mut self, event: Event, told: Told) {
+        match event {
+            Event::Listening => self.client.listening(told.port),
+            Event::Portless => self.client.listen_refused(),
+            Event::Opened => self.client.data_opened(told.host),
+            Event::Refused => self.client.data_refused(),
+            Event::Ended => self.client.data_end(),
+            Event::Broke => self.client.data_fault(),
+            Event::Closed => self.client.data_closed(),
+            Event::Cut => self.client.control_end(),
+            Event::Clock => {}
+        }
+    }
+
+    fn wants(&self) -> Wants {
+        self.client.wants()
+    }
+
+    fn held(&self) -> usize {
+        self.client.held()
+    }
+
+    fn begin(&mut self, alloc: Global, line: &[u8], paper: &mut Paper) {
+        let past = line.strip_prefix(b"past ");
+        match ordered(alloc, self.heap, past.unwrap_or(line)) {
+            Ok(order) => if !self.starts(order, past.is_some()) {
+                paper.line(b"! busy");
+            },
+            Err(LineFault::Memory) => paper.line(b"! no memory"),
+            Err(LineFault::Unfit) => paper.line(b"! no such word"),
+        }
+    }
+
+    fn report(&mut self, alloc: Global, paper: &mut Paper) {
+        if let Some(answer) = self.client.report() {
+            show_answer(alloc, &answer, paper);
+            drop(answer);
+        }
+    }
+
+    fn show_tree(&self, _alloc: Global, _paper: &mut Paper) {}
+
+    fn drive(
+        &mut self,
+        alloc: Global,
+        owner: Owner<'_>,
+        (mut reader, mut writer): (FailingReader<'_>, FailingWriter),
+        peer: &mut Peer,
+        paper: &mut Paper,
+    ) -> FailingWriter {
+        let answer = match owner {
+            Owner::Drive => {
+                let mut control = Control::new(reader, &mut writer);
+                drive_client(&mut self.client, &mut control, peer)
+            }
+            Owner::Page(line) => match performed(alloc, self.heap, line) {
+                Some(op) => perform(&mut self.client, op, (&mut reader, &mut writer), peer).ok(),
+                None => Some(Answer::Memory),
+            },
+        };
+        tell(alloc, &answer, paper);
+        drop(answer);
+        writer
+    }
+}
+
+/// What a client that was driven reports; nothing where it was broken off.
+fn tell<A: Allocator>(alloc: Global, answer: &Option<Answer<A>>, paper: &mut Paper) {
+    match answer {
+        None | Some(Answer::Lost) => {}
+        Some(answer) => show_answer(alloc, answer, paper),
+    }
+}
+
+/// The operation of a line; none where memory is refused.
+fn performed<A: Allocator + Copy>(alloc: Global, heap: A, line: &[u8]) -> Option<Op<Text<A>>> {
+    match ordered(alloc, heap, line) {
+        Ok(order) => order.into_parts().ok(),
+        Err(_) => None,
+    }
+}
