@@ -12,46 +12,84 @@ pub fn serve<A: Allocator, T: Tree<A>, F: Far<A, T>, R: Read, W: Write, S: Socke
     (reader, writer): (&mut R, &mut W),
     sockets: &mut S,
 ) -> Result<(), Failed> {
-    let mut room = [0; 4096];
     let mut link: Option<S::Link> = None;
     for _ in 0..TURNS {
         server.clock(sockets.now());
-        let owed = server.control_out(&mut room);
-        put(writer, &room[..owed])?;
-        match (server.wants(), &mut link) {
-            _ if owed > 0 => {}
-            (Wants::CloseAll, _) => return Ok(()),
-            (Wants::Nothing, _) => match get(reader, &mut room[..1])? {
-                0 => server.control_end(),
-                _ => drop(server.hear(&room[..1])),
-            },
-            (Wants::Listen, _) => match sockets.listen() {
-                Some(port) => server.listening(port),
-                None => server.listen_refused(),
-            },
-            (Wants::Accept | Wants::Connect(_), _) => match sockets.open(server.wants()) {
-                Some((opened, host)) => {
-                    link = Some(opened);
-                    server.data_opened(host);
-                }
-                None => server.data_refused(),
-            },
-            (Wants::Receive, Some(link)) => match link.read(&mut room[..1]) {
-                Ok(0) => server.data_end(),
-                Ok(_) => drop(server.data_hear(&room[..1])),
-                Err(_) => server.data_fault(),
-            },
-            (Wants::Send, Some(link)) => {
-                let count = server.data_out(&mut room);
-                if put(link, &room[..count]).is_err() {
-                    server.data_fault();
-                }
-            }
-            (Wants::CloseData | Wants::Receive | Wants::Send, _) => {
-                link = None;
-                server.data_closed();
-            }
+        if owes(server, writer)? {
+            continue;
         }
+        if let Wants::CloseAll = server.wants() {
+            return Ok(());
+        }
+        turn(server, reader, sockets, &mut link)?;
     }
     Err(Failed)
+}
+
+fn owes<A: Allocator, T: Tree<A>, F: Far<A, T>, W: Write>(
+    server: &mut F,
+    writer: &mut W,
+) -> Result<bool, Failed> {
+    let mut room = [0; 4096];
+    let owed = server.control_out(&mut room);
+    put(writer, &room[..owed])?;
+    Ok(owed > 0)
+}
+
+fn turn<A: Allocator, T: Tree<A>, F: Far<A, T>, R: Read, S: Sockets>(
+    server: &mut F,
+    reader: &mut R,
+    sockets: &mut S,
+    link: &mut Option<S::Link>,
+) -> Result<(), Failed> {
+    match (server.wants(), &mut *link) {
+        (Wants::Nothing, _) => hear(server, reader)?,
+        (Wants::Listen, _) => match sockets.listen() {
+            Some(port) => server.listening(port),
+            None => server.listen_refused(),
+        },
+        (Wants::Accept | Wants::Connect(_), _) => match sockets.open(server.wants()) {
+            Some((opened, host)) => {
+                *link = Some(opened);
+                server.data_opened(host);
+            }
+            None => server.data_refused(),
+        },
+        (Wants::Receive, Some(link)) => receive(server, link),
+        (Wants::Send, Some(link)) => send(server, link),
+        (Wants::CloseData | Wants::CloseAll | Wants::Receive | Wants::Send, _) => {
+            *link = None;
+            server.data_closed();
+        }
+    }
+    Ok(())
+}
+
+fn hear<A: Allocator, T: Tree<A>, F: Far<A, T>, R: Read>(
+    server: &mut F,
+    reader: &mut R,
+) -> Result<(), Failed> {
+    let mut room = [0; 1];
+    match get(reader, &mut room)? {
+        0 => server.control_end(),
+        _ => drop(server.hear(&room)),
+    }
+    Ok(())
+}
+
+fn receive<A: Allocator, T: Tree<A>, F: Far<A, T>, L: Read>(server: &mut F, link: &mut L) {
+    let mut room = [0; 1];
+    match link.read(&mut room) {
+        Ok(0) => server.data_end(),
+        Ok(_) => drop(server.data_hear(&room)),
+        Err(_) => server.data_fault(),
+    }
+}
+
+fn send<A: Allocator, T: Tree<A>, F: Far<A, T>, L: Write>(server: &mut F, link: &mut L) {
+    let mut room = [0; 4096];
+    let count = server.data_out(&mut room);
+    if put(link, &room[..count]).is_err() {
+        server.data_fault();
+    }
 }
