@@ -1,8 +1,8 @@
 // Paths beside each other: their keys, their order, what is below which, and where a path is moved.
-use crate::paper::Paper;
 use ftp_path::Path;
 use ftp_path::key::{is_within, name_in, order};
 use ftp_tree::TreeFault;
+use rows_base::Paper;
 use std::alloc::Allocator;
 use std::cmp::Ordering;
 

@@ -5,12 +5,10 @@
 mod accounts;
 mod change;
 mod failing_folder;
-mod failing_tree;
 mod keys;
 mod mirrored;
 mod octets;
 mod operation;
-mod paper;
 mod paths;
 mod reading;
 mod request;
@@ -18,6 +16,7 @@ mod row;
 mod run;
 mod said;
 mod step;
+mod told;
 mod verb;
 mod words;
 

@@ -1,6 +1,6 @@
 // Octets as a script writes them.
 use crate::words::BETWEEN;
-use rows_base::cut;
+use rows_base::{cut, fixed};
 use std::alloc::Global;
 
 /// The octets of a line, in which `\r`, `\n`, `\0`, `\s` (a space), `\\` and `\x` with two hexadecimal digits in capitals are one octet each and
@@ -13,7 +13,7 @@ pub fn octets_of(alloc: Global, line: &[u8]) -> Vec<u8> {
         rest = match rest {
             [] => break,
             [b'[', inner @ ..] => repeated(alloc, inner, &mut octets),
-            [b'{', inner @ ..] => fixed(inner, &mut octets),
+            [b'{', inner @ ..] => in_sequence(inner, &mut octets),
             [b' ', behind @ ..] => pushed(&[BETWEEN], behind, &mut octets),
             _ => one(rest, &mut octets),
         };
@@ -108,29 +108,10 @@ fn push_times(piece: &[u8], count: u64, octets: &mut Vec<u8>) {
     }
 }
 
-/// The octet behind another in the fixed sequence, in which the octets 0 to 250 follow one another again and again.
-fn fixed_behind(octet: u8) -> u8 {
-    if octet < 250 { octet + 1 } else { 0 }
-}
-
-fn fixed<'a>(inner: &'a [u8], octets: &mut Vec<u8>) -> &'a [u8] {
+fn in_sequence<'a>(inner: &'a [u8], octets: &mut Vec<u8>) -> &'a [u8] {
     let (count, behind) = cut(inner, b'}');
-    let mut octet = 0;
-    for _ in 0..number(count) {
-        let _ = octets.push(octet);
-        octet = fixed_behind(octet);
+    for place in 0..number(count) {
+        let _ = octets.push(fixed(place));
     }
     behind
-}
-
-/// Whether octets are the first ones of the fixed sequence.
-pub fn are_fixed(octets: &[u8]) -> bool {
-    let mut wanted = 0;
-    for octet in octets {
-        if *octet != wanted {
-            return false;
-        }
-        wanted = fixed_behind(wanted);
-    }
-    true
 }

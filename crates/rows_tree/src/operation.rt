@@ -1,41 +1,29 @@
 // Operations of a user, run directly on a tree.
-use crate::accounts::{WHOLE, accounts, login};
+use crate::accounts::{WHOLE, list_of, login};
 use crate::octets::octets_of;
-use crate::paper::Paper;
-use crate::request::{operation, request_of};
+use crate::request::operation;
 use crate::said::show_answer;
+use crate::told::Told;
 use crate::verb::verb_of;
 use crate::words::split;
 use ftp_direct::direct;
 use ftp_facts::{Moment, Text};
 use ftp_operation::{Accounts, Answer, Op};
 use ftp_tree::Tree;
-use rows_base::cut;
+use rows_base::{Paper, cut};
 use std::alloc::{AllocError, Allocator, Global};
 
 /// A list of operations, each with its moment.
 type List<A> = Vec<(Op<Text<A>>, Moment), A>;
 
-fn operation_of<A: Allocator + Copy>(
-    ample: A,
-    alloc: Global,
-    line: &[u8],
-) -> Result<Op<Text<A>>, AllocError> {
+fn operation_of<A: Allocator + Copy>(ample: A, alloc: Global, line: &[u8]) -> Op<Text<A>> {
     let octets = octets_of(alloc, line);
     let (word, words) = split(octets.as_slice());
-    let verb = verb_of(word);
-    let request = request_of(verb, words);
-    let path = Text::copy_of(ample, request.path)?;
-    let other = Text::copy_of(ample, request.other)?;
-    Ok(operation(verb, path, request.number, other, request.how))
+    operation(ample, verb_of(word), words)
 }
 
 /// The operations of some lines, the first at second 1,000 and each later one a second on.
-fn list_of<A: Allocator + Copy>(
-    ample: A,
-    alloc: Global,
-    lines: &[u8],
-) -> Result<List<A>, AllocError> {
+fn operations<A: Allocator + Copy>(ample: A, alloc: Global, lines: &[u8]) -> List<A> {
     let mut list = Vec::new(ample);
     let mut rest = lines;
     for seconds in 1_000..100_000u64 {
@@ -43,10 +31,10 @@ fn list_of<A: Allocator + Copy>(
             break;
         }
         let (line, behind) = cut(rest, b'\n');
-        list.push((operation_of(ample, alloc, line)?, Moment { seconds }))?;
+        let _ = list.push((operation_of(ample, alloc, line), Moment { seconds }));
         rest = behind;
     }
-    Ok(list)
+    list
 }
 
 /// What `direct` makes of operations. A user name, a password, and the accounts, if they are others than usual.
@@ -60,8 +48,10 @@ fn run<A: Allocator + Copy, T: Tree<A>>(
     let (_, words) = split(words);
     let (user, words) = split(words);
     let (pass, words) = split(words);
-    let accounts = accounts(ample, if words.is_empty() { WHOLE } else { words })?;
-    run_as(ample, heap, tree, &accounts, user, pass, list)
+    match &Accounts::new(list_of(ample, if words.is_empty() { WHOLE } else { words })) {
+        Ok(accounts) => run_as(ample, heap, tree, accounts, (user, pass), list),
+        Err(_) => Err(AllocError),
+    }
 }
 
 /// The same of a user of these accounts.
@@ -70,12 +60,13 @@ fn run_as<A: Allocator + Copy, T: Tree<A>>(
     heap: A,
     tree: &mut T,
     accounts: &Accounts<A>,
-    user: &[u8],
-    pass: &[u8],
+    (user, pass): (&[u8], &[u8]),
     list: &[(Op<Text<A>>, Moment)],
 ) -> Result<Vec<Answer<A>, A>, AllocError> {
-    let login = login(ample, user, pass)?;
-    direct(&heap, tree, accounts, &login, list)
+    match &login(ample, user, pass) {
+        Some(login) => direct(&heap, tree, accounts, login, list),
+        None => Err(AllocError),
+    }
 }
 
 /// The same of lines.
@@ -88,7 +79,7 @@ fn run_lines<A: Allocator + Copy, T: Tree<A>>(
     lines: &[u8],
 ) -> Result<Vec<Answer<A>, A>, AllocError> {
     let words = octets_of(alloc, head);
-    let list = list_of(ample, alloc, lines)?;
+    let list = operations(ample, alloc, lines);
     run(ample, heap, tree, words.as_slice(), list.as_slice())
 }
 
@@ -99,16 +90,15 @@ pub fn play_user<A: Allocator + Copy, T: Tree<A>>(
     alloc: Global,
     tree: &mut T,
     group: &[u8],
-    paper: &mut Paper,
+    told: &mut Told,
 ) {
     let (head, lines) = cut(group, b'\n');
-    paper.put(head);
-    paper.put(b"\n");
+    told.paper.line(head);
     match run_lines(ample, heap, alloc, tree, head, lines) {
-        Ok(answers) => show_answers(alloc, answers.as_slice(), lines, paper),
+        Ok(answers) => show_answers(alloc, answers.as_slice(), lines, &mut told.paper),
         Err(_) => {
-            paper.memory = paper.memory.saturating_add(1);
-            paper.put(b"given up\n");
+            told.count(false);
+            told.paper.put(b"given up\n");
         }
     }
 }

@@ -1,19 +1,22 @@
 // Lines of texts and of paths.
 use crate::keys::{show_below, show_keys, show_moved, show_order};
 use crate::octets::number;
-use crate::paper::Paper;
 use crate::step::{Line, Step};
 use ftp_operation::is_number;
-use ftp_path::{Name, Path, is_listed_text, is_path_text};
+use ftp_path::{Name, Path, PathFault, is_listed_text, is_path_text};
 use ftp_tree::TreeFault;
+use rows_base::Paper;
 use std::alloc::Allocator;
 
 /// A path from another by a text, which has to be a path text.
 pub fn from<A: Allocator>(here: &Path<A>, alloc: A, text: &[u8]) -> Result<Path<A>, TreeFault> {
-    if is_path_text(text) {
-        Ok(here.resolve(alloc, text)?)
-    } else {
-        Err(TreeFault::WrongKind)
+    if !is_path_text(text) {
+        return Err(TreeFault::WrongKind);
+    }
+    match here.resolve(alloc, text) {
+        Ok(path) => Ok(path),
+        Err(PathFault::TooBig) => Err(TreeFault::TooBig),
+        Err(PathFault::Memory) => Err(TreeFault::Memory),
     }
 }
 
@@ -39,16 +42,25 @@ pub fn show_path<A: Allocator + Copy>(
     line: &Line<'_>,
     paper: &mut Paper,
 ) -> Result<(), TreeFault> {
-    let path = place(alloc, line.first)?;
-    match line.step {
-        Step::Leads => show_led(alloc, &path, line.second, paper),
-        Step::Copy => show_copy(alloc, &path, paper),
-        Step::Keys => {
-            show_keys(&path, paper);
-            Ok(())
-        }
-        _ => show_beside(alloc, &path, line, paper),
+    match &place(alloc, line.first) {
+        Ok(path) => show_of(alloc, path, line, paper),
+        Err(fault) => Err(*fault),
     }
+}
+
+fn show_of<A: Allocator + Copy>(
+    alloc: A,
+    path: &Path<A>,
+    line: &Line<'_>,
+    paper: &mut Paper,
+) -> Result<(), TreeFault> {
+    match line.step {
+        Step::Leads => return show_led(alloc, path, line.second, paper),
+        Step::Copy => return show_copy(alloc, path, paper),
+        Step::Keys => show_keys(path, paper),
+        _ => return show_beside(alloc, path, line, paper),
+    }
+    Ok(())
 }
 
 fn show_led<A: Allocator>(

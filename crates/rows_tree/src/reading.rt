@@ -1,11 +1,10 @@
 // Lines that read a tree.
 use crate::octets::number;
-use crate::paper::Paper;
 use crate::paths::place;
 use crate::step::{Line, Step};
 use ftp_path::Path;
 use ftp_tree::{NodeKind, Tree, TreeFault};
-use rows_base::cut;
+use rows_base::{Paper, cut};
 use std::alloc::{Allocator, Global};
 
 /// More than the names of a directory that are shown.
@@ -139,25 +138,29 @@ pub fn show_places<A: Allocator, T: Tree<A>>(
             break;
         }
         let (text, behind) = cut(rest, b' ');
-        show_place(alloc, tree, text, paper);
+        if let Ok(path) = &place(alloc, text) {
+            show_place(tree, &Path::root(alloc), path, text, paper);
+        }
         rest = behind;
     }
 }
 
-fn show_place<A: Allocator, T: Tree<A>>(alloc: Global, tree: &T, text: &[u8], paper: &mut Paper) {
-    let root = Path::root(alloc);
-    let Ok(path) = place(alloc, text) else {
-        return;
-    };
-    if tree.kind(&root, &path).is_none() {
+fn show_place<A: Allocator, T: Tree<A>>(
+    tree: &T,
+    root: &Path<Global>,
+    path: &Path<Global>,
+    text: &[u8],
+    paper: &mut Paper,
+) {
+    if tree.kind(root, path).is_none() {
         return;
     }
     paper.octets(text);
     paper.put(b" ");
-    show_kind(tree, &root, &path, paper);
+    show_kind(tree, root, path, paper);
     paper.put(b" ");
-    show_second(tree, &root, &path, paper);
+    show_second(tree, root, path, paper);
     paper.put(b" ");
-    paper.quote(tree.piece(&root, &path, 0, 4_096));
+    paper.quote(tree.piece(root, path, 0, 4_096));
     paper.put(b"; ");
 }

@@ -1,4 +1,5 @@
 // The line of an operation.
+use crate::accounts::text;
 use crate::octets::number;
 use crate::verb::Verb;
 use crate::words::split;
@@ -7,17 +8,16 @@ use ftp_operation::{How, Op};
 use ftp_settings::{Kind, Mode, Representation, Structure};
 use std::alloc::Allocator;
 
-/// What an operation asks for beside its path: a number, a second text, and how octets go.
+/// What stands behind a verb: a path, a number, a second text, and how octets go.
 #[derive(Clone, Copy)]
-pub struct Request<'a> {
-    pub path: &'a [u8],
-    pub number: u64,
-    pub other: &'a [u8],
-    pub how: How,
+struct Request<'a> {
+    path: &'a [u8],
+    number: u64,
+    other: &'a [u8],
+    how: How,
 }
 
-/// The request that stands behind a verb.
-pub fn request_of(verb: Verb, words: &[u8]) -> Request<'_> {
+fn request_of(verb: Verb, words: &[u8]) -> Request<'_> {
     let (path, rest) = split(words);
     let (count, rest) = if has_number(verb) {
         split(rest)
@@ -75,32 +75,33 @@ fn is(word: &[u8], other: &[u8]) -> bool {
     word == other
 }
 
-/// The operation of a verb with these texts.
-pub fn operation<A: Allocator>(
-    verb: Verb,
-    path: Text<A>,
-    number: u64,
-    other: Text<A>,
-    how: How,
-) -> Op<Text<A>> {
+/// The operation of a verb with the words behind it.
+pub fn operation<A: Allocator + Copy>(alloc: A, verb: Verb, words: &[u8]) -> Op<Text<A>> {
+    let asked = request_of(verb, words);
+    let path = asked.path;
     match verb {
         Verb::Where => Op::Where,
-        Verb::ChangeDir => Op::ChangeDir(path),
+        Verb::ChangeDir => Op::ChangeDir(text(alloc, path)),
         Verb::Up => Op::Up,
-        Verb::MakeDir => Op::MakeDir(path),
-        Verb::RemoveDir => Op::RemoveDir(path),
-        Verb::Delete => Op::Delete(path),
-        Verb::Rename => Op::Rename(path, other),
-        Verb::Put => Op::Put(path, other, how),
-        Verb::Append => Op::Append(path, other, how),
-        Verb::PutFrom => Op::PutFrom(path, number, other, how),
-        Verb::Get => Op::Get(path, how),
-        Verb::GetFrom => Op::GetFrom(path, number, how),
-        Verb::Peek => Op::Peek(path, number, how),
-        Verb::Size => Op::Size(path, how),
-        Verb::Modified => Op::Modified(path),
-        Verb::Facts => Op::Facts(path),
-        Verb::List => Op::List(path, how),
-        Verb::Names => Op::Names(path, how),
+        Verb::MakeDir => Op::MakeDir(text(alloc, path)),
+        Verb::RemoveDir => Op::RemoveDir(text(alloc, path)),
+        Verb::Delete => Op::Delete(text(alloc, path)),
+        Verb::Rename => Op::Rename(text(alloc, path), text(alloc, asked.other)),
+        Verb::Put => Op::Put(text(alloc, path), text(alloc, asked.other), asked.how),
+        Verb::Append => Op::Append(text(alloc, path), text(alloc, asked.other), asked.how),
+        Verb::PutFrom => Op::PutFrom(
+            text(alloc, path),
+            asked.number,
+            text(alloc, asked.other),
+            asked.how,
+        ),
+        Verb::Get => Op::Get(text(alloc, path), asked.how),
+        Verb::GetFrom => Op::GetFrom(text(alloc, path), asked.number, asked.how),
+        Verb::Peek => Op::Peek(text(alloc, path), asked.number, asked.how),
+        Verb::Size => Op::Size(text(alloc, path), asked.how),
+        Verb::Modified => Op::Modified(text(alloc, path)),
+        Verb::Facts => Op::Facts(text(alloc, path)),
+        Verb::List => Op::List(text(alloc, path), asked.how),
+        Verb::Names => Op::Names(text(alloc, path), asked.how),
     }
 }

@@ -1,16 +1,15 @@
 // The lines of a row on one tree.
 use crate::accounts::show_login;
 use crate::change::{make_dirs, show_change};
-use crate::failing_tree::FailingTree;
 use crate::octets::{number, octets_of};
 use crate::operation::play_user;
-use crate::paper::Paper;
 use crate::paths::{place, show_path, show_text};
 use crate::reading::{show_places, show_reading};
 use crate::step::{Line, Step, line_of};
+use crate::told::Told;
 use crate::words::{cut_before, heading};
-use ftp_tree::{Tree, TreeFault};
-use rows_base::cut;
+use ftp_tree::{MemTree, Tree, TreeFault};
+use rows_base::{Paper, cut};
 use std::alloc::{Allocator, Global};
 
 /// What a refusal is called.
@@ -63,24 +62,34 @@ fn play_call<A: Allocator + Copy, T: Tree<A>>(
     tree: &mut T,
     places: &[u8],
     line: &Line<'_>,
-    paper: &mut Paper,
+    told: &mut Told,
 ) -> bool {
     let before = places_of(alloc, tree, places);
     let failures = tree.device_failures();
-    let answer = call(heap, tree, line, paper);
-    let is_device = answer == Err(TreeFault::Device);
-    if answer != Err(TreeFault::Memory) && !is_device {
-        tell(answer, paper);
-        return false;
-    }
-    paper.count(is_device);
-    let after = places_of(alloc, tree, places);
-    if after.text() != before.text()
-        || tree.device_failures() != failures.wrapping_add(u64::from(is_device))
-    {
-        paper.put(b"! not as before, ");
+    let is_device = match call(heap, tree, line, &mut told.paper) {
+        Err(TreeFault::Memory) => false,
+        Err(TreeFault::Device) => true,
+        answer => {
+            tell(answer, &mut told.paper);
+            return false;
+        }
+    };
+    told.count(is_device);
+    let failures = failures.wrapping_add(u64::from(is_device));
+    if tree.device_failures() != failures || !is_so(alloc, tree, places, before.text()) {
+        told.paper.put(b"! not as before, ");
     }
     true
+}
+
+/// Whether this stands at some places.
+pub fn is_so<A: Allocator, T: Tree<A>>(
+    alloc: Global,
+    tree: &T,
+    places: &[u8],
+    before: &[u8],
+) -> bool {
+    places_of(alloc, tree, places).text() == before
 }
 
 /// Plays a line, and writes what it answers. Says whether it is to be made again.
@@ -90,8 +99,9 @@ pub fn play_line<A: Allocator + Copy, T: Tree<A>>(
     tree: &mut T,
     places: &[u8],
     line: &Line<'_>,
-    paper: &mut Paper,
+    told: &mut Told,
 ) -> bool {
+    let paper = &mut told.paper;
     match line.step {
         Step::Heading => {}
         Step::Text | Step::Listed | Step::Name | Step::Number => show_text(line, paper),
@@ -105,7 +115,7 @@ pub fn play_line<A: Allocator + Copy, T: Tree<A>>(
         | Step::Piece
         | Step::Read => tell(show_reading(alloc, tree, line, paper), paper),
         Step::Dirs => show_dirs(heap, tree, line, paper),
-        _ => return play_call(heap, alloc, tree, places, line, paper),
+        _ => return play_call(heap, alloc, tree, places, line, told),
     }
     false
 }
@@ -123,6 +133,14 @@ fn show_dirs<A: Allocator + Copy, T: Tree<A>>(
     }
 }
 
+/// Writes a line, before its answer. A heading has none.
+pub fn begin(text: &[u8], line: &Line<'_>, paper: &mut Paper) {
+    paper.put(text);
+    if !line.is_heading() {
+        paper.put(b" = ");
+    }
+}
+
 /// Plays a line, again where it was refused so.
 fn play_text<A: Allocator + Copy, T: Tree<A>>(
     heap: A,
@@ -130,15 +148,15 @@ fn play_text<A: Allocator + Copy, T: Tree<A>>(
     tree: &mut T,
     places: &[u8],
     text: &[u8],
-    paper: &mut Paper,
+    told: &mut Told,
 ) {
     let octets = octets_of(alloc, text);
     let line = line_of(octets.as_slice());
-    paper.begin(text, line.is_heading());
-    if play_line(heap, alloc, tree, places, &line, paper) {
-        let _ = play_line(heap, alloc, tree, places, &line, paper);
+    begin(text, &line, &mut told.paper);
+    if play_line(heap, alloc, tree, places, &line, told) {
+        let _ = play_line(heap, alloc, tree, places, &line, told);
     }
-    paper.put(b"\n");
+    told.paper.put(b"\n");
 }
 
 /// Plays lines on a tree.
@@ -148,7 +166,7 @@ fn play_lines<A: Allocator + Copy, T: Tree<A>>(
     tree: &mut T,
     places: &[u8],
     lines: &[u8],
-    paper: &mut Paper,
+    told: &mut Told,
 ) {
     let mut rest = lines;
     for _ in 0..lines.len() {
@@ -156,7 +174,7 @@ fn play_lines<A: Allocator + Copy, T: Tree<A>>(
             break;
         }
         let (text, behind) = cut(rest, b'\n');
-        play_text(heap, alloc, tree, places, text, paper);
+        play_text(heap, alloc, tree, places, text, told);
         rest = behind;
     }
 }
@@ -168,7 +186,7 @@ fn play_users<A: Allocator + Copy, T: Tree<A>>(
     alloc: Global,
     tree: &mut T,
     users: &[u8],
-    paper: &mut Paper,
+    told: &mut Told,
 ) {
     let mut rest = users;
     for _ in 0..users.len() {
@@ -176,24 +194,25 @@ fn play_users<A: Allocator + Copy, T: Tree<A>>(
             break;
         };
         let (group, behind) = cut_before(group, b"\nas ");
-        play_user(ample, heap, alloc, tree, group, paper);
+        play_user(ample, heap, alloc, tree, group, told);
         rest = behind;
     }
 }
 
 /// Plays a row on a tree: lines, and then operations of users. Writes what then stands at its places, and how often the device failed.
-fn play_on<A: Allocator + Copy, T: Tree<A>>(
+pub fn play_on<A: Allocator + Copy, T: Tree<A>>(
     ample: A,
     heap: A,
     alloc: Global,
     tree: &mut T,
     row: &[u8],
-    paper: &mut Paper,
+    told: &mut Told,
 ) {
     let places = heading(row, b"places");
     let (lines, users) = cut_before(row, b"\nas ");
-    play_lines(heap, alloc, tree, places, lines, paper);
-    play_users(ample, heap, alloc, tree, users, paper);
+    play_lines(heap, alloc, tree, places, lines, told);
+    play_users(ample, heap, alloc, tree, users, told);
+    let paper = &mut told.paper;
     if !heading(row, b"fails").is_empty() {
         paper.number(tree.device_failures().wrapping_add(1));
         paper.put(b" failures\n");
@@ -211,8 +230,8 @@ pub fn play_tree<A: Allocator + Copy>(
     heap: A,
     alloc: Global,
     row: &[u8],
-    paper: &mut Paper,
+    told: &mut Told,
 ) {
-    let mut tree = FailingTree::new(heap, number(heading(row, b"fails")));
-    play_on(ample, heap, alloc, &mut tree, row, paper);
+    let mut tree = MemTree::new(heap);
+    play_on(ample, heap, alloc, &mut tree, row, told);
 }

@@ -1,7 +1,7 @@
 // What an operation answers.
-use crate::paper::Paper;
 use ftp_facts::{Entry, write_entry};
 use ftp_operation::Answer;
+use rows_base::Paper;
 use std::alloc::{Allocator, Global};
 
 /// Writes an answer: octets between double quotes, a number, the code of a refusal, entries and names line by line.

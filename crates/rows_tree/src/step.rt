@@ -1,6 +1,6 @@
 // The words that a line of paths, of trees and of logins begins with.
 use crate::words::{BETWEEN, split};
-use rows_base::cut;
+use rows_base::{cut, found};
 
 /// What a line asks for.
 #[derive(Clone, Copy)]
@@ -68,15 +68,6 @@ const STEPS: &[(&'static [u8], Step)] = &[
     (b"accounts", Step::Accounts),
 ];
 
-fn step_of(word: &[u8]) -> Step {
-    for row in STEPS {
-        if row.0 == word {
-            return row.1;
-        }
-    }
-    Step::Heading
-}
-
 /// A line: below which root, what it asks for, and three words.
 #[derive(Clone, Copy)]
 pub struct Line<'a> {
@@ -107,7 +98,7 @@ pub fn line_of(line: &[u8]) -> Line<'_> {
     let (third, _) = split(rest);
     Line {
         root,
-        step: step_of(word),
+        step: found(STEPS, word, Step::Heading),
         first,
         second,
         third,
