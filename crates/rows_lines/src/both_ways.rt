@@ -1,4 +1,4 @@
-use crate::report::{is_printed, stretched};
+use crate::report::are_printed;
 use crate::row::{Row, form_of};
 use crate::wires::comes_back;
 use ftp_mode::FrameFault;
@@ -30,17 +30,6 @@ pub(crate) fn show(alloc: Global, row: &Row<'_>, paper: &mut Paper) {
     });
 }
 
-fn seventy_thousand_come_back(alloc: Global) -> bool {
-    let file = stretched(alloc, b"", b'x', 70_000, b"");
-    comes_back(
-        alloc,
-        form_of(b"IFB"),
-        Some(0),
-        file.text(),
-        &[1, 4096, 70_000],
-    )
-}
-
 const FAULTS: &[(FrameFault, &'static str)] = &[
     (FrameFault::BadEscape(2), "M1 BadEscape(2)"),
     (FrameFault::Suspect(4), "M2 Suspect(4)"),
@@ -48,19 +37,10 @@ const FAULTS: &[(FrameFault, &'static str)] = &[
     (FrameFault::EndedEarly, "M4 EndedEarly"),
 ];
 
-fn are_printed(alloc: Global) -> bool {
-    let mut all = true;
-    for row in FAULTS {
-        all &= is_printed(alloc, &row.0, row.1);
-    }
-    all
-}
-
 /// What is tried here, and whether it holds.
 pub(crate) fn tried(alloc: Global, report: &mut Paper) {
     report.holds(
-        "seventy thousand octets with a marker come back",
-        seventy_thousand_come_back(alloc),
+        "faults print number name and place",
+        are_printed(alloc, FAULTS),
     );
-    report.holds("faults print number name and place", are_printed(alloc));
 }

@@ -1,4 +1,4 @@
-//! Years day by day, and the last days of centuries, as Python's `datetime` counts them.
+//! Years day by day, as Python's `datetime` counts them.
 use ftp_facts::{FactFault, moment_of_text, moment_text};
 use rows_base::{Paper, number, split};
 
@@ -86,39 +86,12 @@ fn are_years(first: u32, starts: &[u8]) -> bool {
     all
 }
 
-/// Whether the centuries from that year on end with the days of these numbers.
-fn are_centuries(first: u32, ends: &[u8]) -> bool {
-    let mut all = true;
-    let mut year = first;
-    let mut rest = ends;
-    for _ in 0..ends.len() {
-        if rest.is_empty() {
-            break;
-        }
-        let (end, behind) = split(rest);
-        all &= is_day(text_of(year, 12, 31), small(end));
-        year = year.wrapping_add(100);
-        rest = behind;
-    }
-    all
-}
-
-fn put_whether(all: bool, paper: &mut Paper) {
-    paper.put(if all {
+/// Writes whether the years from the row's first number on begin with the days of the others, but the last, which ends them.
+pub(crate) fn show_years(row: &[u8], paper: &mut Paper) {
+    let (first, starts) = split(row);
+    paper.put(if are_years(small(first), starts) {
         b"so it is".as_slice()
     } else {
         b"WRONG"
     });
-}
-
-/// Writes whether the years from the row's first number on begin with the days of the others, but the last, which ends them.
-pub(crate) fn show_years(row: &[u8], paper: &mut Paper) {
-    let (first, starts) = split(row);
-    put_whether(are_years(small(first), starts), paper);
-}
-
-/// Writes whether the centuries from the row's first number on end with the days of the others.
-pub(crate) fn show_centuries(row: &[u8], paper: &mut Paper) {
-    let (first, ends) = split(row);
-    put_whether(are_centuries(small(first), ends), paper);
 }

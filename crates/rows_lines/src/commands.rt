@@ -1,6 +1,6 @@
 //! Rows of the table of verbs, of RFC 959, RFC 2428 and RFC 3659, and refused growths.
 use crate::endpoints::put_endpoint;
-use crate::report::{put_printed, put_quoted, stretched};
+use crate::report::{put_printed, put_quoted};
 use ftp_command::{Argument, Command, CommandFault, Endpoint, Host, read, write};
 use rows_base::{Paper, Refusing};
 use std::alloc::{Allocator, Global};
@@ -73,6 +73,7 @@ fn texts_have_no_line(alloc: Global, out: &mut Vec<u8>) -> bool {
         & has_no_line(Command::Cwd(text(alloc, b"")), out)
         & has_no_line(Command::Acct(text(alloc, b"a ")), out)
         & has_no_line(Command::Opts(text(alloc, b"a\nb")), out)
+        & has_no_line(Command::Opts(text(alloc, &[b'x'; 1_018])), out)
         & has_no_line(Command::Help(Some(text(alloc, b""))), out)
         & has_no_line(Command::List(Some(text(alloc, b"-a"))), out)
 }
@@ -97,21 +98,6 @@ fn values_have_no_line(out: &mut Vec<u8>) -> bool {
 fn have_no_line(alloc: Global) -> bool {
     let mut out = Vec::new(alloc);
     out.push(b'x').is_ok() & texts_have_no_line(alloc, &mut out) & values_have_no_line(&mut out)
-}
-
-/// How long the line of OPTS with so many octets is, or why it has none.
-fn line_of_words(alloc: Global, count: usize) -> Result<usize, CommandFault> {
-    let words = stretched(alloc, b"", b'x', count, b"");
-    let mut out = Vec::new(alloc);
-    match written(Ok(Command::Opts(text(alloc, words.text()))), &mut out).0 {
-        Ok(()) => Ok(out.len()),
-        Err(fault) => Err(fault),
-    }
-}
-
-fn words_are_limited(alloc: Global) -> bool {
-    (line_of_words(alloc, 1_017) == Ok(1_022))
-        & (line_of_words(alloc, 1_018) == Err(CommandFault::BadArgument))
 }
 
 /// Writes PWD.
@@ -142,7 +128,6 @@ pub(crate) fn tried(alloc: Global, report: &mut Paper) {
         "texts and values that no line stands for",
         have_no_line(alloc),
     );
-    report.holds("the longest words", words_are_limited(alloc));
     report.holds(
         "a refused growth leaves the vector",
         leaves_the_vector(alloc),

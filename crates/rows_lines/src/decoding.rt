@@ -16,27 +16,25 @@ fn hear_all(decoder: &mut Decoder<Vec<u8>>, wire: &[u8], size: usize) {
     }
 }
 
-/// Hears a wire in pieces of this size, and its end. Whether all of it is heard, and memory was not refused.
-fn ends(decoder: &mut Decoder<Vec<u8>>, wire: &[u8], size: usize) -> bool {
-    hear_all(decoder, wire, size);
+/// The file that a wire gives in pieces of this size and a clean end. Whether all of it is heard, and memory was not refused.
+fn ended(alloc: Global, row: &Row<'_>, size: usize) -> (Vec<u8>, bool) {
+    let mut decoder = Decoder::new(form_of(row.head), Vec::new(alloc));
+    hear_all(&mut decoder, row.octets, size);
     let whole = decoder.is_whole();
-    whole & decoder.end().is_ok()
+    let ends = decoder.end().is_ok();
+    (decoder.into_sink(), whole & ends)
 }
 
 /// Whether a wire that has ended gives this file, by pieces of this size.
 fn gives(alloc: Global, row: &Row<'_>, file: &[u8], size: usize) -> bool {
-    let mut decoder = Decoder::new(form_of(row.head), Vec::new(alloc));
-    ends(&mut decoder, row.octets, size) & (decoder.sink().as_slice() == file)
+    let (got, whole) = ended(alloc, row, size);
+    whole & (got.as_slice() == file)
 }
 
 /// Writes the file that a wire that has ended gives, in any pieces.
 pub(crate) fn show_ended(alloc: Global, row: &Row<'_>, paper: &mut Paper) {
-    let mut decoder = Decoder::new(form_of(row.head), Vec::new(alloc));
-    let _whole = ends(&mut decoder, row.octets, 100);
-    show_file(alloc, row, decoder.sink().as_slice(), paper);
-}
-
-fn show_file(alloc: Global, row: &Row<'_>, file: &[u8], paper: &mut Paper) {
+    let (file, _) = ended(alloc, row, 100);
+    let file = file.as_slice();
     put_quoted(file, paper);
     if !(gives(alloc, row, file, 1) & gives(alloc, row, file, 2) & gives(alloc, row, file, 100)) {
         paper.put(b", but not in any pieces");

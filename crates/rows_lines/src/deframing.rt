@@ -1,4 +1,4 @@
-use crate::report::{put_printed, put_quoted, stretched};
+use crate::report::{put_printed, put_quoted};
 use crate::row::{Row, form_of};
 use crate::wires::{read_in, reads_as};
 use ftp_mode::{Deframer, FrameFault, Part};
@@ -34,28 +34,9 @@ fn show_read(alloc: Global, wire: &Wire<'_>, paper: &mut Paper) {
         paper.put(b" ");
         put_printed(alloc, fault, paper);
     }
-    if !holds(alloc, wire, &[1, 2, 3]) {
+    if !holds(alloc, wire, &[1, 2, 3, 4_096, 70_000]) {
         paper.put(b", but not in any pieces");
     }
-}
-
-/// Whether a block of 65,535 octets is read.
-fn reads_a_full_block(alloc: Global) -> bool {
-    let file = stretched(alloc, b"", b'x', 65_535, b"");
-    let wire = stretched(alloc, b"\x40\xFF\xFF", b'x', 65_535, b"");
-    let row = (form_of(b"IFB"), wire.text(), file.text(), None);
-    holds(alloc, &row, &[1, 4096, 70_000])
-}
-
-/// Whether a marker of 255 octets is read over.
-fn reads_a_full_marker(alloc: Global) -> bool {
-    let wire = stretched(alloc, b"\xD0\x00\xFF", b'~', 255, b"");
-    let file: &[u8] = &[0x0A];
-    holds(
-        alloc,
-        &(form_of(b"IRB"), wire.text(), file, None),
-        &[1, 64, 300],
-    )
 }
 
 /// Writes what a deframer gives for each piece, at a break and at the end.
@@ -140,13 +121,4 @@ fn put_part(part: Part<'_>, paper: &mut Paper) -> bool {
         }
     }
     false
-}
-
-/// What is tried here, and whether it holds.
-pub(crate) fn tried(alloc: Global, report: &mut Paper) {
-    report.holds("a block of 65535 octets", reads_a_full_block(alloc));
-    report.holds(
-        "a marker of 255 octets before an end",
-        reads_a_full_marker(alloc),
-    );
 }

@@ -1,6 +1,6 @@
 //! What octets of a control connection say, in every cutting, and the memory that an ear asks for.
 use crate::caller::events_in;
-use crate::report::{put_quoted, stretched};
+use crate::report::put_quoted;
 use crate::row::Row;
 use ftp_nvt::{Ear, Event, NvtFault};
 use rows_base::{Paper, Refusing, number, split};
@@ -76,25 +76,6 @@ pub(crate) fn show(alloc: Global, row: &Row<'_>, paper: &mut Paper) {
     }
 }
 
-/// Whether an ear hears these octets as one line of 1,022 octets.
-fn is_a_line(ear: &mut Ear<Global>, octets: &[u8]) -> bool {
-    let heard = ear.feed(octets);
-    heard.taken == 1_024 && heard.event == Event::Line && ear.line().len() == 1_022
-}
-
-/// Whether an ear hears these octets as a line that is too long, and two lines behind them.
-fn is_too_long(ear: &mut Ear<Global>, octets: &[u8]) -> bool {
-    let heard = ear.feed(octets);
-    heard.taken == 1_025 && heard.event == Event::TooLong && events_in(ear, b"NOOP\r\n\n") == 2
-}
-
-/// Whether an ear for 1,024 octets hears 1,018 spaces behind NOOP as one line, and then one more as a line that is too long.
-fn keeps_its_limit(alloc: Global, ear: &mut Ear<Global>) -> bool {
-    let longest = stretched(alloc, b"NOOP", b' ', 1_018, b"\r\n");
-    let longer = stretched(alloc, b"NOOP", b' ', 1_019, b"\r\n");
-    is_a_line(ear, longest.text()) & is_too_long(ear, longer.text())
-}
-
 /// Whether an ear for eight octets tells how long its unfinished line is: three octets, none behind its end, none past the limit.
 fn is_measured(ear: &mut Ear<Global>) -> bool {
     leaves(ear, b"abc", 3) & leaves(ear, b"\r\n", 0) & leaves(ear, b"123456789", 0)
@@ -104,13 +85,6 @@ fn is_measured(ear: &mut Ear<Global>) -> bool {
 fn leaves(ear: &mut Ear<Global>, piece: &[u8], octets: usize) -> bool {
     let _events = events_in(ear, piece);
     ear.unfinished() == octets
-}
-
-fn is_limited(alloc: Global) -> bool {
-    match Ear::new(alloc, 1_024) {
-        Ok(mut ear) => keeps_its_limit(alloc, &mut ear),
-        Err(_) => false,
-    }
 }
 
 fn measures(alloc: Global) -> bool {
@@ -138,7 +112,6 @@ fn asks_once(alloc: Global) -> bool {
 
 /// What is tried here, and whether it holds.
 pub(crate) fn tried(alloc: Global, report: &mut Paper) {
-    report.holds("a line has 1024 octets at most", is_limited(alloc));
     report.holds("an unfinished line is measured", measures(alloc));
     report.holds("memory is asked for once", asks_once(alloc));
 }

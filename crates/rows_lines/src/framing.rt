@@ -1,5 +1,5 @@
 //! Files to wires, by a sender and a framer, and by the encoder, which puts one behind the other.
-use crate::report::{fill, put_quoted, stretched};
+use crate::report::put_quoted;
 use crate::row::{Row, form_of};
 use crate::wires::{encode, encoder, write};
 use ftp_mode::{Framer, Mode, Written};
@@ -58,6 +58,8 @@ const SIZES: &[(usize, usize)] = &[
     (64, 1),
     (64, 2),
     (64, 64),
+    (4_096, 4_096),
+    (70_000, 70_000),
 ];
 
 /// Whether a file goes as this wire, by pieces and rooms of several sizes.
@@ -100,43 +102,6 @@ pub(crate) fn show(alloc: Global, row: &Row<'_>, paper: &mut Paper) {
         octets: row.octets,
     };
     show_file(alloc, &file, paper);
-}
-
-/// Whether a file goes as this wire by a framer, by pieces and rooms of few and of many octets.
-fn goes_by(alloc: Global, file: &File<'_>, wire: &[u8]) -> bool {
-    goes_as(alloc, By::Framer, file, (1, 1), wire)
-        & goes_as(alloc, By::Framer, file, (4096, 4096), wire)
-        & goes_as(alloc, By::Framer, file, (70_000, 70_000), wire)
-}
-
-/// Whether 70,000 octets go with a marker behind 65,536 of them: eight blocks of 8,192 octets, the marker, and a block of 4,464.
-fn writes_70_000(alloc: Global) -> bool {
-    let octets = stretched(alloc, b"", b'x', 70_000, b"");
-    let mut wire = Paper::new(alloc);
-    for _ in 0..8 {
-        wire.put(b"\x00\x20\x00");
-        fill(&mut wire, b'x', 8192);
-    }
-    wire.put(b"\x10\x00\x0565536\x40\x11\x70");
-    fill(&mut wire, b'x', 4464);
-    let file = File {
-        form: form_of(b"IFB"),
-        start: Some(0),
-        octets: octets.text(),
-    };
-    (wire.text().len() == 70_035) & goes_by(alloc, &file, wire.text())
-}
-
-/// Whether a record of 8,192 octets goes as one block.
-fn writes_a_full_block(alloc: Global) -> bool {
-    let octets = stretched(alloc, b"", b'x', 8192, b"\n");
-    let wire = stretched(alloc, b"\xC0\x20\x00", b'x', 8192, b"");
-    let file = File {
-        form: form_of(b"IRB"),
-        start: None,
-        octets: octets.text(),
-    };
-    goes_by(alloc, &file, wire.text())
 }
 
 /// Whether an end is taken once all of it is out, and nothing goes behind it.
@@ -182,15 +147,7 @@ fn half_is_kept() -> bool {
 }
 
 /// What is tried here, and whether it holds.
-pub(crate) fn tried(alloc: Global, report: &mut Paper) {
-    report.holds(
-        "seventy thousand octets with a marker",
-        writes_70_000(alloc),
-    );
-    report.holds(
-        "a record of 8192 octets is one block",
-        writes_a_full_block(alloc),
-    );
+pub(crate) fn tried(report: &mut Paper) {
     report.holds("an end is taken once it is out", takes_it_once());
     report.holds(
         "encoder: an end that writes nothing is out before it is put",

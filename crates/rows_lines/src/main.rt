@@ -63,7 +63,6 @@ fn try_files(alloc: Global, report: &mut Paper) {
     sizes::tried(alloc, report);
     refusals::tried(alloc, report);
     words::tried(alloc, report);
-    framing::tried(alloc, report);
-    deframing::tried(alloc, report);
+    framing::tried(report);
     both_ways::tried(alloc, report);
 }

@@ -1,6 +1,6 @@
 //! Lines and the replies that they are (RFC 959, section 4.2), and the limits.
 use crate::common::hears;
-use crate::report::{put_printed, put_quoted, stretched};
+use crate::report::{fill, put_printed, put_quoted};
 use ftp_reply::{Reader, Reply, ReplyFault};
 use rows_base::{Paper, Refusing, number, octets_of, quoted, split};
 use std::alloc::{Allocator, Global};
@@ -113,7 +113,9 @@ fn hears_long(
     mark: &[u8],
     octets: u64,
 ) -> Result<bool, ReplyFault> {
-    let line = stretched(alloc, mark, b'x', octets as usize, b"");
+    let mut line = Paper::new(alloc);
+    line.put(mark);
+    fill(&mut line, b'x', octets as usize);
     hears(reader, line.text())
 }
 

@@ -1,22 +1,9 @@
 //! What is put together, and how it is printed.
+ghost use Rattle.std.specs.Prelude.{◌≤◌, length};
+
 use rows_base::Paper;
 use std::alloc::Global;
 use std::fmt::Display;
-
-/// A front, so many of one octet, and a back.
-pub(crate) fn stretched(
-    alloc: Global,
-    front: &[u8],
-    octet: u8,
-    count: usize,
-    back: &[u8],
-) -> Paper {
-    let mut paper = Paper::new(alloc);
-    paper.put(front);
-    fill(&mut paper, octet, count);
-    paper.put(back);
-    paper
-}
 
 /// Puts so many of one octet.
 pub(crate) fn fill(paper: &mut Paper, octet: u8, count: usize) {
@@ -25,11 +12,49 @@ pub(crate) fn fill(paper: &mut Paper, octet: u8, count: usize) {
     }
 }
 
-/// Puts octets between double quotes, as a script writes them.
+/// Puts octets between double quotes, as a script writes them: very many of one are `[8192x]`.
 pub(crate) fn put_quoted(octets: &[u8], paper: &mut Paper) {
     paper.put(b"\"");
-    paper.octets(octets);
+    let mut rest = octets;
+    for _ in 0..octets.len() {
+        if rest.is_empty() {
+            break;
+        }
+        let (run, behind) = rest.split_at(run_in_front(rest));
+        put_run(run, paper);
+        rest = behind;
+    }
     paper.put(b"\"");
+}
+
+/// The most octets of a run that are written one by one.
+const SHOWN: usize = 1_000;
+
+fn put_run(run: &[u8], paper: &mut Paper) {
+    match run {
+        [octet, ..] if run.len() > SHOWN => {
+            paper.put(b"[");
+            paper.number(run.len() as u64);
+            paper.octets(&[*octet]);
+            paper.put(b"]");
+        }
+        _ => paper.octets(run),
+    }
+}
+
+/// How many octets in front of these are the same.
+fn run_in_front(octets: &[u8]) -> usize
+    ensures { result ≤ length octets.now }
+{
+    let [first, ..] = octets else {
+        return 0;
+    };
+    for (at, octet) in octets.iter().enumerate() {
+        if *octet != *first {
+            return at;
+        }
+    }
+    octets.len()
 }
 
 /// Puts a value as it is printed.
@@ -45,4 +70,13 @@ pub(crate) fn is_printed<T: Display>(alloc: Global, value: &T, text: &str) -> bo
     let mut paper = Paper::new(alloc);
     put_printed(alloc, value, &mut paper);
     paper.text() == text.as_bytes()
+}
+
+/// Whether each value of a table is printed as its text.
+pub(crate) fn are_printed<T: Display>(alloc: Global, table: &[(T, &'static str)]) -> bool {
+    let mut all = true;
+    for row in table {
+        all &= is_printed(alloc, &row.0, row.1);
+    }
+    all
 }

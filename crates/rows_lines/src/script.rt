@@ -1,11 +1,12 @@
 //! Rows of the script: a word for what is tried, and behind it small words and octets.
+use crate::report::fill;
 use crate::row::Row;
 use crate::word::{FileWord, LineWord, Word, word_of};
 use crate::{
     both_ways, calendar, commands, decoding, deframing, ears, endpoints, entries, framing, growing,
     moments, receiving, replies, sending, sizes, skipping, values,
 };
-use rows_base::{Paper, cut, octets_of, split};
+use rows_base::{Paper, cut, number, octets_of, split};
 use std::alloc::Global;
 
 /// Writes each line of a script, and behind it what is said of it. A line of no such word is a remark.
@@ -26,12 +27,28 @@ pub(crate) fn play_all(alloc: Global, script: &[u8], paper: &mut Paper) {
 fn play(alloc: Global, line: &[u8], paper: &mut Paper) {
     let (word, text) = split(line);
     let (head, quoted) = cut(text, b'"');
-    match octets_of(alloc, cut(quoted, b'"').0) {
-        Ok(octets) => {
-            let octets = octets.as_slice();
-            answer(alloc, word_of(word), &Row { text, head, octets }, paper);
+    let mut octets = Paper::new(alloc);
+    put_octets(alloc, cut(quoted, b'"').0, &mut octets);
+    let octets = octets.text();
+    answer(alloc, word_of(word), &Row { text, head, octets }, paper);
+}
+
+/// Puts the octets of a text, in which `[8192x]` is so many of one.
+fn put_octets(alloc: Global, text: &[u8], octets: &mut Paper) {
+    let mut rest = text;
+    for _ in 0..text.len() {
+        if rest.is_empty() {
+            break;
         }
-        Err(_) => paper.fill(),
+        let (written, run) = cut(rest, b'[');
+        if let Ok(some) = octets_of(alloc, written) {
+            octets.put(some.as_slice());
+        }
+        let (run, behind) = cut(run, b']');
+        if let [digits @ .., octet] = run {
+            fill(octets, *octet, number(digits) as usize);
+        }
+        rest = behind;
     }
 }
 
@@ -75,7 +92,6 @@ fn answer_line(alloc: Global, word: LineWord, row: &Row<'_>, paper: &mut Paper) 
         LineWord::Seconds => moments::show_text(row.head, paper),
         LineWord::Moment => moments::show_seconds(row.octets, paper),
         LineWord::Years => calendar::show_years(row.head, paper),
-        LineWord::Centuries => calendar::show_centuries(row.head, paper),
         LineWord::Script => growing::show(
             alloc,
             &growing::Asked::Script(row.octets),

@@ -75,7 +75,7 @@ pub fn encode(
 ) -> bool {
     let mut space = [0; 64];
     let mut rest = file;
-    for _ in 0..200 {
+    for _ in 0..file.len().saturating_mul(3).saturating_add(200) {
         let (front, behind) = rest.split_at(piece.min(rest.len()));
         let (free, _) = space.split_at_mut(room.min(64));
         let encoded = encoder.put(front, behind.is_empty(), free);

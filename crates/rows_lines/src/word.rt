@@ -26,7 +26,6 @@ pub(crate) enum LineWord {
     Seconds,
     Moment,
     Years,
-    Centuries,
     Script,
 }
 
@@ -59,7 +58,6 @@ const WORDS: &[(&'static [u8], Word)] = &[
     (b"seconds", Word::Line(LineWord::Seconds)),
     (b"moment", Word::Line(LineWord::Moment)),
     (b"years", Word::Line(LineWord::Years)),
-    (b"centuries", Word::Line(LineWord::Centuries)),
     (b"script", Word::Line(LineWord::Script)),
     (
         b"number",

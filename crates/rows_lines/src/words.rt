@@ -1,4 +1,6 @@
-use ftp_repr::{Item, Kind, Receiver, Sender, Structure, wire_size};
+use crate::row::form_of;
+use crate::wires::comes_back;
+use ftp_repr::{Item, Kind, Receiver, Structure, wire_size};
 use rows_base::Paper;
 use std::alloc::Global;
 
@@ -56,50 +58,16 @@ fn is_counted(alloc: Global, word: &[u8]) -> bool {
     wire_size(Kind::Ascii, word) == wire.text().len() as u64
 }
 
-/// Hands an item on, its octets one by one.
-fn takes(receiver: &mut Receiver, item: Item<'_>, out: &mut Vec<u8>) -> bool {
-    match item {
-        Item::Octets(octets) => takes_octets(receiver, octets, out),
-        _ => receiver.take(item, out).is_ok(),
-    }
-}
-
-fn takes_octets(receiver: &mut Receiver, octets: &[u8], out: &mut Vec<u8>) -> bool {
-    let mut all = true;
-    for octet in octets {
-        all &= receiver.take(Item::Octets(&[*octet]), out).is_ok();
-    }
-    all
-}
-
-/// Sends a word and receives it.
-fn passes(kind: Kind, structure: Structure, word: &[u8], out: &mut Vec<u8>) -> bool {
-    let mut sender = Sender::new(kind, structure);
-    let mut receiver = Receiver::new(kind, structure);
-    let mut rest = word;
-    let mut all = true;
-    for _ in 0..20 {
-        let (taken, item) = sender.next(rest, true);
-        if let Some(item) = item {
-            all &= takes(&mut receiver, item, out);
-        }
-        let (_, behind) = rest.split_at(taken);
-        rest = behind;
-    }
-    all & sender.is_over()
-}
-
-/// Whether a word that was sent is received again.
-fn comes_back(alloc: Global, kind: Kind, structure: Structure, word: &[u8]) -> bool {
-    let mut out = Vec::new(alloc);
-    passes(kind, structure, word, &mut out) & (out.as_slice() == word)
+/// Whether a word that was sent in this representation is received again.
+fn comes(alloc: Global, letters: &[u8], word: &[u8]) -> bool {
+    comes_back(alloc, form_of(letters), None, word, &[1, 64])
 }
 
 fn word_agrees(alloc: Global, word: &[u8]) -> bool {
-    comes_back(alloc, Kind::Ascii, Structure::File, word)
-        & comes_back(alloc, Kind::Ascii, Structure::Record, word)
-        & comes_back(alloc, Kind::Image, Structure::File, word)
-        & comes_back(alloc, Kind::Image, Structure::Record, word)
+    comes(alloc, b"AFS", word)
+        & comes(alloc, b"ARS", word)
+        & comes(alloc, b"IFS", word)
+        & comes(alloc, b"IRS", word)
         & is_read(alloc, word, true)
         & is_read(alloc, word, false)
         & is_counted(alloc, word)

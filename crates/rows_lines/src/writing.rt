@@ -1,10 +1,10 @@
 //! A reply by its parts, and the faults as they are printed.
-use crate::report::is_printed;
+use crate::report::are_printed;
 use ftp_reply::{Reply, ReplyFault};
 use rows_base::Paper;
 use std::alloc::{AllocError, Global};
 
-const FAULTS: &[(ReplyFault, &str)] = &[
+const FAULTS: &[(ReplyFault, &'static str)] = &[
     (ReplyFault::BadCode, "Q1 BadCode"),
     (ReplyFault::TooMany, "Q2 TooMany"),
     (ReplyFault::NoEndpoint, "Q3 NoEndpoint"),
@@ -26,16 +26,11 @@ fn is_built(alloc: Global) -> Result<bool, AllocError> {
     )
 }
 
-fn are_printed(alloc: Global) -> bool {
-    let mut all = true;
-    for (fault, text) in FAULTS {
-        all &= is_printed(alloc, fault, text);
-    }
-    all
-}
-
 /// What is tried here, and whether it holds.
 pub(crate) fn tried(alloc: Global, report: &mut Paper) {
     report.holds("a reply by its parts", is_built(alloc) == Ok(true));
-    report.holds("faults are printed with their numbers", are_printed(alloc));
+    report.holds(
+        "faults are printed with their numbers",
+        are_printed(alloc, FAULTS),
+    );
 }
