@@ -35,10 +35,11 @@ pub runs_more : (cues : List Cue) (cue : Cue) (before after : List Gift) (v : Vi
     → new.counts ≡ mid.counts → RunsTo (cues ++ cue ∷ []) after v new.view
 runs_more cues cue before after v mid new runs next same = λ read is.
     let one = next same read is in
-    let all = runs read is in
-    (one.0 ∙ ap (λ (w : View). before ++ (call read cue w).0 ∷ []) all.1 ∙ ap (λ (gifts : List Gift). gifts ++ (call read cue (left_by read cues v)).0 ∷ []) all.0
-    ∙ sym (played_more read cues cue v),
-    one.1 ∙ ap (λ (w : View). (call read cue w).1) all.1 ∙ sym (left_more read cues cue v))
+    let all = runs read is in (
+      one.0 ∙ ap (λ (w : View). before ++ (call read cue w).0 ∷ []) all.1 ∙ ap (λ (gifts : List Gift). gifts ++ (call read cue (left_by read cues v)).0 ∷ []) all.0
+          ∙ sym (played_more read cues cue v),
+      one.1 ∙ ap (λ (w : View). (call read cue w).1) all.1 ∙ sym (left_more read cues cue v),
+    )
 
 -- what a call gave is kept
 pub next_kept : (cue : Cue) (gift : Gift) (before after : List Gift) (old new : Server) → after ≡ before ++ gift ∷ [] → Gives cue gift old new → PlaysNext cue before after old new
