@@ -1,6 +1,6 @@
 //! A client on which rows are played.
 mod answer;
 mod played;
-mod run;
+mod playing;
 
-pub use run::run;
+pub use playing::run;

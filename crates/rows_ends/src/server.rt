@@ -1,6 +1,6 @@
 //! A server on which rows are played.
 mod begun;
 mod played;
-mod run;
+mod playing;
 
-pub use run::run;
+pub use playing::run;

@@ -1,6 +1,7 @@
 //! For tests alone: what `serve` answers where nobody is served, or a folder, a file of accounts, an address or a port is refused, and sessions
 //! over the loopback; which places texts say, and what `run`, `get`, `put` and `ls` answer where nobody listens, or where nothing can be asked; what
-//! uploads and downloads ask of a server that answers so; and scripts as `pair` and as `loop` play them (RFC 959; RFC 3659).
+//! uploads and downloads ask of a server that answers so; and scripts as `pair` and as `loop` play them (RFC 959; RFC 3659). Before them the rows of
+//! the crates below, since each program that stands above an end costs more to prove and to build than its rows.
 #![tactic(auto)]
 
 mod downloads;
@@ -37,6 +38,7 @@ fn main(rt: HostRuntime) -> ExitCode {
 
 /// Plays all rows; gives the status of the last script, that of `loop`.
 fn played(rt: &HostRuntime) -> io::Result<Status> {
+    others(rt)?;
     served(rt)?;
     let mut script = Vec::new(rt.alloc());
     rt.reader().read_to_end(&mut script)?;
@@ -46,6 +48,31 @@ fn played(rt: &HostRuntime) -> io::Result<Status> {
     paper.put(scripts::play_all(rt.alloc(), pairs).text());
     io::writer(rt).write_all(paper.text())?;
     ftp_tool_loop::play(&Typing { rt, text })
+}
+
+/// Writes the rows of the crates below, each of which lie in a file.
+fn others(rt: &HostRuntime) -> io::Result<()> {
+    let alloc = rt.alloc();
+    write(
+        rt,
+        &rows_lines::play_all(alloc, fs::read(rt, "lines")?.as_slice()),
+    )?;
+    write(
+        rt,
+        &rows_tree::play_all(alloc, fs::read(rt, "trees")?.as_slice()),
+    )?;
+    write(
+        rt,
+        &rows_ends::play_all(alloc, fs::read(rt, "ends")?.as_slice()),
+    )?;
+    write(
+        rt,
+        &rows_world::play_all(alloc, fs::read(rt, "worlds")?.as_slice()),
+    )
+}
+
+fn write(rt: &HostRuntime, paper: &Paper) -> io::Result<()> {
+    io::writer(rt).write_all(paper.text())
 }
 
 /// Writes the rows of `serve`.

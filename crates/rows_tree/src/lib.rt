@@ -20,13 +20,4 @@ mod told;
 mod verb;
 mod words;
 
-use row::play_all;
-use std::io;
-use std::io::{Read, Write};
-
-fn main(rt: HostRuntime) -> io::Result<()> {
-    let mut script = Vec::new(rt.alloc());
-    rt.reader().read_to_end(&mut script)?;
-    let paper = play_all(rt.alloc(), script.as_slice());
-    io::writer(&rt).write_all(paper.text())
-}
+pub use row::play_all;

@@ -21,8 +21,6 @@ mod verb;
 
 use rows_base::{Paper, row_in_front};
 use std::alloc::Global;
-use std::io;
-use std::io::{Read, Write};
 use turn::{CLIENT, SERVER, Side};
 
 /// What a row is played on.
@@ -32,14 +30,8 @@ enum On {
     Program,
 }
 
-fn main(rt: HostRuntime) -> io::Result<()> {
-    let mut script = Vec::new(rt.alloc());
-    rt.reader().read_to_end(&mut script)?;
-    io::writer(&rt).write_all(play_all(rt.alloc(), script.as_slice()).text())
-}
-
 /// Plays each row of a script, and then those that are no lines of it. Rows are paragraphs; they are a server's at first.
-fn play_all(alloc: Global, script: &[u8]) -> Paper {
+pub fn play_all(alloc: Global, script: &[u8]) -> Paper {
     let mut paper = Paper::new(alloc);
     let mut on = On::End(SERVER);
     let mut rest = script;

@@ -34,19 +34,15 @@ mod written;
 
 use rows_base::Paper;
 use std::alloc::Global;
-use std::io;
-use std::io::{Read, Write};
 
 /// Tries all rows: writes each line of the script with what is said of it, and a line for each table.
-fn main(rt: HostRuntime) -> io::Result<()> {
-    let mut rows = Vec::new(rt.alloc());
-    rt.reader().read_to_end(&mut rows)?;
-    let mut report = Paper::new(rt.alloc());
-    script::play_all(rt.alloc(), rows.as_slice(), &mut report);
+pub fn play_all(alloc: Global, rows: &[u8]) -> Paper {
+    let mut report = Paper::new(alloc);
+    script::play_all(alloc, rows, &mut report);
     report.put(b"\n");
-    try_lines(rt.alloc(), &mut report);
-    try_files(rt.alloc(), &mut report);
-    io::writer(&rt).write_all(report.text())
+    try_lines(alloc, &mut report);
+    try_files(alloc, &mut report);
+    report
 }
 
 fn try_lines(alloc: Global, report: &mut Paper) {

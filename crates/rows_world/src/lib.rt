@@ -17,11 +17,4 @@ mod ways;
 mod words;
 mod world;
 
-use std::io;
-use std::io::{Read, Write};
-
-fn main(rt: HostRuntime) -> io::Result<()> {
-    let mut rows = Vec::new(rt.alloc());
-    rt.reader().read_to_end(&mut rows)?;
-    io::writer(&rt).write_all(row::play_all(rt.alloc(), rows.as_slice()).text())
-}
+pub use row::play_all;
