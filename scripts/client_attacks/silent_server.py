@@ -6,6 +6,7 @@ anew over four more control connections, behind 1, 2, 4 and 8 seconds.
 """
 import socket
 import tempfile
+import threading
 import time
 from concurrent.futures import ThreadPoolExecutor
 from pathlib import Path
@@ -41,7 +42,7 @@ def open_behind(code):
         session.reply("150 here")
         link = session.data.accept()[0]
         KEPT.append(link)
-        link.sendall(WHOLE)
+        link.sendall(WHOLE[session.offset:])
         session.reply(code)
 
     return retr
@@ -68,7 +69,7 @@ def no_greeting():
         while True:
             KEPT.append(listener.accept()[0])
 
-    ThreadPoolExecutor(1).submit(accept)
+    threading.Thread(target=accept, daemon=True).start()
     return listener.getsockname()[1]
 
 
@@ -118,7 +119,7 @@ def main():
         ("get, silent behind PASV", FakeServer({"SIZE": size, "PASV": hang}).port, get, 3, silent),
         ("get, silent behind RETR", FakeServer({"SIZE": size, "RETR": hang}).port, get, 3, silent),
         ("get, silent behind 1,000 octets", FakeServer({"SIZE": size, "RETR": hang_in_data}).port, get, 3, silent),
-        ("get, 226 and the data connection stays open", FakeServer({"SIZE": size, "RETR": open_behind("226 done")}).port, get, 0, b""),
+        ("get, 226 and the data connection stays open: no end, so not whole", FakeServer({"SIZE": size, "RETR": open_behind("226 done")}).port, get, 1, b"broke"),
         ("get, silent behind QUIT", FakeServer({"SIZE": size, "RETR": lambda s, _: s.send(WHOLE), "QUIT": hang}).port, get, 0, b""),
         ("put, silent behind STOR", FakeServer({"SIZE": "550 no", "STOR": hang}).port, put, 3, silent),
         ("put, nothing is taken", FakeServer({"SIZE": "550 no", "STOR": takes_nothing}).port, put, 3, silent),
