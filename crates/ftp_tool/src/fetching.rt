@@ -7,6 +7,9 @@ use ftp_tool_fetch::{Download, Target, Task};
 use ftp_tool_files::{number_of, representation_of};
 use ftp_tool_words::place_of;
 
+/// The most octets that a file may be said to have.
+const MOST_OCTETS: u64 = 999_999_999_999_999_999;
+
 /// The words of `get`.
 pub const GET: Subcommand<'static> = Subcommand {
     name: "get",
@@ -42,7 +45,7 @@ pub const PUT: Subcommand<'static> = Subcommand {
         Word {
             name: "file",
             form: Form::NeededPlace(Value::Name("FILE")),
-            help: "the file to read",
+            help: "the file to read; - is standard input",
         },
         PLACE,
     ],
@@ -92,6 +95,11 @@ const OPTIONS: &[Word<'static>] = &[
         help: "tells how far a transfer is, each second; without it where standard error is a terminal",
     },
     TIMEOUT,
+    Word {
+        name: "limit",
+        form: Form::Else(Value::Number("OCTETS", 0, MOST_OCTETS), "1073741824"),
+        help: "the most octets of a file, which is held in memory",
+    },
     Word {
         name: "type",
         form: Form::Else(TYPE, "I"),
@@ -148,6 +156,7 @@ pub fn asked_of<'a>(words: &'a ArgMatches<'_>, is_terminal: bool) -> Option<Targ
         how: how_of(words)?,
         timeout: number_of(words.get_str("timeout")?)?,
         progress: is_terminal || words.get_flag("progress"),
+        limit: words.get_str("limit")?.parse().ok()?,
     })
 }
 

@@ -161,7 +161,8 @@ where
 /// Does what `get`, `put` or `ls` asks for, where standard error may be a terminal.
 fn fetch<R>(rt: &R, name: &str, words: &ArgMatches<'_>, is_terminal: bool) -> Result<u8>
 where
-    R: Print
+    R: Input
+        + Print
         + Eprint
         + Env
         + Files

@@ -1,7 +1,6 @@
 // A download: what is asked for, and what is left of it at this end.
 use crate::came::Came;
 use crate::downloading::Downloading;
-use crate::file::{write_over, write_part};
 use crate::single::{Wish, ask_at, ask_for};
 use crate::target::Target;
 use crate::telling::{Part, tell};
@@ -9,6 +8,7 @@ use ftp_facts::Moment;
 use ftp_operation::{Answer, How};
 use ftp_settings::{Mode, Structure};
 use ftp_tool_connection::{LastReply, Phase, SessionFault, at, say};
+use ftp_tool_local::{write_over, write_part};
 use ftp_tool_status::{Arrival, Status};
 use std::alloc::Global;
 use std::env::Env;

@@ -27,7 +27,7 @@ const NOT_IMPLEMENTED: u16 = 502;
 pub enum Task<'a> {
     /// The file is downloaded.
     Get(Download<'a>),
-    /// This file of this end is uploaded.
+    /// This file of this end is uploaded; `-` is standard input.
     Put(&'a str),
     /// The entries of the directory go to standard output, or its names where the server has no machine listing.
     List,
@@ -40,6 +40,7 @@ where
     R: Net<Listener = TcpListener, Stream = TcpStream>
         + Files
         + Env
+        + Input
         + Print
         + Eprint
         + Clock

@@ -15,6 +15,8 @@ pub struct Target<'a> {
     pub timeout: u32,
     /// Whether a transfer that takes more than a second is told of, each second at most.
     pub progress: bool,
+    /// The most octets of a file, which is held in memory.
+    pub limit: u64,
 }
 
 impl<'a> Target<'a> {

@@ -57,6 +57,17 @@ fn status(answer: &Answer<Global>) -> Status {
     }
 }
 
+/// Tells that a file has too many octets to be held in memory, and gives the exit status.
+pub(crate) fn tell_too_large<R: Eprint>(rt: &R, size: u64, limit: u64) -> io::Result<Status> {
+    let part = Part {
+        count: size,
+        between: " octets are past the limit of ",
+        total: limit,
+    };
+    say(rt, "error: ", &part, "")?;
+    Ok(Status::Refused)
+}
+
 /// How much of a file there is, as it is told: both numbers, and a text between them.
 #[derive(Clone, Copy)]
 pub(crate) struct Part<'a> {

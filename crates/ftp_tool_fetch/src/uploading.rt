@@ -1,8 +1,8 @@
 // An upload, which goes on where the server has it: over breaks, and where a 226 came and not all is there.
-use crate::file::{Content, read_from};
 use crate::single::ask_at;
+use crate::source::Source;
 use crate::target::Target;
-use crate::telling::{Part, tell};
+use crate::telling::{Part, tell, tell_too_large};
 use crate::trying::{NO_FILE, ended_of, is_counted, size_request, there_of};
 use ftp_client_steps::MOST_TRIES;
 use ftp_facts::Text;
@@ -10,25 +10,25 @@ use ftp_operation::{Answer, How, Op};
 use ftp_tool_connection::{
     ClientSession, LastReply, Phase, Request, SessionFault, SessionTask, at, say,
 };
+use ftp_tool_local::{Reading, read_from, read_most};
 use ftp_tool_status::{Ended, Status, Step, There, Transfer, follows};
 use std::alloc::{AllocError, Global};
 use std::env::Env;
 use std::fs::Files;
 use std::io;
-use std::io::{Eprint, Error, ErrorKind};
+use std::io::Eprint;
 use std::net::{Net, TcpListener, TcpStream};
-use std::time::{Clock, SystemTime};
+use std::time::Clock;
+
+/// The file that stands for standard input.
+const INPUT: &str = "-";
 
 /// An upload, until the server answers to it.
 pub struct Uploading<'a, R> {
     rt: &'a R,
-    file: &'a str,
+    source: Source<'a>,
     path: &'a str,
     how: How,
-    /// All octets of the file, until they go for the first time; then they are read anew.
-    octets: Option<Vec<u8, Global>>,
-    /// When the file was changed last, where that is known.
-    changed: Option<SystemTime>,
     upload: Transfer,
     /// Whether a control connection ended behind the question for the size of what stands there.
     is_blind: bool,
@@ -41,11 +41,9 @@ impl<'a, R> Drop for Uploading<'a, R> {
     fn drop(self) {
         let Self {
             rt: _,
-            file: _,
+            source: _,
             path: _,
             how: _,
-            octets: _,
-            changed: _,
             upload: _,
             is_blind: _,
             wrong: _,
@@ -53,7 +51,7 @@ impl<'a, R> Drop for Uploading<'a, R> {
     }
 }
 
-/// Uploads a file, and gives the exit status.
+/// Uploads a file, or standard input, and gives the exit status.
 pub(crate) fn put<R>(
     rt: &R,
     asked: &Target<'_>,
@@ -61,11 +59,29 @@ pub(crate) fn put<R>(
     noticed: &mut LastReply,
 ) -> Result<Status, SessionFault>
 where
-    R: Net<Listener = TcpListener, Stream = TcpStream> + Files + Env + Eprint + Clock + AllocGlobal,
+    R: Net<Listener = TcpListener, Stream = TcpStream>
+        + Files
+        + Env
+        + Input
+        + Eprint
+        + Clock
+        + AllocGlobal,
 {
-    match Uploading::new(rt, file, asked.place.path, asked.how) {
-        Ok(mut uploading) => put_by(rt, asked, &mut uploading, noticed),
-        Err(error) => at(Phase::Reading, Err(error)),
+    let source = match at(Phase::Reading, read(rt, file, asked.limit))? {
+        Reading::Content(content) if file == INPUT => Source::Kept(content.octets),
+        Reading::Content(content) => Source::file(file, content),
+        Reading::TooLarge(size) => return at(Phase::Report, tell_too_large(rt, size, asked.limit)),
+    };
+    let mut uploading = Uploading::new(rt, source, asked.place.path, asked.how);
+    put_by(rt, asked, &mut uploading, noticed)
+}
+
+/// Reads what is to be uploaded.
+fn read<R: Files + Input + AllocGlobal>(rt: &R, file: &str, limit: u64) -> io::Result<Reading> {
+    if file == INPUT {
+        read_most(rt.alloc(), &mut rt.reader(), limit)
+    } else {
+        read_from(rt, file, 0, limit)
     }
 }
 
@@ -90,25 +106,21 @@ where
 }
 
 impl<'a, R: Files + Eprint + AllocGlobal> Uploading<'a, R> {
-    /// Reads a file of this end, which is to be at a path of a server.
-    pub fn new(rt: &'a R, file: &'a str, path: &'a str, how: How) -> io::Result<Uploading<'a, R>> {
-        let content = read_from(rt, file, 0)?;
-        let total = content.octets.len() as u64;
-        Ok(Uploading {
+    /// These octets are to be at a path of a server.
+    pub fn new(rt: &'a R, source: Source<'a>, path: &'a str, how: How) -> Uploading<'a, R> {
+        Uploading {
             rt,
-            file,
-            path,
-            how,
-            octets: Some(content.octets),
-            changed: content.changed,
             upload: Transfer {
-                total,
+                total: source.total(),
                 left: MOST_TRIES,
                 older: There::Untold,
             },
+            source,
+            path,
+            how,
             is_blind: false,
             wrong: None,
-        })
+        }
     }
 
     /// Asks for the size of what stands there before the first try; says whether tries may follow over this control connection.
@@ -151,33 +163,12 @@ impl<'a, R: Files + Eprint + AllocGlobal> Uploading<'a, R> {
     /// What is asked for a try.
     fn request(&mut self, from: u64) -> io::Result<Request> {
         let path = self.path()?;
-        let octets = Text::from_vec(self.octets_from(from)?);
+        let octets = Text::from_vec(self.source.octets_from(self.rt, from)?);
         Ok(Request::One(Some(if from == 0 {
             Op::Put(path, octets, self.how)
         } else {
             Op::PutFrom(path, from, octets, self.how)
         })))
-    }
-
-    /// The octets of the file from one of them on. Those of the first try are there already.
-    fn octets_from(&mut self, from: u64) -> io::Result<Vec<u8, Global>> {
-        match self.octets.take() {
-            Some(octets) => Ok(octets),
-            None => self.read_again(from),
-        }
-    }
-
-    /// Reads octets of the file anew; fails where it has changed.
-    fn read_again(&self, from: u64) -> io::Result<Vec<u8, Global>> {
-        let Content { octets, changed } = read_from(self.rt, self.file, from)?;
-        let total = from.saturating_add(octets.len() as u64);
-        if total != self.upload.total || changed != self.changed {
-            return Err(Error::new(
-                ErrorKind::InvalidData,
-                "it has changed since the upload began",
-            ));
-        }
-        Ok(octets)
     }
 
     /// What follows a try that was answered so, with a data connection or without.

@@ -53,6 +53,7 @@ fn asked(has_password: bool) -> Target<'static> {
         how: HOW,
         timeout: 60,
         progress: false,
+        limit: 1_000,
     }
 }
 
@@ -86,6 +87,7 @@ where
     R: Net<Listener = TcpListener, Stream = TcpStream>
         + Files
         + Env
+        + Input
         + Print
         + Eprint
         + Clock

@@ -3,22 +3,28 @@ use crate::seat::played;
 use crate::tries::Row;
 use ftp_operation::Answer;
 use ftp_tool_connection::{LastReply, SessionFault};
-use ftp_tool_fetch::Uploading;
+use ftp_tool_fetch::{Source, Uploading};
+use ftp_tool_local::{Reading, read_from};
 use rows_base::Paper;
 use std::alloc::Global;
 use std::fs::Files;
 use std::io;
-use std::io::Eprint;
+use std::io::{Eprint, Error, ErrorKind};
 
 /// A file of ten octets.
 const FILE: &str = "ten";
+
+const LIMIT: u64 = 10;
 
 /// Puts what an upload asks, and its status.
 pub(crate) fn put<R>(rt: &R, paper: &mut Paper, row: Row<'_>) -> io::Result<()>
 where
     R: Files + Eprint + AllocGlobal,
 {
-    let mut uploading = Uploading::new(rt, FILE, "a", row.how)?;
+    let Reading::Content(content) = read_from(rt, FILE, 0, LIMIT)? else {
+        return Err(Error::from(ErrorKind::InvalidInput));
+    };
+    let mut uploading = Uploading::new(rt, Source::file(FILE, content), "a", row.how);
     let answer = played(rt.alloc(), paper, row, &mut uploading);
     paper.put(b"; ");
     put_end(paper, &uploading, &answer)?;

@@ -1,4 +1,7 @@
 // Where the octets of a file of this end go.
+ghost use Rattle.std.specs.Prelude.{◌≡◌};
+ghost use Rattle.ftp_tool_local.specs.Place.{way_of};
+
 use std::alloc::Global;
 use std::fs::{Files, Metadata};
 use std::io::{Error, ErrorKind};
@@ -12,6 +15,27 @@ const LINKS: u32 = 40;
 /// Where names are links that lead to what a process has open, whatever they read as.
 const PROCESSES: &str = "/proc/";
 
+/// What stands at a name, or where the links from it lead.
+#[derive(Clone, Copy)]
+pub enum Standing {
+    Nothing,
+    /// A file with these permissions.
+    File(u32),
+    Directory,
+    /// What is no file, as a terminal or a pipe.
+    Other,
+}
+
+/// How octets get to a name.
+#[derive(Clone, Copy)]
+pub enum Way {
+    /// They are written beside it, and moved over it, with these permissions, where a file stands there.
+    Over(Option<u32>),
+    /// Behind what stands there, which is never replaced.
+    Into,
+    Nowhere,
+}
+
 /// Where the octets of a file go.
 #[derive(Drop)]
 pub(crate) enum Place {
@@ -20,25 +44,42 @@ pub(crate) enum Place {
         name: PathBuf<Global>,
         mode: Option<u32>,
     },
-    /// What is no file, as a terminal or a pipe, is written as it stands, and never replaced.
     Device,
 }
 
 /// Where the octets of a file go: past links, so that none is replaced by a file. No octets go to a directory.
 pub(crate) fn place_of<R: Files + AllocGlobal>(files: &R, file: &str) -> io::Result<Place> {
-    let mode = match fs::metadata(files, file) {
-        Ok(found) if found.is_file() => Some(mode_of(&found)),
-        Ok(found) if found.is_dir() => return Err(bad("a directory has that name")),
-        Ok(_) => return Ok(Place::Device),
-        Err(error) if error.kind() == ErrorKind::NotFound => None,
-        Err(error) => return Err(error),
-    };
+    let standing = standing_at(files, file)?;
     let name = led(files, file)?;
-    Ok(if name.as_str().starts_with(PROCESSES) {
-        Place::Device
-    } else {
-        Place::File { name, mode }
-    })
+    match way_of(standing, name.as_str().starts_with(PROCESSES)) {
+        Way::Over(mode) => Ok(Place::File { name, mode }),
+        Way::Into => Ok(Place::Device),
+        Way::Nowhere => Err(bad("a directory has that name")),
+    }
+}
+
+/// What stands at a name, where links are followed.
+fn standing_at<R: Files>(files: &R, file: &str) -> io::Result<Standing> {
+    match fs::metadata(files, file) {
+        Ok(found) if found.is_file() => Ok(Standing::File(mode_of(&found))),
+        Ok(found) if found.is_dir() => Ok(Standing::Directory),
+        Ok(_) => Ok(Standing::Other),
+        Err(error) if error.kind() == ErrorKind::NotFound => Ok(Standing::Nothing),
+        Err(error) => Err(error),
+    }
+}
+
+/// How octets get to a name where this stands; `is_open`: links lead to what a process has open.
+fn way_of(standing: Standing, is_open: bool) -> Way
+    ensures { result ≡ way_of standing is_open }
+{
+    match standing {
+        Standing::Directory => Way::Nowhere,
+        Standing::Other => Way::Into,
+        Standing::File(_) | Standing::Nothing if is_open => Way::Into,
+        Standing::File(mode) => Way::Over(Some(mode)),
+        Standing::Nothing => Way::Over(None),
+    }
 }
 
 /// The permissions of a file.

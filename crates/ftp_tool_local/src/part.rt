@@ -1,10 +1,13 @@
-// Files of this end.
+// A file of this end, as it is written: beside its name, and moved over it.
+ghost use Rattle.std.specs.Prelude.{◌≡◌, IfOk, string_bytes};
+ghost use Rattle.ftp_tool_local.specs.Part.{part_name};
+
 use crate::place::{Place, place_of};
 use ftp_facts::{Moment, Text};
 use itoa::Buffer;
 use std::alloc::{AllocError, Global};
-use std::fs::{File, FileTimes, Files, OpenFile, OpenOptions, Permissions};
-use std::io::{Error, ErrorKind, Read, Seek, SeekFrom, Write};
+use std::fs::{FileTimes, Files, OpenFile, OpenOptions, Permissions};
+use std::io::{Error, ErrorKind, Write};
 use std::os::unix::fs::{OpenOptionsExt, PermissionsExt};
 use std::time::{Duration, SystemTime, UNIX_EPOCH};
 use std::{fs, io};
@@ -18,32 +21,6 @@ const NAMES: u32 = 100;
 /// The permissions of a file that has no predecessor, less the umask.
 const NEW_MODE: u32 = 0o666;
 
-/// Octets of a file, and when it was changed last, where that is known.
-#[derive(Drop)]
-pub(crate) struct Content {
-    pub(crate) octets: Vec<u8, Global>,
-    pub(crate) changed: Option<SystemTime>,
-}
-
-/// The octets of a file from one of them on.
-pub(crate) fn read_from<R: Files + AllocGlobal>(
-    files: &R,
-    file: &str,
-    from: u64,
-) -> io::Result<Content> {
-    let mut opened = File::open(files, file)?;
-    let found = opened.metadata()?;
-    if from > 0 {
-        let _place = opened.seek(SeekFrom::Start(from))?;
-    }
-    let mut octets = Vec::with_capacity(files.alloc(), found.len().saturating_sub(from) as usize)?;
-    let _count = opened.read_to_end(&mut octets)?;
-    Ok(Content {
-        octets,
-        changed: found.modified().ok(),
-    })
-}
-
 /// A file beside another, which was made just now: no other program writes it or moves it.
 struct Part<F> {
     name: String<Global>,
@@ -51,7 +28,7 @@ struct Part<F> {
 }
 
 /// Writes the octets of a file: beside its name, to where links lead, and moved over it; into what is no file, as it stands.
-pub(crate) fn write_over<R: Files + AllocGlobal>(
+pub fn write_over<R: Files + AllocGlobal>(
     files: &R,
     file: &str,
     pieces: &[Text<Global>],
@@ -92,7 +69,7 @@ fn replace<R: Files + AllocGlobal>(
 }
 
 /// Writes a part of a file beside its name, leaves it there, and gives its own name. Where that fails, what was written is removed again.
-pub(crate) fn write_part<R: Files + AllocGlobal>(
+pub fn write_part<R: Files + AllocGlobal>(
     files: &R,
     file: &str,
     pieces: &[Text<Global>],
@@ -152,7 +129,9 @@ fn create<R: Files + AllocGlobal>(files: &R, file: &str, mode: u32) -> io::Resul
 }
 
 /// A name beside a file, by its number from 0.
-fn beside(alloc: Global, file: &str, number: u32) -> Result<String<Global>, AllocError> {
+pub fn beside(alloc: Global, file: &str, number: u32) -> Result<String<Global>, AllocError>
+    ensures { IfOk result (λ name. string_bytes name ≡ part_name file.now number) }
+{
     let mut name: String<Global> = String::from_str(alloc, file)?;
     name.push_str(BESIDE)?;
     if number > 0 {

@@ -1,0 +1,6 @@
+-- How much of a file is read where a limit stands.
+pub mod Content
+-- What a file is called while it is written.
+pub mod Part
+-- Where the octets of a file go.
+pub mod Place

@@ -1,0 +1,10 @@
+//! Files of this end: read, also from an octet on and up to a limit; written beside their names, and moved over them once they are whole (own choice).
+#![tactic(auto)]
+
+mod content;
+mod part;
+mod place;
+
+pub use content::{Content, Reading, read_from, read_most};
+pub use part::{beside, write_over, write_part};
+pub use place::{Standing, Way};
