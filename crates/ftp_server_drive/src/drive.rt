@@ -292,10 +292,7 @@ where
             send_once(server, ports, watch, data);
             Ok(())
         }
-        Came::End => {
-            over(server, ports, watch, data, spoken);
-            Ok(())
-        }
+        Came::End => over(server, control, ports, watch, data, spoken),
         Came::Break => {
             lose(server, ports, watch, data);
             Ok(())
@@ -303,26 +300,32 @@ where
     }
 }
 
-/// The data connection ended: the server is told the moment and that, and it is closed.
-fn over<A, T, F, P, C>(
+/// The data connection ended: the server is told the moment and that, what it owes then is written, and only then is it closed: its peer, which ended
+/// it, waits for the reply alone.
+fn over<A, T, F, R, W, P, C>(
     server: &mut F,
+    control: &mut Control<R, W>,
     ports: &mut P,
     watch: &mut C,
     data: &mut Data<P::Stream>,
     spoken: Spoken,
-)
+) -> Result<(), Failed>
 where
     A: Allocator,
     T: Tree<A>,
     F: Far<A, T>,
+    R: Read + Drop,
+    W: Write + Drop,
     P: Ports,
     C: Watch,
     requires before { spoken ≢ Spoken.Ended }
     requires ended { HasEnded P.Stream.remaining «data».old.connection }
-    ensures { Quietly server_side (held (F.server server.old) (lane_at P.Stream.remaining P.Stream.contents (P.history ports.old) «data».old [])) (held (F.server server.new) (lane_at P.Stream.remaining P.Stream.contents (P.history ports.new) «data».new [])) }
+    ensures { Goes (beside R.remaining W.contents (held (F.server server.old) (lane_at P.Stream.remaining P.Stream.contents (P.history ports.old) «data».old [])) control.old) (beside R.remaining W.contents (held (F.server server.new) (lane_at P.Stream.remaining P.Stream.contents (P.history ports.new) «data».new [])) control.new) result }
 {
     end(server, watch, data, spoken);
+    flush(server, control)?;
     data.leave(ports);
+    Ok(())
 }
 
 /// Writes octets of a download, once; where that fails, the data connection is lost.

@@ -23,8 +23,8 @@ returns-in-Room g c =
 
 pub returns-in-End : goal.returns-in-End
 returns-in-End g c =
-    let new = (beside g.R.Read.remaining g.W.Write.contents (held (g.F.Far.server c.over.new.server) (lane_at g.P.Stream.Read.remaining g.P.Stream.Write.contents (g.P.Ports.history c.over.new.ports) c.over.new.data [])) c.args.control.now) in
-    subst (λ l. Leads (beside g.R.Read.remaining g.W.Write.contents (held (g.F.Far.server c.args.server.now) (lane_at g.P.Stream.Read.remaining g.P.Stream.Write.contents (g.P.Ports.history c.args.ports.now) c.args.data.now l)) c.args.control.now) new) (sym (ap (λ k. in_hand k c.args.data.now.room) c.in-End.is)) (c.over.ensures _ _ _)
+    let new = (beside g.R.Read.remaining g.W.Write.contents (held (g.F.Far.server c.over.new.server) (lane_at g.P.Stream.Read.remaining g.P.Stream.Write.contents (g.P.Ports.history c.over.new.ports) c.over.new.data [])) c.over.new.control) in
+    subst (λ l. Goes (beside g.R.Read.remaining g.W.Write.contents (held (g.F.Far.server c.args.server.now) (lane_at g.P.Stream.Read.remaining g.P.Stream.Write.contents (g.P.Ports.history c.args.ports.now) c.args.data.now l)) c.args.control.now) new c.over.result) (sym (ap (λ k. in_hand k c.args.data.now.room) c.in-End.is)) c.over.ensures
 
 pub returns-in-Break : goal.returns-in-Break
 returns-in-Break g c =
