@@ -1,0 +1,2 @@
+mod NetrcLemmas
+mod UrlLemmas

@@ -1,0 +1,4 @@
+pub mod Entry
+pub mod Netrc
+pub mod Spot
+pub mod UrlPlace
