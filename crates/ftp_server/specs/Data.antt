@@ -1,6 +1,6 @@
 -- Octets of the data connection as one call takes them, and what is said of them.
-use Rattle.std.specs.Prelude.{◌≡◌, ◌⊎◌, ℕ, false, List, length}
-use Rattle.ftp_server_model.specs.Calls.{MayReceive, may_receive, receives}
+use Rattle.std.specs.Prelude.{◌≡◌, ℕ, List}
+use Rattle.ftp_server_model.specs.Calls.{MayReceive, receives}
 use Rattle.ftp_server_model.specs.Failing.{Late}
 use Rattle.ftp_server_model.specs.Machine.{later, owes, replied}
 use Rattle.ftp_server_model.specs.Replies.{mark_reply, reply_octets}
@@ -12,10 +12,6 @@ use Rattle.ftp_server_parts.specs.declared.transfer.Told.TheVariants.{Nothing, M
 -- they are taken as ever, each when it may be
 abbrev pub ReceivesTo : List ℕ → View → View → Type 0
 ReceivesTo octets v w = (w ≡ receives v octets) × MayReceive v octets
-
--- so many of them is all, or no further octet may be taken
-abbrev pub IsMost : ℕ → List ℕ → View → Type 0
-IsMost count octets v = (count ≡ length octets) ⊎ (may_receive v ≡ false)
 
 -- the 451 by which a transfer ends
 abbrev pub refused : View → View

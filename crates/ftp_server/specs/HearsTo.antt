@@ -1,7 +1,7 @@
 -- Control octets, however lines are read: there is one reading of them.
-use Rattle.std.specs.Prelude.{◌≡◌, ◌⊎◌, ℕ, false, List, length}
+use Rattle.std.specs.Prelude.{◌≡◌, ℕ, List}
 use Rattle.ftp_server_model.specs.Failing.{AreHeard}
-use Rattle.ftp_server_model.specs.Machine.{IsReading, MayHear, Reading, hears, may_hear}
+use Rattle.ftp_server_model.specs.Machine.{IsReading, MayHear, Reading, hears}
 use Rattle.ftp_server_model.specs.View.{View}
 
 -- they are heard as ever, each when it may be
@@ -11,7 +11,3 @@ HearsTo octets v w = (read : Reading) → IsReading read → (w ≡ hears read v
 -- they are heard, and some of what they asked may have failed
 abbrev pub AreHeardTo : List ℕ → View → View → Type 0
 AreHeardTo octets v w = (read : Reading) → IsReading read → AreHeard read v octets w
-
--- so many of them is all, or no further octet may be taken
-abbrev pub IsMost : ℕ → List ℕ → View → Type 0
-IsMost count octets v = (count ≡ length octets) ⊎ (may_hear v ≡ false)

@@ -3,7 +3,7 @@ ghost use Rattle.std.specs.Prelude.{◌≡◌, ◌≤◌, ◌<◌, IsTrue, lengt
 ghost use Rattle.ftp_server_model.specs.Calls.{break_step, end_step, given_step, may_receive, to_give};
 ghost use Rattle.ftp_server_model.specs.Failing.{EndFails, GiveFails};
 ghost use Rattle.ftp_server_model.specs.Far.{Receives, Steps};
-ghost use Rattle.ftp_server.specs.Data.{IsMost};
+ghost use Rattle.ftp_server_model.specs.Most.{IsMostReceived};
 
 use crate::server::Server;
 use ftp_server_session::ServerTransfer;
@@ -20,7 +20,7 @@ impl<A: Allocator + Copy, T: Tree<A>, J: ServerTransfer<A, T>> Server<A, T, J> {
         ensures some { IsTrue (may_receive (view_of T.table J.view self.old)) → 0 < length piece.now → 0 < result }
 
         // Where nothing failed it takes all of them, or as many as it may.
-        ensures most { counts_of T.failures self.new ≡ counts_of T.failures self.old → IsMost result piece.now (view_of T.table J.view self.new) }
+        ensures most { counts_of T.failures self.new ≡ counts_of T.failures self.old → IsMostReceived result piece.now (view_of T.table J.view self.new) }
     {
         let failures = self.session.tree.device_failures();
         let taken = self.receive_octets(piece);

@@ -2,8 +2,9 @@
 ghost use Rattle.std.specs.Prelude.{◌≡◌, ◌≤◌, ◌<◌, OnErr, OnOk, length, min, take, true};
 ghost use Rattle.ftp_server_model.specs.Calls.{given_step, may_receive, to_give};
 ghost use Rattle.ftp_server_model.specs.Failing.{AreReceived, GiveFails, Late};
+ghost use Rattle.ftp_server_model.specs.Most.{IsMostReceived};
 ghost use Rattle.ftp_server_model.specs.View.{View};
-ghost use Rattle.ftp_server.specs.Data.{IsMost, IsSaid, ReceivesTo, SayingFails};
+ghost use Rattle.ftp_server.specs.Data.{IsSaid, ReceivesTo, SayingFails};
 
 use crate::line::{Failed, Moved};
 use crate::server::Server;
@@ -23,7 +24,7 @@ impl<A: Allocator + Copy, T: Tree<A>, J: ServerTransfer<A, T>> Server<A, T, J> {
         ensures lost { OnErr result.outcome (AreReceived (view_of T.table J.view self.old) (take result.count piece.now) (view_of T.table J.view self.new)) }
         ensures refusals { self.new.refusals ≡ self.old.refusals }
         ensures some { may_receive (view_of T.table J.view self.old) ≡ true → 0 < length piece.now → 0 < result.count }
-        ensures most { OnOk result.outcome (IsMost result.count piece.now (view_of T.table J.view self.new)) }
+        ensures most { OnOk result.outcome (IsMostReceived result.count piece.now (view_of T.table J.view self.new)) }
     {
         let mut count = 0;
         while count < piece.len() {

@@ -5,8 +5,9 @@ ghost use Rattle.ftp_nvt.specs.Ear.{line_of};
 ghost use Rattle.ftp_server_model.specs.Far.{Hears};
 ghost use Rattle.ftp_server_model.specs.Failing.{ActingFails, AreHeard, LineIsHeard, OctetIsHeard};
 ghost use Rattle.ftp_server_model.specs.Machine.{IsReading, MayHear, Reading, hears, hears_octet, heard_line, is_abor, is_abort, is_transferring, may_hear};
+ghost use Rattle.ftp_server_model.specs.Most.{IsMostHeard};
 ghost use Rattle.ftp_server.specs.Busy.{MayWait};
-ghost use Rattle.ftp_server.specs.HearsTo.{AreHeardTo, HearsTo, IsMost};
+ghost use Rattle.ftp_server.specs.HearsTo.{AreHeardTo, HearsTo};
 ghost use Rattle.ftp_server_session.specs.Session.{has_transfer};
 
 use crate::line::{Failed, Moved};
@@ -29,7 +30,7 @@ impl<A: Allocator + Copy, T: Tree<A>, J: ServerTransfer<A, T>> Server<A, T, J> {
         ensures some { IsTrue (may_hear (view_of T.table J.view self.old)) → 0 < length piece.now → 0 < result }
 
         // Where nothing failed it takes all of them, or as many as it may.
-        ensures most { counts_of T.failures self.new ≡ counts_of T.failures self.old → IsMost result piece.now (view_of T.table J.view self.new) }
+        ensures most { counts_of T.failures self.new ≡ counts_of T.failures self.old → IsMostHeard result piece.now (view_of T.table J.view self.new) }
     {
         let failures = self.session.tree.device_failures();
         let taken = self.hear_octets(piece);
@@ -98,7 +99,7 @@ impl<A: Allocator + Copy, T: Tree<A>, J: ServerTransfer<A, T>> Server<A, T, J> {
         ensures lost { OnErr result.outcome (AreHeardTo (take result.count piece.now) (view_of T.table J.view self.old) (view_of T.table J.view self.new)) }
         ensures refusals { self.new.refusals ≡ self.old.refusals }
         ensures some { may_hear (view_of T.table J.view self.old) ≡ true → 0 < length piece.now → 0 < result.count }
-        ensures most { OnOk result.outcome (IsMost result.count piece.now (view_of T.table J.view self.new)) }
+        ensures most { OnOk result.outcome (IsMostHeard result.count piece.now (view_of T.table J.view self.new)) }
     {
         let mut count = 0;
         for octet in piece {

@@ -18,6 +18,7 @@ pub mod Calls
 pub mod Kept
 pub mod Failing
 pub mod Far
+pub mod Most
 pub mod Bounds
 pub mod Play
 pub mod Held

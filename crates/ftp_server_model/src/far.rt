@@ -1,8 +1,9 @@
 // The server's end of a session, as a world of both sees it: each call is a step of the view that `specs` has for it.
-ghost use Rattle.std.specs.Prelude.{◌≡◌, ◌<◌, ◌≤◌, ℕ, IsTrue, length, take};
+ghost use Rattle.std.specs.Prelude.{◌≡◌, ◌<◌, ◌≤◌, ℕ, IsTrue, length, min, take};
 ghost use Rattle.ftp_server_model.specs.Calls.{break_step, clock_step, close_step, control_end, control_step, end_step, given_step, listening_step, may_receive, no_port_step, opened_step, refused_step, to_give, wants};
 ghost use Rattle.ftp_server_model.specs.Failing.{EndFails, GiveFails};
 ghost use Rattle.ftp_server_model.specs.Machine.{may_hear};
+ghost use Rattle.ftp_server_model.specs.Most.{IsMostHeard, IsMostReceived};
 ghost use Rattle.ftp_server_model.specs.Far.{Acts, Hears, Receives, Server, Steps, counts_told};
 ghost use Rattle.ftp_ends.specs.Octets.{has_octets};
 
@@ -26,14 +27,20 @@ pub trait Far<A: Allocator, T: Tree<A>>: Drop {
     fn hear(&mut self, piece: &[u8]) -> usize
         ensures within { result ≤ length piece.now }
         ensures took { Hears (take result piece.now) (server self.old) (server self.new) }
-        ensures some { IsTrue (may_hear (server self.old).view) → 0 < length piece.now → 0 < result };
+        ensures some { IsTrue (may_hear (server self.old).view) → 0 < length piece.now → 0 < result }
+
+        // Where nothing failed it takes all of them, or as many as it may.
+        ensures most { (server self.new).counts ≡ (server self.old).counts → IsMostHeard result piece.now (server self.new).view };
 
     /// Gives octets of the control connection, and says how many.
     fn control_out(&mut self, room: &mut [u8]) -> usize
         ensures within { (result ≤ length room.old) × (result ≤ length (server self.old).view.owed) }
         ensures gave { take result room.new ≡ take result (server self.old).view.owed }
         ensures now { Acts (control_step result) (server self.old) (server self.new) }
-        ensures some { 0 < length room.old → 0 < length (server self.old).view.owed → 0 < result };
+        ensures some { 0 < length room.old → 0 < length (server self.old).view.owed → 0 < result }
+
+        // It gives all that is owed, or fills the room.
+        ensures most { result ≡ min (length room.old) (length (server self.old).view.owed) };
 
     /// The control connection ended.
     fn control_end(&mut self)
@@ -59,7 +66,10 @@ pub trait Far<A: Allocator, T: Tree<A>>: Drop {
     fn data_hear(&mut self, piece: &[u8]) -> usize
         ensures within { result ≤ length piece.now }
         ensures took { Receives (take result piece.now) (server self.old) (server self.new) }
-        ensures some { IsTrue (may_receive (server self.old).view) → 0 < length piece.now → 0 < result };
+        ensures some { IsTrue (may_receive (server self.old).view) → 0 < length piece.now → 0 < result }
+
+        // Where nothing failed it takes all of them, or as many as it may.
+        ensures most { (server self.new).counts ≡ (server self.old).counts → IsMostReceived result piece.now (server self.new).view };
 
     /// The other end closed the data connection.
     fn data_end(&mut self)
@@ -74,7 +84,10 @@ pub trait Far<A: Allocator, T: Tree<A>>: Drop {
         ensures within { (result ≤ length room.old) × (result ≤ length (to_give (server self.old).view)) }
         ensures gave { take result room.new ≡ take result (to_give (server self.old).view) }
         ensures now { Steps (GiveFails result) (given_step result) (server self.old) (server self.new) }
-        ensures some { (server self.new).counts ≡ (server self.old).counts → 0 < length room.old → 0 < length (to_give (server self.old).view) → 0 < result };
+        ensures some { (server self.new).counts ≡ (server self.old).counts → 0 < length room.old → 0 < length (to_give (server self.old).view) → 0 < result }
+
+        // Where nothing failed it gives all that is left, or fills the room.
+        ensures most { (server self.new).counts ≡ (server self.old).counts → result ≡ min (length room.old) (length (to_give (server self.old).view)) };
 
     /// A close that it wanted is done.
     fn data_closed(&mut self)

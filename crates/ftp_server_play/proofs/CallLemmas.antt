@@ -4,12 +4,11 @@ use Rattle.std.specs.Prelude.{IfOk, if◌then◌else◌}
 use Rattle.std.proofs.Math.Seq.{take-append_seam}
 use Rattle.std.proofs.lemmas.List.{take_min}
 use Rattle.ftp_endpoint.specs.declared.host.Host.{Host}
-use Rattle.ftp_server.specs.Data.{IsMost as IsMostReceived}
-use Rattle.ftp_server.specs.HearsTo.{IsMost as IsMostHeard}
 use Rattle.ftp_server_model.specs.Calls.{MayReceive, break_step, clock_step, clocked, close_step, control_end, control_step, data_closed, data_end, data_fault, data_opened, data_refused, end_step, given_step, gives_control, gives_data, listen_refused, listening, listening_step, may_receive, no_port_step, opened_step, receives, receives_octet, refused_step, to_give, wants}
 use Rattle.ftp_server_model.specs.Failing.{EndFails, GiveFails}
 use Rattle.ftp_server_model.specs.Far.{Acts, Hears, Receives, Server, Steps}
 use Rattle.ftp_server_model.specs.Machine.{MayHear, Reading, hears, hears_octet, later, may_hear}
+use Rattle.ftp_server_model.specs.Most.{IsMostHeard, IsMostReceived}
 use Rattle.ftp_server_model.specs.Play.{Cue, Gift, Clock, Hear, ControlOut, ControlEnd, Listening, ListenRefused, DataOpened, DataRefused, DataHear, DataOut, DataEnd, DataFault, DataClosed, AsksWants, Nothing, Took, Octets, Wanted, most_heard, most_received}
 use Rattle.ftp_server_model.specs.View.{View}
 use Rattle.ftp_ends.specs.declared.link.Wants.{Wants as Want}

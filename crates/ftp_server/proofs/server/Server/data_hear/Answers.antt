@@ -1,9 +1,9 @@
 use Rattle.std.proofs.Common.{◌≡◌, ◌∙◌, subst, sym, take}
 use Rattle.ftp_server_model.specs.Failing.{Counts}
+use Rattle.ftp_server_model.specs.Most.{IsMostReceived}
 use Rattle.ftp_server.proofs.CallLemmas.{unfailed}
 use Rattle.ftp_server.proofs.DataLemmas.{received}
 use Rattle.ftp_server.proofs.HearLemmas.{on_both, on_err}
-use Rattle.ftp_server.specs.Data.{IsMost}
 use Rattle.ftp_server.specs.Server.{counts_of, server_of, view_of}
 use Rattle.ftp_server.proofs.server.Server.data_hear.Goals as goal
 
@@ -24,6 +24,6 @@ returns-clause-most g c = λ fine.
     let r = c.receive_octets-taken.result in let mid = c.receive_octets-taken.new.self in
     let before : Counts = record { refusals = mid.refusals; failures = c.device_failures-failures.result } in
     let same : before ≡ counts_of failures c.args.self.now = λ i. record { refusals = c.receive_octets-taken.ensures.refusals i; failures = c.device_failures-failures.ensures i } in
-    subst (λ w. IsMost r.count c.args.piece.now w) (sym c.count.ensures.view)
+    subst (λ w. IsMostReceived r.count c.args.piece.now w) (sym c.count.ensures.view)
     (unfailed (counts_of failures c.args.self.now) (counts_of failures c.count.new.self) r.outcome
     (on_err r.outcome (λ h e. h (e ∙ sym same)) c.count.ensures.failed) c.receive_octets-taken.ensures.most fine)
