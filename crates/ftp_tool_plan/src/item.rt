@@ -1,0 +1,36 @@
+// What stands in a directory.
+use ftp_facts::Text;
+use std::alloc::Allocator;
+
+/// What is known of a file: its octets, and when it was changed last, in seconds since 1970 began.
+#[derive(Clone, Copy)]
+pub struct Facts {
+    pub size: Option<u64>,
+    pub moment: Option<u64>,
+}
+
+/// What stands under a name.
+#[derive(Clone, Copy)]
+pub enum Kind {
+    File(Facts),
+    Dir,
+    /// A link, a pipe or another thing that is neither, or what has no type.
+    Other,
+    /// The mirror leaves it alone, whatever it is.
+    Excluded,
+}
+
+/// An entry of a directory.
+#[derive(Drop)]
+pub struct Item<A: Allocator> {
+    pub name: Text<A>,
+    pub kind: Kind,
+}
+
+/// The entries of a directory.
+#[derive(Drop)]
+pub enum Listing<A: Allocator> {
+    Whole(Vec<Item<A>, A>),
+    /// It has more entries than are taken.
+    CutOff,
+}
