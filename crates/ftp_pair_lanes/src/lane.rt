@@ -1,5 +1,5 @@
 // Octets on their way.
-ghost use Rattle.std.specs.Prelude.{◌≡◌, ◌+◌, ◌≤◌, ◌++◌, [], IfOk, OnOk, length, drop, vec_len, vec_capacity};
+ghost use Rattle.std.specs.Prelude.{◌≡◌, ◌+◌, ◌≤◌, ◌++◌, [], IfOk, OnOk, length, take, drop, vec_len, vec_capacity};
 
 use std::alloc::{AllocError, Allocator};
 
@@ -55,12 +55,23 @@ impl<A: Allocator> Lane<A> {
         }
     }
 
-    /// Drops octets from the front.
-    pub fn drop_front(&mut self, count: usize)
-        requires { count ≤ vec_len self.old.octets }
-        ensures items { self.new.octets.items ≡ drop count self.old.octets.items }
+    /// The first octets, so many at most.
+    pub fn front(&self, most: usize) -> &[u8]
+        ensures { result.now ≡ take most self.now.octets.items }
     {
-        self.octets.drain(..count);
+        &self.octets[..most.min(self.octets.len())]
+    }
+
+    /// Has the first octets of another lane in place of its own, with room for so many; they leave the other.
+    pub fn take_front(&mut self, from: &mut Lane<A>, count: usize)
+        requires few { count ≤ vec_len from.old.octets }
+        requires room { count ≤ vec_capacity self.old.octets }
+        ensures items { self.new.octets.items ≡ take count from.old.octets.items }
+        ensures left { from.new.octets.items ≡ drop count from.old.octets.items }
+    {
+        self.clear();
+        self.append(&from.as_slice()[..count]);
+        from.octets.drain(..count);
     }
 
     /// Drops all octets.

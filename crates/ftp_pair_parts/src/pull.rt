@@ -23,8 +23,9 @@ impl<A: Allocator, T: Tree<A>, N: Near<A>, F: Far<A, T>> Parts<A, T, N, F> {
         ensures len { vec_len self.new.control_to_server.octets ≡ vec_len self.old.control_to_server.octets + result }
         ensures room { vec_capacity self.old.control_to_server.octets ≤ vec_capacity self.new.control_to_server.octets }
     {
-        let mut room = [0u8; ROOM];
-        let given = self.near.control_out(&mut room[..most]);
+        let mut octets = [0u8; ROOM];
+        let room = &mut octets[..most];
+        let given = self.near.control_out(room);
         self.control_to_server.append(&room[..given]);
         given
     }
@@ -40,9 +41,10 @@ impl<A: Allocator, T: Tree<A>, N: Near<A>, F: Far<A, T>> Parts<A, T, N, F> {
         ensures len { vec_len self.new.control_to_client.octets ≡ vec_len self.old.control_to_client.octets + result }
         ensures room { vec_capacity self.old.control_to_client.octets ≤ vec_capacity self.new.control_to_client.octets }
     {
-        let mut room = [0u8; ROOM];
+        let mut octets = [0u8; ROOM];
+        let room = &mut octets[..most];
         let counts = self.far.counts();
-        let given = self.far.control_out(&mut room[..most]);
+        let given = self.far.control_out(room);
         self.control_to_client.append(&room[..given]);
         self.calm = both_stay(self.calm, counts, self.far.counts());
         given
@@ -59,9 +61,10 @@ impl<A: Allocator, T: Tree<A>, N: Near<A>, F: Far<A, T>> Parts<A, T, N, F> {
         ensures len { vec_len self.new.data_to_server.octets ≡ vec_len self.old.data_to_server.octets + result }
         ensures room { vec_capacity self.old.data_to_server.octets ≤ vec_capacity self.new.data_to_server.octets }
     {
-        let mut room = [0u8; ROOM];
+        let mut octets = [0u8; ROOM];
+        let room = &mut octets[..most];
         let refusals = self.near.refusals();
-        let given = self.near.data_out(&mut room[..most]);
+        let given = self.near.data_out(room);
         self.data_to_server.append(&room[..given]);
         self.calm = stays(self.calm, refusals, self.near.refusals());
         given
@@ -78,9 +81,10 @@ impl<A: Allocator, T: Tree<A>, N: Near<A>, F: Far<A, T>> Parts<A, T, N, F> {
         ensures len { vec_len self.new.data_to_client.octets ≡ vec_len self.old.data_to_client.octets + result }
         ensures room { vec_capacity self.old.data_to_client.octets ≤ vec_capacity self.new.data_to_client.octets }
     {
-        let mut room = [0u8; ROOM];
+        let mut octets = [0u8; ROOM];
+        let room = &mut octets[..most];
         let counts = self.far.counts();
-        let given = self.far.data_out(&mut room[..most]);
+        let given = self.far.data_out(room);
         self.data_to_client.append(&room[..given]);
         self.calm = both_stay(self.calm, counts, self.far.counts());
         given

@@ -19,13 +19,9 @@ impl<A: Allocator, T: Tree<A>, N: Near<A>, F: Far<A, T>> Parts<A, T, N, F> {
         ensures report { HasRoom N.client self.old → HasRoom N.client self.new }
         ensures takes { Calmly self.old self.new ((read : Reading) → IsReading read → Takes read ControlToClient most (shown N.client F.server self.old) result) }
     {
-        let limit = self.control_to_client.len().min(most);
         let refusals = self.near.refusals();
-        let taken = self.near.hear(&self.control_to_client.as_slice()[..limit]);
-        self.taken.clear();
-        self.taken
-            .append(&self.control_to_client.as_slice()[..taken]);
-        self.control_to_client.drop_front(taken);
+        let taken = self.near.hear(self.control_to_client.front(most));
+        self.taken.take_front(&mut self.control_to_client, taken);
         self.calm = stays(self.calm, refusals, self.near.refusals());
         taken
     }
@@ -37,32 +33,22 @@ impl<A: Allocator, T: Tree<A>, N: Near<A>, F: Far<A, T>> Parts<A, T, N, F> {
         ensures report { HasRoom N.client self.old → HasRoom N.client self.new }
         ensures takes { Calmly self.old self.new ((read : Reading) → IsReading read → Takes read ControlToServer most (shown N.client F.server self.old) result) }
     {
-        let limit = self.control_to_server.len().min(most);
         let counts = self.far.counts();
-        let taken = self.far.hear(&self.control_to_server.as_slice()[..limit]);
-        self.taken.clear();
-        self.taken
-            .append(&self.control_to_server.as_slice()[..taken]);
-        self.control_to_server.drop_front(taken);
+        let taken = self.far.hear(self.control_to_server.front(most));
+        self.taken.take_front(&mut self.control_to_server, taken);
         self.calm = both_stay(self.calm, counts, self.far.counts());
         taken
     }
 
-    #[tactic(auto, using(crate::proofs::Busy::receives_busy))]
     pub(crate) fn push_data_to_client(&mut self, most: usize) -> usize
         requires room { most ≤ vec_capacity self.old.taken.octets }
         ensures moved { Calmly self.old self.new ((read : Reading) → IsReading read → shown N.client F.server self.new ≡ pushed read DataToClient result (taking DataToClient result (shown N.client F.server self.old))) }
         ensures report { HasRoom N.client self.old → HasRoom N.client self.new }
         ensures takes { Calmly self.old self.new ((read : Reading) → IsReading read → Takes read DataToClient most (shown N.client F.server self.old) result) }
     {
-        let limit = self.data_to_client.len().min(most);
         let refusals = self.near.refusals();
-        let taken = self
-            .near
-            .data_hear(&self.data_to_client.as_slice()[..limit]);
-        self.taken.clear();
-        self.taken.append(&self.data_to_client.as_slice()[..taken]);
-        self.data_to_client.drop_front(taken);
+        let taken = self.near.data_hear(self.data_to_client.front(most));
+        self.taken.take_front(&mut self.data_to_client, taken);
         self.came = count_on(self.came, taken);
         self.calm = stays(self.calm, refusals, self.near.refusals());
         taken
@@ -75,12 +61,9 @@ impl<A: Allocator, T: Tree<A>, N: Near<A>, F: Far<A, T>> Parts<A, T, N, F> {
         ensures report { HasRoom N.client self.old → HasRoom N.client self.new }
         ensures takes { Calmly self.old self.new ((read : Reading) → IsReading read → Takes read DataToServer most (shown N.client F.server self.old) result) }
     {
-        let limit = self.data_to_server.len().min(most);
         let counts = self.far.counts();
-        let taken = self.far.data_hear(&self.data_to_server.as_slice()[..limit]);
-        self.taken.clear();
-        self.taken.append(&self.data_to_server.as_slice()[..taken]);
-        self.data_to_server.drop_front(taken);
+        let taken = self.far.data_hear(self.data_to_server.front(most));
+        self.taken.take_front(&mut self.data_to_server, taken);
         self.came = count_on(self.came, taken);
         self.calm = both_stay(self.calm, counts, self.far.counts());
         taken

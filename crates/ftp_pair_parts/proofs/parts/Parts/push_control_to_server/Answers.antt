@@ -1,5 +1,4 @@
-use Rattle.std.proofs.Common.{ap, sym, ◌∙◌, arith}
-use Rattle.std.specs.Prelude.{min}
+use Rattle.std.proofs.Common.{ap, sym, ◌∙◌}
 use Rattle.ftp_server_model.specs.Far.{counts_told}
 use Rattle.ftp_pair_parts.specs.Shown.{shown}
 use Rattle.ftp_pair_parts.proofs.Taking.{far_takes, pushed_server_of}
@@ -10,8 +9,7 @@ returns-clause-takes g c calm =
     let s = c.both_stay-self.ensures calm in
     let same = sym c.counts.ensures ∙ ap counts_told s.1 ∙ c.counts-counts.ensures in (
       s.0,
-      λ read reads. far_takes read c.args.most c.hear-taken.result c.min-limit.result c.as_slice.result.now (shown g.N.Near.client g.F.Far.server c.args.self.now)
-          c.as_slice.ensures (c.min-limit.ensures ∙ ap (λ n. min n c.args.most) (omega (arith, c.len.ensures, c.args.self.now.control_to_server.octets.ok.0))) c.hear-taken.ensures.within
+      λ read reads. far_takes read c.args.most c.hear-taken.result c.front.result.now (shown g.N.Near.client g.F.Far.server c.args.self.now) c.front.ensures c.hear-taken.ensures.within
           ((c.hear-taken.ensures.took read reads).may same) c.hear-taken.ensures.some,
     )
 
@@ -20,6 +18,6 @@ returns-clause-moved g c calm =
     let s = c.both_stay-self.ensures calm in
     let same = sym c.counts.ensures ∙ ap counts_told s.1 ∙ c.counts-counts.ensures in (
       s.0,
-      λ read reads. pushed_server_of read c.hear-taken.result c.min-limit.result c.as_slice.result.now c.as_slice-2.result.now (shown g.N.Near.client g.F.Far.server c.args.self.now) _ _ _ _
-          c.as_slice.ensures c.hear-taken.ensures.within ((c.hear-taken.ensures.took read reads).done same) c.drop_front.ensures.items c.clear.ensures.items c.append.ensures.items c.as_slice-2.ensures,
+      λ read reads. pushed_server_of read c.hear-taken.result c.args.most c.front.result.now (shown g.N.Near.client g.F.Far.server c.args.self.now) _ _ _
+          c.front.ensures c.hear-taken.ensures.within ((c.hear-taken.ensures.took read reads).done same) c.take_front.ensures.left c.take_front.ensures.items,
     )

@@ -1,5 +1,4 @@
-use Rattle.std.proofs.Common.{sym, ◌∙◌, ap, arith}
-use Rattle.std.specs.Prelude.{min}
+use Rattle.std.proofs.Common.{sym, ◌∙◌, ap}
 use Rattle.ftp_server_model.specs.Far.{counts_told}
 use Rattle.ftp_pair_parts.specs.Shown.{shown}
 use Rattle.ftp_pair_parts.proofs.Taking.{far_data_takes}
@@ -9,7 +8,6 @@ pub returns-clause-takes : goal.returns-clause-takes
 returns-clause-takes g c calm =
     let s = c.both_stay-self.ensures calm in (
       s.0,
-      λ read reads. far_data_takes read c.args.most c.data_hear-taken.result c.min-limit.result c.as_slice.result.now (shown g.N.Near.client g.F.Far.server c.args.self.now)
-          c.as_slice.ensures (c.min-limit.ensures ∙ ap (λ n. min n c.args.most) (omega (arith, c.len.ensures, c.args.self.now.data_to_server.octets.ok.0))) c.data_hear-taken.ensures.within
+      λ read reads. far_data_takes read c.args.most c.data_hear-taken.result c.front.result.now (shown g.N.Near.client g.F.Far.server c.args.self.now) c.front.ensures c.data_hear-taken.ensures.within
           (c.data_hear-taken.ensures.took.may (sym c.counts.ensures ∙ ap counts_told s.1 ∙ c.counts-counts.ensures)) c.data_hear-taken.ensures.some,
     )
