@@ -1,7 +1,7 @@
 // What lies between two ends, beside octets.
 
 /// How the control connection stands.
-#[derive(Clone, Copy, Debug, PartialEq, Eq)]
+#[derive(Clone, Copy)]
 pub enum Control {
     Stands,
     LeftByNear,
@@ -10,7 +10,7 @@ pub enum Control {
 }
 
 /// How the data link stands.
-#[derive(Clone, Copy, Debug, PartialEq, Eq)]
+#[derive(Clone, Copy)]
 pub enum Link {
     Gone,
     Opened,
@@ -19,14 +19,14 @@ pub enum Link {
 }
 
 /// What became of a link that was asked for: refused, or broken when its receiving end had taken so many octets of the wire.
-#[derive(Clone, Copy, Debug, PartialEq, Eq)]
+#[derive(Clone, Copy)]
 pub enum Mark {
     Refused,
     Broken(u64),
 }
 
 /// A queue of octets: over the control connection or the data link, to the server or to the client.
-#[derive(Clone, Copy, Debug, PartialEq, Eq)]
+#[derive(Clone, Copy)]
 pub enum Queue {
     ControlToServer,
     ControlToClient,

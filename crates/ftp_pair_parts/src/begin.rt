@@ -45,18 +45,19 @@ impl<A: Allocator, T: Tree<A>, N: Near<A>, F: Far<A, T>> Parts<A, T, N, F> {
         Ok(true)
     }
 
-    /// An upload over breaks is begun, where no operation is open and no link stands or is wanted. Room for its report and 16 marks is made first.
+    /// An upload over breaks of the path and the octets that are given is begun, where no operation is open and no link stands or is wanted. Room for its report and 16 marks is made first.
     #[tactic(auto, using(crate::proofs::Beginning::linked_not, crate::proofs::Beginning::busy_not, crate::proofs::Beginning::free_begins))]
     pub(crate) fn step_upload(
         &mut self,
         alloc: A,
-        path: Text<A>,
-        octets: Text<A>,
+        given: &mut Option<(Text<A>, Text<A>)>,
         how: How,
         moment: Moment,
     ) -> Result<bool, AllocError>
+        ghost texts: { List ℕ × List ℕ }
+        requires given { given.old ≡ Some texts }
         requires report { HasRoom N.client self.old }
-        ensures ok { IfOk result (λ possible. Steps self.old.calm self.new.calm (λ read. Happens read (Upload (over_breaks path octets how) moment.seconds) (shown N.client F.server self.old) possible (shown N.client F.server self.new))) }
+        ensures ok { IfOk result (λ possible. Steps self.old.calm self.new.calm (λ read. Happens read (Upload (over_breaks texts.0 texts.1 how) moment.seconds) (shown N.client F.server self.old) possible (shown N.client F.server self.new))) }
         ensures err { OnErr result ((shown N.client F.server self.new ≡ shown N.client F.server self.old) × (self.new.calm ≡ self.old.calm)) }
         ensures report { HasRoom N.client self.new }
     {
@@ -64,7 +65,7 @@ impl<A: Allocator, T: Tree<A>, N: Near<A>, F: Far<A, T>> Parts<A, T, N, F> {
             return Ok(false);
         }
         let marks = self.make_room(alloc, 16)?;
-        if !self.start_upload(path, octets, how) {
+        if !self.start_upload(given, how) {
             return Ok(false);
         }
         self.note(moment, marks);
@@ -114,17 +115,18 @@ impl<A: Allocator, T: Tree<A>, N: Near<A>, F: Far<A, T>> Parts<A, T, N, F> {
         true
     }
 
-    /// The client begins an upload over breaks, where no operation is open.
+    /// The client begins an upload over breaks of what is given, where no operation is open.
     #[tactic(auto, using(crate::proofs::Beginning::handed_some, crate::proofs::Beginning::handed_none))]
-    fn start_upload(&mut self, path: Text<A>, octets: Text<A>, how: How) -> bool
-        ensures begun { result ≡ true → (is_busy (N.client self.old.near).view ≡ false) × Calmly self.old self.new (shown N.client F.server self.new ≡ record (shown N.client F.server self.old) { near = uploads (over_breaks path octets how) (N.client self.old.near).view }) }
+    fn start_upload(&mut self, given: &mut Option<(Text<A>, Text<A>)>, how: How) -> bool
+        ghost texts: { List ℕ × List ℕ }
+        requires given { given.old ≡ Some texts }
+        ensures begun { result ≡ true → (is_busy (N.client self.old.near).view ≡ false) × Calmly self.old self.new (shown N.client F.server self.new ≡ record (shown N.client F.server self.old) { near = uploads (over_breaks texts.0 texts.1 how) (N.client self.old.near).view }) }
         ensures busy { result ≡ false → (is_busy (N.client self.old.near).view ≡ true) × (shown N.client F.server self.new ≡ shown N.client F.server self.old) × (self.new.calm ≡ self.old.calm) }
         ensures marks { self.new.marks ≡ self.old.marks }
         ensures reports { self.new.reports ≡ self.old.reports }
     {
-        let mut given = Some((path, octets));
         let refusals = self.near.refusals();
-        self.near.upload(&mut given, how);
+        self.near.upload(given, how);
         if given.is_some() {
             return false;
         }

@@ -30,7 +30,7 @@ impl<A: Allocator, T: Tree<A>, N: Near<A>, F: Far<A, T>> Parts<A, T, N, F> {
             Event::EndControl => Ok(self.step_end_control()),
             Event::Next(op, moment) => self.step_next(alloc, &mut Some(op), moment),
             Event::Upload(path, octets, how, moment) => {
-                self.step_upload(alloc, path, octets, how, moment)
+                self.step_upload(alloc, &mut Some((path, octets)), how, moment)
             }
         }
     }

@@ -13,7 +13,7 @@ use ftp_tree::Tree;
 use std::alloc::Allocator;
 
 /// What a world does by itself: as many octets of a queue as it has room for from the start are delivered, a wanted link opens, an end is told.
-#[derive(Clone, Copy, Debug, PartialEq, Eq)]
+#[derive(Clone, Copy)]
 pub enum Turn {
     Deliver(Queue),
     Open,

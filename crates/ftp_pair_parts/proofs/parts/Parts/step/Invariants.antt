@@ -1,4 +1,4 @@
-use Rattle.std.proofs.Common.{ℕ, List, Option, Some, None}
+use Rattle.std.proofs.Common.{ℕ, List, [], Option, Some, None}
 use Rattle.ftp_operation.specs.declared.op.Op.{Op}
 use Rattle.ftp_pair_parts.proofs.parts.Parts.step.Given as goal
 
@@ -10,3 +10,12 @@ op_in None = Op.Where
 -- the operation that the event has
 abbrev pub ghost-step_next : goal.ghost-step_next
 ghost-step_next g a = op_in a.given.now
+
+-- the path and the octets that are handed on
+abbrev texts_in : Option (List ℕ × List ℕ) → List ℕ × List ℕ
+texts_in (Some texts) = texts
+texts_in None = ([], [])
+
+-- those that the event has
+abbrev pub ghost-step_upload : goal.ghost-step_upload
+ghost-step_upload g a = texts_in a.given.now

@@ -11,7 +11,7 @@ returns-clause-ok g c calm =
     let free = c.start_upload.ensures.begun c.if-not-start_upload.false in
     let begun = free.1 noted.0 in (
       sym c.make_room.ensures.calm ∙ begun.0,
-      λ read reads. uploaded read (over_breaks c.args.path c.args.octets c.args.how) c.args.moment.seconds (shown g.N.Near.client g.F.Far.server c.args.self.now) (shown g.N.Near.client g.F.Far.server c.make_room.new.self)
+      λ read reads. uploaded read (over_breaks g.texts.0 g.texts.1 c.args.how) c.args.moment.seconds (shown g.N.Near.client g.F.Far.server c.args.self.now) (shown g.N.Near.client g.F.Far.server c.make_room.new.self)
           (shown g.N.Near.client g.F.Far.server c.start_upload.new.self) (shown g.N.Near.client g.F.Far.server c.note.new.self) (shown g.N.Near.client g.F.Far.server c.finish.new.self)
           (sym c.is_unlinked.ensures ∙ c.if-not-is_unlinked.false) c.make_room.ensures.same free.0 begun.1 noted.1 served.1,
     )
