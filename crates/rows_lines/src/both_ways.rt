@@ -1,7 +1,5 @@
-use crate::report::are_printed;
 use crate::row::{Row, form_of};
 use crate::wires::comes_back;
-use ftp_mode::FrameFault;
 use rows_base::{Paper, split};
 use std::alloc::Global;
 
@@ -14,7 +12,7 @@ fn comes_back_each(alloc: Global, forms: &[u8], file: &[u8]) -> bool {
             break;
         }
         let (letters, behind) = split(rest);
-        all &= comes_back(alloc, form_of(letters), None, file, &[1, 3, 64]);
+        all &= comes_back(alloc, form_of(letters), file);
         rest = behind;
     }
     all
@@ -28,19 +26,4 @@ pub(crate) fn show(alloc: Global, row: &Row<'_>, paper: &mut Paper) {
     } else {
         b"WRONG"
     });
-}
-
-const FAULTS: &[(FrameFault, &'static str)] = &[
-    (FrameFault::BadEscape(2), "M1 BadEscape(2)"),
-    (FrameFault::Suspect(4), "M2 Suspect(4)"),
-    (FrameFault::BadMarker(0), "M3 BadMarker(0)"),
-    (FrameFault::EndedEarly, "M4 EndedEarly"),
-];
-
-/// What is tried here, and whether it holds.
-pub(crate) fn tried(alloc: Global, report: &mut Paper) {
-    report.holds(
-        "faults print number name and place",
-        are_printed(alloc, FAULTS),
-    );
 }

@@ -33,7 +33,9 @@ fn written<A: Allocator, B: Allocator>(
     said: Result<Command<Argument<A>>, CommandFault>,
     out: &mut Vec<u8, B>,
 ) -> (Result<(), CommandFault>, Option<Endpoint>) {
-    (write_said(&said, out), endpoint_of(&said))
+    let all = (write_said(&said, out), endpoint_of(&said));
+    drop(said);
+    all
 }
 
 /// Puts the line that is written for what a line says, or its fault.

@@ -25,19 +25,18 @@ fn ended(alloc: Global, row: &Row<'_>, size: usize) -> (Vec<u8>, bool) {
     (decoder.into_sink(), whole & ends)
 }
 
-/// Whether a wire that has ended gives this file, by pieces of this size.
-fn gives(alloc: Global, row: &Row<'_>, file: &[u8], size: usize) -> bool {
-    let (got, whole) = ended(alloc, row, size);
-    whole & (got.as_slice() == file)
-}
+/// Sizes of pieces.
+const SIZES: [usize; 3] = [100, 1, 2];
 
-/// Writes the file that a wire that has ended gives, in any pieces.
-pub(crate) fn show_ended(alloc: Global, row: &Row<'_>, paper: &mut Paper) {
-    let (file, _) = ended(alloc, row, 100);
-    let file = file.as_slice();
-    put_quoted(file, paper);
-    if !(gives(alloc, row, file, 1) & gives(alloc, row, file, 2) & gives(alloc, row, file, 100)) {
-        paper.put(b", but not in any pieces");
+/// The number of the last cutting.
+pub(crate) const LAST: usize = 2;
+
+/// Puts the file that a wire that has ended gives, by pieces of one size, and whether that is not all.
+pub(crate) fn put(alloc: Global, row: &Row<'_>, cutting: usize, paper: &mut Paper) {
+    let (file, whole) = ended(alloc, row, SIZES[cutting % 3]);
+    put_quoted(file.as_slice(), paper);
+    if !whole {
+        paper.put(b" and more");
     }
 }
 
@@ -108,10 +107,20 @@ fn tell_piece<A: Allocator>(
     room: u64,
     paper: &mut Paper,
 ) {
-    let Ok(octets) = octets_of(alloc, piece) else {
-        return;
-    };
-    let taken = decoder.hear(octets.as_slice(), room);
+    match &octets_of(alloc, piece) {
+        Ok(octets) => tell_octets(alloc, decoder, octets.as_slice(), room, paper),
+        Err(_) => paper.fill(),
+    }
+}
+
+fn tell_octets<A: Allocator>(
+    alloc: Global,
+    decoder: &mut Decoder<Vec<u8, A>>,
+    octets: &[u8],
+    room: u64,
+    paper: &mut Paper,
+) {
+    let taken = decoder.hear(octets, room);
     put_taken(alloc, taken, paper);
     if taken.mark.is_some() {
         put_quoted(decoder.marker(), paper);

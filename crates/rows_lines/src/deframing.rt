@@ -1,41 +1,29 @@
 use crate::report::{put_printed, put_quoted};
 use crate::row::{Row, form_of};
-use crate::wires::{read_in, reads_as};
-use ftp_mode::{Deframer, FrameFault, Part};
-use ftp_settings::Representation;
+use crate::wires::read_in;
+use ftp_mode::{Deframer, Part};
 use rows_base::{Paper, octets_of, quoted, split};
 use std::alloc::Global;
 
-/// A wire, the file that it settles and its fault.
-type Wire<'a> = (Representation, &'a [u8], &'a [u8], Option<FrameFault>);
+/// Sizes of pieces.
+const SIZES: [usize; 6] = [64, 1, 2, 3, 4_096, 70_000];
 
-/// Whether a wire is read so, by pieces of each of these sizes.
-fn holds(alloc: Global, row: &Wire<'_>, sizes: &[usize]) -> bool {
-    let mut all = true;
-    for size in sizes {
-        all &= reads_as(alloc, row.0, row.1, (row.2, row.3), *size);
-    }
-    all
-}
+/// The number of the last cutting.
+pub(crate) const LAST: usize = 5;
 
-/// Writes the file that a wire settles, and its fault, by pieces of any size.
-pub(crate) fn show(alloc: Global, row: &Row<'_>, paper: &mut Paper) {
-    let form = form_of(row.head);
+/// Puts the file that a wire settles, and its fault, by pieces of one size.
+pub(crate) fn put(alloc: Global, row: &Row<'_>, cutting: usize, paper: &mut Paper) {
     let mut file = Vec::new(alloc);
-    match read_in(form, row.octets, 64, &mut file) {
-        Ok(met) => show_read(alloc, &(form, row.octets, file.as_slice(), met), paper),
+    let size = SIZES[cutting % 6];
+    let met = read_in(form_of(row.head), row.octets, size, &mut file);
+    put_quoted(file.as_slice(), paper);
+    match met {
+        Ok(Some(fault)) => {
+            paper.put(b" ");
+            put_printed(alloc, &fault, paper);
+        }
+        Ok(None) => {}
         Err(_) => paper.fill(),
-    }
-}
-
-fn show_read(alloc: Global, wire: &Wire<'_>, paper: &mut Paper) {
-    put_quoted(wire.2, paper);
-    if let Some(fault) = &wire.3 {
-        paper.put(b" ");
-        put_printed(alloc, fault, paper);
-    }
-    if !holds(alloc, wire, &[1, 2, 3, 4_096, 70_000]) {
-        paper.put(b", but not in any pieces");
     }
 }
 

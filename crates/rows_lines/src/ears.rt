@@ -6,20 +6,23 @@ use ftp_nvt::{Ear, Event, NvtFault};
 use rows_base::{Paper, Refusing, number, split};
 use std::alloc::{Allocator, Global};
 
-/// Puts the events of a piece as text: a line between `<` and `>`, a line that is too long as `!`, an owed answer
-/// between `[` and `]`.
+/// Puts an event as text: a line between `<` and `>`, a line that is too long as `!`, an owed answer between `[` and `]`.
+fn put_event(ear: &Ear<Global>, event: Event, said: &mut Paper) {
+    match event {
+        Event::More => {}
+        Event::Line => put_between(b"<", ear.line(), b">", said),
+        Event::TooLong => said.put(b"!"),
+        Event::Owed(answer) => put_between(b"[", &answer, b"]", said),
+    }
+}
+
+/// Puts the events of a piece.
 fn put_events(ear: &mut Ear<Global>, piece: &[u8], said: &mut Paper) {
     let mut rest = piece;
     for _ in 0..=piece.len() {
         let heard = ear.feed(rest);
-        match heard.event {
-            Event::More => {}
-            Event::Line => put_between(b"<", ear.line(), b">", said),
-            Event::TooLong => said.put(b"!"),
-            Event::Owed(answer) => put_between(b"[", &answer, b"]", said),
-        }
-        let (_, later) = rest.split_at(heard.taken);
-        rest = later;
+        put_event(ear, heard.event, said);
+        rest = rest.split_at(heard.taken).1;
     }
 }
 
@@ -28,6 +31,9 @@ fn put_between(front: &[u8], text: &[u8], back: &[u8], said: &mut Paper) {
     said.put(text);
     said.put(back);
 }
+
+/// Sizes of pieces.
+const SIZES: [usize; 4] = [64, 1, 2, 3];
 
 /// Puts the events of octets, cut into pieces of this size behind the first `at`.
 fn put_cut(ear: &mut Ear<Global>, octets: &[u8], at: usize, size: usize, said: &mut Paper) {
@@ -38,42 +44,15 @@ fn put_cut(ear: &mut Ear<Global>, octets: &[u8], at: usize, size: usize, said: &
     }
 }
 
-/// Puts what octets say to an ear of this limit, cut once at this place, and then into pieces of this size.
-fn put_said(alloc: Global, limit: usize, octets: &[u8], at: usize, size: usize, said: &mut Paper) {
-    match Ear::new(alloc, limit) {
-        Ok(mut ear) => put_cut(&mut ear, octets, at, size, said),
+/// Puts what octets say to an ear of the row's limit: in pieces of 64 octets, or cut once at a place, and then into pieces of one size.
+pub(crate) fn put(alloc: Global, row: &Row<'_>, cutting: usize, paper: &mut Paper) {
+    let mut said = Paper::new(alloc);
+    let (at, size) = (cutting.saturating_sub(1) / 4, SIZES[cutting % 4]);
+    match Ear::new(alloc, number(split(row.head).0) as usize) {
+        Ok(mut ear) => put_cut(&mut ear, row.octets, at, size, &mut said),
         Err(_) => said.fill(),
     }
-}
-
-/// Whether octets say this where they are cut so.
-fn says(alloc: Global, limit: usize, octets: &[u8], at: usize, size: usize, said: &[u8]) -> bool {
-    let mut other = Paper::new(alloc);
-    put_said(alloc, limit, octets, at, size, &mut other);
-    other.text() == said
-}
-
-/// Whether octets say this in every cutting.
-fn says_always(alloc: Global, limit: usize, octets: &[u8], said: &[u8]) -> bool {
-    let mut all = true;
-    for at in 0..=octets.len() {
-        all &= says(alloc, limit, octets, at, 64, said);
-        all &= says(alloc, limit, octets, at, 1, said);
-        all &= says(alloc, limit, octets, at, 2, said);
-        all &= says(alloc, limit, octets, at, 3, said);
-    }
-    all
-}
-
-/// Writes what octets say to an ear of the row's limit, in every cutting.
-pub(crate) fn show(alloc: Global, row: &Row<'_>, paper: &mut Paper) {
-    let limit = number(split(row.head).0) as usize;
-    let mut said = Paper::new(alloc);
-    put_said(alloc, limit, row.octets, 0, 64, &mut said);
     put_quoted(said.text(), paper);
-    if !says_always(alloc, limit, row.octets, said.text()) {
-        paper.put(b", but not in every cutting");
-    }
 }
 
 /// Whether an ear for eight octets tells how long its unfinished line is: three octets, none behind its end, none past the limit.

@@ -28,26 +28,30 @@ fn put_answer<A: Allocator, B: Allocator>(
 pub(crate) fn put<A: Allocator + Copy>(heap: A, line: &[u8], paper: &mut Paper) {
     let read = read_entry(heap, line);
     put_answer(heap, &read, paper);
+    drop(read);
 }
 
 /// Puts the line of what comes back of an entry.
 pub(crate) fn put_back(alloc: Global, entry: &Entry<Global>, paper: &mut Paper) {
     let back = entry_comes_back(alloc, entry);
     put_answer(alloc, &back, paper);
+    drop(back);
 }
 
 /// Writes the line of what comes back of the entry that a line says.
 pub(crate) fn show_back(alloc: Global, line: &[u8], paper: &mut Paper) {
-    match &read_entry(alloc, line) {
+    let read = read_entry(alloc, line);
+    match &read {
         Ok(entry) => put_back(alloc, entry, paper),
         Err(fault) => paper.put(fault.text().as_bytes()),
     }
+    drop(read);
 }
 
 /// How many growths are left behind the reading of a line, of which none is refused.
 fn growth(alloc: Global, line: &[u8]) -> u64 {
     let heap = Refusing::new(alloc, 0);
-    let _read = read_entry(&heap, line);
+    drop(read_entry(&heap, line));
     heap.left()
 }
 

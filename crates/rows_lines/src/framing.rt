@@ -4,51 +4,13 @@ use crate::row::{Row, form_of};
 use crate::wires::{encode, encoder, write};
 use ftp_mode::{Framer, Mode, Written};
 use ftp_repr::{Item, Structure};
-use ftp_settings::Representation;
 use ftp_wire::{Encoded, Encoder};
 use rows_base::{Paper, number, split};
 use std::alloc::Global;
 
-/// A file in a representation, and the octets that came before it, where markers are counted.
-#[derive(Drop)]
-struct File<'a> {
-    form: Representation,
-    start: Option<u64>,
-    octets: &'a [u8],
-}
-
-/// What makes the wire.
-#[derive(Clone, Copy)]
-enum By {
-    Framer,
-    Encoder,
-}
-
-/// Puts the wire of a file, by pieces and rooms of these sizes.
-fn put_wire(by: By, file: &File<'_>, sizes: (usize, usize), wire: &mut Paper) {
-    match by {
-        By::Framer => write(file.form, file.start, file.octets, sizes, wire),
-        By::Encoder => put_encoded(file, sizes, wire),
-    }
-}
-
-/// Puts the wire that an encoder makes, and a word behind it where not all of it is out.
-fn put_encoded(file: &File<'_>, sizes: (usize, usize), wire: &mut Paper) {
-    let mut encoder = encoder(file.form, file.start);
-    if !encode(&mut encoder, file.octets, sizes, wire) {
-        wire.put(b" and more");
-    }
-}
-
-/// Whether a file goes as this wire, by pieces and rooms of these sizes.
-fn goes_as(alloc: Global, by: By, file: &File<'_>, sizes: (usize, usize), expected: &[u8]) -> bool {
-    let mut wire = Paper::new(alloc);
-    put_wire(by, file, sizes, &mut wire);
-    wire.text() == expected
-}
-
 /// Sizes of pieces and of rooms.
-const SIZES: &[(usize, usize)] = &[
+const SIZES: [(usize, usize); 11] = [
+    (64, 64),
     (1, 1),
     (1, 2),
     (1, 64),
@@ -57,31 +19,25 @@ const SIZES: &[(usize, usize)] = &[
     (2, 64),
     (64, 1),
     (64, 2),
-    (64, 64),
     (4_096, 4_096),
     (70_000, 70_000),
 ];
 
-/// Whether a file goes as this wire, by pieces and rooms of several sizes.
-fn goes_always(alloc: Global, by: By, file: &File<'_>, expected: &[u8]) -> bool {
-    let mut all = true;
-    for sizes in SIZES {
-        all &= goes_as(alloc, by, file, *sizes, expected);
-    }
-    all
-}
+/// The number of the last cutting: each of these sizes by a framer, and then by an encoder.
+pub(crate) const LAST: usize = 21;
 
-/// Writes the wire of a file, and where the encoder makes another.
-fn show_file(alloc: Global, file: &File<'_>, paper: &mut Paper) {
+/// Puts the wire of a file in a representation; markers are counted from a start where the row has one.
+pub(crate) fn put(alloc: Global, row: &Row<'_>, cutting: usize, paper: &mut Paper) {
     let mut wire = Paper::new(alloc);
-    put_wire(By::Framer, file, (64, 64), &mut wire);
+    let (letters, start) = split(row.head);
+    let (form, start) = (form_of(letters), start_of(split(start).0));
+    let sizes = SIZES[cutting % 11];
+    if cutting < 11 {
+        write(form, start, row.octets, sizes, &mut wire);
+    } else if !encode(&mut encoder(form, start), row.octets, sizes, &mut wire) {
+        wire.put(b" and more");
+    }
     put_quoted(wire.text(), paper);
-    if !goes_always(alloc, By::Framer, file, wire.text()) {
-        paper.put(b", but not in any pieces");
-    }
-    if !goes_always(alloc, By::Encoder, file, wire.text()) {
-        paper.put(b", but otherwise by the encoder");
-    }
 }
 
 /// The number that there is, if there is one.
@@ -91,17 +47,6 @@ fn start_of(digits: &[u8]) -> Option<u64> {
     } else {
         Some(number(digits))
     }
-}
-
-/// Writes the wire of a file in a representation, in any pieces and rooms; markers are counted from a start where the row has one.
-pub(crate) fn show(alloc: Global, row: &Row<'_>, paper: &mut Paper) {
-    let (letters, start) = split(row.head);
-    let file = File {
-        form: form_of(letters),
-        start: start_of(split(start).0),
-        octets: row.octets,
-    };
-    show_file(alloc, &file, paper);
 }
 
 /// Whether an end is taken once all of it is out, and nothing goes behind it.

@@ -6,6 +6,7 @@ mod calendar;
 mod caller;
 mod commands;
 mod common;
+mod cutting;
 mod decoding;
 mod deframing;
 mod ears;
@@ -28,7 +29,6 @@ mod values;
 mod wires;
 mod witnesses;
 mod word;
-mod words;
 mod writing;
 mod written;
 
@@ -49,7 +49,6 @@ fn try_lines(alloc: Global, report: &mut Paper) {
     ears::tried(alloc, report);
     endpoints::tried(report);
     commands::tried(alloc, report);
-    replies::tried(alloc, report);
     writing::tried(alloc, report);
     entries::tried(alloc, report);
     scripts::tried(alloc, report);
@@ -58,7 +57,5 @@ fn try_lines(alloc: Global, report: &mut Paper) {
 fn try_files(alloc: Global, report: &mut Paper) {
     sizes::tried(alloc, report);
     refusals::tried(alloc, report);
-    words::tried(alloc, report);
     framing::tried(report);
-    both_ways::tried(alloc, report);
 }

@@ -24,11 +24,31 @@ fn takes_word(
     cut: usize,
     out: &mut Vec<u8>,
 ) -> bool {
-    match (text, octets_of(alloc, word)) {
-        ([b'"', ..], Ok(octets)) => takes_cut(receiver, Item::Octets(octets.as_slice()), cut, out),
-        ([b'R', ..], Ok(_)) => takes_cut(receiver, Item::EndRecord, cut, out),
-        ([b'F', ..], Ok(_)) => takes_cut(receiver, Item::EndFile, cut, out),
-        _ => false,
+    match &octets_of(alloc, word) {
+        Ok(octets) => takes_item(receiver, item_of(text, octets.as_slice()), cut, out),
+        Err(_) => false,
+    }
+}
+
+fn takes_item(
+    receiver: &mut Receiver,
+    item: Option<Item<'_>>,
+    cut: usize,
+    out: &mut Vec<u8>,
+) -> bool {
+    match item {
+        Some(item) => takes_cut(receiver, item, cut, out),
+        None => false,
+    }
+}
+
+/// The item that a text says, which stands for these octets.
+fn item_of<'a>(text: &[u8], octets: &'a [u8]) -> Option<Item<'a>> {
+    match text {
+        [b'"', ..] => Some(Item::Octets(octets)),
+        [b'R', ..] => Some(Item::EndRecord),
+        [b'F', ..] => Some(Item::EndFile),
+        _ => None,
     }
 }
 
@@ -64,34 +84,16 @@ fn receives(alloc: Global, row: &Row<'_>, cut: usize, breaks: bool, out: &mut Ve
     all & receiver.end(out).is_ok()
 }
 
-/// Whether the row's items give this file, cut at this place.
-fn is_received(alloc: Global, row: &Row<'_>, cut: usize, breaks: bool, file: &[u8]) -> bool {
-    let mut out = Vec::new(alloc);
-    receives(alloc, row, cut, breaks, &mut out) & (out.as_slice() == file)
-}
+/// The number of the last cutting.
+pub(crate) const LAST: usize = 11;
 
-/// Whether they give it cut at each place.
-fn is_received_cut(alloc: Global, row: &Row<'_>, breaks: bool, file: &[u8]) -> bool {
-    let mut all = true;
-    for cut in 0..=10 {
-        all &= is_received(alloc, row, cut, breaks, file);
-    }
-    all
-}
-
-/// Writes the file that the row's items give at a clean end, or at a break.
-fn show_file(alloc: Global, row: &Row<'_>, breaks: bool, paper: &mut Paper) {
+/// Puts the file that the row's items give at a clean end, or at a break: as a whole, or cut at a place; and whether one is refused.
+pub(crate) fn put(alloc: Global, row: &Row<'_>, breaks: bool, cutting: usize, paper: &mut Paper) {
     let mut file = Vec::new(alloc);
-    let all = receives(alloc, row, 100, breaks, &mut file);
+    let cut = cutting.checked_sub(1).unwrap_or(100);
+    let all = receives(alloc, row, cut, breaks, &mut file);
     put_quoted(file.as_slice(), paper);
-    if !(all & is_received_cut(alloc, row, breaks, file.as_slice())) {
-        paper.put(b", but not in any pieces");
+    if !all {
+        paper.put(b" refused");
     }
-}
-
-/// Writes the file that items give at a clean end, and at a break.
-pub(crate) fn show(alloc: Global, row: &Row<'_>, paper: &mut Paper) {
-    show_file(alloc, row, false, paper);
-    paper.put(b" broken ");
-    show_file(alloc, row, true, paper);
 }

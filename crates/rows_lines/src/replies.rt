@@ -1,8 +1,9 @@
 //! Lines and the replies that they are (RFC 959, section 4.2), and the limits.
 use crate::common::hears;
 use crate::report::{fill, put_printed, put_quoted};
+use crate::script::put_octets;
 use ftp_reply::{Reader, Reply, ReplyFault};
-use rows_base::{Paper, Refusing, number, octets_of, quoted, split};
+use rows_base::{Paper, Refusing, number, quoted, split};
 use std::alloc::{Allocator, Global};
 
 /// Writes what one reader answers to each of these quoted lines, and whether it is otherwise with a growth refused.
@@ -68,17 +69,14 @@ fn hear_line<A: Allocator + Clone>(
     line: &[u8],
     said: &mut Paper,
 ) -> u64 {
-    let Ok(octets) = octets_of(alloc, line) else {
-        return 2;
-    };
-    if put_heard(alloc, &reader.line(octets.as_slice()), said) {
-        return 0;
+    let mut octets = Paper::new(alloc);
+    put_octets(alloc, line, &mut octets);
+    for wanted in 0..2u64 {
+        if put_heard(alloc, &reader.line(octets.text()), said) {
+            return wanted;
+        }
     }
-    if put_heard(alloc, &reader.line(octets.as_slice()), said) {
-        1
-    } else {
-        2
-    }
+    2
 }
 
 /// Puts what a reader answers, unless memory is wanted. Says whether it is put.
@@ -145,19 +143,4 @@ fn put_whether(alloc: Global, heard: Result<bool, ReplyFault>, paper: &mut Paper
         Ok(false) => paper.put(b"more"),
         Err(fault) => put_printed(alloc, &fault, paper),
     }
-}
-
-/// Whether a reply of one line has 8,192 octets, and one more is too many.
-fn one_line_is_limited(alloc: Global) -> bool {
-    let mut reader = Reader::new(alloc);
-    let longest = hears_long(&mut reader, alloc, b"200 ", 8192) == Ok(true);
-    longest & (hears_long(&mut reader, alloc, b"200 ", 8193) == Err(ReplyFault::TooMany))
-}
-
-/// What is tried here, and whether it holds.
-pub(crate) fn tried(alloc: Global, report: &mut Paper) {
-    report.holds(
-        "a reply of one line has 8192 octets at most",
-        one_line_is_limited(alloc),
-    );
 }

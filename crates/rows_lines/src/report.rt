@@ -71,12 +71,3 @@ pub(crate) fn is_printed<T: Display>(alloc: Global, value: &T, text: &str) -> bo
     put_printed(alloc, value, &mut paper);
     paper.text() == text.as_bytes()
 }
-
-/// Whether each value of a table is printed as its text.
-pub(crate) fn are_printed<T: Display>(alloc: Global, table: &[(T, &'static str)]) -> bool {
-    let mut all = true;
-    for row in table {
-        all &= is_printed(alloc, &row.0, row.1);
-    }
-    all
-}

@@ -3,8 +3,8 @@ use crate::report::fill;
 use crate::row::Row;
 use crate::word::{FileWord, LineWord, Word, word_of};
 use crate::{
-    both_ways, calendar, commands, decoding, deframing, ears, endpoints, entries, framing, growing,
-    moments, receiving, replies, sending, sizes, skipping, values,
+    both_ways, calendar, commands, cutting, decoding, deframing, endpoints, entries, growing,
+    moments, replies, sizes, values,
 };
 use rows_base::{Paper, cut, number, octets_of, split};
 use std::alloc::Global;
@@ -34,7 +34,7 @@ fn play(alloc: Global, line: &[u8], paper: &mut Paper) {
 }
 
 /// Puts the octets of a text, in which `[8192x]` is so many of one.
-fn put_octets(alloc: Global, text: &[u8], octets: &mut Paper) {
+pub(crate) fn put_octets(alloc: Global, text: &[u8], octets: &mut Paper) {
     let mut rest = text;
     for _ in 0..text.len() {
         if rest.is_empty() {
@@ -68,7 +68,7 @@ fn answer(alloc: Global, word: Word, row: &Row<'_>, paper: &mut Paper) {
 
 fn answer_line(alloc: Global, word: LineWord, row: &Row<'_>, paper: &mut Paper) {
     match word {
-        LineWord::Ear => ears::show(alloc, row, paper),
+        LineWord::Ear => cutting::show(alloc, cutting::Asked::Ear, row, paper),
         LineWord::Line => growing::show(alloc, &growing::Asked::Line(row.octets), row.head, paper),
         LineWord::Endpoint(asked) => endpoints::show(alloc, asked, row.octets, paper),
         LineWord::Command => growing::show(
@@ -91,7 +91,7 @@ fn answer_line(alloc: Global, word: LineWord, row: &Row<'_>, paper: &mut Paper) 
         LineWord::EntryGrowths => entries::show_growths(alloc, row.octets, paper),
         LineWord::Seconds => moments::show_text(row.head, paper),
         LineWord::Moment => moments::show_seconds(row.octets, paper),
-        LineWord::Years => calendar::show_years(row.head, paper),
+        LineWord::Years => calendar::show_years(alloc, row.head, paper),
         LineWord::Script => growing::show(
             alloc,
             &growing::Asked::Script(row.octets),
@@ -105,14 +105,18 @@ fn answer_file(alloc: Global, word: FileWord, row: &Row<'_>, paper: &mut Paper) 
     match word {
         FileWord::Sizes => sizes::show_sizes(row.octets, paper),
         FileWord::Run => sizes::show_run(row, paper),
-        FileWord::Skip => skipping::show(row.head, paper),
-        FileWord::Send => sending::show(alloc, row, paper),
-        FileWord::Receive => receiving::show(alloc, row, paper),
-        FileWord::Frame => framing::show(alloc, row, paper),
-        FileWord::Deframe => deframing::show(alloc, row, paper),
+        FileWord::Skip => cutting::show(alloc, cutting::Asked::Skip, row, paper),
+        FileWord::Send => cutting::show(alloc, cutting::Asked::Send, row, paper),
+        FileWord::Receive => {
+            cutting::show(alloc, cutting::Asked::Receive { breaks: false }, row, paper);
+            paper.put(b" broken ");
+            cutting::show(alloc, cutting::Asked::Receive { breaks: true }, row, paper);
+        }
+        FileWord::Frame => cutting::show(alloc, cutting::Asked::Frame, row, paper),
+        FileWord::Deframe => cutting::show(alloc, cutting::Asked::Deframe, row, paper),
         FileWord::Parts => deframing::show_parts(alloc, row, paper),
         FileWord::BothWays => both_ways::show(alloc, row, paper),
-        FileWord::Decode => decoding::show_ended(alloc, row, paper),
+        FileWord::Decode => cutting::show(alloc, cutting::Asked::Decode, row, paper),
         FileWord::Pieces => decoding::show_pieces(alloc, row, paper),
         FileWord::Break => decoding::show_broken(alloc, row, paper),
     }

@@ -30,10 +30,12 @@ pub(crate) fn put<A: Allocator + Copy>(heap: A, script: &[u8], paper: &mut Paper
 
 /// Whether an answer is reported so. It is let go here, since that is dear to prove.
 fn is_reported(alloc: Global, answer: Answer<Global>, text: &[u8]) -> bool {
-    match report_of(alloc, &answer) {
+    let is_so = match report_of(alloc, &answer) {
         Ok(report) => report.as_slice() == text,
         Err(AllocError) => false,
-    }
+    };
+    drop(answer);
+    is_so
 }
 
 fn octets_are_reported(alloc: Global, octets: &[u8], text: &[u8]) -> bool {

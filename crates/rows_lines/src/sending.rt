@@ -33,45 +33,32 @@ fn send_piece(sender: &mut Sender, piece: &[u8], last: bool, parts: &mut Paper) 
     }
 }
 
+/// Sends octets in pieces of this size.
+fn send_chunks(sender: &mut Sender, octets: &[u8], size: usize, parts: &mut Paper) {
+    for piece in octets.chunks(size.max(1)) {
+        send_piece(sender, piece, false, parts);
+    }
+}
+
 /// Sends a file in two pieces, or octet by octet.
 fn send(sender: &mut Sender, file: &[u8], cut: Option<usize>, parts: &mut Paper) {
     let (front, back) = file.split_at(cut.unwrap_or(0).min(file.len()));
     send_piece(sender, front, false, parts);
-    for piece in back.chunks(if cut.is_none() { 1 } else { 100 }) {
-        send_piece(sender, piece, false, parts);
-    }
+    send_chunks(sender, back, if cut.is_none() { 1 } else { 100 }, parts);
     send_piece(sender, &[], true, parts);
 }
 
-/// Puts what the row's file gives, cut at this place or into octets. Whether nothing comes behind the end.
-fn send_row(row: &Row<'_>, cut: Option<usize>, parts: &mut Paper) -> bool {
+/// Puts what the row's file gives, cut at a place or into octets, and whether something comes behind the end.
+pub(crate) fn put(alloc: Global, row: &Row<'_>, cutting: usize, paper: &mut Paper) {
+    let mut parts = Paper::new(alloc);
     let mut sender = Sender::new(kind_of(row.head), structure_of(row.head));
-    send(&mut sender, row.octets, cut, parts);
-    let (_, more) = sender.next(&[0x61], true);
-    more.is_none()
-}
-
-/// Whether these parts are given for the row's file, cut so, and nothing behind the end.
-fn is_sent(alloc: Global, row: &Row<'_>, cut: Option<usize>, expected: &[u8]) -> bool {
-    let mut parts = Paper::new(alloc);
-    send_row(row, cut, &mut parts) & (parts.text() == expected)
-}
-
-/// Whether they are given cut at each place and by octets.
-fn is_sent_cut(alloc: Global, row: &Row<'_>, expected: &[u8]) -> bool {
-    let mut all = is_sent(alloc, row, None, expected);
-    for cut in 0..=row.octets.len() {
-        all &= is_sent(alloc, row, Some(cut), expected);
-    }
-    all
-}
-
-/// Writes what a file gives, in any pieces.
-pub(crate) fn show(alloc: Global, row: &Row<'_>, paper: &mut Paper) {
-    let mut parts = Paper::new(alloc);
-    let ends = send_row(row, Some(0), &mut parts);
+    let cut = match cutting {
+        1 => None,
+        _ => Some(cutting.saturating_sub(2)),
+    };
+    send(&mut sender, row.octets, cut, &mut parts);
     put_quoted(parts.text(), paper);
-    if !(ends & is_sent_cut(alloc, row, parts.text())) {
-        paper.put(b", but not in any pieces");
+    if sender.next(&[0x61], true).1.is_some() {
+        paper.put(b" and more");
     }
 }

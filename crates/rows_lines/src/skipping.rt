@@ -33,24 +33,21 @@ fn skip_octets(kind: Kind, left: u64) -> Skipped {
     skipped
 }
 
-/// Whether they lead there in every cutting.
-fn leads_always(kind: Kind, left: u64, skipped: Skipped) -> bool {
-    let mut all = skip_octets(kind, left) == skipped;
-    for cut in 0..=FILE.len() {
-        all &= skip_cut(kind, left, cut) == skipped;
-    }
-    all
-}
+/// The number of the last cutting.
+pub(crate) const LAST: usize = 7;
 
-/// Writes where so many octets of the wire lead to in the file, in every cutting.
-pub(crate) fn show(row: &[u8], paper: &mut Paper) {
+/// Puts where so many octets of the wire lead to in the file: as a whole, octet by octet, or cut at a place.
+pub(crate) fn put(row: &[u8], cutting: usize, paper: &mut Paper) {
     let (letter, left) = split(row);
     let (kind, left) = (kind_of(letter), number(left));
-    let skipped = skip(kind, left, FILE);
-    put_skipped(skipped, paper);
-    if !leads_always(kind, left, skipped) {
-        paper.put(b", but not in every cutting");
-    }
+    put_skipped(
+        match cutting {
+            0 => skip(kind, left, FILE),
+            1 => skip_octets(kind, left),
+            _ => skip_cut(kind, left, cutting.saturating_sub(2)),
+        },
+        paper,
+    );
 }
 
 fn put_skipped(skipped: Skipped, paper: &mut Paper) {

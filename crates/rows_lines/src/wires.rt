@@ -1,5 +1,5 @@
 //! Files to wires, in pieces and rooms, and wires to files.
-use ftp_mode::{Deframer, FrameFault, Framer, Part};
+use ftp_mode::{Deframer, FrameFault, Framer, Part, Step};
 use ftp_repr::{Item, Receiver, ReprFault, Sender};
 use ftp_settings::Representation;
 use ftp_wire::Encoder;
@@ -66,23 +66,27 @@ pub fn encoder(form: Representation, start: Option<u64>) -> Encoder {
     }
 }
 
-/// Puts the wire of a file by an encoder. Whether all of it is out.
-pub fn encode(
+/// Puts what an encoder makes of a piece in one room, and gives how many octets it took.
+fn encode_piece(
     encoder: &mut Encoder,
-    file: &[u8],
+    rest: &[u8],
     (piece, room): (usize, usize),
     wire: &mut Paper,
-) -> bool {
+) -> usize {
     let mut space = [0; 64];
+    let (front, behind) = rest.split_at(piece.min(rest.len()));
+    let (free, _) = space.split_at_mut(room.min(64));
+    let encoded = encoder.put(front, behind.is_empty(), free);
+    wire.put(free.split_at(encoded.made).0);
+    encoded.taken
+}
+
+/// Puts the wire of a file by an encoder. Whether all of it is out.
+pub fn encode(encoder: &mut Encoder, file: &[u8], sizes: (usize, usize), wire: &mut Paper) -> bool {
     let mut rest = file;
     for _ in 0..file.len().saturating_mul(3).saturating_add(200) {
-        let (front, behind) = rest.split_at(piece.min(rest.len()));
-        let (free, _) = space.split_at_mut(room.min(64));
-        let encoded = encoder.put(front, behind.is_empty(), free);
-        let (made, _) = free.split_at(encoded.made);
-        wire.put(made);
-        let (_, left) = rest.split_at(encoded.taken);
-        rest = left;
+        let taken = encode_piece(encoder, rest, sizes, wire);
+        rest = rest.split_at(taken.min(rest.len())).1;
     }
     rest.is_empty() & encoder.is_done() & encoder.is_out(true)
 }
@@ -96,27 +100,57 @@ fn take_part(receiver: &mut Receiver, part: Part<'_>, file: &mut Vec<u8>) -> Res
     }
 }
 
+/// What came of a piece of a wire.
+#[derive(Clone, Copy)]
+enum Came {
+    /// So many octets were read.
+    Read(usize),
+    /// There was none, and no part of it is left.
+    Nothing,
+    Faulty(FrameFault),
+}
+
+fn take_step(
+    receiver: &mut Receiver,
+    step: Step<'_>,
+    is_last: bool,
+    file: &mut Vec<u8>,
+) -> Result<Came, ReprFault> {
+    if is_last && matches!(step.part, Part::Need) {
+        return Ok(Came::Nothing);
+    }
+    take_part(receiver, step.part, file)?;
+    Ok(Came::Read(step.taken))
+}
+
+/// Reads a part of a piece.
+fn read_part(
+    deframer: &mut Deframer,
+    receiver: &mut Receiver,
+    piece: &[u8],
+    file: &mut Vec<u8>,
+) -> Result<Came, ReprFault> {
+    match deframer.feed(piece) {
+        Ok(step) => take_step(receiver, step, piece.is_empty(), file),
+        Err(met) => Ok(Came::Faulty(met.fault)),
+    }
+}
+
 /// Reads the parts of a wire that comes in pieces of this size, and gives its fault.
 fn read_parts(
     deframer: &mut Deframer,
     receiver: &mut Receiver,
     wire: &[u8],
-    piece: usize,
+    size: usize,
     file: &mut Vec<u8>,
 ) -> Result<Option<FrameFault>, ReprFault> {
     let mut rest = wire;
     for _ in 0..500_000 {
-        let (front, _) = rest.split_at(piece.min(rest.len()));
-        match deframer.feed(front) {
-            Err(met) => return Ok(Some(met.fault)),
-            Ok(step) => {
-                if rest.is_empty() && step.part == Part::Need {
-                    return Ok(None);
-                }
-                take_part(receiver, step.part, file)?;
-                let (_, left) = rest.split_at(step.taken);
-                rest = left;
-            }
+        let (piece, _) = rest.split_at(size.min(rest.len()));
+        match read_part(deframer, receiver, piece, file)? {
+            Came::Read(count) => rest = rest.split_at(count.min(rest.len())).1,
+            Came::Nothing => break,
+            Came::Faulty(fault) => return Ok(Some(fault)),
         }
     }
     Ok(None)
@@ -168,29 +202,15 @@ pub fn reads_as(
 }
 
 /// Whether a file is read again from its wire, by pieces and rooms of this size.
-fn comes_back_by(
-    alloc: Global,
-    form: Representation,
-    start: Option<u64>,
-    file: &[u8],
-    size: usize,
-) -> bool {
+fn comes_back_by(alloc: Global, form: Representation, file: &[u8], size: usize) -> bool {
     let mut wire = Paper::new(alloc);
-    write(form, start, file, (size, size), &mut wire);
+    write(form, None, file, (size, size), &mut wire);
     reads_as(alloc, form, wire.text(), (file, None), size)
 }
 
-/// Whether a file is read again from its wire, by pieces and rooms of each of these sizes.
-pub fn comes_back(
-    alloc: Global,
-    form: Representation,
-    start: Option<u64>,
-    file: &[u8],
-    sizes: &[usize],
-) -> bool {
-    let mut all = true;
-    for size in sizes {
-        all &= comes_back_by(alloc, form, start, file, *size);
-    }
-    all
+/// Whether a file is read again from its wire, by pieces and rooms of several sizes.
+pub fn comes_back(alloc: Global, form: Representation, file: &[u8]) -> bool {
+    comes_back_by(alloc, form, file, 1)
+        & comes_back_by(alloc, form, file, 3)
+        & comes_back_by(alloc, form, file, 64)
 }
