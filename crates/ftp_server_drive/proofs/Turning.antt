@@ -12,15 +12,16 @@ use Rattle.ftp_control.specs.Lane.{IsLeft, IsRead, IsWaited, IsWritten, Lane, wi
 use Rattle.ftp_control.specs.declared.pieces.Failed.{Failed}
 use Rattle.ftp_control.proofs.Courses.{Carrier, carries}
 use Rattle.ftp_control.proofs.Lanes.{asked_for}
-use Rattle.ftp_control.proofs.Leading.{leads_by, leads_then, quiet_call, quiet_nothing, quiet_then}
+use Rattle.ftp_control.proofs.Leading.{leads_by, leads_then, quiet_call, quiet_nothing, quiet_then, settled_leads}
 use Rattle.ftp_control.proofs.Totals.{cuts, sums}
 use Rattle.ftp_server_model.specs.Far.{Hears, Server, Steps}
 use Rattle.ftp_server_model.specs.Failing.{Counts, GiveFails}
 use Rattle.ftp_server_model.specs.Calls.{given_step, to_give}
 use Rattle.ftp_server_model.proofs.LinesDecided.{reading_exists}
 use Rattle.ftp_ends.specs.declared.link.Wants.{Wants}
-use Rattle.ftp_server_drive.specs.Beside.{held, untaken}
+use Rattle.ftp_server_drive.specs.Beside.{held, in_hand, untaken}
 use Rattle.ftp_server_drive.specs.Side.{AreWanted, Call, Clock, Gave, Gives, Got, IsWanted, Left, LetGo, Waited, Wrote, Held, WantsNone, ended, move_of, server_side}
+use Rattle.ftp_server_drive.specs.declared.data.Came.{Came}
 use Rattle.ftp_server_drive.specs.declared.drive.Life.{Life}
 use Rattle.ftp_server_drive.specs.Driving.{BrokeOff, Drove, EndsOver, Idles, IsOver, Timed, Turns}
 
@@ -107,6 +108,23 @@ settles_idle start old lane settles idles =
         ap (with_owner (held old.owner.server lane)) owes.1,
       );
     }
+
+-- of none that came there are none in hand
+pub none_in_hand : (stand : List ℕ → Stand server_side) (new : Stand server_side) (came is : Came) (room : List ℕ) → came ≡ is → in_hand is room ≡ [] → Leads (stand []) new
+    → Leads (stand (in_hand came room)) new
+none_in_hand stand new came is room same none leads = subst (λ l. Leads (stand l) new) (sym none ∙ sym (ap (λ k. in_hand k room) same)) leads
+
+pub settles_same : (start old : Stand server_side) (lane : Lane) → lane ≡ old.owner.lane → Settles start old → Settles start (with_owner (held old.owner.server lane) old)
+settles_same start old lane same settles = settles_idle start old lane settles (idles_same old.owner.lane lane same)
+
+-- what it is settled for leads on
+pub settled_then : (start a b : Stand server_side) → Settles start a → Leads a b → Leads start b
+settled_then start a b settles leads = leads_then start a b (settled_leads start a settles) leads
+
+-- its data connection is left
+pub leaves : (asked : Asked) (old new : Stand server_side) → IsLeft asked old.owner.lane new.owner.lane → new ≡ with_owner (held old.owner.server new.owner.lane) old → Leads old new
+leaves asked old new left same =
+    leads_by (Other (Left asked)) old new ((ap (λ s. s.owner.server) same, left, tt), subst (λ s. new ≡ with_owner s old) (sym (ap (λ s. s.owner) same)) same)
 
 -- octets that it no longer wants are let go
 pub lets_go : (server : Server) (lane : Lane) (octets : List ℕ) → WantsNone server → Quietly server_side (held server (with_untold octets lane)) (held server (with_untold [] lane))

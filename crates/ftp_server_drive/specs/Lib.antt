@@ -1,3 +1,4 @@
 pub mod Side
 pub mod Driving
 pub mod Beside
+pub mod Standing

@@ -154,6 +154,24 @@ where
     data.connection.wait(ports, what, hears)
 }
 
+/// What the data connection has, and where nothing more comes over it what the control connection has: its end is told before that of the data
+/// connection, so that an upload is dropped with its session.
+pub(crate) fn come<P: Ports>(
+    wants: Wants,
+    ports: &mut P,
+    data: &mut Data<P::Stream>,
+) -> (Came, Spoken)
+    ensures moved { Idles (lane_at P.Stream.remaining P.Stream.contents (P.history ports.old) «data».old []) (lane_at P.Stream.remaining P.Stream.contents (P.history ports.new) «data».new (in_hand result.0 «data».new.room)) }
+    ensures ended { result.0 ≡ Came.End → HasEnded P.Stream.remaining «data».new.connection }
+    ensures over { result.1 ≢ Spoken.Nothing → (room : List ℕ) → in_hand result.0 room ≡ [] }
+{
+    let came = data.come(wants);
+    match came {
+        Came::End | Came::Break => (came, ports.spoken()),
+        Came::Room | Came::Octets(_) | Came::Nothing => (came, Spoken::Nothing),
+    }
+}
+
 /// The data connection ended now, and the control connection, which was looked at behind that, has not.
 pub(crate) fn end<A, T, F, C, S>(server: &mut F, watch: &mut C, _ended: &Data<S>, _spoken: Spoken)
 where

@@ -1,32 +1,59 @@
-use Rattle.std.proofs.Common.{[], refl, subst}
+use Rattle.std.proofs.Common.{◌≡◌, refl, rules, subst}
+use Rattle.std.specs.Prelude.{List, Option}
+use Rattle.ftp_control.specs.Asking.{Asked}
+use Rattle.ftp_control.specs.Deeds.{with_owner}
 use Rattle.ftp_control.specs.Driving.{Fails, Leads}
 use Rattle.ftp_control.specs.Lane.{IsLeft, no_lane}
 use Rattle.ftp_control.proofs.Lanes.{none_had}
-use Rattle.ftp_server_drive.specs.Beside.{beside, held, lane_at}
+use Rattle.ftp_server_model.specs.Far.{Server}
+use Rattle.ftp_server_drive.specs.Beside.{beside, held}
+use Rattle.ftp_server_drive.specs.Driving.{BrokeOff, Drove}
+use Rattle.ftp_server_drive.specs.Standing.{standing}
 use Rattle.ftp_server_drive.proofs.Turning.{broke_off, drove}
 use Rattle.ftp_server_drive.proofs.drive.drive_server.Goals as goal
 
 pub returns-in-Ok : goal.returns-in-Ok
 returns-in-Ok g c =
     let history = g.P.Ports.history in
-    let stand = beside g.R.Read.remaining g.W.Write.contents in
-    let mid = (beside g.R.Read.remaining g.W.Write.contents (held (g.F.Far.server c.turns.new.server) (lane_at g.P.Stream.Read.remaining g.P.Stream.Write.contents (g.P.Ports.history c.turns.new.ports) c.turns.new.data [])) c.turns.new.control) in
-    drove (stand (held (g.F.Far.server c.args.server.now) (no_lane (g.P.Ports.history c.args.ports.now))) c.args.control.now) mid (stand (held (g.F.Far.server c.turns.new.server) (no_lane (history c.finish.new.ports))) c.turns.new.control)
-    c.finish.ensures.0 refl refl
-    (subst (λ lane. Leads (stand (held (g.F.Far.server c.args.server.now) lane) c.args.control.now) mid)
-    (none_had g.P.Stream.Read.remaining g.P.Stream.Write.contents c.new-data.result.connection (history c.args.ports.now) c.new-data.result.room c.new-data.ensures.none c.new-data.ensures.all)
-    c.in-Ok.ensures.0)
-    c.in-Ok.ensures.1 c.finish.ensures.1 refl
+    let server_of = g.F.Far.server in
+    let remaining = g.P.Stream.Read.remaining in
+    let contents = g.P.Stream.Write.contents in
+    let stand = λ (server : Server) (asked : Option (List Asked)). beside g.R.Read.remaining g.W.Write.contents (held server (no_lane asked)) in
+    let none = c.new in
+    let drive = c.turns-ended.new.self in
+    let start = stand (server_of c.args.server.now) (history c.args.ports.now) c.args.control.now in
+    let mid = standing server_of g.R.Read.remaining g.W.Write.contents history remaining contents drive in
+    let server : drive.server.now ≡ c.server-1.given.0 = search rules in
+    let ports : c.finish.new.ports ≡ c.ports-1.given.0 = search rules in
+    let control : drive.control.now ≡ c.control-1.given.0 = search rules in
+    subst (λ s. Drove start (stand (server_of s) (history c.ports-1.given.0) c.control-1.given.0)) server
+    (subst (λ p. Drove start (stand (server_of drive.server.now) (history p) c.control-1.given.0)) ports
+    (subst (λ k. Drove start (stand (server_of drive.server.now) (history c.finish.new.ports) k)) control
+    (drove start mid (stand (server_of drive.server.now) (history c.finish.new.ports) drive.control.now) c.finish.ensures.0 refl refl
+    (subst (λ lane. Leads (with_owner (held (server_of c.args.server.now) lane) start) mid)
+    (none_had remaining contents none.result.connection (history c.args.ports.now) none.result.room none.ensures.none none.ensures.all) c.in-Ok.ensures.goes.0)
+    c.in-Ok.ensures.goes.1 c.finish.ensures.1 refl)))
 
 pub returns-in-Err : goal.returns-in-Err
 returns-in-Err g c =
     let history = g.P.Ports.history in
-    let stand = beside g.R.Read.remaining g.W.Write.contents in
-    let off = (beside g.R.Read.remaining g.W.Write.contents (held (g.F.Far.server c.turns.new.server) (lane_at g.P.Stream.Read.remaining g.P.Stream.Write.contents (g.P.Ports.history c.turns.new.ports) c.turns.new.data [])) c.turns.new.control) in
-    broke_off (stand (held (g.F.Far.server c.args.server.now) (no_lane (g.P.Ports.history c.args.ports.now))) c.args.control.now) off (stand (held (g.F.Far.server c.control_end.new.self) (no_lane (history c.finish-in-Err.new.ports))) c.turns.new.control)
-    c.finish-in-Err.ensures.0 refl refl
-    (subst (λ lane. Fails (stand (held (g.F.Far.server c.args.server.now) lane) c.args.control.now) off)
-    (none_had g.P.Stream.Read.remaining g.P.Stream.Write.contents c.new-data.result.connection (history c.args.ports.now) c.new-data.result.room c.new-data.ensures.none c.new-data.ensures.all)
-    c.in-Err.ensures)
+    let server_of = g.F.Far.server in
+    let remaining = g.P.Stream.Read.remaining in
+    let contents = g.P.Stream.Write.contents in
+    let stand = λ (server : Server) (asked : Option (List Asked)). beside g.R.Read.remaining g.W.Write.contents (held server (no_lane asked)) in
+    let none = c.new in
+    let drive = c.turns-ended.new.self in
+    let start = stand (server_of c.args.server.now) (history c.args.ports.now) c.args.control.now in
+    let off = standing server_of g.R.Read.remaining g.W.Write.contents history remaining contents drive in
+    let gone = c.finish-in-Err in
+    let server : c.control_end.new.self ≡ c.server-in-Err-1.given.0 = search rules in
+    let ports : gone.new.ports ≡ c.ports-in-Err-1.given.0 = search rules in
+    let control : drive.control.now ≡ c.control-1.given.0 = search rules in
+    subst (λ s. BrokeOff start (stand (server_of s) (history c.ports-in-Err-1.given.0) c.control-1.given.0)) server
+    (subst (λ p. BrokeOff start (stand (server_of c.control_end.new.self) (history p) c.control-1.given.0)) ports
+    (subst (λ k. BrokeOff start (stand (server_of c.control_end.new.self) (history gone.new.ports) k)) control
+    (broke_off start off (stand (server_of c.control_end.new.self) (history gone.new.ports) drive.control.now) gone.ensures.0 refl refl
+    (subst (λ lane. Fails (with_owner (held (server_of c.args.server.now) lane) start) off)
+    (none_had remaining contents none.result.connection (history c.args.ports.now) none.result.room none.ensures.none none.ensures.all) c.in-Err.ensures.goes)
     c.control_end.ensures
-    (subst (λ lane. IsLeft c.finish-in-Err.ensures.0 lane (no_lane (history c.finish-in-Err.new.ports))) (c.note.ensures.same (history c.turns.new.ports)) c.finish-in-Err.ensures.1) refl
+    (subst (λ lane. IsLeft gone.ensures.0 lane (no_lane (history gone.new.ports))) (c.note.ensures.same (history drive.ports.now)) gone.ensures.1) refl)))

@@ -1,0 +1,25 @@
+use Rattle.std.proofs.Common.{◌∙◌, sym, refl, subst}
+use Rattle.std.specs.Io.KnownBytes.{Consumes}
+use Rattle.ftp_control.specs.Deeds.{Other}
+use Rattle.ftp_control.specs.Unheard.{left_of}
+use Rattle.ftp_control.proofs.Leading.{leads_by, leads_then}
+use Rattle.ftp_control.proofs.Going.{ends_here, goes_err, read_fails, reads_next}
+use Rattle.ftp_server_drive.specs.Side.{Clock}
+use Rattle.ftp_server_drive.proofs.drive.Drive.read.Goals as goal
+
+pub returns-in_err-count-clause-goes : goal.returns-in_err-count-clause-goes
+returns-in_err-count-clause-goes g c start settles =
+    goes_err start _ c.from_residual.result c.from_residual.ensures.0
+    (read_fails start _ _ settles c.in_err-count.ensures.err (c.in_err-count.ensures.kept ∙ sym c.requires) c.in_err-count.ensures.written refl)
+
+pub returns-then-count-eq0-clause-goes : goal.returns-then-count-eq0-clause-goes
+returns-then-count-eq0-clause-goes g c start settles =
+    let left = left_of g.R.Read.remaining in
+    let none = c.in_ok-count.ensures.none c.if-count-eq0.true in
+    ends_here start _ _ settles c.requires (subst (λ l. Consumes (left c.args.self.now.control.now) (left c.read.new.self) l) none.1 c.in_ok-count.ensures.ok)
+    none.0 none.1 c.in_ok-count.ensures.written (c.control_end.ensures, refl)
+
+pub returns-clause-goes : goal.returns-clause-goes
+returns-clause-goes g c start settles =
+    leads_then start _ _ (reads_next start _ _ _ settles c.requires c.in_ok-count.ensures.ok refl c.in_ok-count.ensures.written refl)
+    (leads_by (Other (Clock c.moment.result.seconds)) _ _ ((c.clock.ensures, refl, tt), refl))
