@@ -1,57 +1,96 @@
 -- What a field says, octet by octet.
-use Rattle.std.proofs.Common.{◌≡◌, ℕ, List, [], ◌∷◌, ◌++◌, Option, Some, None, option_map, Err, refl, sym, ap, ◌∙◌, append_assoc, append-nil}
+use Rattle.std.proofs.Common.{◌≡◌, ◌==◌, ◌<◌, ℕ, Bool, true, false, List, [], ◌∷◌, ◌++◌, Option, Some, None, option_map, Result, Ok, Err, refl, sym, ap, ◌∙◌, append_assoc, length, arith}
+use Rattle.std.specs.Prelude.{IfOk, IfErr, if◌then◌else◌}
 use Rattle.ftp_facts.specs.Value.{and_then}
-use Rattle.ftp_tool_script.specs.Line.{Reads}
 use Rattle.ftp_tool_script.specs.declared.fault.LineFault.{LineFault}
 use Rattle.ftp_tool_script.specs.declared.fault.LineFault.TheVariants.{Unfit, Memory}
-use Rattle.ftp_tool_script.specs.Field.{said_before, said_from, stepped, turn, with_front}
-use Rattle.ftp_tool_script.specs.declared.field.FieldState.{FieldState}
+use Rattle.ftp_tool_script.specs.Line.{Reads}
+use Rattle.ftp_tool_script.specs.Field.{FieldState, Between, Escape, High, Low, SaysOn, backslash, digits_octet, is_plain, letter_octet, said_before, said_from, with_front}
 
-joined : (front octets : List ℕ) (given : Option ℕ) → front ++ said_before given octets ≡ (front ++ said_before given []) ++ octets
-joined front octets None = ap (λ f. f ++ octets) (sym (append-nil front))
-joined front octets (Some octet) = sym (append_assoc front (octet ∷ []) octets)
-
-carried : (front : List ℕ) (given : Option ℕ) (rest : Option (List ℕ)) → with_front front (option_map (said_before given) rest) ≡ with_front (front ++ said_before given []) rest
-carried front given None = refl
-carried front given (Some octets) = ap Some (joined front octets given)
-
--- where a turn leads, with what was said before
-abbrev led : List ℕ → Option (FieldState × Option ℕ) → Option (FieldState × List ℕ)
-led front t = option_map (λ t. (t.0, front ++ said_before t.1 [])) t
-
--- what stands in a Some
-abbrev held : Option (FieldState × List ℕ) → FieldState × List ℕ → FieldState × List ℕ
-held None other = other
-held (Some step) other = step
-
--- one octet is taken
-pub takes : (front new text : List ℕ) (octet : ℕ) (place next : FieldState) → stepped front place octet ≡ Some (next, new)
-    → with_front front (said_from (octet ∷ text) place) ≡ with_front new (said_from text next)
-takes front new text octet place next is = by (turn place octet) is
-  where
-    by : (t : Option (FieldState × Option ℕ)) → led front t ≡ Some (next, new)
-        → with_front front (and_then t (λ t. option_map (said_before t.1) (said_from text t.0))) ≡ with_front new (said_from text next)
-    by None e = absurd (cc)
-    by (Some t) e =
-        carried front t.1 (said_from text t.0)
-        ∙ ap (λ (step : FieldState × List ℕ). with_front step.1 (said_from text step.0)) (ap (λ o. held o (next, new)) e)
-
--- an octet that has no place there
-pub stops : (front text : List ℕ) (octet : ℕ) (place : FieldState) → stepped front place octet ≡ None → with_front front (said_from (octet ∷ text) place) ≡ None
-stops front text octet place is = by (turn place octet) is
-  where
-    by : (t : Option (FieldState × Option ℕ)) → led front t ≡ None
-        → with_front front (and_then t (λ t. option_map (said_before t.1) (said_from text t.0))) ≡ None
-    by None e = refl
-    by (Some t) e = absurd (cc)
+-- nothing is said before
+pub silent : (said : Option (List ℕ)) → option_map (said_before None) said ≡ said
+silent None = refl
+silent (Some octets) = refl
 
 -- nothing stands in front
 pub alone : (rest : Option (List ℕ)) → with_front [] rest ≡ rest
 alone None = refl
 alone (Some octets) = refl
 
+one_said : (front : List ℕ) (octet : ℕ) (rest : Option (List ℕ)) → with_front front (option_map (said_before (Some octet)) rest) ≡ with_front (front ++ octet ∷ []) rest
+one_said front octet None = refl
+one_said front octet (Some octets) = ap Some (sym (append_assoc front (octet ∷ []) octets))
+
+-- ---- where an octet leads
+
+-- what is said from a turn on
+abbrev pub from_turn : List ℕ → Option (FieldState × Option ℕ) → Option (List ℕ)
+from_turn rest t = and_then t (λ t. option_map (said_before t.1) (said_from rest t.0))
+
+-- where an octet leads by two tests
+abbrev pub begun : ℕ → Bool → Bool → Option (FieldState × Option ℕ)
+begun octet slash plain = if slash then Some (Escape, None) else (if plain then Some (Between, Some octet) else None)
+
+-- where the end of an escape leads
+abbrev pub ended : Option ℕ → Option (FieldState × Option ℕ)
+ended octet = option_map (λ octet. (Between, Some octet)) octet
+
+-- where the octet behind a backslash leads
+abbrev escaped : ℕ → Bool → Option (FieldState × Option ℕ)
+escaped letter digits = if digits then Some (High, None) else ended (letter_octet letter)
+
+abbrev SaysOctet : ℕ → (text behind : List ℕ) → FieldState → Type 0
+SaysOctet octet text behind place = said_from text place ≡ option_map (said_before (Some octet)) (said_from behind Between)
+
+pub slash : (octet : ℕ) (behind : List ℕ) → (octet == backslash) ≡ true → said_from (octet ∷ behind) Between ≡ said_from behind Escape
+slash octet behind is = ap (λ b. from_turn behind (begun octet b (is_plain octet))) is ∙ silent (said_from behind Escape)
+
+pub itself : (octet : ℕ) (behind : List ℕ) → (octet == backslash) ≡ false → is_plain octet ≡ true → SaysOctet octet (octet ∷ behind) behind Between
+itself octet behind other plain = ap (λ b. from_turn behind (begun octet b (is_plain octet))) other ∙ ap (λ b. from_turn behind (begun octet false b)) plain
+
+pub neither : (octet : ℕ) (behind : List ℕ) → (octet == backslash) ≡ false → is_plain octet ≡ false → said_from (octet ∷ behind) Between ≡ None
+neither octet behind other none = ap (λ b. from_turn behind (begun octet b (is_plain octet))) other ∙ ap (λ b. from_turn behind (begun octet false b)) none
+
+pub digits : (letter : ℕ) (behind : List ℕ) → (letter == 120) ≡ true → said_from (letter ∷ behind) Escape ≡ said_from behind High
+digits letter behind is = ap (λ b. from_turn behind (escaped letter b)) is ∙ silent (said_from behind High)
+
+pub by_letter : (letter octet : ℕ) (behind : List ℕ) → (letter == 120) ≡ false → letter_octet letter ≡ Some octet → SaysOctet octet (letter ∷ behind) behind Escape
+by_letter letter octet behind other is = ap (λ b. from_turn behind (escaped letter b)) other ∙ ap (λ o. from_turn behind (ended o)) is
+
+pub no_letter : (letter : ℕ) (behind : List ℕ) → (letter == 120) ≡ false → letter_octet letter ≡ None → said_from (letter ∷ behind) Escape ≡ None
+no_letter letter behind other is = ap (λ b. from_turn behind (escaped letter b)) other ∙ ap (λ o. from_turn behind (ended o)) is
+
+pub by_digits : (high low octet : ℕ) (behind : List ℕ) → digits_octet high low ≡ Some octet → SaysOctet octet (high ∷ low ∷ behind) behind High
+by_digits high low octet behind is = silent (said_from (low ∷ behind) (Low high)) ∙ ap (λ o. from_turn behind (ended o)) is
+
+pub no_digits : (high low : ℕ) (behind : List ℕ) → digits_octet high low ≡ None → said_from (high ∷ low ∷ behind) High ≡ None
+no_digits high low behind is = silent (said_from (low ∷ behind) (Low high)) ∙ ap (λ o. from_turn behind (ended o)) is
+
+pub too_few : (text : List ℕ) → length text < 2 → said_from text High ≡ None
+too_few [] less = refl
+too_few (digit ∷ []) less = refl
+too_few (high ∷ low ∷ text) less = absurd (omega (arith, less))
+
+-- ---- what is said then
+
+-- a text says what another does
+pub as_other : {Rest : Type 0} (seen : Rest → List ℕ) (text other : List ℕ) (place next : FieldState) (old new : List ℕ) (r : Result Rest LineFault)
+    → said_from text place ≡ said_from other next → SaysOn seen other next old new r → SaysOn seen text place old new r
+as_other seen text other place next old new (Ok rest) same says = ap (with_front old) same ∙ says
+as_other seen text other place next old new (Err Unfit) same says = same ∙ says
+as_other seen text other place next old new (Err Memory) same says = tt
+
+-- one octet is put, and the others are left
+pub puts : {Rest : Type 0} (seen : Rest → List ℕ) (text behind : List ℕ) (place : FieldState) (octet : ℕ) (old new : List ℕ) (r : Result Rest LineFault)
+    → SaysOctet octet text behind place → IfOk r (λ left. (seen left ≡ behind) × (new ≡ old ++ octet ∷ [])) → IfErr r (λ fault. fault ≡ Memory) → SaysOn seen text place old new r
+puts seen text behind place octet old new (Ok left) says put fault =
+    ap (with_front old) says ∙ one_said old octet (said_from behind Between)
+    ∙ sym (ap (λ l. with_front l (said_from (seen left) Between)) put.1 ∙ ap (λ s. with_front (old ++ octet ∷ []) (said_from s Between)) put.0)
+puts seen text behind place octet old new (Err Unfit) says put fault = absurd (cc)
+puts seen text behind place octet old new (Err Memory) says put fault = tt
+
 -- why an octet is refused is why the text is
-pub refuses : {X Y : Type 0} (seen : X → FieldState × List ℕ) (sees : Y → List ℕ) (fault : LineFault) (front text : List ℕ) (octet : ℕ) (place : FieldState) (whole : Option (List ℕ))
-    → with_front front (said_from (octet ∷ text) place) ≡ whole → Reads seen (Err fault) (stepped front place octet) → Reads sees (Err fault) whole
-refuses seen sees Unfit front text octet place whole same is = sym same ∙ stops front text octet place is
-refuses seen sees Memory front text octet place whole same is = tt
+pub refuses : {Rest Y : Type 0} (seen : Rest → List ℕ) (sees : Y → List ℕ) (fault : LineFault) (text old new : List ℕ) (whole : Option (List ℕ))
+    → with_front old (said_from text Between) ≡ whole → SaysOn seen text Between old new (Err fault) → Reads sees (Err fault) whole
+refuses seen sees Unfit text old new whole same says = sym same ∙ ap (with_front old) says
+refuses seen sees Memory text old new whole same says = tt

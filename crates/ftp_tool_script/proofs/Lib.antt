@@ -1,4 +1,6 @@
+pub mod CutLemmas
 pub mod FieldLemmas
+pub mod LaneLemmas
 pub mod PlainLemmas
 pub mod ReportLemmas
 pub mod Reporting

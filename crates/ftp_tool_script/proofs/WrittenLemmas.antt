@@ -5,20 +5,14 @@ use Rattle.std.proofs.lemmas.List.Elements.{All-head, All-tail}
 use Rattle.std.specs.Cmp.Lexicographic.{pointwise}
 use Rattle.std.specs.Prelude.{if◌then◌else◌, nat_eq}
 use Rattle.ftp_facts.specs.Value.{and_then}
-use Rattle.ftp_tool_script.specs.Field.{backslash, digit_octet, digit_value, digits_octet, empty_field, field_text, field_value, is_plain, other_written, said_before, said_from, written}
-use Rattle.ftp_tool_script.specs.declared.field.FieldState.{FieldState}
-use Rattle.ftp_tool_script.specs.declared.field.FieldState.TheVariants.{Between, Escape, Low}
+use Rattle.ftp_tool_script.specs.Field.{Between, Escape, FieldState, Low, backslash, digit_octet, digit_value, digits_octet, digits_written, empty_field, field_text, field_value, is_plain, other_written, said_before, said_from, written}
+use Rattle.ftp_tool_script.proofs.FieldLemmas.{begun, ended, from_turn, silent}
 
 -- ---- one octet
 
 -- a text in front of others says one octet
 abbrev SaysOctet : ℕ → List ℕ → List ℕ → Type 0
 SaysOctet octet text rest = said_from (text ++ rest) Between ≡ option_map (λ octets. octet ∷ octets) (said_from rest Between)
-
--- nothing is said before
-silent : (said : Option (List ℕ)) → option_map (said_before None) said ≡ said
-silent None = refl
-silent (Some octets) = refl
 
 -- a digit and its value
 digit_back : (v : ℕ) → v < 16 → digit_value (digit_octet v) ≡ Some v
@@ -48,21 +42,9 @@ digits_back octet fits =
     ap (λ o. and_then o (λ h. option_map (λ l. 16 * h + l) (digit_value (digit_octet (octet % 16))))) (digit_back (octet / 16) high)
     ∙ ap (λ o. option_map (λ l. 16 * (octet / 16) + l) o) (digit_back (octet % 16) low) ∙ ap (λ v. Some v) whole
 
--- where an octet leads by two tests
-abbrev begun : ℕ → Bool → Bool → Option (FieldState × Option ℕ)
-begun octet slash plain = if slash then Some (Escape, None) else (if plain then Some (Between, Some octet) else None)
-
--- where the last digit leads
-abbrev ended : Option ℕ → Option (FieldState × Option ℕ)
-ended octet = option_map (λ octet. (Between, Some octet)) octet
-
--- what is said from a turn on
-abbrev from_turn : List ℕ → Option (FieldState × Option ℕ) → Option (List ℕ)
-from_turn rest t = and_then t (λ t. option_map (said_before t.1) (said_from rest t.0))
-
 -- an octet that has no letter
 abbrev unlettered : ℕ → Bool → List ℕ
-unlettered octet plain = if plain then octet ∷ [] else backslash ∷ 120 ∷ digit_octet (octet / 16) ∷ digit_octet (octet % 16) ∷ []
+unlettered octet plain = if plain then octet ∷ [] else digits_written octet
 
 other_back : (octet : ℕ) (rest : List ℕ) (plain : Bool) → octet < 256 → (octet == backslash) ≡ false → is_plain octet ≡ plain → SaysOctet octet (unlettered octet plain) rest
 other_back octet rest true fits other is =

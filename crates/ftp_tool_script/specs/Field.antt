@@ -1,9 +1,16 @@
 -- A field of a script: octets, some of them written by an escape (own choice).
-use Rattle.std.specs.Prelude.{ℕ, ◌+◌, ◌-◌, ◌*◌, ◌/◌, ◌%◌, ◌==◌, ◌&&◌, ◌++◌, Bool, not, nat_le, nat_lt, nat_eq, List, [], ◌∷◌, length, flat_map, Option, Some, None, option_map, if◌then◌else◌}
+use Rattle.std.specs.Prelude.{◌≡◌, ℕ, ◌+◌, ◌-◌, ◌*◌, ◌/◌, ◌%◌, ◌==◌, ◌&&◌, ◌++◌, Bool, not, nat_le, nat_lt, nat_eq, List, [], ◌∷◌, length, flat_map, Option, Some, None, option_map, if◌then◌else◌}
 use Rattle.std.specs.Cmp.Lexicographic.{pointwise}
 use Rattle.ftp_facts.specs.Value.{and_then}
-use Rattle.ftp_tool_script.specs.declared.field.FieldState.{FieldState}
-use Rattle.ftp_tool_script.specs.declared.field.FieldState.TheVariants.{Between, Escape, High, Low}
+use Rattle.std.specs.declared.result.Result.{Result}
+use Rattle.std.specs.declared.result.Result.TheVariants.{Ok, Err}
+use Rattle.ftp_tool_script.specs.declared.fault.LineFault.{LineFault}
+use Rattle.ftp_tool_script.specs.declared.fault.LineFault.TheVariants.{Unfit, Memory}
+
+-- how far a field is read: where an octet or an escape may begin, behind a backslash, behind that and `x`, behind the first digit
+pub data FieldState : Type 0 where
+  Between Escape High : FieldState
+  Low : (high : ℕ) → FieldState
 
 -- the octet that begins an escape
 abbrev pub backslash : ℕ
@@ -53,9 +60,11 @@ said_from (octet ∷ text) place = and_then (turn place octet) (λ t. option_map
 abbrev pub with_front : List ℕ → Option (List ℕ) → Option (List ℕ)
 with_front front rest = option_map (λ octets. front ++ octets) rest
 
--- where an octet leads, and all octets that are said by then
-abbrev pub stepped : List ℕ → FieldState → ℕ → Option (FieldState × List ℕ)
-stepped front place octet = option_map (λ t. (t.0, front ++ said_before t.1 [])) (turn place octet)
+-- what a text says behind some octets is what is left of it says behind those that are there then; or the text says nothing
+abbrev pub SaysOn : {Rest : Type 0} → (Rest → List ℕ) → (text : List ℕ) → FieldState → (old new : List ℕ) → Result Rest LineFault → Type 0
+SaysOn seen text place old new (Ok rest) = with_front old (said_from text place) ≡ with_front new (said_from (seen rest) Between)
+SaysOn seen text place old new (Err Unfit) = said_from text place ≡ None
+SaysOn seen text place old new (Err Memory) = Unit {0}
 
 -- `\e`, the field of no octets
 abbrev pub empty_field : List ℕ
@@ -70,10 +79,13 @@ field_value text =
 abbrev pub digit_octet : ℕ → ℕ
 digit_octet value = if nat_lt value 10 then 48 + value else 87 + value
 
+-- an octet by its digits
+abbrev pub digits_written : ℕ → List ℕ
+digits_written octet = backslash ∷ 120 ∷ digit_octet (octet / 16) ∷ digit_octet (octet % 16) ∷ []
+
 -- an octet that has no letter, as a field has it
 abbrev pub other_written : ℕ → List ℕ
-other_written octet =
-    if is_plain octet then octet ∷ [] else backslash ∷ 120 ∷ digit_octet (octet / 16) ∷ digit_octet (octet % 16) ∷ []
+other_written octet = if is_plain octet then octet ∷ [] else digits_written octet
 
 -- an octet as a field has it
 abbrev pub written : ℕ → List ℕ
@@ -86,3 +98,7 @@ written octet =
 -- the field that says these octets
 abbrev pub field_text : List ℕ → List ℕ
 field_text octets = if length octets == 0 then empty_field else flat_map written octets
+
+-- an octet that has no letter and does not stand for itself
+abbrev pub has_digits : ℕ → Bool
+has_digits octet = not (octet == 32) && not (octet == 10) && not (octet == 13) && not (octet == backslash) && not (is_plain octet)

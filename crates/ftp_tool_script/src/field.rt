@@ -1,26 +1,13 @@
 // A field: octets, some of them written by an escape.
-ghost use Rattle.std.specs.Prelude.{◌≡◌, ◌≤◌, ◌++◌, ◌∷◌, [], Some, true, flat_map, option_map, OnOk, IfSome};
+ghost use Rattle.std.specs.Prelude.{◌≡◌, ◌≤◌, ◌<◌, ◌++◌, ◌∷◌, [], Some, true, flat_map, length, OnOk, IfOk, IfErr, IfSome};
 ghost use Rattle.std.specs.List.{list_all};
-ghost use Rattle.ftp_tool_script.specs.Field.{backslash, digit_octet, digit_value, digits_octet, field_text, field_value, is_plain, letter_octet, other_written, said_before, said_from, stepped, turn, with_front, written};
+ghost use Rattle.ftp_tool_script.specs.Field.{Between, Escape, High, SaysOn, backslash, digit_octet, digit_value, digits_octet, digits_written, field_text, field_value, has_digits, is_plain, letter_octet, other_written, said_from, with_front, written};
 ghost use Rattle.ftp_tool_script.specs.Line.{Reads};
-ghost use Rattle.ftp_tool_script.specs.declared.field.FieldState.TheVariants.{Between};
 
 use crate::fault::LineFault;
+use crate::plain::{are_plain, is_plain};
 use ftp_facts::Text;
 use std::alloc::{AllocError, Allocator};
-
-/// How far a field is read.
-#[derive(Clone, Copy)]
-pub(crate) enum FieldState {
-    /// Where an octet or an escape may begin.
-    Between,
-    /// Behind a backslash.
-    Escape,
-    /// Behind a backslash and `x`.
-    High,
-    /// Behind the first digit.
-    Low(u8),
-}
 
 /// The octets that a field says.
 pub fn octets_of<A: Allocator + Copy>(alloc: A, field: &[u8]) -> Result<Text<A>, LineFault>
@@ -56,14 +43,7 @@ fn said<A: Allocator + Copy>(alloc: A, text: &[u8]) -> Result<Text<A>, LineFault
     }
 }
 
-/// Whether each octet stands for itself.
-fn are_plain(octets: &[u8]) -> bool
-    ensures { result ≡ list_all is_plain octets.now }
-{
-    octets.iter().all(|octet| is_plain(*octet))
-}
-
-/// The octets that a text says, octet by octet.
+/// The octets that a text says, one after another.
 #[tactic(auto, using(crate::proofs::FieldLemmas::alone))]
 fn said_each<A: Allocator + Copy>(alloc: A, text: &[u8]) -> Result<Text<A>, LineFault>
     ensures { Reads (λ octets. octets) result (said_from text.now Between) }
@@ -79,86 +59,84 @@ fn said_each<A: Allocator + Copy>(alloc: A, text: &[u8]) -> Result<Text<A>, Line
 fn put_said<A: Allocator>(text: &[u8], out: &mut Vec<u8, A>) -> Result<(), LineFault>
     ensures { Reads (λ _. out.new.items) result (with_front out.old.items (said_from text.now Between)) }
 {
-    let mut place = FieldState::Between;
-    for octet in text {
-        match step(place, *octet, out) {
-            Ok(next) => place = next,
+    let mut rest = text;
+    while let [octet, behind @ ..] = rest {
+        match put_next(*octet, behind, out) {
+            Ok(left) => rest = left,
             Err(fault) => return Err(fault),
         }
     }
-    match place {
-        FieldState::Between => Ok(()),
-        _ => Err(LineFault::Unfit),
+    Ok(())
+}
+
+/// Appends the octet that is said first, by itself or by an escape; gives what is left of the text.
+fn put_next<'a, A: Allocator>(
+    octet: u8,
+    behind: &'a [u8],
+    out: &mut Vec<u8, A>,
+) -> Result<&'a [u8], LineFault>
+    ensures says { SaysOn (λ left. left.now) (octet ∷ behind.now) Between out.old.items out.new.items result }
+    ensures less { IfOk result (λ left. length left.now ≤ length behind.now) }
+{
+    if octet == b'\\' {
+        put_escaped(behind, out)
+    } else if is_plain(octet) {
+        put_before(octet, behind, out)
+    } else {
+        Err(LineFault::Unfit)
     }
 }
 
-/// Where an octet leads; what is said by then is appended.
-fn step<A: Allocator>(
-    place: FieldState,
-    octet: u8,
+/// The same behind a backslash.
+fn put_escaped<'a, A: Allocator>(
+    text: &'a [u8],
     out: &mut Vec<u8, A>,
-) -> Result<FieldState, LineFault>
-    ensures { Reads (λ next. (next, out.new.items)) result (stepped out.old.items place octet) }
+) -> Result<&'a [u8], LineFault>
+    ensures says { SaysOn (λ left. left.now) text.now Escape out.old.items out.new.items result }
+    ensures less { IfOk result (λ left. length left.now ≤ length text.now) }
 {
-    match turn(place, octet) {
-        Some((next, given)) => match put(given, out) {
-            Ok(()) => Ok(next),
-            Err(AllocError) => Err(LineFault::Memory),
-        },
+    let [letter, behind @ ..] = text else {
+        return Err(LineFault::Unfit);
+    };
+    if *letter == b'x' {
+        return put_by_digits(behind, out);
+    }
+    match letter_octet(*letter) {
+        Some(octet) => put_before(octet, behind, out),
         None => Err(LineFault::Unfit),
     }
 }
 
-/// Appends an octet, if there is one.
-fn put<A: Allocator>(octet: Option<u8>, out: &mut Vec<u8, A>) -> Result<(), AllocError>
-    ensures { OnOk result (out.new.items ≡ out.old.items ++ said_before octet []) }
+/// The same behind a backslash and `x`.
+fn put_by_digits<'a, A: Allocator>(
+    text: &'a [u8],
+    out: &mut Vec<u8, A>,
+) -> Result<&'a [u8], LineFault>
+    ensures says { SaysOn (λ left. left.now) text.now High out.old.items out.new.items result }
+    ensures less { IfOk result (λ left. length left.now ≤ length text.now) }
 {
-    match octet {
-        Some(octet) => out.extend_from_slice(&[octet]),
-        None => Ok(()),
+    let [high, low, behind @ ..] = text else {
+        return Err(LineFault::Unfit);
+    };
+    match digits_octet(*high, *low) {
+        Some(octet) => put_before(octet, behind, out),
+        None => Err(LineFault::Unfit),
     }
 }
 
-/// What an octet leads to, and the octet that is said by then.
-fn turn(place: FieldState, octet: u8) -> Option<(FieldState, Option<u8>)>
-    ensures { result ≡ turn place octet }
+/// Appends an octet, and gives what is behind it.
+fn put_before<'a, A: Allocator>(
+    octet: u8,
+    behind: &'a [u8],
+    out: &mut Vec<u8, A>,
+) -> Result<&'a [u8], LineFault>
+    ensures ok { IfOk result (λ left. (left.now ≡ behind.now) × (out.new.items ≡ out.old.items ++ octet ∷ [])) }
+    ensures memory { IfErr result (λ fault. fault ≡ LineFault.Memory) }
 {
-    match place {
-        FieldState::Between => {
-            if octet == b'\\' {
-                Some((FieldState::Escape, None))
-            } else if is_plain(octet) {
-                Some((FieldState::Between, Some(octet)))
-            } else {
-                None
-            }
-        }
-        FieldState::Escape => {
-            if octet == b'x' {
-                Some((FieldState::High, None))
-            } else {
-                given(letter_octet(octet))
-            }
-        }
-        FieldState::High => Some((FieldState::Low(octet), None)),
-        FieldState::Low(high) => given(digits_octet(high, octet)),
+    match out.push(octet) {
+        Ok(()) => Ok(behind),
+        Err(_) => Err(LineFault::Memory),
     }
-}
-
-/// The end of an escape that says this octet.
-fn given(octet: Option<u8>) -> Option<(FieldState, Option<u8>)>
-    ensures { result ≡ option_map (λ octet. (Between, Some octet)) octet }
-{
-    match octet {
-        Some(octet) => Some((FieldState::Between, Some(octet))),
-        None => None,
-    }
-}
-
-fn is_plain(octet: u8) -> bool
-    ensures { result ≡ is_plain octet }
-{
-    33 <= octet && octet <= 126 && octet != b'\\'
 }
 
 fn letter_octet(letter: u8) -> Option<u8>
@@ -220,13 +198,55 @@ fn put_plain<A: Allocator>(octets: &[u8], out: &mut Vec<u8, A>) -> Result<(), Al
     out.extend_from_slice(octets)
 }
 
+/// Appends octets as a field has them.
 fn put_octets<A: Allocator>(octets: &[u8], out: &mut Vec<u8, A>) -> Result<(), AllocError>
     ensures { OnOk result (out.new.items ≡ out.old.items ++ flat_map written octets.now) }
 {
-    for octet in octets {
-        put_octet(*octet, out)?;
+    let mut rest = octets;
+    while let [octet, behind @ ..] = rest {
+        match put_some(*octet, behind, out) {
+            Ok(left) => rest = left,
+            Err(AllocError) => return Err(AllocError),
+        }
     }
     Ok(())
+}
+
+/// Appends the first octet, or the first four in one go where each of them has to be written by digits; gives what is left.
+#[tactic(auto, using(crate::proofs::PlainLemmas::one_put))]
+fn put_some<'a, A: Allocator>(
+    octet: u8,
+    behind: &'a [u8],
+    out: &mut Vec<u8, A>,
+) -> Result<&'a [u8], AllocError>
+    ensures put { IfOk result (λ left. out.new.items ++ flat_map written left.now ≡ out.old.items ++ flat_map written (octet ∷ behind.now)) }
+    ensures less { IfOk result (λ left. length left.now ≤ length behind.now) }
+{
+    if let [second, third, fourth, left @ ..] = behind {
+        if has_digits(octet) && has_digits(*second) && has_digits(*third) && has_digits(*fourth) {
+            put_four(octet, *second, *third, *fourth, out)?;
+            return Ok(left);
+        }
+    }
+    put_octet(octet, out)?;
+    Ok(behind)
+}
+
+/// Appends four octets by digits.
+fn put_four<A: Allocator>(
+    one: u8,
+    two: u8,
+    three: u8,
+    four: u8,
+    out: &mut Vec<u8, A>,
+) -> Result<(), AllocError>
+    ensures { OnOk result (out.new.items ≡ out.old.items ++ flat_map digits_written (one ∷ two ∷ three ∷ four ∷ [])) }
+{
+    let [a, b, c, d] = digits_of(one);
+    let [e, f, g, h] = digits_of(two);
+    let [i, j, k, l] = digits_of(three);
+    let [m, n, o, p] = digits_of(four);
+    out.extend_from_slice(&[a, b, c, d, e, f, g, h, i, j, k, l, m, n, o, p])
 }
 
 fn put_octet<A: Allocator>(octet: u8, out: &mut Vec<u8, A>) -> Result<(), AllocError>
@@ -248,15 +268,27 @@ fn put_other<A: Allocator>(octet: u8, out: &mut Vec<u8, A>) -> Result<(), AllocE
     if is_plain(octet) {
         out.extend_from_slice(&[octet])
     } else {
-        put_digits(digit_octet(octet / 16), digit_octet(octet % 16), out)
+        out.extend_from_slice(&digits_of(octet))
     }
 }
 
-/// Appends an escape by two digits.
-fn put_digits<A: Allocator>(high: u8, low: u8, out: &mut Vec<u8, A>) -> Result<(), AllocError>
-    ensures { OnOk result (out.new.items ≡ out.old.items ++ (backslash ∷ 120 ∷ high ∷ low ∷ [])) }
+/// Whether an octet has to be written by digits.
+fn has_digits(octet: u8) -> bool
+    ensures { result ≡ has_digits octet }
 {
-    out.extend_from_slice(&[b'\\', b'x', high, low])
+    octet != b' ' && octet != b'\n' && octet != b'\r' && octet != b'\\' && !is_plain(octet)
+}
+
+/// An octet as an escape by two digits.
+fn digits_of(octet: u8) -> [u8; 4]
+    ensures { result ≡ digits_written octet }
+{
+    [
+        b'\\',
+        b'x',
+        digit_octet(octet / 16),
+        digit_octet(octet % 16),
+    ]
 }
 
 /// A hexadecimal digit.

@@ -2,6 +2,7 @@
 //! writers that are handed in.
 #![tactic(auto)]
 
+mod cut;
 mod fault;
 mod field;
 mod how;
@@ -10,6 +11,7 @@ mod line;
 mod moments;
 mod order;
 mod parts;
+mod plain;
 mod reading;
 mod report;
 mod reports;

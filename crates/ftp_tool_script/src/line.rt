@@ -3,6 +3,7 @@ ghost use Rattle.std.specs.Prelude.{◌≡◌, map, IfOk};
 ghost use Rattle.std.specs.List.{slice_split};
 ghost use Rattle.ftp_tool_script.specs.Line.{Reads, alone_op, giving_op, is_space, login_in, login_value, login_with, order_in, order_value, order_with, part_op, path_op, put_from_in, taking_op, upload_in};
 
+use crate::cut::pieces_at;
 use crate::fault::LineFault;
 use crate::order::Order;
 use crate::parts::{giving, giving_from, none, pair, path, taking, taking_from};
@@ -182,5 +183,5 @@ fn login_with<A: Allocator>(user: Text<A>, pass: Text<A>) -> Result<Login<A>, Li
 fn fields_of<A: Allocator>(alloc: A, line: &[u8]) -> Result<Vec<&[u8], A>, AllocError>
     ensures { IfOk result (λ fields. map (λ field. field.now) fields.items ≡ slice_split is_space line.now) }
 {
-    line.split(|octet| *octet == b' ').collect(alloc)
+    pieces_at(alloc, b' ', line)
 }

@@ -5,6 +5,7 @@ ghost use Rattle.ftp_facts.specs.Listing.{but_empty_last, line_feed};
 ghost use Rattle.ftp_tool_script.specs.Line.{Reads, order_value};
 ghost use Rattle.ftp_tool_script.specs.Script.{ReadsAll, at_line, orders_behind, orders_value, script_from, script_in, script_value};
 
+use crate::cut::pieces_at;
 use crate::fault::LineFault;
 use crate::line::{login_of, order_of};
 use crate::order::Order;
@@ -42,7 +43,7 @@ pub fn script_of<A: Allocator + Copy>(alloc: A, text: &[u8]) -> Result<Script<A>
 fn pieces_of<A: Allocator>(alloc: A, text: &[u8]) -> Result<Vec<&[u8], A>, AllocError>
     ensures { IfOk result (λ pieces. map (λ piece. piece.now) pieces.items ≡ slice_split (λ octet. octet == line_feed) text.now) }
 {
-    text.split(|octet| *octet == b'\n').collect(alloc)
+    pieces_at(alloc, b'\n', text)
 }
 
 /// The lines: behind the last end no line stands.

@@ -1,6 +1,10 @@
-use Rattle.std.proofs.Common.{◌≡◌, ◌++◌, take, flat_map}
+use Rattle.std.proofs.Common.{◌≡◌, ◌++◌, flat_map, length}
 use Rattle.ftp_tool_script.specs.Field.{written}
 use Rattle.ftp_tool_script.proofs.field.put_octets.Given as goal
 
-abbrev pub invariant-loop-octet : goal.invariant-loop-octet
-invariant-loop-octet g l = l.out.items ≡ l.fn.out.items ++ flat_map written (take l.octet-index l.octets)
+-- what is put, and what the rest is written as, are what all octets are written as
+abbrev pub invariant-loop-rest : goal.invariant-loop-rest
+invariant-loop-rest g l = l.out.items ++ flat_map written l.rest ≡ l.fn.out.items ++ flat_map written l.octets
+
+abbrev pub decreases-loop-rest : goal.decreases-loop-rest
+decreases-loop-rest g l = length l.rest
