@@ -3,7 +3,7 @@ use crate::help;
 use crate::words::{BadValue, Form, MODE, STRU, Subcommand, TIMEOUT, TYPE, Value, Word};
 use clap::ArgMatches;
 use ftp_operation::How;
-use ftp_tool_fetch::{Download, Target, Task};
+use ftp_tool_fetch::{Download, Parts, Target, Task};
 use ftp_tool_files::{number_of, representation_of};
 use ftp_tool_words::place_of;
 
@@ -26,6 +26,11 @@ pub const GET: Subcommand<'static> = Subcommand {
             name: "keep",
             form: Form::Flag,
             help: "keeps what came of a download that is not whole, in FILE.ftp-part",
+        },
+        Word {
+            name: "continue",
+            form: Form::Flag,
+            help: "goes on behind a part that was kept, and keeps what came",
         },
         Word {
             name: "moment",
@@ -191,8 +196,19 @@ pub fn fetch_task_of<'a>(
     } else {
         Task::Get(Download {
             file,
-            keep: words.get_flag("keep"),
+            parts: parts_of(words),
             moment: words.get_flag("moment"),
         })
     })
+}
+
+/// What becomes of the octets of a download that is not whole.
+fn parts_of(words: &ArgMatches<'_>) -> Parts {
+    if words.get_flag("continue") {
+        Parts::Continued
+    } else if words.get_flag("keep") {
+        Parts::Kept
+    } else {
+        Parts::Dropped
+    }
 }

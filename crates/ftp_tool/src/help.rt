@@ -100,11 +100,13 @@ what is no file, as a pipe, is written as it stands and never replaced; - is sta
 In type I and file structure the server is asked for the size first. Where it tells that, the file is whole once what came has it; where a
 data connection was cut, or broke, the download goes on there, by at most 16 tries in all, and ends with 1 where it is not whole then. In
 type A, and where the server tells no size, a cut that looks like the end of the file is not noticed; with --progress a note says so.
-With --keep what came of a file that is not whole stays beside it; standard error has its name. With --moment the server is asked first
-when PATH was changed last, which FILE has then; where the server does not know it, standard error has a note. With --progress, and where
+With --keep what came of a file that is not whole stays beside it; standard error has its name, and FILE.ftp-part.note says of which file
+it is. With --continue a download goes on behind such a part, where the server tells the size and the moment that stand there; else it
+begins anew, and a note says so. With --moment FILE has the moment at which PATH was changed last; where the server does not know it,
+standard error has a note. A file of more octets than --limit is refused, with status 1. With --progress, and where
 standard error is a terminal, it has the octets of a transfer that takes more than a second, each second at most.
-Where the control connection ends, all is done anew over another one, at most four times, behind 1, 2, 4 and 8 seconds; each is told
-on standard error. A server that says, takes and sends nothing for the seconds of --timeout counts as one that ended it.
+Where the control connection ends, another one is made, at most four times, behind 1, 2, 4 and 8 seconds; each is told on standard error.
+The download goes on there where size and moment are those of before, and else begins anew. A server that says, takes and sends nothing for the seconds of --timeout counts as one that ended it.
 The password of anonymous is none; that of another user is in the environment, in FTP_PASSWORD, or in the file that --password-file
 names. Everything goes in cleartext, passwords too.
 Status: 0 done; 1 refused, or not all came; 2 bad command line, login or path; 3 the control connection or a device failed, or memory
@@ -115,8 +117,8 @@ Example:
 
 /// Behind the help of `put`.
 pub const PUT: &str = "\
-HOST, PATH, passwords, status, progress and what is done where the control connection ends are as with get; an upload begins anew
-then. Behind an upload in type I and file structure the server is asked for the size of what it has, where it tells that; where that is a part, or the data
+FILE is - for standard input. HOST, PATH, passwords, status, progress and what is done where the control connection ends are as with get;
+an upload begins anew then. A file of more octets than --limit is refused, with status 1. Behind an upload in type I and file structure the server is asked for the size of what it has, where it tells that; where that is a part, or the data
 connection alone broke, it goes on there, by at most 16 tries in all, and is done only once the size is that of FILE. More than one try are told on standard
 error; status 1 where the server has another size in the end, or says that there is no such file.
 

@@ -17,6 +17,7 @@ pub enum Phase {
     Reading,
     Writing,
     Script,
+    Listing,
     Report,
 }
 
@@ -31,6 +32,7 @@ impl Phase {
             Phase::Reading => "error: the file is not read: ",
             Phase::Writing => "error: the file is not written: ",
             Phase::Script => "error: the script is not read: ",
+            Phase::Listing => "error: the listing is not taken: ",
             Phase::Report => "error: no report: ",
         }
     }
@@ -73,11 +75,13 @@ impl SessionFault {
         self.stage
     }
 
-    /// Tells why on standard error, and gives the exit status: that of bad words for a bad login, and else that of a failure.
+    /// Tells why on standard error, and gives the exit status: that of bad words for a bad login, that of a refusal for a listing, and else that of a
+    /// failure.
     pub fn tell<R: Eprint>(&self, rt: &R) -> io::Result<Status> {
         say(rt, self.stage.sentence(), &self.error, "")?;
         match self.stage {
             Phase::Login => Ok(Status::BadWords),
+            Phase::Listing => Ok(Status::Refused),
             _ => Ok(Status::Failed),
         }
     }

@@ -1,8 +1,6 @@
 // What is noticed of a server beside its answer: the line of its replies that came last, how many data connections were opened, and that it fell silent.
-use ftp_tool_sockets::ControlReader;
+use std::fmt;
 use std::fmt::{Display, Formatter};
-use std::io::Read;
-use std::{fmt, io};
 
 /// The most octets of a line that are kept.
 const LINE_LIMIT: usize = 512;
@@ -107,14 +105,14 @@ impl LastReply {
     }
 
     /// A control connection begins, on which no line came.
-    fn begin(&mut self) {
+    pub(crate) fn begin(&mut self) {
         self.len = 0;
         self.is_whole = false;
         self.silence = None;
     }
 
     /// Keeps octets of replies.
-    fn keep(&mut self, octets: &[u8]) {
+    pub(crate) fn keep(&mut self, octets: &[u8]) {
         for octet in octets {
             self.keep_one(*octet);
         }
@@ -145,28 +143,6 @@ impl LastReply {
 fn code_of(line: &[u8]) -> Option<u16> {
     let digits = line.get(..3)?;
     std::str::from_utf8(digits).ok()?.parse().ok()
-}
-
-/// Reads a control connection, and notices what is read.
-#[derive(Drop)]
-pub(crate) struct Noticing<'a> {
-    reader: ControlReader<'a>,
-    noticed: &'a mut LastReply,
-}
-
-impl<'a> Noticing<'a> {
-    pub(crate) fn new(reader: ControlReader<'a>, noticed: &'a mut LastReply) -> Noticing<'a> {
-        noticed.begin();
-        Noticing { reader, noticed }
-    }
-}
-
-impl<'a> Read for Noticing<'a> {
-    fn read(&mut self, room: &mut [u8]) -> io::Result<usize> {
-        let count = self.reader.read(room)?;
-        self.noticed.keep(room.get(..count).unwrap_or(&[]));
-        Ok(count)
-    }
 }
 
 /// The text of a server, or its code where the text is not known.

@@ -2,10 +2,13 @@
 #![tactic(auto)]
 
 mod again;
+mod course;
 mod fault;
 mod last_reply;
 mod live;
 mod login;
+mod noticing;
+mod pace;
 mod progress;
 mod request;
 mod saying;
@@ -13,11 +16,13 @@ mod server;
 mod talking;
 
 pub use again::ask;
+pub use course::{Ending, Heard, Most};
 pub use fault::{Phase, SessionFault, at};
 pub use last_reply::{LastReply, Refusal, Said};
 pub use live::{ClientSession, SessionTask};
 pub use login::User;
-pub use request::Request;
+pub use pace::{Pace, Rest, Span};
+pub use request::{Request, Terms};
 pub use saying::say;
 pub use server::ServerAddress;
 pub use talking::converse;

@@ -1,5 +1,6 @@
 // A client between its connections, as whoever asks sees it: nothing is said of what its calls do, so that what stands on them is proved without
 // the clauses of a client.
+use crate::course::{Course, Ending};
 use crate::request::{Request, begin};
 use ftp_client_drive::{Control, drive_client};
 use ftp_client_model::Near;
@@ -15,6 +16,9 @@ pub trait ClientSession {
 
     /// How many data connections were opened so far.
     fn opened(&self) -> u32;
+
+    /// How the last data connection ended, beside what was answered.
+    fn ending(&self) -> Ending;
 }
 
 /// What is done over one control connection.
@@ -35,6 +39,7 @@ pub(crate) struct LiveSession<'a, 'b, N, C, W, P> {
     pub(crate) client: N,
     pub(crate) control: &'a mut Control<C, W>,
     pub(crate) ports: &'b mut P,
+    pub(crate) course: &'b Course,
 }
 
 impl<'a, 'b, N, C, W, P> ClientSession for LiveSession<'a, 'b, N, C, W, P>
@@ -46,6 +51,7 @@ where
 {
     fn answer(&mut self, request: Request) -> Answer<Global> {
         let mut request = request;
+        self.course.begin(&request);
         begin(&mut self.client, &mut request);
         match drive_client(&mut self.client, self.control, self.ports) {
             Some(answer) => answer,
@@ -55,5 +61,9 @@ where
 
     fn opened(&self) -> u32 {
         self.ports.opened()
+    }
+
+    fn ending(&self) -> Ending {
+        self.course.ending()
     }
 }

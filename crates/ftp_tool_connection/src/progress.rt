@@ -2,23 +2,33 @@
 ghost use Rattle.std.specs.Prelude.{None};
 ghost use Rattle.ftp_control.specs.Asking.{Closes};
 
+use crate::course::Course;
 use crate::live::Opens;
+use crate::pace::pace_of;
 use ftp_control::{Accepted, For, Ports, Ready, Spoken, Whole};
 use ftp_endpoint::Endpoint;
 use ftp_tool_sockets::{Link, Patience, SocketPorts};
 use std::io;
-use std::io::{Eprint, Read, Write};
+use std::io::{Eprint, Error, ErrorKind, Read, Write};
 use std::net::{Net, TcpListener, TcpStream};
 use std::time::{Clock, Duration, Instant};
 
 /// How long a transfer goes on before it is told of, and between two tellings.
 const BETWEEN_SECONDS: u64 = 1;
 
+/// When a data connection was opened, and when it was told of last.
+#[derive(Clone, Copy)]
+struct Told {
+    begun: Instant,
+    last: Option<Instant>,
+}
+
 /// Data connections that tell how far they are.
 #[derive(Drop)]
 pub(crate) struct MeteredPorts<'a, R: Net<Listener = TcpListener, Stream = TcpStream>> {
     rt: &'a R,
     ports: SocketPorts<'a, R>,
+    course: &'a Course,
     is_told: bool,
 }
 
@@ -27,11 +37,13 @@ pub(crate) struct MeteredPorts<'a, R: Net<Listener = TcpListener, Stream = TcpSt
 pub(crate) struct MeteredLink<'a, R> {
     rt: &'a R,
     link: Link<'a>,
+    course: &'a Course,
     /// How many octets it moved.
     moved: u64,
-    /// When it was opened, or told of last; none where nothing is to be told.
-    since: Option<Instant>,
-    was_told: bool,
+    /// How many lines of a listing came.
+    lines: u64,
+    /// When it was opened, and when it was told of last; none where nothing is to be told.
+    told: Option<Told>,
 }
 
 impl<'a, R> MeteredPorts<'a, R>
@@ -43,10 +55,16 @@ where
         rt: &'a R,
         control: &'a TcpStream,
         patience: &'a Patience<'a>,
+        course: &'a Course,
         is_told: bool,
     ) -> io::Result<MeteredPorts<'a, R>> {
         let ports = SocketPorts::hearing(rt, control, patience)?;
-        Ok(MeteredPorts { rt, ports, is_told })
+        Ok(MeteredPorts {
+            rt,
+            ports,
+            course,
+            is_told,
+        })
     }
 
     /// Waits at most so many milliseconds until the peer has ended the last data connection too.
@@ -55,17 +73,17 @@ where
     }
 
     fn metered(&self, link: Link<'a>) -> MeteredLink<'a, R> {
-        let since = if self.is_told {
-            Instant::now(self.rt).ok()
-        } else {
-            None
+        let told = match Instant::now(self.rt) {
+            Ok(begun) if self.is_told => Some(Told { begun, last: None }),
+            _ => None,
         };
         MeteredLink {
             rt: self.rt,
             link,
+            course: self.course,
             moved: 0,
-            since,
-            was_told: false,
+            lines: 0,
+            told,
         }
     }
 }
@@ -94,7 +112,15 @@ where
     }
 
     fn wait(&mut self, stream: &mut MeteredLink<'a, R>, what: For, hears: bool) -> Ready {
-        self.ports.wait(&mut stream.link, what, hears)
+        if self.course.is_cut() {
+            return Ready::Lost;
+        }
+        let ready = self.ports.wait(&mut stream.link, what, hears);
+        if ready == Ready::Control && self.course.ends_with(self.ports.spoken()) {
+            return Ready::Lost;
+        }
+        self.course.waited(ready);
+        ready
     }
 
     fn spoken(&mut self) -> Spoken {
@@ -128,39 +154,71 @@ impl<'a, R: Clock + Eprint> MeteredLink<'a, R> {
     /// So many octets more were moved.
     fn add(&mut self, count: usize) {
         self.moved = self.moved.saturating_add(count as u64);
-        let Some(since) = self.since else {
+        let (Some(told), Ok(now)) = (self.told, Instant::now(self.rt)) else {
             return;
         };
-        let Ok(now) = Instant::now(self.rt) else {
-            return;
-        };
+        let since = told.last.unwrap_or(told.begun);
         if now.duration_since(since) >= Duration::from_secs(BETWEEN_SECONDS) {
-            self.since = Some(now);
-            self.was_told = true;
-            let _told = eprint!(self.rt; "\r{} octets", self.moved);
+            self.told = Some(Told {
+                begun: told.begun,
+                last: Some(now),
+            });
+            self.tell(told.begun, now, "");
+        }
+    }
+
+    /// Tells how far it is, and what stands behind that.
+    fn tell(&self, begun: Instant, now: Instant, behind: &str) {
+        let millis = now.duration_since(begun).as_millis();
+        let millis = u64::try_from(millis).unwrap_or(u64::MAX);
+        let pace = pace_of(self.course.span(), self.moved, millis);
+        let _told = eprint!(self.rt; "\r{pace}{behind}");
+    }
+
+    /// The lines that end in octets that came, where they are counted.
+    fn add_lines(&mut self, octets: &[u8]) {
+        if self.course.counts_lines() {
+            let ends = octets.iter().filter(|octet| **octet == b'\n').count();
+            self.lines = self.lines.saturating_add(ends as u64);
         }
     }
 
     /// The connection itself, of which nothing is told any more.
     fn ended(self) -> Link<'a> {
-        let MeteredLink {
-            rt,
-            link,
-            moved,
-            since: _,
-            was_told,
-        } = self;
-        if was_told {
-            let _told = eprintln!(rt; "\r{moved} octets");
+        if let Some(
+            Told {
+                begun,
+                last: Some(_),
+            },
+        ) = self.told
+        {
+            if let Ok(now) = Instant::now(self.rt) {
+                self.tell(begun, now, "\n");
+            }
         }
+        let MeteredLink {
+            rt: _,
+            link,
+            course: _,
+            moved: _,
+            lines: _,
+            told: _,
+        } = self;
         link
     }
 }
 
 impl<'a, R: Clock + Eprint> Read for MeteredLink<'a, R> {
     fn read(&mut self, room: &mut [u8]) -> io::Result<usize> {
+        if self.course.is_cut() {
+            return Err(Error::from(ErrorKind::ConnectionAborted));
+        }
         let count = self.link.read(room)?;
         self.add(count);
+        self.add_lines(room.get(..count).unwrap_or(&[]));
+        if self.course.cuts_off(self.moved, self.lines) {
+            return Err(Error::from(ErrorKind::ConnectionAborted));
+        }
         Ok(count)
     }
 }

@@ -1,29 +1,108 @@
 // What is asked of a client.
+use crate::course::Most;
+use crate::pace::Span;
 use ftp_client_model::Near;
 use ftp_facts::Text;
 use ftp_operation::{How, Op};
 use std::alloc::Global;
+
+/// The most entries of a listing, and its most octets.
+const MOST_ENTRIES: u64 = 1_000_000;
+
+const MOST_LISTED: u64 = 1_073_741_824;
 
 /// An operation, or an upload over breaks; empty once a client has it.
 pub enum Request {
     One(Option<Op<Text<Global>>>),
     /// A path and the octets of the file.
     Upload(Option<(Text<Global>, Text<Global>)>, How),
+    /// A download.
+    Download(Option<Op<Text<Global>>>, Terms),
+}
+
+/// The terms of a download.
+#[derive(Clone, Copy)]
+pub struct Terms {
+    /// The most octets that its data connection may bring.
+    pub most: u64,
+    /// How many octets the file has, where that is known.
+    pub total: Option<u64>,
+    /// Whether what came is answered as broken off where the control connection ends in its middle.
+    pub is_kept: bool,
 }
 
 /// By hand: a derived drop is proved again, part by part, wherever a request is let go.
 impl Drop for Request {
     fn drop(self) {
         match self {
-            Request::One(_) | Request::Upload(_, _) => {}
+            Request::One(_) | Request::Upload(_, _) | Request::Download(_, _) => {}
         }
+    }
+}
+
+impl Request {
+    /// Whether what came is answered where the control connection ends.
+    pub(crate) fn is_kept(&self) -> bool {
+        match self {
+            Request::Download(_, terms) => terms.is_kept,
+            Request::One(_) | Request::Upload(_, _) => false,
+        }
+    }
+}
+
+/// The most that the data connection of a request may bring.
+pub(crate) fn most_of(request: &Request) -> Most {
+    match request {
+        Request::One(Some(Op::List(_, _) | Op::Names(_, _))) => Most {
+            octets: MOST_LISTED,
+            lines: Some(MOST_ENTRIES),
+        },
+        Request::One(_) | Request::Upload(_, _) => Most {
+            octets: u64::MAX,
+            lines: None,
+        },
+        Request::Download(_, terms) => Most {
+            octets: terms.most,
+            lines: None,
+        },
+    }
+}
+
+/// What a request moves of a file.
+pub(crate) fn span_of(request: &Request) -> Span {
+    let nothing = Span {
+        start: 0,
+        total: None,
+    };
+    match request {
+        Request::Download(op, terms) => Span {
+            start: start_of(op),
+            total: terms.total,
+        },
+        Request::One(Some(Op::Put(_, octets, _))) => Span {
+            start: 0,
+            total: Some(octets.as_slice().len() as u64),
+        },
+        Request::One(Some(Op::PutFrom(_, from, octets, _))) => Span {
+            start: *from,
+            total: Some(from.saturating_add(octets.as_slice().len() as u64)),
+        },
+        _ => nothing,
+    }
+}
+
+/// From which octet of the file on a download is.
+fn start_of(op: &Option<Op<Text<Global>>>) -> u64 {
+    match op {
+        Some(Op::GetFrom(_, from, _)) => *from,
+        _ => 0,
     }
 }
 
 /// Begins what is requested, which is taken out of there.
 pub(crate) fn begin<N: Near<Global>>(client: &mut N, request: &mut Request) {
     match request {
-        Request::One(op) => client.start(op),
+        Request::One(op) | Request::Download(op, _) => client.start(op),
         Request::Upload(file, how) => client.upload(file, *how),
     }
 }

@@ -1,8 +1,10 @@
 // A control connection from its beginning to its end, and the one client at it.
+use crate::course::Course;
 use crate::fault::{Phase, SessionFault, at};
-use crate::last_reply::{LastReply, Noticing};
+use crate::last_reply::LastReply;
 use crate::live::{LiveSession, Opens, SessionTask};
 use crate::login::{User, login_of};
+use crate::noticing::Noticing;
 use crate::progress::MeteredPorts;
 use crate::server::{ServerAddress, connected, leave};
 use ftp_client::Client;
@@ -73,11 +75,15 @@ where
 {
     let hosts = at(Phase::Talking, hosts_of(stream))?;
     let patience = Patience::of_client(server.timeout);
-    let ports = MeteredPorts::hearing(rt, stream, &patience, server.progress);
+    let course = Course::new();
+    let ports = MeteredPorts::hearing(rt, stream, &patience, &course, server.progress);
     let mut ports = at(Phase::Talking, ports)?;
-    let reader = Noticing::new(ControlReader::new(stream, &patience), noticed);
+    let reader = Noticing::new(ControlReader::new(stream, &patience), noticed, &course);
     let mut control = Control::new(reader, ControlWriter::new(stream, &patience));
-    let done = play_between(rt.alloc(), hosts, login, &mut control, &mut ports, play);
+    let done = match client_of(rt.alloc(), login, hosts) {
+        Some(client) => play_by(client, &mut control, &mut ports, &course, play),
+        None => Err(SessionFault::of_memory()),
+    };
     drop(control);
     ports.finish();
     noticed.add_opened(ports.opened());
@@ -92,28 +98,6 @@ fn hosts_of(stream: &TcpStream) -> io::Result<(Host, Host)> {
     let here = host_of(stream.local_addr()?);
     let peer = host_of(stream.peer_addr()?);
     Ok((here, peer))
-}
-
-/// Makes the client between two hosts, by which is played.
-fn play_between<C, W, O, T, P>(
-    alloc: Global,
-    hosts: (Host, Host),
-    login: &mut Option<Login<Global>>,
-    control: &mut Control<C, W>,
-    ports: &mut O,
-    play: &mut P,
-) -> Result<T, SessionFault>
-where
-    C: Read + Drop,
-    W: Write + Drop,
-    O: Opens,
-    T: Drop,
-    P: SessionTask<Result<T, SessionFault>>,
-{
-    match client_of(alloc, login, hosts) {
-        Some(client) => play_by(client, control, ports, play),
-        None => Err(SessionFault::of_memory()),
-    }
 }
 
 /// A client between two hosts, which takes the login; none where memory is refused.
@@ -133,6 +117,7 @@ fn play_by<N, C, W, O, T, P>(
     client: N,
     control: &mut Control<C, W>,
     ports: &mut O,
+    course: &Course,
     play: &mut P,
 ) -> Result<T, SessionFault>
 where
@@ -147,6 +132,7 @@ where
         client,
         control,
         ports,
+        course,
     };
     play.play(&mut seat)
 }

@@ -7,14 +7,14 @@ use Rattle.ftp_tool_status.specs.declared.step.There.TheVariants as Theres
 use Rattle.ftp_tool_status.specs.declared.step.Ended.{Ended}
 use Rattle.ftp_tool_status.specs.declared.step.Ended.TheVariants as Ends
 
--- how a try ended that was answered so, with a data connection or without: 451 says that the server gave up what it did (RFC 959, section 4.2.2);
--- none where the answer is told, whatever is there
-abbrev pub ended_by : {A : Type 0} → Answer A → Bool → Option Ended
-ended_by Answers.Done is_opened = Some Ends.Done
-ended_by (Answers.Broken got mark) is_opened = Some Ends.Broken
-ended_by (Answers.Refused code) is_opened = if code == 451 && is_opened then Some Ends.Failed else None
-ended_by Answers.Unopened is_opened = Some Ends.Unopened
-ended_by answer is_opened = None
+-- how a try ended that was answered so, with a data connection or without, which ended, or did not although the server says that all is done: 451 says
+-- that the server gave up what it did (RFC 959, section 4.2.2); none where the answer is told, whatever is there
+abbrev pub ended_by : {A : Type 0} → Answer A → (is_opened is_unended : Bool) → Option Ended
+ended_by Answers.Done is_opened is_unended = Some Ends.Done
+ended_by (Answers.Broken got mark) is_opened is_unended = Some (if is_unended then Ends.Unended else Ends.Broken)
+ended_by (Answers.Refused code) is_opened is_unended = if code == 451 && is_opened then Some Ends.Failed else None
+ended_by Answers.Unopened is_opened is_unended = Some Ends.Unopened
+ended_by answer is_opened is_unended = None
 
 -- what the answer to SIZE tells (RFC 3659, section 4): 550 says that there is no such file
 abbrev pub there_by : {A : Type 0} → Answer A → There

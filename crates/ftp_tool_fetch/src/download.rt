@@ -1,15 +1,18 @@
 // A download: what is asked for, and what is left of it at this end.
 use crate::came::Came;
-use crate::downloading::Downloading;
-use crate::single::{Wish, ask_at, ask_for};
+use crate::downloading::{Downloading, Stamp};
+use crate::single::ask_at;
 use crate::target::Target;
-use crate::telling::{Part, tell};
-use ftp_facts::Moment;
+use crate::telling::{Part, tell, tell_too_large};
+use crate::trying::is_counted;
+use ftp_facts::{Moment, Text};
 use ftp_operation::{Answer, How};
 use ftp_settings::{Mode, Structure};
 use ftp_tool_connection::{LastReply, Phase, SessionFault, at, say};
-use ftp_tool_local::{write_over, write_part};
-use ftp_tool_status::{Arrival, Status};
+use ftp_tool_local::{
+    Beside, Kept, Note, kept_beside, note_of, remove_kept, write_over, write_part,
+};
+use ftp_tool_status::{Arrival, Size, Status};
 use std::alloc::Global;
 use std::env::Env;
 use std::fs::Files;
@@ -21,28 +24,45 @@ use std::time::Clock;
 /// The file that stands for standard output.
 const OUTPUT: &str = "-";
 
+/// What becomes of the octets of a download that is not whole.
+#[derive(Clone, Copy, PartialEq, Eq)]
+pub enum Parts {
+    Dropped,
+    /// They are kept beside the file, in one of its name with `.ftp-part` behind.
+    Kept,
+    /// They are kept so, and the download goes on behind those of an earlier one, where the server has the same file still.
+    Continued,
+}
+
 /// A download.
 #[derive(Clone, Copy)]
 pub struct Download<'a> {
     /// The file of this end: written beside its name, and moved over it once it is whole; `-` is standard output.
     pub file: &'a str,
-    /// Whether what came is kept where that is not the whole file, in a file of that name with `.ftp-part` behind.
-    pub keep: bool,
+    pub parts: Parts,
     /// Whether its last change is to be at the server's moment of the file.
     pub moment: bool,
 }
 
-/// What is known before a file is asked for.
-#[derive(Clone, Copy)]
-enum Known {
-    /// The server's moment of it, if the server tells one.
-    Moment(Option<Moment>),
-    /// That there is no use in asking for it: the status, which is told.
-    Useless(Status),
+/// A download, the place of its file at a server, and the number of the part that it may go on behind.
+struct Job<'a> {
+    download: Download<'a>,
+    place: String<Global>,
+    over: Option<u32>,
 }
 
-/// Asks for the file, and leaves it at this end; for its moment first, where that is wanted, so that a file which changes in between looks too old
-/// and never too new.
+/// By hand: a derived drop is proved again, part by part, wherever a job is let go.
+impl<'a> Drop for Job<'a> {
+    fn drop(self) {
+        let Self {
+            download: _,
+            place: _,
+            over: _,
+        } = self;
+    }
+}
+
+/// Asks for the file, and leaves it at this end.
 pub(crate) fn get<R>(
     rt: &R,
     asked: &Target<'_>,
@@ -58,42 +78,75 @@ where
         + Clock
         + AllocGlobal,
 {
-    if !download.moment {
-        return get_at(rt, asked, download, None, noticed);
+    let stamp = stamp_of(asked.how, download);
+    let mut downloading = Downloading::new(rt, asked.place.path, asked.how);
+    downloading.put_terms(asked.limit, stamp);
+    let mut job = Job {
+        download,
+        place: at(Phase::Asking, place_text(rt.alloc(), asked))?,
+        over: None,
+    };
+    if download.parts == Parts::Continued && download.file != OUTPUT {
+        at(
+            Phase::Reading,
+            resume(rt, asked.limit, &mut job, &mut downloading),
+        )?;
     }
-    match known_of(rt, asked, noticed)? {
-        Known::Moment(moment) => get_at(rt, asked, download, moment, noticed),
-        Known::Useless(status) => Ok(status),
+    get_by(rt, asked, &job, &mut downloading, noticed)
+}
+
+/// The moment is asked for where it is wanted, and where the size of the file tells whether it is the same still.
+fn stamp_of(how: How, download: Download<'_>) -> Stamp {
+    if download.moment || is_counted(how) {
+        Stamp::Untold
+    } else {
+        Stamp::Unasked
     }
 }
 
-/// Asks for the file, and leaves it at this end, last changed at a moment, where there is one.
-fn get_at<R>(
+/// The place of a file at a server, as its note has it.
+fn place_text(alloc: Global, asked: &Target<'_>) -> io::Result<String<Global>> {
+    let place = asked.place;
+    Ok(format!(in alloc; "{}:{}/{}", place.host, place.port, place.path)?)
+}
+
+/// Takes the octets of a part that is kept beside the file; where it has no note that fits, that is told.
+fn resume<R: Files + Eprint + AllocGlobal>(
     rt: &R,
-    asked: &Target<'_>,
-    download: Download<'_>,
-    moment: Option<Moment>,
-    noticed: &mut LastReply,
-) -> Result<Status, SessionFault>
-where
-    R: Net<Listener = TcpListener, Stream = TcpStream>
-        + Files
-        + Env
-        + Print
-        + Eprint
-        + Clock
-        + AllocGlobal,
-{
-    let mut downloading = Downloading::new(rt, asked.place.path, asked.how);
-    get_by(rt, asked, download, moment, &mut downloading, noticed)
+    limit: u64,
+    job: &mut Job<'_>,
+    downloading: &mut Downloading<'_, R>,
+) -> io::Result<()> {
+    match kept_beside(rt, job.download.file, job.place.as_bytes(), limit)? {
+        Beside::Kept(kept) => {
+            let Kept {
+                number,
+                octets,
+                note,
+            } = kept;
+            job.over = Some(number);
+            if let Some(moment) = Moment::new(note.moment) {
+                downloading.begin_with(Text::from_vec(octets), note.size, moment)?;
+            }
+        }
+        Beside::Unnoted => {
+            let _told = say(
+                rt,
+                "note: no part beside ",
+                &job.download.file,
+                " has a note of this file; the download begins anew",
+            );
+        }
+        Beside::Nothing => {}
+    }
+    Ok(())
 }
 
 /// Does a download, and leaves what came at this end.
 fn get_by<R>(
     rt: &R,
     asked: &Target<'_>,
-    download: Download<'_>,
-    moment: Option<Moment>,
+    job: &Job<'_>,
     downloading: &mut Downloading<'_, R>,
     noticed: &mut LastReply,
 ) -> Result<Status, SessionFault>
@@ -108,7 +161,7 @@ where
 {
     match ask_at(rt, asked, noticed, downloading) {
         Ok(answer) => {
-            let left = leave(rt, asked, download, moment, &answer, downloading, noticed);
+            let left = leave(rt, asked, job, &answer, downloading, noticed);
             drop(answer);
             at(Phase::Report, left)
         }
@@ -120,56 +173,21 @@ where
 fn leave<R: Files + Print + Eprint + AllocGlobal>(
     rt: &R,
     asked: &Target<'_>,
-    download: Download<'_>,
-    moment: Option<Moment>,
+    job: &Job<'_>,
     answer: &Answer<Global>,
     downloading: &Downloading<'_, R>,
     noticed: &LastReply,
 ) -> io::Result<Status> {
     match answer {
-        Answer::Done => save(rt, asked, download, moment, downloading),
-        _ => save_part(rt, download, answer, downloading.came(), noticed),
-    }
-}
-
-/// Asks for the moment of the file.
-fn known_of<R>(rt: &R, asked: &Target<'_>, noticed: &mut LastReply) -> Result<Known, SessionFault>
-where
-    R: Net<Listener = TcpListener, Stream = TcpStream> + Files + Env + Eprint + Clock + AllocGlobal,
-{
-    match ask_for(rt, asked, Wish::Moment, noticed) {
-        Ok(answer) => {
-            let known = known_by(rt, &answer, noticed);
-            drop(answer);
-            at(Phase::Report, known)
+        Answer::Done => save(rt, asked, job, downloading),
+        Answer::Broken { got: _, mark: _ } => {
+            let status = tell_broken(rt, downloading.came())?;
+            keep_part(rt, job, downloading, status)
         }
-        Err(stop) => Err(stop),
-    }
-}
-
-/// What an answer tells of the moment of a file; where the server does not know it, that is told.
-fn known_by<R: Eprint>(rt: &R, answer: &Answer<Global>, noticed: &LastReply) -> io::Result<Known> {
-    match answer {
-        Answer::Stamp(moment) => Ok(Known::Moment(Some(*moment))),
-        Answer::Refused(code) => {
-            let _told = say(
-                rt,
-                "note: the server tells no moment of the file: ",
-                &noticed.refusal(*code),
-                "",
-            );
-            Ok(Known::Moment(None))
+        _ => {
+            let status = tell(rt, answer, noticed)?;
+            keep_part(rt, job, downloading, status)
         }
-        Answer::Strange => {
-            let _told = say(
-                rt,
-                "note: the server tells no moment of the file",
-                &noticed.said(),
-                "",
-            );
-            Ok(Known::Moment(None))
-        }
-        _ => Ok(Known::Useless(tell(rt, answer, noticed)?)),
     }
 }
 
@@ -177,18 +195,21 @@ fn known_by<R: Eprint>(rt: &R, answer: &Answer<Global>, noticed: &LastReply) -> 
 fn save<R: Files + Print + Eprint + AllocGlobal>(
     rt: &R,
     asked: &Target<'_>,
-    download: Download<'_>,
-    moment: Option<Moment>,
+    job: &Job<'_>,
     downloading: &Downloading<'_, R>,
 ) -> io::Result<Status> {
-    let came = downloading.came();
     match downloading.arrived() {
-        Arrival::Whole => write(rt, download.file, came, moment),
+        Arrival::Whole => write(rt, job, downloading),
         Arrival::Unknown => {
             tell_unknown(rt, asked);
-            write(rt, download.file, came, moment)
+            write(rt, job, downloading)
         }
-        Arrival::Wrong(total) => keep_wrong(rt, download, came, total),
+        Arrival::Wrong(total) => {
+            tell_wrong(rt, downloading.came(), total)?;
+            keep_part(rt, job, downloading, Status::Refused)
+        }
+        Arrival::TooLarge(total) => tell_too_large(rt, total, asked.limit),
+        Arrival::Past => tell_past(rt, asked.limit),
     }
 }
 
@@ -207,38 +228,65 @@ fn tell_unknown<R: Eprint>(rt: &R, asked: &Target<'_>) {
     }
 }
 
-/// Keeps what came of a file that has another size, as the server says.
-fn keep_wrong<R: Files + Eprint + AllocGlobal>(
-    rt: &R,
-    download: Download<'_>,
-    came: &Came,
-    total: u64,
-) -> io::Result<Status> {
+/// Tells that another number of octets came than the server says that the file has.
+fn tell_wrong<R: Eprint>(rt: &R, came: &Came, total: u64) -> io::Result<()> {
     let told = Part {
         count: came.count(),
         between: " octets came of a file that has ",
         total,
     };
-    say(rt, "error: ", &told, ", as the server says")?;
-    keep_part(rt, download, came, Status::Refused)
+    say(rt, "error: ", &told, ", as the server says")
+}
+
+/// Tells that more octets came than the limit, and gives the exit status.
+fn tell_past<R: Eprint>(rt: &R, limit: u64) -> io::Result<Status> {
+    say(
+        rt,
+        "error: the file has more than ",
+        &limit,
+        " octets, which is the limit",
+    )?;
+    Ok(Status::Refused)
 }
 
 /// Writes the file, or its octets to standard output.
 fn write<R: Files + Print + Eprint + AllocGlobal>(
     rt: &R,
-    file: &str,
-    came: &Came,
-    moment: Option<Moment>,
+    job: &Job<'_>,
+    downloading: &Downloading<'_, R>,
 ) -> io::Result<Status> {
+    let file = job.download.file;
     let written = if file == OUTPUT {
-        put_out(rt, came)
+        put_out(rt, downloading.came())
     } else {
-        write_over(rt, file, came.pieces(), moment)
+        let moment = moment_for(rt, job.download, downloading);
+        write_over(rt, file, downloading.came().pieces(), moment)
     };
     match at(Phase::Writing, written) {
-        Ok(()) => Ok(Status::Done),
+        Ok(()) => {
+            if let Some(number) = job.over {
+                let _gone = remove_kept(rt, file, number);
+            }
+            Ok(Status::Done)
+        }
         Err(stop) => stop.tell(rt),
     }
+}
+
+/// The moment that the file's last change is to be at; where the server does not tell it, that is told.
+fn moment_for<R: Eprint + AllocGlobal>(
+    rt: &R,
+    download: Download<'_>,
+    downloading: &Downloading<'_, R>,
+) -> Option<Moment> {
+    if !download.moment {
+        return None;
+    }
+    let moment = downloading.moment();
+    if moment.is_none() {
+        let _told = rt.eprintln("note: the server tells no moment of the file");
+    }
+    moment
 }
 
 /// Writes what came to standard output.
@@ -248,21 +296,6 @@ fn put_out<R: Print>(rt: &R, came: &Came) -> io::Result<()> {
         out.write_all(piece.as_slice())?;
     }
     out.flush()
-}
-
-/// Tells why a download is not done, and what becomes of the octets that came.
-fn save_part<R: Files + Eprint + AllocGlobal>(
-    rt: &R,
-    download: Download<'_>,
-    answer: &Answer<Global>,
-    came: &Came,
-    noticed: &LastReply,
-) -> io::Result<Status> {
-    let status = match answer {
-        Answer::Broken { got: _, mark: _ } => tell_broken(rt, came),
-        _ => tell(rt, answer, noticed),
-    };
-    keep_part(rt, download, came, status?)
 }
 
 /// Tells behind how many octets the data connection broke, and gives the exit status.
@@ -279,14 +312,22 @@ fn tell_broken<R: Eprint>(rt: &R, came: &Came) -> io::Result<Status> {
 /// Keeps the octets that came where they are to be kept, tells where they are, and gives the status.
 fn keep_part<R: Files + Eprint + AllocGlobal>(
     rt: &R,
-    download: Download<'_>,
-    came: &Came,
+    job: &Job<'_>,
+    downloading: &Downloading<'_, R>,
     status: Status,
 ) -> io::Result<Status> {
-    if !download.keep || download.file == OUTPUT || came.count() == 0 {
+    let Download {
+        file,
+        parts,
+        moment: _,
+    } = job.download;
+    let came = downloading.came();
+    if parts == Parts::Dropped || file == OUTPUT || came.count() == 0 {
         return Ok(status);
     }
-    match write_part(rt, download.file, came.pieces()) {
+    let note = note_for(rt.alloc(), job, downloading)?;
+    let note = note.as_ref().map(|text| text.as_slice());
+    match write_part(rt, file, came.pieces(), job.over, note) {
         Ok(name) => {
             say(rt, "note: the octets that came are in ", &name, "")?;
             Ok(status)
@@ -296,4 +337,21 @@ fn keep_part<R: Files + Eprint + AllocGlobal>(
             Ok(Status::Failed)
         }
     }
+}
+
+/// The note of a part, where the server told the size and the moment of its file.
+fn note_for<R: Eprint + AllocGlobal>(
+    alloc: Global,
+    job: &Job<'_>,
+    downloading: &Downloading<'_, R>,
+) -> io::Result<Option<Vec<u8, Global>>> {
+    let (Size::Told(size), Some(moment)) = (downloading.size(), downloading.moment()) else {
+        return Ok(None);
+    };
+    let note = Note {
+        size,
+        moment: moment.seconds,
+        count: downloading.came().count(),
+    };
+    Ok(note_of(alloc, note, job.place.as_bytes())?)
 }

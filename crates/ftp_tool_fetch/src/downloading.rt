@@ -1,25 +1,43 @@
-// A download, which goes on where it was cut: where its data connection broke, and where the server says that all is sent and not all came.
+// A download, which goes on where it was cut: where its data connection broke, where its control connection ended, and where the server says that all
+// is sent and not all came.
 use crate::came::Came;
 use crate::telling::Part;
-use crate::trying::{ended_of, is_counted, size_request, there_of};
+use crate::trying::{ended_of, is_counted, moment_request, size_request, there_of};
 use ftp_client_steps::MOST_TRIES;
-use ftp_facts::Text;
+use ftp_facts::{Moment, Text};
 use ftp_operation::{Answer, How, Op};
-use ftp_tool_connection::{ClientSession, Request, SessionFault, SessionTask, say};
-use ftp_tool_status::{Arrival, Ended, Size, Step, There, arrived, follows_download};
+use ftp_tool_connection::{ClientSession, Ending, Request, SessionFault, SessionTask, Terms, say};
+use ftp_tool_status::{
+    Arrival, Ended, Size, Step, There, Version, arrived, follows_download, is_too_large, resumes,
+};
 use std::alloc::{AllocError, Global};
 use std::io::Eprint;
+
+/// What is known of the moment of the file's last change.
+#[derive(Clone, Copy)]
+pub enum Stamp {
+    /// The server is not asked for it.
+    Unasked,
+    /// The server does not tell it, or was not asked yet.
+    Untold,
+    /// The server was asked, and answered with what has no place.
+    Strange,
+    Told(Moment),
+}
 
 /// A download, until the server answers to it.
 pub struct Downloading<'a, R> {
     rt: &'a R,
     path: &'a str,
     how: How,
-    /// What came so far over the control connection of now.
+    /// The most octets that the file may have.
+    limit: u64,
+    /// What came so far.
     came: Came,
     /// How many tries may still begin, over all control connections.
     left: u64,
     size: Size,
+    stamp: Stamp,
 }
 
 /// By hand: a derived drop is proved again, part by part, wherever a download is let go.
@@ -29,20 +47,23 @@ impl<'a, R> Drop for Downloading<'a, R> {
             rt: _,
             path: _,
             how: _,
+            limit: _,
             came: _,
             left: _,
             size: _,
+            stamp: _,
         } = self;
     }
 }
 
 impl<'a, R: Eprint + AllocGlobal> Downloading<'a, R> {
-    /// What is asked for: the file at a path of a server.
+    /// What is asked for: the file at a path of a server, of any size; its moment is not asked for.
     pub fn new(rt: &'a R, path: &'a str, how: How) -> Downloading<'a, R> {
         Downloading {
             rt,
             path,
             how,
+            limit: u64::MAX,
             came: Came::new(rt.alloc()),
             left: MOST_TRIES,
             size: if is_counted(how) {
@@ -50,7 +71,30 @@ impl<'a, R: Eprint + AllocGlobal> Downloading<'a, R> {
             } else {
                 Size::Uncounted
             },
+            stamp: Stamp::Unasked,
         }
+    }
+
+    /// The file may have `limit` octets at most, and its moment is asked for where `stamp` is `Untold`.
+    pub fn put_terms(&mut self, limit: u64, stamp: Stamp) {
+        self.limit = limit;
+        self.stamp = stamp;
+    }
+
+    /// These octets came before, of a file of this size that was changed last at this moment: the download goes on behind them where the server has
+    /// that file still.
+    pub fn begin_with(
+        &mut self,
+        octets: Text<Global>,
+        total: u64,
+        moment: Moment,
+    ) -> Result<(), AllocError> {
+        if is_counted(self.how) {
+            self.came.add(octets)?;
+            self.size = Size::Told(total);
+            self.stamp = Stamp::Told(moment);
+        }
+        Ok(())
     }
 
     /// What came.
@@ -58,15 +102,49 @@ impl<'a, R: Eprint + AllocGlobal> Downloading<'a, R> {
         &self.came
     }
 
-    /// How it stands, once the server said that it is done.
-    pub fn arrived(&self) -> Arrival {
-        arrived(self.size, self.came.count())
+    /// The size that the server told last, if it tells one.
+    pub fn size(&self) -> Size {
+        self.size
     }
 
-    /// Asks for the size of the file before the first try; says whether tries may follow over this control connection.
+    /// The moment that the server told last, if it was asked and tells one.
+    pub fn moment(&self) -> Option<Moment> {
+        match self.stamp {
+            Stamp::Told(moment) => Some(moment),
+            Stamp::Unasked | Stamp::Untold | Stamp::Strange => None,
+        }
+    }
+
+    /// How it stands, once the server said that it is done.
+    pub fn arrived(&self) -> Arrival {
+        arrived(self.limit, self.size, self.came.count())
+    }
+
+    /// Which file the server has, as far as it told.
+    fn version(&self) -> Version {
+        Version {
+            size: self.size,
+            moment: self.moment().map(|moment| moment.seconds),
+        }
+    }
+
+    /// Asks which file the server has before the first try over a control connection, and goes on behind what came of that one; says whether tries
+    /// may follow.
     fn look<S: ClientSession>(&mut self, seat: &mut S) -> bool {
+        let before = self.version();
+        if !self.look_at_size(seat) || !self.look_at_moment(seat) {
+            return false;
+        }
+        if self.came.count() > 0 {
+            self.go_on(resumes(before, self.version(), self.came.count()));
+        }
+        true
+    }
+
+    /// Asks for the size; says whether anything more is answered over this control connection.
+    fn look_at_size<S: ClientSession>(&mut self, seat: &mut S) -> bool {
         match self.size {
-            Size::Uncounted | Size::Strange => true,
+            Size::Uncounted | Size::Strange | Size::Past => true,
             Size::Told(_) | Size::Untold => self.see(seat),
         }
     }
@@ -82,12 +160,24 @@ impl<'a, R: Eprint + AllocGlobal> Downloading<'a, R> {
         !matches!(self.size, Size::Strange)
     }
 
+    /// Asks for the moment; says whether anything more is answered over this control connection.
+    fn look_at_moment<S: ClientSession>(&mut self, seat: &mut S) -> bool {
+        match self.stamp {
+            Stamp::Unasked | Stamp::Strange => return true,
+            Stamp::Untold | Stamp::Told(_) => {}
+        }
+        match answer_to(seat, moment_request(self.rt.alloc(), self.path)) {
+            Answer::Stamp(moment) => self.stamp = Stamp::Told(moment),
+            Answer::Strange => self.stamp = Stamp::Strange,
+            Answer::Lost => return false,
+            _ => self.stamp = Stamp::Untold,
+        }
+        !matches!(self.stamp, Stamp::Strange)
+    }
+
     /// What the server answers to the question for the size.
     fn size_answer<S: ClientSession>(&self, seat: &mut S) -> Answer<Global> {
-        match size_request(self.rt.alloc(), self.path, self.how) {
-            Ok(request) => seat.answer(request),
-            Err(AllocError) => Answer::Memory,
-        }
+        answer_to(seat, size_request(self.rt.alloc(), self.path, self.how))
     }
 
     /// One try, behind what came so far.
@@ -98,17 +188,32 @@ impl<'a, R: Eprint + AllocGlobal> Downloading<'a, R> {
         let opened = seat.opened();
         self.left = self.left.saturating_sub(1);
         let answer = self.take(seat.answer(request));
+        if seat.ending() == Ending::PastLimit {
+            drop(answer);
+            self.size = Size::Past;
+            return Turn::Over(Answer::Done);
+        }
         let step = self.step_behind(seat, &answer, seat.opened() > opened);
         self.follow(answer, step)
     }
 
-    /// What is asked for a try.
+    /// What is asked for a try. Where the size is known, what came is kept where the control connection ends.
     fn request(&self) -> Result<Request, AllocError> {
         let path = Text::copy_of(self.rt.alloc(), self.path.as_bytes())?;
-        Ok(Request::One(Some(match self.came.count() {
+        let op = match self.came.count() {
             0 => Op::Get(path, self.how),
             from => Op::GetFrom(path, from, self.how),
-        })))
+        };
+        let total = match self.size {
+            Size::Told(total) => Some(total),
+            _ => None,
+        };
+        let terms = Terms {
+            most: self.limit.saturating_sub(self.came.count()),
+            total,
+            is_kept: total.is_some(),
+        };
+        Ok(Request::Download(Some(op), terms))
     }
 
     /// Takes the octets out of an answer.
@@ -138,7 +243,8 @@ impl<'a, R: Eprint + AllocGlobal> Downloading<'a, R> {
         answer: &Answer<Global>,
         is_opened: bool,
     ) -> Step {
-        match (ended_of(answer, is_opened), self.size) {
+        let is_unended = seat.ending() == Ending::Unended;
+        match (ended_of(answer, is_opened, is_unended), self.size) {
             (Some(ended), Size::Told(told)) => self.judge(seat, ended, told),
             _ => Step::Tell,
         }
@@ -158,6 +264,7 @@ impl<'a, R: Eprint + AllocGlobal> Downloading<'a, R> {
         let is_asked = match ended {
             Ended::Done => self.came.count() != told,
             Ended::Broken | Ended::Failed => self.left > 0,
+            Ended::Unended => true,
             Ended::Unopened => false,
         };
         if is_asked {
@@ -183,7 +290,11 @@ impl<'a, R: Eprint + AllocGlobal> Downloading<'a, R> {
                 drop(answer);
                 Turn::Over(Answer::Lost)
             }
-            Step::Done | Step::Tell | Step::Wrong(_) | Step::Missing => Turn::Over(answer),
+            Step::Done => {
+                drop(answer);
+                Turn::Over(Answer::Done)
+            }
+            Step::Tell | Step::Wrong(_) | Step::Missing => Turn::Over(answer),
         }
     }
 
@@ -206,9 +317,11 @@ impl<'a, R: Eprint + AllocGlobal> Downloading<'a, R> {
 impl<'a, R: Eprint + AllocGlobal> SessionTask<Result<Answer<Global>, SessionFault>>
     for Downloading<'a, R> {
     fn play<S: ClientSession>(&mut self, seat: &mut S) -> Result<Answer<Global>, SessionFault> {
-        self.came = Came::new(self.rt.alloc());
         if !self.look(seat) {
             return Ok(Answer::Lost);
+        }
+        if is_too_large(self.limit, self.size) {
+            return Ok(Answer::Done);
         }
         for _ in 0..self.left {
             match self.turn(seat) {
@@ -217,6 +330,17 @@ impl<'a, R: Eprint + AllocGlobal> SessionTask<Result<Answer<Global>, SessionFaul
             }
         }
         Ok(Answer::Lost)
+    }
+}
+
+/// What is answered to a question, if memory is not refused for it.
+fn answer_to<S: ClientSession>(
+    seat: &mut S,
+    request: Result<Request, AllocError>,
+) -> Answer<Global> {
+    match request {
+        Ok(request) => seat.answer(request),
+        Err(AllocError) => Answer::Memory,
     }
 }
 

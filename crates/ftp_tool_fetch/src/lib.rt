@@ -16,8 +16,8 @@ mod trying;
 mod uploading;
 
 pub use came::Came;
-pub use download::Download;
-pub use downloading::Downloading;
+pub use download::{Download, Parts};
+pub use downloading::{Downloading, Stamp};
 pub use fetching::{Task, fetch};
 pub use ftp_tool_connection::ServerAddress;
 pub use running::run;

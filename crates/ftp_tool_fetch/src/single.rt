@@ -2,19 +2,19 @@
 use crate::target::Target;
 use ftp_facts::Text;
 use ftp_operation::{Answer, How, Op};
-use ftp_tool_connection::{ClientSession, LastReply, Request, SessionFault, SessionTask, ask};
+use ftp_tool_connection::{
+    ClientSession, Ending, LastReply, Phase, Request, SessionFault, SessionTask, ask, at,
+};
 use std::alloc::{AllocError, Global};
 use std::env::Env;
 use std::fs::Files;
-use std::io::Eprint;
+use std::io::{Eprint, Error, ErrorKind};
 use std::net::{Net, TcpListener, TcpStream};
 use std::time::Clock;
 
 /// What is wished for at a place.
 #[derive(Clone, Copy)]
 pub(crate) enum Wish {
-    /// The moment of the last change of a file (RFC 3659, section 3).
-    Moment,
     /// The entries, with their facts.
     Entries,
     Names,
@@ -64,10 +64,18 @@ struct Single<'a> {
 
 impl<'a> SessionTask<Result<Answer<Global>, SessionFault>> for Single<'a> {
     fn play<S: ClientSession>(&mut self, seat: &mut S) -> Result<Answer<Global>, SessionFault> {
-        match request_of(self.alloc, self.path, self.how, self.wish) {
-            Ok(request) => Ok(seat.answer(request)),
-            Err(AllocError) => Ok(Answer::Memory),
+        let Ok(request) = request_of(self.alloc, self.path, self.how, self.wish) else {
+            return Ok(Answer::Memory);
+        };
+        let answer = seat.answer(request);
+        if seat.ending() != Ending::PastLimit {
+            return Ok(answer);
         }
+        drop(answer);
+        at(
+            Phase::Listing,
+            Err(Error::new(ErrorKind::InvalidData, "it has more than 1,000,000 entries")),
+        )
     }
 }
 
@@ -75,7 +83,6 @@ impl<'a> SessionTask<Result<Answer<Global>, SessionFault>> for Single<'a> {
 fn request_of(alloc: Global, path: &str, how: How, wish: Wish) -> Result<Request, AllocError> {
     let path = Text::copy_of(alloc, path.as_bytes())?;
     match wish {
-        Wish::Moment => Ok(Request::One(Some(Op::Modified(path)))),
         Wish::Entries => Ok(Request::One(Some(Op::List(path, how)))),
         Wish::Names => Ok(Request::One(Some(Op::Names(path, how)))),
     }

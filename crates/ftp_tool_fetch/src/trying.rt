@@ -27,12 +27,20 @@ pub(crate) fn size_request(alloc: Global, path: &str, how: How) -> Result<Reques
     Ok(Request::One(Some(Op::Size(path, how))))
 }
 
-/// How a try ended that was answered so, with a data connection or without; none where its answer is told, whatever is there.
-pub(crate) fn ended_of(answer: &Answer<Global>, is_opened: bool) -> Option<Ended>
-    ensures { result ≡ ended_by answer.now is_opened }
+/// A question for the moment of a file's last change (RFC 3659, section 3).
+pub(crate) fn moment_request(alloc: Global, path: &str) -> Result<Request, AllocError> {
+    let path = Text::copy_of(alloc, path.as_bytes())?;
+    Ok(Request::One(Some(Op::Modified(path))))
+}
+
+/// How a try ended that was answered so, with a data connection or without, which ended, or did not although all is done; none where its answer is
+/// told, whatever is there.
+pub(crate) fn ended_of(answer: &Answer<Global>, is_opened: bool, is_unended: bool) -> Option<Ended>
+    ensures { result ≡ ended_by answer.now is_opened is_unended }
 {
     match answer {
         Answer::Done => Some(Ended::Done),
+        Answer::Broken { got: _, mark: _ } if is_unended => Some(Ended::Unended),
         Answer::Broken { got: _, mark: _ } => Some(Ended::Broken),
         Answer::Refused(GIVEN_UP) if is_opened => Some(Ended::Failed),
         Answer::Unopened => Some(Ended::Unopened),

@@ -178,7 +178,7 @@ impl<'a, R: Files + Eprint + AllocGlobal> Uploading<'a, R> {
         answer: &Answer<Global>,
         is_opened: bool,
     ) -> Step {
-        match ended_of(answer, is_opened) {
+        match ended_of(answer, is_opened, false) {
             Some(ended) if is_counted(self.how) => {
                 follows(self.upload, ended, self.there_behind(seat, ended))
             }

@@ -4,3 +4,5 @@ pub mod Content
 pub mod Part
 -- Where the octets of a file go.
 pub mod Place
+-- The note beside a part of a download.
+pub mod Note

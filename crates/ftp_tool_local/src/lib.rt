@@ -2,9 +2,13 @@
 #![tactic(auto)]
 
 mod content;
+mod kept;
+mod note;
 mod part;
 mod place;
 
 pub use content::{Content, Reading, read_from, read_most};
+pub use kept::{Beside, Kept, kept_beside, remove_kept};
+pub use note::{Note, note_in, note_of};
 pub use part::{beside, write_over, write_part};
 pub use place::{Standing, Way};

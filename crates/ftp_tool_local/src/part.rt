@@ -2,6 +2,7 @@
 ghost use Rattle.std.specs.Prelude.{◌≡◌, IfOk, string_bytes};
 ghost use Rattle.ftp_tool_local.specs.Part.{part_name};
 
+use crate::kept::{forget_note, write_note};
 use crate::place::{Place, place_of};
 use ftp_facts::{Moment, Text};
 use itoa::Buffer;
@@ -16,7 +17,7 @@ use std::{fs, io};
 const BESIDE: &str = ".ftp-part";
 
 /// How many names are tried beside a file: that one, and more with `-1`, `-2` and so on behind it.
-const NAMES: u32 = 100;
+pub(crate) const NAMES: u32 = 100;
 
 /// The permissions of a file that has no predecessor, less the umask.
 const NEW_MODE: u32 = 0o666;
@@ -68,19 +69,53 @@ fn replace<R: Files + AllocGlobal>(
     removed_unless(files, name.as_str(), written)
 }
 
-/// Writes a part of a file beside its name, leaves it there, and gives its own name. Where that fails, what was written is removed again.
+/// Writes a part of a file beside its name, leaves it there, and gives its own name; over the part of the number `over`, where there is one, and else
+/// by the first name that is free. Its note is written once it is whole. Where the part can't be written, what was written of it is removed again.
 pub fn write_part<R: Files + AllocGlobal>(
     files: &R,
     file: &str,
     pieces: &[Text<Global>],
+    over: Option<u32>,
+    note: Option<&[u8]>,
 ) -> io::Result<String<Global>> {
     let Place::File { name, mode } = place_of(files, file)? else {
         return Err(Error::new(ErrorKind::InvalidInput, "no file stands beside a device"));
     };
-    let Part { name, mut opened } = create(files, name.as_str(), mode.unwrap_or(NEW_MODE))?;
+    let part = create(files, name.as_str(), mode.unwrap_or(NEW_MODE))?;
+    let made = fill(files, part, pieces, mode)?;
+    let part = match over {
+        Some(number) => moved(files, made, beside(files.alloc(), name.as_str(), number)?)?,
+        None => made,
+    };
+    if let Some(note) = note {
+        write_note(files, part.as_str(), note)?;
+    }
+    Ok(part)
+}
+
+/// Writes the octets of a part that was made just now, and gives its name.
+fn fill<R: Files + AllocGlobal>(
+    files: &R,
+    part: Part<R::File>,
+    pieces: &[Text<Global>],
+    mode: Option<u32>,
+) -> io::Result<String<Global>> {
+    let Part { name, mut opened } = part;
+    forget_note(files, name.as_str())?;
     let written = write_to(&mut opened, pieces, mode, None);
     removed_unless(files, name.as_str(), written)?;
     Ok(name)
+}
+
+/// Moves a part over another one, whose note does not fit it any more.
+fn moved<R: Files + AllocGlobal>(
+    files: &R,
+    from: String<Global>,
+    to: String<Global>,
+) -> io::Result<String<Global>> {
+    forget_note(files, to.as_str())?;
+    fs::rename(files, from.as_str(), to.as_str())?;
+    Ok(to)
 }
 
 /// What was written beside is removed, unless it was written.

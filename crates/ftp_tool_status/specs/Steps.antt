@@ -8,10 +8,6 @@ use Rattle.ftp_tool_status.specs.declared.step.Ended.TheVariants as Ends
 use Rattle.ftp_tool_status.specs.declared.step.Step.{Step}
 use Rattle.ftp_tool_status.specs.declared.step.Step.TheVariants as Steps
 use Rattle.ftp_tool_status.specs.declared.step.Transfer.{Transfer}
-use Rattle.ftp_tool_status.specs.declared.step.Size.{Size}
-use Rattle.ftp_tool_status.specs.declared.step.Size.TheVariants as Sizes
-use Rattle.ftp_tool_status.specs.declared.step.Arrival.{Arrival}
-use Rattle.ftp_tool_status.specs.declared.step.Arrival.TheVariants as Arrivals
 
 -- so many octets where a file goes to are known to be of this transfer: nothing stood there before, or something of another size
 abbrev pub is_own : There → ℕ → Bool
@@ -49,11 +45,19 @@ behind_failed t Theres.Nothing = Steps.Tell
 behind_failed t Theres.Untold = Steps.Tell
 behind_failed t Theres.Lost = if t.left == 0 then Steps.Tell else Steps.Lost
 
+-- behind one that the server says is done, whose data connection did not end: all has to be there, and it is not tried again
+abbrev pub behind_unended : Transfer → There → Step
+behind_unended t (Theres.Octets count) = if count == t.total then Steps.Done else Steps.Tell
+behind_unended t Theres.Nothing = Steps.Tell
+behind_unended t Theres.Untold = Steps.Tell
+behind_unended t Theres.Lost = Steps.Tell
+
 -- behind each, where this is there
 abbrev pub follows : Transfer → Ended → There → Step
 follows t Ends.Done there = behind_done t there
 follows t Ends.Broken there = behind_broken t there
 follows t Ends.Failed there = behind_failed t there
+follows t Ends.Unended there = behind_unended t there
 follows t Ends.Unopened there = if t.left == 0 then Steps.Tell else Steps.Again
 
 -- A download as a transfer to this end, where the server told the size `told` before a try and this behind it. Octets that came are known to be of
@@ -77,10 +81,3 @@ abbrev pub follows_download : ℕ → ℕ → Ended → ℕ → There → Step
 follows_download told left ended came behind =
     if is_lost behind && not (left == 0) then Steps.Lost
     else follows (arriving told left behind) ended (Theres.Octets came)
-
--- how a download stands that the server says is done, of which so many octets came
-abbrev pub arrived : Size → ℕ → Arrival
-arrived (Sizes.Told total) count = if count == total then Arrivals.Whole else Arrivals.Wrong total
-arrived Sizes.Untold count = Arrivals.Unknown
-arrived Sizes.Strange count = Arrivals.Unknown
-arrived Sizes.Uncounted count = Arrivals.Unknown

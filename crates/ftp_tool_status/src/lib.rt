@@ -4,6 +4,8 @@
 
 mod status;
 mod step;
+mod version;
 
 pub use status::Status;
-pub use step::{Arrival, Ended, Size, Step, There, Transfer, arrived, follows, follows_download};
+pub use step::{Ended, Step, There, Transfer, follows, follows_download};
+pub use version::{Arrival, Size, Version, arrived, is_too_large, resumes};

@@ -1,6 +1,6 @@
 // What follows a try of an upload or a download, by values alone.
 ghost use Rattle.std.specs.Prelude.{◌≡◌};
-ghost use Rattle.ftp_tool_status.specs.Steps.{arrived, arriving, behind_broken, behind_done, behind_failed, follows, follows_download, is_lost, is_own};
+ghost use Rattle.ftp_tool_status.specs.Steps.{arriving, behind_broken, behind_done, behind_failed, behind_unended, follows, follows_download, is_lost, is_own};
 
 /// What is there of a file: what a server tells by SIZE (RFC 3659, section 4), or what came to this end.
 #[derive(Clone, Copy)]
@@ -26,6 +26,8 @@ pub enum Ended {
     Failed,
     /// No data connection was opened.
     Unopened,
+    /// The server says that all is done, and its data connection did not end.
+    Unended,
 }
 
 /// How far a transfer is.
@@ -58,46 +60,6 @@ pub enum Step {
     Lost,
 }
 
-/// What is known of the size of a file that is downloaded.
-#[derive(Clone, Copy)]
-pub enum Size {
-    /// The server told it.
-    Told(u64),
-    /// The server does not tell it, or was not asked yet.
-    Untold,
-    /// The server was asked, and answered with what has no place.
-    Strange,
-    /// It would not count the octets of the transfer, and is not asked for.
-    Uncounted,
-}
-
-/// How a download stands that the server says is done.
-#[derive(Clone, Copy)]
-pub enum Arrival {
-    /// What came has the size that the server tells.
-    Whole,
-    /// No size is known, so it is not known whether all came.
-    Unknown,
-    /// The server tells this size, and what came has another.
-    Wrong(u64),
-}
-
-/// How a download stands that the server says is done, of which so many octets came.
-pub fn arrived(size: Size, count: u64) -> Arrival
-    ensures { result ≡ arrived size count }
-{
-    match size {
-        Size::Told(total) => {
-            if count == total {
-                Arrival::Whole
-            } else {
-                Arrival::Wrong(total)
-            }
-        }
-        Size::Untold | Size::Strange | Size::Uncounted => Arrival::Unknown,
-    }
-}
-
 /// What follows a try that ended so, where this is there then.
 ///
 /// A 226 is believed only where the size is the file's, or is not told. A try goes on behind the octets that are there only where these are known to
@@ -116,6 +78,17 @@ pub fn follows(transfer: Transfer, ended: Ended, there: There) -> Step
                 Step::Again
             }
         }
+        Ended::Unended => behind_unended(transfer, there),
+    }
+}
+
+/// Behind a try that the server says is done, whose data connection did not end.
+fn behind_unended(transfer: Transfer, there: There) -> Step
+    ensures { result ≡ behind_unended transfer there }
+{
+    match there {
+        There::Octets(count) if count == transfer.total => Step::Done,
+        _ => Step::Tell,
     }
 }
 

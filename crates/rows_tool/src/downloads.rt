@@ -1,16 +1,55 @@
 // What a download of the octets 0123456789 asks of a server that answers so, and how it stands then.
 use crate::seat::played;
 use crate::tries::Row;
+use ftp_facts::{Moment, Text};
 use ftp_operation::Answer;
-use ftp_tool_fetch::Downloading;
+use ftp_tool_fetch::{Downloading, Stamp};
 use ftp_tool_status::Arrival;
 use rows_base::Paper;
+use std::alloc::AllocError;
 use std::io::Eprint;
 
-/// Puts what a download asks, and how it stands.
+/// The most octets that the file may have.
+const LIMIT: u64 = 100;
+
+/// Puts what a download asks that doesn't ask for the moment.
 pub(crate) fn put<R: Eprint + AllocGlobal>(rt: &R, paper: &mut Paper, row: Row<'_>) {
     let mut downloading = Downloading::new(rt, "a", row.how);
-    let answer = played(rt.alloc(), paper, row, &mut downloading);
+    downloading.put_terms(LIMIT, Stamp::Unasked);
+    put_of(rt, paper, row, &mut downloading);
+}
+
+/// Puts what a download asks that asks for the moment.
+pub(crate) fn put_dated<R: Eprint + AllocGlobal>(rt: &R, paper: &mut Paper, row: Row<'_>) {
+    let mut downloading = Downloading::new(rt, "a", row.how);
+    downloading.put_terms(LIMIT, Stamp::Untold);
+    put_of(rt, paper, row, &mut downloading);
+}
+
+/// Puts what a download asks of which 0123 were kept, of ten octets and the fifth second of 1970.
+pub(crate) fn put_kept<R: Eprint + AllocGlobal>(
+    rt: &R,
+    paper: &mut Paper,
+    row: Row<'_>,
+) -> Result<(), AllocError> {
+    let mut downloading = Downloading::new(rt, "a", row.how);
+    downloading.put_terms(LIMIT, Stamp::Untold);
+    let octets = Text::copy_of(rt.alloc(), b"0123")?;
+    if let Some(moment) = Moment::new(5) {
+        downloading.begin_with(octets, 10, moment)?;
+    }
+    put_of(rt, paper, row, &mut downloading);
+    Ok(())
+}
+
+/// Puts what a download asks, and how it stands.
+fn put_of<R: Eprint + AllocGlobal>(
+    rt: &R,
+    paper: &mut Paper,
+    row: Row<'_>,
+    downloading: &mut Downloading<'_, R>,
+) {
+    let answer = played(rt.alloc(), paper, row, downloading);
     paper.put(b"; ");
     match answer {
         Ok(Answer::Done) => put_arrival(paper, downloading.arrived()),
@@ -31,5 +70,7 @@ fn put_arrival(paper: &mut Paper, arrival: Arrival) {
         Arrival::Whole => paper.put(b"whole"),
         Arrival::Unknown => paper.put(b"unknown"),
         Arrival::Wrong(_) => paper.put(b"wrong"),
+        Arrival::TooLarge(_) => paper.put(b"too large"),
+        Arrival::Past => paper.put(b"past"),
     }
 }

@@ -1,8 +1,8 @@
 // Somebody who answers what a row says, and writes what was asked.
 use crate::tries::Row;
-use ftp_facts::Text;
+use ftp_facts::{Moment, Text};
 use ftp_operation::{Answer, Op};
-use ftp_tool_connection::{ClientSession, Request, SessionFault, SessionTask};
+use ftp_tool_connection::{ClientSession, Ending, Request, SessionFault, SessionTask};
 use rows_base::{Paper, cut, found, number, split};
 use std::alloc::Global;
 
@@ -25,7 +25,13 @@ enum Told {
     Refused(u16),
     /// Refused by a code, behind a data connection.
     Behind(u16),
+    /// So many octets of a download, and that all is done, but no end of its data connection.
+    Unended(u64),
+    /// More octets of a download than the limit.
+    Past,
     Size(u64),
+    /// So many seconds behind the beginning of 1970.
+    Stamp(u64),
     Strange,
     Lost,
 }
@@ -37,6 +43,7 @@ struct Seat<'a> {
     paper: &'a mut Paper,
     row: Row<'a>,
     opened: u32,
+    ending: Ending,
 }
 
 impl<'a> ClientSession for Seat<'a> {
@@ -46,11 +53,16 @@ impl<'a> ClientSession for Seat<'a> {
         if is_opened(told) {
             self.opened = self.opened.saturating_add(1);
         }
+        self.ending = ending_of(told);
         answer_of(self.alloc, told, start_of(&request))
     }
 
     fn opened(&self) -> u32 {
         self.opened
+    }
+
+    fn ending(&self) -> Ending {
+        self.ending
     }
 }
 
@@ -80,7 +92,10 @@ fn told_by(word: &[u8]) -> Told {
             (b"unopened", Told::Unopened),
             (b"refused", Told::Refused(code)),
             (b"behind", Told::Behind(code)),
+            (b"unended", Told::Unended(count)),
+            (b"past", Told::Past),
             (b"size", Told::Size(count)),
+            (b"stamp", Told::Stamp(count)),
             (b"strange", Told::Strange),
         ],
         name,
@@ -103,6 +118,7 @@ where
         paper,
         row,
         opened: 0,
+        ending: Ending::Answered,
     };
     for _ in 1..CONNECTIONS {
         match task.play(&mut seat) {
@@ -117,14 +133,29 @@ where
 fn is_opened(told: Told) -> bool {
     matches!(
         told,
-        Told::Done | Told::Broken | Told::Sent(_) | Told::Cut(_) | Told::Behind(_)
+        Told::Done
+            | Told::Broken
+            | Told::Sent(_)
+            | Told::Cut(_)
+            | Told::Behind(_)
+            | Told::Unended(_)
+            | Told::Past
     )
+}
+
+/// How its data connection ended.
+fn ending_of(told: Told) -> Ending {
+    match told {
+        Told::Unended(_) => Ending::Unended,
+        Told::Past => Ending::PastLimit,
+        _ => Ending::Answered,
+    }
 }
 
 /// From which octet of the file on a download is asked for.
 fn start_of(request: &Request) -> u64 {
     match request {
-        Request::One(Some(Op::GetFrom(_, from, _))) => *from,
+        Request::Download(Some(Op::GetFrom(_, from, _)), _) => *from,
         _ => 0,
     }
 }
@@ -134,12 +165,21 @@ fn answer_of(alloc: Global, told: Told, from: u64) -> Answer<Global> {
         Told::Done => Answer::Done,
         Told::Broken => broken(alloc, from, 0),
         Told::Sent(count) => Answer::Octets(octets(alloc, from, count)),
-        Told::Cut(count) => broken(alloc, from, count),
+        Told::Cut(count) | Told::Unended(count) => broken(alloc, from, count),
+        Told::Past => broken(alloc, from, 0),
         Told::Unopened => Answer::Unopened,
         Told::Refused(code) | Told::Behind(code) => Answer::Refused(code),
         Told::Size(count) => Answer::Number(count),
+        Told::Stamp(seconds) => stamp(seconds),
         Told::Strange => Answer::Strange,
         Told::Lost => Answer::Lost,
+    }
+}
+
+fn stamp(seconds: u64) -> Answer<Global> {
+    match Moment::new(seconds) {
+        Some(moment) => Answer::Stamp(moment),
+        None => Answer::Strange,
     }
 }
 
@@ -170,7 +210,8 @@ fn put(paper: &mut Paper, request: &Request) {
             put_octets(paper, *from, octets.as_slice())
         }
         Request::One(Some(Op::Size(_, _))) => paper.put(b" size"),
-        Request::One(Some(Op::Get(_, _) | Op::GetFrom(_, _, _))) => {
+        Request::One(Some(Op::Modified(_))) => paper.put(b" moment"),
+        Request::Download(_, _) => {
             paper.put(b" from ");
             paper.number(start_of(request));
         }

@@ -2,7 +2,7 @@
 use crate::typing::Typing;
 use ftp_operation::How;
 use ftp_settings::{Kind, Mode, Representation, Structure};
-use ftp_tool_fetch::{Download, ServerAddress, Target, Task, fetch, run};
+use ftp_tool_fetch::{Download, Parts, ServerAddress, Target, Task, fetch, run};
 use ftp_tool_status::Status;
 use ftp_tool_words::Location;
 use rows_base::Paper;
@@ -72,7 +72,7 @@ const TASKS: &[(&str, bool, Task<'static>)] = &[
         true,
         Task::Get(Download {
             file: NONE,
-            keep: true,
+            parts: Parts::Kept,
             moment: true,
         }),
     ),

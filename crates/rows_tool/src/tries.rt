@@ -35,7 +35,7 @@ where
     Ok(())
 }
 
-/// A line: `put` or `get`, the type, a name, and what the server answers.
+/// A line: `put`, `get`, `dated` or `kept`, the type, a name, and what the server answers.
 fn put<R: Files + Eprint + AllocGlobal>(rt: &R, paper: &mut Paper, line: &[u8]) -> io::Result<()> {
     let (verb, rest) = split(line);
     let (kind, rest) = split(rest);
@@ -50,11 +50,16 @@ fn put<R: Files + Eprint + AllocGlobal>(rt: &R, paper: &mut Paper, line: &[u8]) 
     paper.put(name);
     paper.put(b":");
     if verb == b"put".as_slice() {
-        uploads::put(rt, paper, row)
+        return uploads::put(rt, paper, row);
+    }
+    if verb == b"kept".as_slice() {
+        downloads::put_kept(rt, paper, row)?;
+    } else if verb == b"dated".as_slice() {
+        downloads::put_dated(rt, paper, row);
     } else {
         downloads::put(rt, paper, row);
-        Ok(())
     }
+    Ok(())
 }
 
 /// How octets go in type A, or in type I.

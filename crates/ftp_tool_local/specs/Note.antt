@@ -1,0 +1,19 @@
+-- The note beside a part of a download (own choice): three numbers of 18 digits, each with LF behind it, and the place of the file at its server.
+use Rattle.std.specs.Prelude.{ℕ, List, take, drop, nat_eq, Option, Some, None, if◌then◌else◌}
+use Rattle.std.specs.Cmp.Lexicographic.{pointwise}
+use Rattle.ftp_facts.specs.Value.{and_then, number_value}
+use Rattle.ftp_tool_local.specs.declared.note.Note.{Note}
+
+-- the 18 digits from one octet on
+abbrev pub field : ℕ → List ℕ → Option ℕ
+field at text = number_value (take 18 (drop at text))
+
+-- the size of the file at the server, the moment of its last change in seconds from 1970, and how many octets of it the part has
+abbrev pub numbers_of : List ℕ → Option Note
+numbers_of text =
+    and_then (field 0 text) (λ size. and_then (field 19 text) (λ moment. and_then (field 38 text) (λ count.
+    Some (record { size = size; moment = moment; count = count }))))
+
+-- what a note says of the file at a place; none where it is a note of another one
+abbrev pub note_value : List ℕ → List ℕ → Option Note
+note_value text place = if pointwise nat_eq (drop 57 text) place then numbers_of text else None
