@@ -2,6 +2,7 @@ pub mod CutLemmas
 pub mod FieldLemmas
 pub mod LaneLemmas
 pub mod PlainLemmas
+pub mod ReadingLemmas
 pub mod ReportLemmas
 pub mod Reporting
 pub mod ScriptLemmas

@@ -1,5 +1,6 @@
 // A script, read whole.
-ghost use Rattle.std.specs.Prelude.{◌≡◌, IfOk};
+ghost use Rattle.std.specs.Prelude.{◌≡◌, ◌≤◌, ◌<◌, IfOk, length, take};
+ghost use Rattle.std.specs.Io.KnownBytes.{Consumes, IsAtEnd};
 ghost use Rattle.ftp_tool_script.specs.Reading.{GivesAll, ReadsScript};
 ghost use Rattle.ftp_tool_script.specs.Status.{status_without};
 
@@ -9,6 +10,9 @@ use std::alloc::Allocator;
 use std::fmt::{Display, Formatter};
 use std::io::{Error, ErrorKind, Read};
 use std::{fmt, io};
+
+/// How many octets one read is asked for.
+const ROOM: usize = 65_536;
 
 /// Why there is no script.
 #[derive(Debug, Drop)]
@@ -59,10 +63,35 @@ pub fn read_script<A: Allocator + Copy, R: Read>(
 }
 
 /// All that a reader gives.
+#[tactic(auto, using(crate::proofs::ReadingLemmas::more_read, crate::proofs::ReadingLemmas::none_read))]
 fn text_of<A: Allocator, R: Read>(alloc: A, reader: &mut R) -> io::Result<Vec<u8, A>>
     ensures { IfOk result (λ text. GivesAll (R.remaining reader.old) (R.remaining reader.new) text.items) }
 {
     let mut text = Vec::new(alloc);
-    let _count = reader.read_to_end(&mut text)?;
-    Ok(text)
+    let mut room = [0u8; ROOM];
+    for _ in 0..u64::MAX {
+        let count = read_some(reader, &mut room)?;
+        if count == 0 {
+            return Ok(text);
+        }
+        let (front, _) = room.split_at(count);
+        text.extend_from_slice(front)?;
+    }
+    Err(Error::from(ErrorKind::TimedOut))
+}
+
+/// Reads what one read gives; none where there is room is the end.
+fn read_some<R: Read>(reader: &mut R, room: &mut [u8]) -> io::Result<usize>
+    ensures within { IfOk result (λ count. count ≤ length room.new) }
+    ensures ok { IfOk result (λ count. Consumes (R.remaining reader.old) (R.remaining reader.new) (take count room.new)) }
+    ensures end { IfOk result (λ count. count ≡ 0 → 0 < length room.new → IsAtEnd (R.remaining reader.new)) }
+{
+    for _ in 0..u64::MAX {
+        match reader.read(room) {
+            Ok(count) => return Ok(count),
+            Err(error) if error.kind() == ErrorKind::Interrupted => {}
+            Err(error) => return Err(error),
+        }
+    }
+    Err(Error::from(ErrorKind::TimedOut))
 }
