@@ -135,8 +135,10 @@ impl<'a, R: Eprint + AllocGlobal> Downloading<'a, R> {
         if !self.look_at_size(seat) || !self.look_at_moment(seat) {
             return false;
         }
-        if self.came.count() > 0 {
-            self.go_on(resumes(before, self.version(), self.came.count()));
+        let came = self.came.count();
+        if came > 0 {
+            let now = self.version();
+            self.go_on(resumes(before, now, came));
         }
         true
     }
