@@ -107,8 +107,9 @@ standard error has a note. A file of more octets than --limit is refused, with s
 standard error is a terminal, it has the octets of a transfer that takes more than a second, each second at most.
 Where the control connection ends, another one is made, at most four times, behind 1, 2, 4 and 8 seconds; each is told on standard error.
 The download goes on there where size and moment are those of before, and else begins anew. A server that says, takes and sends nothing for the seconds of --timeout counts as one that ended it.
-The password of anonymous is none; that of another user is in the environment, in FTP_PASSWORD, or in the file that --password-file
-names. Everything goes in cleartext, passwords too.
+The password of anonymous is none; that of another user is the first of: the file that --password-file names; FTP_PASSWORD in the
+environment; the first entry that .netrc has for HOST and the user. That is the file that NETRC in the environment names, or .netrc in HOME;
+like the file of --password-file it is refused where others may use it: mode 600 or 400. Everything goes in cleartext, passwords too.
 Status: 0 done; 1 refused, or not all came; 2 bad command line, login or path; 3 the control connection or a device failed, or memory
 was refused. All but 0 are told on standard error, a refusal with the server's text.
 

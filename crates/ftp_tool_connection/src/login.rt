@@ -1,6 +1,8 @@
-// Who asks: a user name, and the password, which is never a word of a command line.
+// Who asks: a user name and the password, each from where it is said.
+use crate::netrc::{no_password, suited};
 use ftp_facts::Text;
 use ftp_operation::Login;
+use ftp_tool_place::NetrcEntry;
 use ftp_tool_words::{NotPrivate, read_private};
 use std::alloc::Global;
 use std::env::{Env, VarError};
@@ -8,12 +10,15 @@ use std::fs::Files;
 use std::io::{Error, ErrorKind};
 use std::{env, io};
 
-/// Who asks.
+/// Who asks, and where the password is, as far as it is said.
 #[derive(Clone, Copy)]
 pub struct User<'a> {
-    pub name: &'a str,
+    /// Who logs in; else it is whom a `.netrc` has for the host, and else `anonymous`.
+    pub name: Option<&'a str>,
     /// The file that has the password; its owner alone may use it.
     pub password_file: Option<&'a str>,
+    /// The password that a URL has.
+    pub password: Option<&'a str>,
 }
 
 /// The user who needs no password.
@@ -25,14 +30,56 @@ const GUEST: &[u8] = b"anonymous@";
 /// The most octets of a file that has a password.
 const FILE_LIMIT: u64 = 1024;
 
-/// The login of a user: the password is in a file that its owner alone may use, where one is named; `anonymous` needs none, and all others have it
-/// in the environment, in FTP_PASSWORD.
-pub(crate) fn login_of<R>(rt: &R, user: User<'_>) -> io::Result<Login<Global>>
+/// The login of a user at a host. The password is the first of these: that in the file that is named, that in the environment, in FTP_PASSWORD, that
+/// of a URL, and that of the user's entry in a `.netrc`. `anonymous` needs none, and is not sent the one in the environment.
+pub(crate) fn login_of<R>(rt: &R, host: &str, user: User<'_>) -> io::Result<Login<Global>>
 where
     R: Files + Env + AllocGlobal,
 {
-    let pass = password_of(rt, user)?;
-    let name = Text::copy_of(rt.alloc(), user.name.as_bytes())?;
+    match user.name {
+        Some(name) => login_of_name(rt, host, user, name),
+        None => login_of_nobody(rt, host, user),
+    }
+}
+
+/// The login of a user who is named; a `.netrc` is read where the password is nowhere else.
+fn login_of_name<R>(rt: &R, host: &str, user: User<'_>, name: &str) -> io::Result<Login<Global>>
+where
+    R: Files + Env + AllocGlobal,
+{
+    let name = name.as_bytes();
+    let pass = match password_said(rt, user, name)? {
+        Some(pass) => pass,
+        None => match suited(rt, host, name)? {
+            Some(entry) => password_kept(entry.password)?,
+            None => return Err(no_password()),
+        },
+    };
+    login(Text::copy_of(rt.alloc(), name)?, pass)
+}
+
+/// The login of whom a `.netrc` has for the host, and else of `anonymous`.
+fn login_of_nobody<R>(rt: &R, host: &str, user: User<'_>) -> io::Result<Login<Global>>
+where
+    R: Files + Env + AllocGlobal,
+{
+    let Some(
+        NetrcEntry {
+            login: name,
+            password,
+        },
+    ) = suited(rt, host, b"")?
+    else {
+        return login_of_name(rt, host, user, ANONYMOUS);
+    };
+    let pass = match password_said(rt, user, name.as_slice())? {
+        Some(pass) => pass,
+        None => password_kept(password)?,
+    };
+    login(name, pass)
+}
+
+fn login(name: Text<Global>, pass: Text<Global>) -> io::Result<Login<Global>> {
     match Login::new(name, pass) {
         Some(login) => Ok(login),
         None => Err(Error::new(
@@ -42,28 +89,42 @@ where
     }
 }
 
-fn password_of<R>(rt: &R, user: User<'_>) -> io::Result<Text<Global>>
+/// The password that an entry of a `.netrc` has.
+fn password_kept(password: Option<Text<Global>>) -> io::Result<Text<Global>> {
+    match password {
+        Some(pass) => Ok(pass),
+        None => Err(no_password()),
+    }
+}
+
+/// The password of a user, where it is said: in a file, in the environment, or in a URL; that of `anonymous` is not in the environment, and is
+/// what stands for none where no other is said.
+fn password_said<R>(rt: &R, user: User<'_>, name: &[u8]) -> io::Result<Option<Text<Global>>>
 where
     R: Files + Env + AllocGlobal,
 {
+    let is_anonymous = name == ANONYMOUS.as_bytes();
     if let Some(file) = user.password_file {
-        return password_in(rt, file);
+        return Ok(Some(password_in(rt, file)?));
     }
-    if user.name == ANONYMOUS {
-        return Ok(Text::copy_of(rt.alloc(), GUEST)?);
+    if !is_anonymous {
+        if let Some(pass) = password_around(rt)? {
+            return Ok(Some(pass));
+        }
     }
-    password_around(rt)
+    match user.password {
+        Some(pass) => Ok(Some(Text::copy_of(rt.alloc(), pass.as_bytes())?)),
+        None if is_anonymous => Ok(Some(Text::copy_of(rt.alloc(), GUEST)?)),
+        None => Ok(None),
+    }
 }
 
-/// The password that the environment has.
-fn password_around<R: Env + AllocGlobal>(rt: &R) -> io::Result<Text<Global>> {
+/// The password that the environment has, if it has one.
+fn password_around<R: Env + AllocGlobal>(rt: &R) -> io::Result<Option<Text<Global>>> {
     match env::var(rt, "FTP_PASSWORD") {
-        Ok(password) => Ok(Text::copy_of(rt.alloc(), password.as_bytes())?),
+        Ok(password) => Ok(Some(Text::copy_of(rt.alloc(), password.as_bytes())?)),
         Err(VarError::OutOfMemory) => Err(Error::from(ErrorKind::OutOfMemory)),
-        Err(_) => Err(Error::new(
-            ErrorKind::NotFound,
-            "this user needs FTP_PASSWORD or --password-file",
-        )),
+        Err(_) => Ok(None),
     }
 }
 

@@ -23,7 +23,7 @@ use std::net::{Net, TcpListener, TcpStream};
 use std::time::Clock;
 
 /// Opens a control connection for a user whose password is still to be had, plays over it, and closes it.
-pub(crate) fn converse_as<R, T, P>(
+pub fn converse_as<R, T, P>(
     rt: &R,
     server: ServerAddress<'_>,
     user: User<'_>,
@@ -35,7 +35,7 @@ where
     T: Drop,
     P: SessionTask<Result<T, SessionFault>>,
 {
-    let login = at(Phase::Login, login_of(rt, user))?;
+    let login = at(Phase::Login, login_of(rt, server.host, user))?;
     converse(rt, server, login, noticed, play)
 }
 

@@ -33,8 +33,9 @@ impl<'a> Target<'a> {
     /// Who asks.
     pub(crate) fn by(&self) -> User<'a> {
         User {
-            name: self.user,
+            name: Some(self.user),
             password_file: self.password_file,
+            password: None,
         }
     }
 }
