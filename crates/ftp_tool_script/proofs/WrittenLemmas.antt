@@ -5,7 +5,7 @@ use Rattle.std.proofs.lemmas.List.Elements.{All-head, All-tail}
 use Rattle.std.specs.Cmp.Lexicographic.{pointwise}
 use Rattle.std.specs.Prelude.{if◌then◌else◌, nat_eq}
 use Rattle.ftp_facts.specs.Value.{and_then}
-use Rattle.ftp_tool_script.specs.Field.{Between, Escape, FieldState, Low, backslash, digit_octet, digit_value, digits_octet, digits_written, empty_field, field_text, field_value, is_plain, other_written, said_before, said_from, written}
+use Rattle.ftp_tool_script.specs.Field.{Between, Low, backslash, digit_octet, digit_value, digits_octet, digits_written, empty_field, field_text, field_value, is_plain, other_written, said_before, said_from, written}
 use Rattle.ftp_tool_script.proofs.FieldLemmas.{begun, ended, from_turn, silent}
 
 -- ---- one octet
