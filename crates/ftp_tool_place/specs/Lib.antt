@@ -1,4 +1,5 @@
 pub mod Entry
 pub mod Netrc
+pub mod Rows
 pub mod Spot
 pub mod UrlPlace

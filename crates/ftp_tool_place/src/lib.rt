@@ -4,10 +4,12 @@
 mod entry;
 mod fault;
 mod netrc;
+mod rows;
 mod spot;
 mod url_place;
 
 pub use entry::NetrcEntry;
 pub use fault::{NetrcFault, UrlFault};
 pub use netrc::netrc_entry;
+pub use rows::{entries, netrc_words, refused_urls, urls};
 pub use url_place::{UrlPlace, is_url, url_place_of};
