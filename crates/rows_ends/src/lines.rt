@@ -82,7 +82,7 @@ fn repeat<P: Plays>(end: &mut P, desk: &mut Desk, verb: Verb, rest: &[u8], times
 
 fn act<P: Plays>(end: &mut P, desk: &mut Desk, verb: Verb, line: &[u8], rest: &[u8]) {
     match verb {
-        Verb::Heading | Verb::Drive => {}
+        Verb::Heading | Verb::Drive | Verb::Owed => {}
         Verb::Says => desk.say(rest, b"\r\n"),
         Verb::Octets => desk.say(rest, b""),
         Verb::Login => {

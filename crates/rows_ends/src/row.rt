@@ -24,7 +24,7 @@ pub fn play_row(alloc: Global, side: Side, row: &[u8], paper: &mut Paper) {
         whole: None,
     };
     let mut desk = Desk::new(turn, turn.side.size);
-    play_once(turn, 0, &mut desk);
+    let growths = play_once(turn, 0, &mut desk);
     let whole = desk.paper.text();
     paper.put(whole);
     if desk.paper.is_full() {
@@ -35,7 +35,19 @@ pub fn play_row(alloc: Global, side: Side, row: &[u8], paper: &mut Paper) {
     if turn.side.is_client || said(turn.row, b"growths").is_some() {
         each_growth(turn, whole, paper);
     }
+    if said(turn.row, b"refusals").is_some() {
+        each_refusal(turn, growths, paper);
+    }
     paper.put(b"\n");
+}
+
+/// What is written with each of so many growths of a list's memory refused.
+fn each_refusal(turn: Turn<'_>, growths: u64, paper: &mut Paper) {
+    for growth in 1..=growths {
+        let mut desk = Desk::new(turn, turn.side.size);
+        play_once(turn, growth, &mut desk);
+        put_other(b"= at growth ", growth, &desk, paper);
+    }
 }
 
 /// In pieces of each size.

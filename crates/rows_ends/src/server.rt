@@ -1,5 +1,6 @@
 //! A server on which rows are played.
 mod begun;
+mod cued;
 mod played;
 mod playing;
 

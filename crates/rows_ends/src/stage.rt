@@ -119,13 +119,18 @@ fn show_wants<P: Plays>(end: &P, desk: &mut Desk) {
     let wants = end.wants();
     if wants != desk.wanted {
         desk.wanted = wants;
-        desk.paper.put(b"? ");
-        desk.paper.put(wanted(wants));
-        if let Wants::Connect(endpoint) = wants {
-            desk.paper.put(&write_extended(endpoint));
-        }
-        desk.paper.put(b"\n");
+        put_wants(wants, &mut desk.paper);
     }
+}
+
+/// A line for what is wanted.
+pub fn put_wants(wants: Wants, paper: &mut Paper) {
+    paper.put(b"? ");
+    paper.put(wanted(wants));
+    if let Wants::Connect(endpoint) = wants {
+        paper.put(&write_extended(endpoint));
+    }
+    paper.put(b"\n");
 }
 
 fn wanted(wants: Wants) -> &'static [u8] {

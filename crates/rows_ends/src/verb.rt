@@ -20,6 +20,8 @@ pub enum Verb {
     Give,
     /// Data octets are given, this many at most.
     Out,
+    /// Of calls by a list: control octets are given, this many at most.
+    Owed,
     Tree,
     Held,
     /// From here on each line tells how much is held.
@@ -44,6 +46,8 @@ const VERBS: &[(&'static [u8], Verb)] = &[
     (b"dir", Verb::Heading),
     (b"dirs", Verb::Heading),
     (b"file", Verb::Heading),
+    (b"full", Verb::Heading),
+    (b"refusals", Verb::Heading),
     (b"in", Verb::Heading),
     (b"growths", Verb::Heading),
     (b"also", Verb::Heading),
@@ -66,6 +70,7 @@ const VERBS: &[(&'static [u8], Verb)] = &[
     (b"data", Verb::Data),
     (b"give", Verb::Give),
     (b"out", Verb::Out),
+    (b"owed", Verb::Owed),
     (b"tree", Verb::Tree),
     (b"held", Verb::Held),
     (b"weigh", Verb::Weigh),

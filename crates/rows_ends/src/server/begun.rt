@@ -9,6 +9,14 @@ use ftp_tree::{Content, MemTree, Tree};
 use rows_base::{cut, number, octets_of, split};
 use std::alloc::{AllocError, Allocator, Global};
 
+/// The most octets of the files below a root: so many blocks of so many octets.
+const BLOCK: usize = 65_536;
+
+const MOST_BLOCKS: u64 = 1_024;
+
+/// More than the files and directories below a root.
+const MORE_THAN_NODES: u64 = 20_000;
+
 /// `guest` with the password `secret`, and `anonymous` without one, both at this root.
 pub fn accounts<A: Allocator + Copy>(heap: A, root: &[u8]) -> Result<Accounts<A>, AllocError> {
     let mut list = Vec::new(heap);
@@ -54,8 +62,10 @@ fn gives<A: Allocator + Copy>(own: Global, heap: A, tree: &mut MemTree<A>, line:
     if word == b"dir".as_slice() {
         makes_dir(heap, tree, rest)
     } else if word == b"dirs".as_slice() {
-        fills_up(heap, tree, number(rest));
+        fills_up(heap, tree, &Path::root(heap), number(rest));
         true
+    } else if word == b"full".as_slice() {
+        makes_dir(heap, tree, rest) && makes_full(heap, tree, rest)
     } else if word == b"file".as_slice() {
         makes_file(own, heap, tree, split(rest))
     } else {
@@ -64,8 +74,17 @@ fn gives<A: Allocator + Copy>(own: Global, heap: A, tree: &mut MemTree<A>, line:
 }
 
 fn makes_dir<A: Allocator + Copy>(heap: A, tree: &mut MemTree<A>, text: &[u8]) -> bool {
+    makes_dir_below(heap, tree, &Path::root(heap), text)
+}
+
+fn makes_dir_below<A: Allocator + Copy>(
+    heap: A,
+    tree: &mut MemTree<A>,
+    root: &Path<A>,
+    text: &[u8],
+) -> bool {
     match below(heap, &Path::root(heap), text) {
-        Ok(path) => tree.make_dir(&Path::root(heap), &path).is_ok(),
+        Ok(path) => tree.make_dir(root, &path).is_ok(),
         Err(_) => false,
     }
 }
@@ -102,13 +121,44 @@ fn installs<A: Allocator + Copy>(
             .is_ok()
 }
 
-/// Puts so many directories into the tree, `/00000` and on, or as many as it takes.
-fn fills_up<A: Allocator + Copy>(heap: A, tree: &mut MemTree<A>, count: u64) {
+/// Fills the part of the tree at a directory: a file of the most octets, and as many directories as it takes; whether there is an end of them.
+fn makes_full<A: Allocator + Copy>(heap: A, tree: &mut MemTree<A>, text: &[u8]) -> bool {
+    match below(heap, &Path::root(heap), text) {
+        Ok(root) => {
+            puts_most(heap, tree, &root)
+                && fills_up(heap, tree, &root, MORE_THAN_NODES) < MORE_THAN_NODES
+        }
+        Err(_) => false,
+    }
+}
+
+/// Puts a file of the most octets there.
+fn puts_most<A: Allocator + Copy>(heap: A, tree: &mut MemTree<A>, root: &Path<A>) -> bool {
+    let mut content = Content::new(heap);
+    let mut block = Vec::new(heap);
+    let mut is_whole = block.resize(BLOCK, 0).is_ok();
+    for _ in 0..MOST_BLOCKS {
+        is_whole = is_whole && content.push(block.as_slice()).is_ok();
+    }
+    match below(heap, &Path::root(heap), b"most") {
+        Ok(path) => is_whole && tree.install(root, &path, &mut content, YEAR_2000).is_ok(),
+        Err(_) => false,
+    }
+}
+
+/// Puts so many directories below a root, `/00000` and on, or as many as it takes, and says how many.
+fn fills_up<A: Allocator + Copy>(
+    heap: A,
+    tree: &mut MemTree<A>,
+    root: &Path<A>,
+    count: u64,
+) -> u64 {
     for place in 0..count.min(100_000) {
-        if !makes_dir(heap, tree, &numbered(place)) {
-            break;
+        if !makes_dir_below(heap, tree, root, &numbered(place)) {
+            return place;
         }
     }
+    count
 }
 
 /// The path of a number of five digits.

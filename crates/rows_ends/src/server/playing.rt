@@ -4,11 +4,13 @@ use crate::event::{YEAR_2000, host_or};
 use crate::lines::play;
 use crate::plays::Holds;
 use crate::server::begun::{accounts, plants};
+use crate::server::cued::{cues_of, tell};
 use crate::server::played::Played;
 use crate::turn::Turn;
 use ftp_operation::Accounts;
 use ftp_server::Server;
 use ftp_server_model::Far;
+use ftp_server_play::play as play_list;
 use ftp_server_transfer::TreeTransfer;
 use ftp_tree::MemTree;
 use rows_base::{Refusing, said};
@@ -21,17 +23,28 @@ const NOT_BEGUN: &[u8] = b"= not begun";
 pub fn run(turn: Turn<'_>, refused: u64, desk: &mut Desk) -> u64 {
     let ample = Refusing::new(turn.alloc, 0);
     let heap = Refusing::new(turn.alloc, refused);
+    let own = if lists_calls(turn) { &ample } else { &heap };
     match accounts(&ample, said(turn.row, b"root").unwrap_or(b"/")) {
-        Ok(accounts) => plant(&heap, accounts, turn, desk),
+        Ok(accounts) => plant((own, &heap), accounts, turn, desk),
         Err(_) => desk.paper.line(NOT_BEGUN),
     }
     refused.wrapping_sub(heap.left())
 }
 
-fn plant<A: Allocator + Copy>(heap: A, accounts: Accounts<A>, turn: Turn<'_>, desk: &mut Desk) {
+/// Whether a row has calls that are made by a list, of whose own memory a growth is refused then.
+fn lists_calls(turn: Turn<'_>) -> bool {
+    said(turn.row, b"call").is_some()
+}
+
+fn plant<A: Allocator + Copy>(
+    (heap, spare): (A, A),
+    accounts: Accounts<A>,
+    turn: Turn<'_>,
+    desk: &mut Desk,
+) {
     let mut tree = MemTree::new(heap);
     if plants(turn, heap, &mut tree) {
-        serve(heap, tree, accounts, turn, desk);
+        serve((heap, spare), tree, accounts, turn, desk);
     } else {
         drop(tree);
         drop(accounts);
@@ -40,7 +53,7 @@ fn plant<A: Allocator + Copy>(heap: A, accounts: Accounts<A>, turn: Turn<'_>, de
 }
 
 fn serve<A: Allocator + Copy>(
-    heap: A,
+    (heap, spare): (A, A),
     tree: MemTree<A>,
     accounts: Accounts<A>,
     turn: Turn<'_>,
@@ -52,9 +65,26 @@ fn serve<A: Allocator + Copy>(
         heap, tree, accounts, here, peer,
     );
     match begun {
-        Ok(server) => play_on(server, turn, desk),
+        Ok(server) => begin((heap, spare), server, turn, desk),
         Err(_) => desk.paper.line(NOT_BEGUN),
     }
+}
+
+/// Makes the calls that a row lists, where it has some, and plays the lines behind them.
+fn begin<A: Allocator + Copy>(
+    (heap, spare): (A, A),
+    mut server: Server<A, MemTree<A>, TreeTransfer<A>>,
+    turn: Turn<'_>,
+    desk: &mut Desk,
+) {
+    let mut row = turn.row;
+    if lists_calls(turn) {
+        match cues_of(heap, turn) {
+            Ok(cues) => row = tell(row, &play_list(spare, &mut server, cues.as_slice()), desk),
+            Err(_) => desk.paper.fill(),
+        }
+    }
+    play_on(server, Turn { row, ..turn }, desk);
 }
 
 /// Plays the lines of a row on a server, in the year 2000.
