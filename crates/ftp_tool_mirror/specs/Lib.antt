@@ -1,0 +1,2 @@
+-- Where what is mirrored stands.
+pub mod Paths

@@ -1,0 +1,455 @@
+// The way through a tree: what is still to be done, one thing after another.
+use crate::copying::{Ends, copy_down, copy_up, is_same};
+use crate::folder::entries_here;
+use crate::paths::joined;
+use crate::server::{done_by, entries_there, text_of};
+use crate::tally::Tally;
+use crate::telling::{refusal, shown, tell, tell_trouble, tell_would};
+use crate::trouble::{Reach, Trouble};
+use ftp_facts::Text;
+use ftp_operation::{Answer, How, Op};
+use ftp_tool_connection::{ClientSession, ServerAddress, SessionFault, SessionTask, User};
+use ftp_tool_plan::{Check, Deed, Extra, Facts, Listing, Rules, Step, Way, plan};
+use std::alloc::{AllocError, Global};
+use std::fs::Files;
+use std::io::{Eprint, ErrorKind, Print};
+use std::{fs, io};
+
+/// How many things are done at most.
+const MOST_STEPS: u64 = 1_000_000;
+
+/// What is done of what is planned.
+#[derive(Clone, Copy, PartialEq, Eq)]
+pub enum Doing {
+    /// All of it.
+    All,
+    /// Nothing: it is told.
+    Nothing,
+}
+
+/// What is mirrored, and how.
+#[derive(Clone, Copy)]
+pub struct Mirror<'a> {
+    pub server: ServerAddress<'a>,
+    pub user: User<'a>,
+    /// The directory of the server.
+    pub path: &'a str,
+    /// The folder of this machine.
+    pub folder: &'a str,
+    pub how: How,
+    pub rules: Rules,
+    /// Patterns of what is left alone.
+    pub excluded: &'a [&'a str],
+    pub doing: Doing,
+}
+
+/// Something that is still to be done, of a path below both roots.
+struct Work {
+    chore: Chore,
+    below: String<Global>,
+}
+
+/// By hand: a derived drop is proved again, part by part, wherever a work is let go.
+impl Drop for Work {
+    fn drop(self) {
+        let Self { chore: _, below: _ } = self;
+    }
+}
+
+/// What is to be done.
+#[derive(Clone, Copy)]
+enum Chore {
+    Deed(Deed),
+    /// The directory is removed, from which all was removed.
+    RemoveEmptied,
+}
+
+/// A mirror on its way.
+pub struct Walk<'a, R> {
+    rt: &'a R,
+    mirror: Mirror<'a>,
+    /// What is still to be done; the last comes next.
+    waiting: Vec<Work, Global>,
+    /// How many things were planned.
+    planned: u64,
+    tally: Tally,
+}
+
+/// By hand: a derived drop is proved again, part by part, wherever a walk is let go.
+impl<'a, R> Drop for Walk<'a, R> {
+    fn drop(self) {
+        let Self {
+            rt: _,
+            mirror: _,
+            waiting: _,
+            planned: _,
+            tally: _,
+        } = self;
+    }
+}
+
+impl<'a, R: Files + Print + Eprint + AllocGlobal + Clone + Drop> Walk<'a, R> {
+    /// At the roots, of which nothing is known yet.
+    pub fn new(rt: &'a R, mirror: Mirror<'a>) -> Result<Walk<'a, R>, AllocError> {
+        let mut walk = Walk {
+            rt,
+            mirror,
+            waiting: Vec::new(rt.alloc()),
+            planned: 0,
+            tally: Tally::new(),
+        };
+        walk.wait(Chore::Deed(Deed::Enter), "")?;
+        Ok(walk)
+    }
+
+    /// What was done so far.
+    pub fn tally(&self) -> Tally {
+        self.tally
+    }
+
+    /// How many things are still to be done.
+    pub(crate) fn left(&self) -> usize {
+        self.waiting.len()
+    }
+
+    /// How many things were planned, or done.
+    pub(crate) fn planned(&self) -> u64 {
+        self.planned
+    }
+
+    /// This is done next.
+    fn wait(&mut self, chore: Chore, below: &str) -> Result<(), AllocError> {
+        let below = String::from_str(self.rt.alloc(), below)?;
+        self.waiting.push(Work { chore, below })?;
+        Ok(())
+    }
+
+    /// Does one thing; where the control connection ends, it is done anew over another one.
+    fn turn<S: ClientSession>(&mut self, seat: &mut S, work: Work) -> Turn {
+        let Err(trouble) = self.perform(seat, work.chore, work.below.as_str()) else {
+            return Turn::GoesOn;
+        };
+        match trouble.reach() {
+            Reach::Connection => self.again(work),
+            Reach::All(code) => Turn::Over(Answer::Refused(code)),
+            Reach::Memory => Turn::Over(Answer::Memory),
+            Reach::One => {
+                self.fail(work.below.as_str(), &trouble);
+                Turn::GoesOn
+            }
+        }
+    }
+
+    /// It is done once more, over another control connection.
+    fn again(&mut self, work: Work) -> Turn {
+        match self.waiting.push(work) {
+            Ok(()) => Turn::Over(Answer::Lost),
+            Err(_) => Turn::Over(Answer::Memory),
+        }
+    }
+
+    /// Tells why something was not done.
+    fn fail(&mut self, below: &str, trouble: &Trouble) {
+        self.tally.add_failed();
+        let _told = tell_trouble(self.rt, below, trouble);
+    }
+
+    fn perform<S: ClientSession>(
+        &mut self,
+        seat: &mut S,
+        chore: Chore,
+        below: &str,
+    ) -> Result<(), Trouble> {
+        match chore {
+            Chore::Deed(Deed::Copy(facts)) => self.copy(seat, below, facts),
+            Chore::Deed(Deed::Compare(facts)) => self.compare(seat, below, facts),
+            Chore::Deed(Deed::MakeDir) => self.make_and_enter(seat, below),
+            Chore::Deed(Deed::Enter) => self.enter(seat, below),
+            Chore::Deed(Deed::RemoveFile) => self.remove_file(seat, below),
+            Chore::Deed(Deed::RemoveDir) => self.empty_dir(seat, below),
+            Chore::RemoveEmptied => self.remove_dir(seat, below),
+            Chore::Deed(Deed::PassOver) => {
+                let _told = tell(
+                    self.rt,
+                    "note: ",
+                    below,
+                    ": neither file nor directory; it is left out",
+                );
+                Ok(())
+            }
+            Chore::Deed(Deed::Refuse(reason)) => {
+                self.tally.add_failed();
+                let _told = tell(self.rt, "error: ", below, refusal(reason));
+                Ok(())
+            }
+        }
+    }
+
+    /// The path of something at the server.
+    fn there(&self, below: &str) -> Result<String<Global>, AllocError> {
+        joined(self.rt.alloc(), self.mirror.path, below)
+    }
+
+    /// The same, as it goes into an operation.
+    fn path(&self, below: &str) -> Result<Text<Global>, AllocError> {
+        let there = self.there(below)?;
+        text_of(self.rt.alloc(), there.as_str())
+    }
+
+    /// The place of something on this machine.
+    fn here(&self, below: &str) -> Result<String<Global>, AllocError> {
+        joined(self.rt.alloc(), self.mirror.folder, below)
+    }
+
+    /// Copies a file.
+    fn copy<S: ClientSession>(
+        &mut self,
+        seat: &mut S,
+        below: &str,
+        facts: Facts,
+    ) -> Result<(), Trouble> {
+        if self.is_told_only("copy", below)? {
+            self.tally.add_file(facts.size.unwrap_or(0));
+            return Ok(());
+        }
+        let there = self.there(below)?;
+        let here = self.here(below)?;
+        let ends = Ends {
+            there: there.as_str(),
+            here: here.as_str(),
+            how: self.mirror.how,
+        };
+        let count = match self.mirror.rules.way {
+            Way::Down => copy_down(self.rt, seat, ends, facts)?,
+            Way::Up => copy_up(self.rt, seat, ends)?,
+        };
+        self.tally.add_file(count);
+        self.tell_progress(below);
+        Ok(())
+    }
+
+    /// Copies a file whose octets differ.
+    fn compare<S: ClientSession>(
+        &mut self,
+        seat: &mut S,
+        below: &str,
+        facts: Facts,
+    ) -> Result<(), Trouble> {
+        let there = self.there(below)?;
+        let here = self.here(below)?;
+        let ends = Ends {
+            there: there.as_str(),
+            here: here.as_str(),
+            how: self.mirror.how,
+        };
+        if is_same(self.rt, seat, ends, facts)? {
+            Ok(())
+        } else {
+            self.copy(seat, below, facts)
+        }
+    }
+
+    /// Makes a directory of the target, and goes into it. One that is there already, as where its making was answered over a connection that ended, is
+    /// gone into too.
+    fn make_and_enter<S: ClientSession>(
+        &mut self,
+        seat: &mut S,
+        below: &str,
+    ) -> Result<(), Trouble> {
+        match self.make_dir(seat, below) {
+            Ok(()) => self.descend(seat, below, Listing::Whole(Vec::new(self.rt.alloc()))),
+            Err(trouble) => match self.target(seat, below) {
+                Ok(target) => self.descend(seat, below, target),
+                Err(_) => Err(trouble),
+            },
+        }
+    }
+
+    /// Makes a directory of the target.
+    fn make_dir<S: ClientSession>(&mut self, seat: &mut S, below: &str) -> Result<(), Trouble> {
+        if !self.is_told_only("make", below)? {
+            match self.mirror.rules.way {
+                Way::Down => fs::create_dir(self.rt, self.here(below)?.as_str())?,
+                Way::Up => done_by(seat, Op::MakeDir(self.path(below)?))?,
+            }
+        }
+        self.tally.add_dir();
+        Ok(())
+    }
+
+    /// Goes into a directory that the target has. The target itself is made, where it does not stand.
+    fn enter<S: ClientSession>(&mut self, seat: &mut S, below: &str) -> Result<(), Trouble> {
+        match self.target(seat, below) {
+            Ok(target) => self.descend(seat, below, target),
+            Err(trouble) if below.is_empty() && is_missing(&trouble) => {
+                self.make_dir(seat, below)?;
+                self.descend(seat, below, Listing::Whole(Vec::new(self.rt.alloc())))
+            }
+            Err(trouble) => Err(trouble),
+        }
+    }
+
+    /// What stands in a directory of the target.
+    fn target<S: ClientSession>(
+        &mut self,
+        seat: &mut S,
+        below: &str,
+    ) -> Result<Listing<Global>, Trouble> {
+        match self.mirror.rules.way {
+            Way::Down => self.listed_here(below),
+            Way::Up => self.listed_there(seat, below),
+        }
+    }
+
+    /// What stands in a directory of the source.
+    fn source<S: ClientSession>(
+        &mut self,
+        seat: &mut S,
+        below: &str,
+    ) -> Result<Listing<Global>, Trouble> {
+        match self.mirror.rules.way {
+            Way::Down => self.listed_there(seat, below),
+            Way::Up => self.listed_here(below),
+        }
+    }
+
+    fn listed_here(&self, below: &str) -> Result<Listing<Global>, Trouble> {
+        let here = self.here(below)?;
+        Ok(entries_here(self.rt, here.as_str(), below, self.mirror.excluded)?)
+    }
+
+    fn listed_there<S: ClientSession>(
+        &self,
+        seat: &mut S,
+        below: &str,
+    ) -> Result<Listing<Global>, Trouble> {
+        let op = Op::List(self.path(below)?, self.mirror.how);
+        entries_there(self.rt.alloc(), seat, op, below, self.mirror.excluded)
+    }
+
+    /// Plans what is done in a directory of which this stands in the target.
+    fn descend<S: ClientSession>(
+        &mut self,
+        seat: &mut S,
+        below: &str,
+        target: Listing<Global>,
+    ) -> Result<(), Trouble> {
+        let source = self.source(seat, below)?;
+        self.plan(below, self.mirror.rules, &source, &target)
+    }
+
+    /// What is planned of two listings waits, the first of it at the end.
+    fn plan(
+        &mut self,
+        below: &str,
+        rules: Rules,
+        source: &Listing<Global>,
+        target: &Listing<Global>,
+    ) -> Result<(), Trouble> {
+        let steps = plan(self.rt.alloc(), rules, source, target)?;
+        self.planned = self.planned.saturating_add(steps.len() as u64);
+        if self.planned > MOST_STEPS {
+            return Err(Trouble::TooMuch);
+        }
+        for step in steps.iter().rev() {
+            self.wait_below(below, step)?;
+        }
+        Ok(())
+    }
+
+    fn wait_below(&mut self, below: &str, step: &Step<Global>) -> Result<(), AllocError> {
+        let name = std::str::from_utf8(step.name.as_slice()).unwrap_or("?");
+        let path = joined(self.rt.alloc(), below, name)?;
+        self.waiting.push(Work {
+            chore: Chore::Deed(step.deed),
+            below: path,
+        })?;
+        Ok(())
+    }
+
+    fn remove_file<S: ClientSession>(&mut self, seat: &mut S, below: &str) -> Result<(), Trouble> {
+        if !self.is_told_only("remove", below)? {
+            match self.mirror.rules.way {
+                Way::Down => fs::remove_file(self.rt, self.here(below)?.as_str())?,
+                Way::Up => done_by(seat, Op::Delete(self.path(below)?))?,
+            }
+        }
+        self.tally.add_removed();
+        Ok(())
+    }
+
+    /// Removes all that stands in a directory of the target, and the directory behind that.
+    fn empty_dir<S: ClientSession>(&mut self, seat: &mut S, below: &str) -> Result<(), Trouble> {
+        let nothing = Listing::Whole(Vec::new(self.rt.alloc()));
+        let target = self.target(seat, below)?;
+        let rules = Rules {
+            extra: Extra::Removed,
+            ..self.mirror.rules
+        };
+        self.wait(Chore::RemoveEmptied, below)?;
+        self.plan(below, rules, &nothing, &target)
+    }
+
+    fn remove_dir<S: ClientSession>(&mut self, seat: &mut S, below: &str) -> Result<(), Trouble> {
+        if !self.is_told_only("remove", below)? {
+            match self.mirror.rules.way {
+                Way::Down => fs::remove_dir(self.rt, self.here(below)?.as_str())?,
+                Way::Up => done_by(seat, Op::RemoveDir(self.path(below)?))?,
+            }
+        }
+        self.tally.add_removed();
+        Ok(())
+    }
+
+    /// Tells what would be done, where nothing is; says whether that is so.
+    fn is_told_only(&self, what: &str, below: &str) -> io::Result<bool> {
+        if self.mirror.doing == Doing::Nothing {
+            tell_would(self.rt, what, below)?;
+            return Ok(true);
+        }
+        Ok(false)
+    }
+
+    /// Tells how far the mirror is, where that is asked for.
+    fn tell_progress(&self, below: &str) {
+        if self.mirror.server.progress {
+            let tally = self.tally;
+            if let Ok(name) = shown(self.rt.alloc(), below) {
+                let _told = eprintln!(self.rt; "{name}: {tally}");
+            }
+        }
+    }
+}
+
+/// Whether a directory is not there: of a server 550 says so (RFC 959, section 4.2.2).
+fn is_missing(trouble: &Trouble) -> bool {
+    match trouble {
+        Trouble::Server(Answer::Refused(550)) => true,
+        Trouble::Here(error) => error.kind() == ErrorKind::NotFound,
+        _ => false,
+    }
+}
+
+impl<'a, R: Files + Print + Eprint + AllocGlobal + Clone + Drop> SessionTask<
+    Result<Answer<Global>, SessionFault>,
+> for Walk<'a, R> {
+    fn play<S: ClientSession>(&mut self, seat: &mut S) -> Result<Answer<Global>, SessionFault> {
+        for _ in 0..u64::MAX {
+            let Some(work) = self.waiting.pop() else {
+                return Ok(Answer::Done);
+            };
+            match self.turn(seat, work) {
+                Turn::GoesOn => {}
+                Turn::Over(answer) => return Ok(answer),
+            }
+        }
+        Ok(Answer::Lost)
+    }
+}
+
+/// What a turn leads to.
+#[derive(Drop)]
+enum Turn {
+    GoesOn,
+    Over(Answer<Global>),
+}
