@@ -2,6 +2,7 @@
 use crate::fetching::{GET, LS, PUT};
 use crate::help;
 use crate::looping::LOOP;
+use crate::mirroring::MIRROR;
 use crate::pairing::PAIR;
 use crate::running::RUN;
 use crate::serving::SERVE;
@@ -15,7 +16,7 @@ use std::alloc::{AllocError, Global};
 const ALONE: &[Subcommand<'static>] = &[DIALOGUE, FACTS, FRAME, LOOP, PAIR];
 
 /// The subcommands of a client over a network.
-const CLIENTS: &[Subcommand<'static>] = &[RUN, GET, PUT, LS];
+const CLIENTS: &[Subcommand<'static>] = &[RUN, GET, PUT, LS, MIRROR];
 
 const DIALOGUE: Subcommand<'static> = Subcommand {
     name: "dialogue",

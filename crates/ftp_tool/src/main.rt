@@ -5,6 +5,7 @@ mod command_line;
 mod fetching;
 mod help;
 mod looping;
+mod mirroring;
 mod pairing;
 mod running;
 mod serving;
@@ -40,7 +41,9 @@ where
         + Files
         + AllocGlobal
         + Clock
-        + Net<Listener = TcpListener, Stream = TcpStream>,
+        + Net<Listener = TcpListener, Stream = TcpStream>
+        + Clone
+        + Drop,
     F: Write + IsTerminal,
 {
     let words: Vec<String> = env::args(rt)?.collect(rt.alloc())?;
@@ -74,7 +77,9 @@ where
         + Files
         + AllocGlobal
         + Clock
-        + Net<Listener = TcpListener, Stream = TcpStream>,
+        + Net<Listener = TcpListener, Stream = TcpStream>
+        + Clone
+        + Drop,
     F: Write + IsTerminal,
 {
     match words.subcommand() {
@@ -82,6 +87,7 @@ where
         Some(("loop", _)) => Ok(ftp_tool_loop::play(rt)?.number()),
         Some(("pair", words)) => play_pair(rt, words, faults),
         Some(("run", words)) => run_script(rt, words),
+        Some(("mirror", words)) => mirror(rt, words),
         Some((name, words)) if fetching::is_one(name) => {
             fetch(rt, name, words, faults.is_terminal())
         }
@@ -155,6 +161,25 @@ where
     match running::server_of(words) {
         Some(server) => Ok(ftp_tool_fetch::run(rt, server)?.number()),
         None => bad_words(rt, None),
+    }
+}
+
+/// Does what `mirror` asks for.
+fn mirror<R>(rt: &R, words: &ArgMatches<'_>) -> Result<u8>
+where
+    R: Print
+        + Eprint
+        + Env
+        + Files
+        + AllocGlobal
+        + Clock
+        + Net<Listener = TcpListener, Stream = TcpStream>
+        + Clone
+        + Drop,
+{
+    match mirroring::mirror_of(words) {
+        Some(asked) => Ok(ftp_tool_mirror::mirror(rt, asked)?.number()),
+        None => bad_words(rt, mirroring::bad_value(words)),
     }
 }
 

@@ -58,6 +58,8 @@ pub enum Form<'a> {
     Flag,
     /// An option with a value.
     Given(Value<'a>),
+    /// An option with a value, which may be there several times.
+    Many(Value<'a>),
     /// An option that has to be there, with a value.
     Needed(Value<'a>),
     /// An option with a value, and the value where it is not there.
@@ -129,6 +131,7 @@ fn arg_of<'a>(alloc: Global, word: Word<'a>) -> Arg<'a> {
             .long(word.name)
             .action(ArgAction::SetTrue),
         Form::Given(value) => option(alloc, word, value),
+        Form::Many(value) => option(alloc, word, value).action(ArgAction::Append),
         Form::Needed(value) => option(alloc, word, value).required(true),
         Form::Else(value, other) => option(alloc, word, value).default_value(other),
         Form::Place(value) => place(alloc, word, value),

@@ -1,0 +1,179 @@
+// The subcommand `mirror`: its words.
+use crate::words::{BadValue, Form, Subcommand, TIMEOUT, Value, Word};
+use clap::ArgMatches;
+use ftp_operation::How;
+use ftp_tool_connection::{ServerAddress, User};
+use ftp_tool_files::{number_of, representation_of};
+use ftp_tool_mirror::{Check, Doing, Extra, Mirror, Rules, Way};
+use ftp_tool_words::{Location, place_of};
+
+const HELP: &str = "\
+Copies what is missing in TARGET or differs there, with all directories below SOURCE. One of both is HOST:PORT/PATH, as with get; the other
+is a folder of this machine, and begins with / or with a point where it would be read as HOST/PATH.
+From a server a file is copied where its size or its moment differs, and the copy has the server's moment then. To a server one is copied
+where its size differs or it was changed after the server's. With --checksum sizes and octets are compared, for which each file is fetched.
+With --delete what SOURCE has not is removed from TARGET, and so is what stands there as a file where SOURCE has a directory, or the other
+way round; without it that is refused. --exclude leaves alone what meets GLOB, at both ends: * is any octets but a slash, ? is one; a GLOB with
+a slash is of a path below SOURCE, and any other is of a name. Links of this machine are not followed. --dry-run changes nothing, and writes
+what would be done on standard output. A file that fails does not stop the others.
+One control connection is used; where it ends, the rest is done over another one, as with get. The server has to know MLSD.
+A file of this machine is written beside its name, and moved over it once it is whole, as with get. Passwords and --timeout are as with get.
+Output: on standard error why something was not done, and at the end how much was.
+Status: 0 done; 1 something was refused or failed; 2 bad command line or login; 3 the control connection or a device failed, or memory was
+refused.
+
+Example:
+  ftp_tool mirror 127.0.0.1:2121/ /backup/out --delete --user mirror --password-file ~/ftp.pass";
+
+/// The words of `mirror`.
+pub const MIRROR: Subcommand<'static> = Subcommand {
+    name: "mirror",
+    about: "copies a tree of a server into a folder, or back",
+    help: HELP,
+    words: &[
+        Word {
+            name: "source",
+            form: Form::NeededPlace(Value::Name("SOURCE")),
+            help: "what is copied: HOST:PORT/PATH, or a folder",
+        },
+        Word {
+            name: "target",
+            form: Form::NeededPlace(Value::Name("TARGET")),
+            help: "where it is copied to: a folder, or HOST:PORT/PATH",
+        },
+        Word {
+            name: "delete",
+            form: Form::Flag,
+            help: "removes from TARGET what SOURCE has not",
+        },
+        Word {
+            name: "dry-run",
+            form: Form::Flag,
+            help: "writes what would be done, and changes nothing",
+        },
+        Word {
+            name: "checksum",
+            form: Form::Flag,
+            help: "compares the octets of files",
+        },
+        Word {
+            name: "exclude",
+            form: Form::Many(Value::Name("GLOB")),
+            help: "leaves alone what meets it; may be given several times",
+        },
+        Word {
+            name: "user",
+            form: Form::Else(Value::Text("U"), "anonymous"),
+            help: "",
+        },
+        Word {
+            name: "password-file",
+            form: Form::Given(Value::Text("F")),
+            help: "a file of mode 600 with the password",
+        },
+        Word {
+            name: "active",
+            form: Form::Flag,
+            help: "the server opens the data connection",
+        },
+        Word {
+            name: "extended",
+            form: Form::Flag,
+            help: "EPSV and EPRT over IPv4 too",
+        },
+        Word {
+            name: "progress",
+            form: Form::Flag,
+            help: "tells of each file that is copied",
+        },
+    ],
+    options: &[TIMEOUT],
+};
+
+/// What is mirrored; none where not exactly one of both places is a server's.
+pub fn mirror_of<'a>(words: &'a ArgMatches<'_>) -> Option<Mirror<'a>> {
+    let source = words.get_str("source")?;
+    let target = words.get_str("target")?;
+    match (server_of(source), server_of(target)) {
+        (Some(place), None) => asked_of(words, place, target, Way::Down),
+        (None, Some(place)) => asked_of(words, place, source, Way::Up),
+        _ => None,
+    }
+}
+
+/// The place of a server that a word names: one that can't be a folder.
+fn server_of(word: &str) -> Option<Location<'_>> {
+    if word.starts_with('.') || word.starts_with('/') {
+        return None;
+    }
+    place_of(word)
+}
+
+fn asked_of<'a>(
+    words: &'a ArgMatches<'_>,
+    place: Location<'a>,
+    folder: &'a str,
+    way: Way,
+) -> Option<Mirror<'a>> {
+    Some(Mirror {
+        server: ServerAddress {
+            host: place.host,
+            port: place.port,
+            timeout: number_of(words.get_str("timeout")?)?,
+            progress: words.get_flag("progress"),
+        },
+        user: User {
+            name: words.get_str("user"),
+            password_file: words.get_str("password-file"),
+            password: None,
+        },
+        path: place.path,
+        folder,
+        how: How {
+            representation: representation_of("I", "F", "S")?,
+            marks: false,
+            active: words.get_flag("active"),
+            extended: words.get_flag("extended"),
+        },
+        rules: rules_of(words, way),
+        excluded: words.get_strs("exclude").unwrap_or(&[]),
+        doing: if words.get_flag("dry-run") {
+            Doing::Nothing
+        } else {
+            Doing::All
+        },
+    })
+}
+
+fn rules_of(words: &ArgMatches<'_>, way: Way) -> Rules {
+    Rules {
+        way,
+        check: if words.get_flag("checksum") {
+            Check::ByOctets
+        } else {
+            Check::ByFacts
+        },
+        extra: if words.get_flag("delete") {
+            Extra::Removed
+        } else {
+            Extra::Kept
+        },
+    }
+}
+
+/// The value that is none.
+pub fn bad_value<'a>(words: &'a ArgMatches<'_>) -> Option<BadValue<'a>> {
+    let timeout = words.get_str("timeout")?;
+    if number_of(timeout).is_none() {
+        return Some(BadValue {
+            option: "--timeout <SECONDS>",
+            value: timeout,
+            wanted: "decimal digits alone are wanted",
+        });
+    }
+    Some(BadValue {
+        option: "<TARGET>",
+        value: words.get_str("target")?,
+        wanted: "one of SOURCE and TARGET is HOST:PORT/PATH, the other a folder, with / or ./ before it where it has a slash",
+    })
+}
