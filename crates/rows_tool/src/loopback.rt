@@ -6,10 +6,8 @@ use ftp_tree::Tree;
 use ftp_tree_folder::{DiskFolder, Mirror, Reasons, open};
 use rows_base::{Paper, cut};
 use std::alloc::Global;
-use std::fs::Files;
-use std::io::{Eprint, ErrorKind, Print, Write};
-use std::net::{Net, SocketAddr, TcpListener, TcpStream};
-use std::time::Clock;
+use std::io::{ErrorKind, Write};
+use std::net::{SocketAddr, TcpListener, TcpStream};
 use std::{fs, io};
 
 /// The folder that is served, and the file of those who may log in.
@@ -44,14 +42,12 @@ const LIMITS: Limits = Limits {
 const MARK: &[u8] = b"< ";
 
 /// A port of the loopback that the system chooses.
-fn listener<R: Net<Listener = TcpListener, Stream = TcpStream>>(rt: &R) -> io::Result<TcpListener> {
+fn listener(rt: &HostRuntime) -> io::Result<TcpListener> {
     TcpListener::bind(rt, SocketAddr::from(([127, 0, 0, 1], 0)))
 }
 
 /// A client that is connected over the loopback, and the server's side of its connection.
-pub(crate) fn join<R: Net<Listener = TcpListener, Stream = TcpStream>>(
-    rt: &R,
-) -> io::Result<(TcpStream, TcpStream)> {
+pub(crate) fn join(rt: &HostRuntime) -> io::Result<(TcpStream, TcpStream)> {
     let listener = listener(rt)?;
     let client = TcpStream::connect(rt, listener.local_addr()?)?;
     let (stream, _) = listener.accept()?;
@@ -89,15 +85,7 @@ fn put_replies(paper: &mut Paper, replies: &[u8]) {
 }
 
 /// Serves a control connection over a folder; gives whether all went well.
-fn served<R>(rt: &R, stream: &TcpStream, over: Over<'_>) -> io::Result<bool>
-where
-    R: Net<Listener = TcpListener, Stream = TcpStream>
-        + Files
-        + Clock
-        + Print
-        + Eprint
-        + AllocGlobal,
-{
+fn served(rt: &HostRuntime, stream: &TcpStream, over: Over<'_>) -> io::Result<bool> {
     let reasons = Reasons::new();
     let Ok(mirror) = open(rt, over.dir, &[], &reasons) else {
         return Err(io::Error::from(ErrorKind::InvalidData));
@@ -109,21 +97,13 @@ where
 }
 
 /// Serves a control connection over the mirror of a folder; gives that back, and whether all went well.
-pub(crate) fn served_over<'a, 'b, R>(
-    rt: &'b R,
+pub(crate) fn served_over<'a, 'b>(
+    rt: &'b HostRuntime,
     stream: &TcpStream,
-    mirror: Mirror<Global, DiskFolder<'a, &'b R>>,
+    mirror: Mirror<Global, DiskFolder<'a, &'b HostRuntime>>,
     accounts: Option<&str>,
     reasons: &Reasons,
-) -> io::Result<(Mirror<Global, DiskFolder<'a, &'b R>>, bool)>
-where
-    R: Net<Listener = TcpListener, Stream = TcpStream>
-        + Files
-        + Clock
-        + Print
-        + Eprint
-        + AllocGlobal,
-{
+) -> io::Result<(Mirror<Global, DiskFolder<'a, &'b HostRuntime>>, bool)> {
     match users_of(rt, accounts) {
         Ok(users) => Ok(served_users(rt, stream, mirror, users, reasons)),
         Err(_) => Err(io::Error::from(ErrorKind::InvalidData)),
@@ -131,15 +111,14 @@ where
 }
 
 /// Serves a control connection of these users over a tree; gives that back, and whether all went well.
-fn served_users<R, T>(
-    rt: &R,
+fn served_users<T>(
+    rt: &HostRuntime,
     stream: &TcpStream,
     tree: T,
     users: Users<Global>,
     reasons: &Reasons,
 ) -> (T, bool)
 where
-    R: Net<Listener = TcpListener, Stream = TcpStream> + Clock + Eprint + AllocGlobal,
     T: Tree<Global>,
 {
     let patience = Patience::new(LIMITS, None);
@@ -157,21 +136,13 @@ where
 }
 
 /// Puts what a client is answered that says these lines before it is served.
-pub(crate) fn answers<R>(
-    rt: &R,
+pub(crate) fn answers(
+    rt: &HostRuntime,
     paper: &mut Paper,
     (client, stream): (TcpStream, TcpStream),
     over: Over<'_>,
     said: &[u8],
-) -> io::Result<()>
-where
-    R: Net<Listener = TcpListener, Stream = TcpStream>
-        + Files
-        + Clock
-        + Print
-        + Eprint
-        + AllocGlobal,
-{
+) -> io::Result<()> {
     let mut speaks = &client;
     speaks.write_all(said)?;
     paper.holds("a session", served(rt, &stream, over)?);
@@ -182,7 +153,7 @@ where
 }
 
 /// Puts what stands in a file.
-fn put_file<R: Files + AllocGlobal>(rt: &R, paper: &mut Paper, place: &str) -> io::Result<()> {
+fn put_file(rt: &HostRuntime, paper: &mut Paper, place: &str) -> io::Result<()> {
     let text = fs::read_to_string(rt, place)?;
     paper.put(place.as_bytes());
     paper.put(b": ");
@@ -192,7 +163,7 @@ fn put_file<R: Files + AllocGlobal>(rt: &R, paper: &mut Paper, place: &str) -> i
 }
 
 /// Puts what came over the next data connection that the client awaits.
-fn put_came<R: AllocGlobal>(rt: &R, paper: &mut Paper, awaits: &TcpListener) -> io::Result<()> {
+fn put_came(rt: &HostRuntime, paper: &mut Paper, awaits: &TcpListener) -> io::Result<()> {
     let (came, _) = awaits.accept()?;
     let text = io::read_to_string(rt.alloc(), came)?;
     paper.put(b"came: ");
@@ -202,30 +173,14 @@ fn put_came<R: AllocGlobal>(rt: &R, paper: &mut Paper, awaits: &TcpListener) -> 
 }
 
 /// Puts what a client is answered that awaits data connections at this port.
-fn put_answers<R>(rt: &R, paper: &mut Paper, port: u16) -> io::Result<()>
-where
-    R: Net<Listener = TcpListener, Stream = TcpStream>
-        + Files
-        + Clock
-        + Print
-        + Eprint
-        + AllocGlobal,
-{
+fn put_answers(rt: &HostRuntime, paper: &mut Paper, port: u16) -> io::Result<()> {
     let mut said = Paper::new(rt.alloc());
     say(&mut said, port);
     answers(rt, paper, join(rt)?, OVER, said.text())
 }
 
 /// Puts what a client is answered, and what its downloads give.
-fn put_session<R>(rt: &R, paper: &mut Paper) -> io::Result<()>
-where
-    R: Net<Listener = TcpListener, Stream = TcpStream>
-        + Files
-        + Clock
-        + Print
-        + Eprint
-        + AllocGlobal,
-{
+fn put_session(rt: &HostRuntime, paper: &mut Paper) -> io::Result<()> {
     let awaits = listener(rt)?;
     put_answers(rt, paper, awaits.local_addr()?.port())?;
     put_came(rt, paper, &awaits)?;
@@ -233,7 +188,7 @@ where
 }
 
 /// Puts what the folder has behind it.
-fn put_left<R: Files + AllocGlobal>(rt: &R, paper: &mut Paper) -> io::Result<()> {
+fn put_left(rt: &HostRuntime, paper: &mut Paper) -> io::Result<()> {
     put_file(rt, paper, "rows_of_serve/served/d/b")?;
     put_file(rt, paper, "rows_of_serve/served/d/up")?;
     paper.holds("moved", !fs::exists(rt, "rows_of_serve/served/a")?);
@@ -241,15 +196,7 @@ fn put_left<R: Files + AllocGlobal>(rt: &R, paper: &mut Paper) -> io::Result<()>
 }
 
 /// Writes what a client is answered, what its downloads give, and what the folder has then.
-pub(crate) fn row<R>(rt: &R) -> io::Result<()>
-where
-    R: Net<Listener = TcpListener, Stream = TcpStream>
-        + Files
-        + Clock
-        + Print
-        + Eprint
-        + AllocGlobal,
-{
+pub(crate) fn row(rt: &HostRuntime) -> io::Result<()> {
     fs::create_dir(rt, OVER.dir)?;
     file(rt, "rows_of_serve/served/a", "hello\n", 0o600)?;
     let mut paper = Paper::new(rt.alloc());

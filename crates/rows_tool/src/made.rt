@@ -1,11 +1,11 @@
 // Files and directories that a row needs.
-use std::fs::{Files, OpenOptions, Permissions};
+use std::fs::{OpenOptions, Permissions};
 use std::io::Write;
 use std::os::unix::fs::{OpenOptionsExt, PermissionsExt};
 use std::{fs, io};
 
 /// Makes a file with that text and mode, in place of the one that stands there.
-pub(crate) fn file<R: Files>(rt: &R, place: &str, text: &str, mode: u32) -> io::Result<()> {
+pub(crate) fn file(rt: &HostRuntime, place: &str, text: &str, mode: u32) -> io::Result<()> {
     let mut how = OpenOptions::new();
     let mut file = how
         .write(true)
@@ -18,13 +18,8 @@ pub(crate) fn file<R: Files>(rt: &R, place: &str, text: &str, mode: u32) -> io::
 }
 
 /// Makes directories in one another whose path, without the first, has 1,004 octets.
-pub(crate) fn deep<R: Files + AllocGlobal>(rt: &R, place: &str) -> io::Result<()> {
-    let mut place = String::from_str(rt.alloc(), place)?;
-    for _ in 0..4u32 {
-        place.push_str("/")?;
-        for _ in 0..25u32 {
-            place.push_str("directory-")?;
-        }
-    }
-    fs::create_dir_all(rt, place.as_str())
+pub(crate) fn deep(rt: &HostRuntime, place: &str) -> io::Result<()> {
+    let name = "directory-".repeat(rt.alloc(), 25)?;
+    let path = format!(in rt.alloc(); "{place}/{name}/{name}/{name}/{name}")?;
+    fs::create_dir_all(rt, path.as_str())
 }

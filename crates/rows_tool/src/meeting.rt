@@ -11,11 +11,11 @@ const SENT: &[u8] = b"sent by the client\n";
 
 /// Gives what another handle gives; to each port that it listens at a client is connected at once, which has sent its octets and ended.
 #[derive(Drop)]
-pub(crate) struct Meeting<'a, R> {
-    pub(crate) rt: &'a R,
+pub(crate) struct Meeting<'a> {
+    pub(crate) rt: &'a HostRuntime,
 }
 
-impl<'a, R: Net<Listener = TcpListener, Stream = TcpStream>> Net for Meeting<'a, R> {
+impl<'a> Net for Meeting<'a> {
     type Stream = TcpStream;
 
     type Listener = TcpListener;
@@ -32,7 +32,7 @@ impl<'a, R: Net<Listener = TcpListener, Stream = TcpStream>> Net for Meeting<'a,
     }
 }
 
-impl<'a, R: Clock> Clock for Meeting<'a, R> {
+impl<'a> Clock for Meeting<'a> {
     fn monotonic(&self) -> io::Result<Duration> {
         self.rt.monotonic()
     }
@@ -42,7 +42,7 @@ impl<'a, R: Clock> Clock for Meeting<'a, R> {
     }
 }
 
-impl<'a, R: Eprint> Eprint for Meeting<'a, R> {
+impl<'a> Eprint for Meeting<'a> {
     fn eprint<D: Display + Drop>(&self, value: D) -> io::Result<()> {
         self.rt.eprint(value)
     }
@@ -52,7 +52,7 @@ impl<'a, R: Eprint> Eprint for Meeting<'a, R> {
     }
 }
 
-impl<'a, R: AllocGlobal> Alloc for Meeting<'a, R> {
+impl<'a> Alloc for Meeting<'a> {
     type A = Global;
 
     fn alloc(&self) -> Global {

@@ -2,11 +2,8 @@
 use crate::made::{deep, file};
 use ftp_tool_serve::{Limits, Log, Others, Serving, Sessions, serve, users_of};
 use ftp_tree_folder::{LoadFault, Reasons, open};
-use std::fs::Files;
-use std::io::{Eprint, Print};
-use std::net::{IpAddr, Ipv4Addr, Net, SocketAddr, TcpListener, TcpStream};
+use std::net::{IpAddr, Ipv4Addr, Net, SocketAddr, TcpListener};
 use std::os::unix::fs::symlink;
-use std::time::Clock;
 use std::{fs, io};
 
 /// An address of the loopback, and a port of it that nobody else listens at, below those that a system chooses.
@@ -84,21 +81,13 @@ fn with_accounts<'a>(file: &'a str) -> Serving<'a> {
 }
 
 /// Writes the status of a job.
-fn status_row<R>(rt: &R, name: &str, job: Serving<'_>) -> io::Result<()>
-where
-    R: Net<Listener = TcpListener, Stream = TcpStream>
-        + Files
-        + Clock
-        + Print
-        + Eprint
-        + AllocGlobal,
-{
+fn status_row(rt: &HostRuntime, name: &str, job: Serving<'_>) -> io::Result<()> {
     let status = serve(rt, job)?;
     println!(rt; "{name}: {}", status.number())
 }
 
 /// Writes why a folder is refused; of a long place its length alone.
-fn tell<R: Print>(rt: &R, fault: &LoadFault) -> io::Result<()> {
+fn tell(rt: &HostRuntime, fault: &LoadFault) -> io::Result<()> {
     match fault {
         LoadFault::Refused { place, why } if place.len() > SHOWN => {
             println!(rt; "a place of {} octets: {why}", place.len())
@@ -107,41 +96,42 @@ fn tell<R: Print>(rt: &R, fault: &LoadFault) -> io::Result<()> {
     }
 }
 
+/// Writes why a folder is refused, if it is.
+fn tell_folder(rt: &HostRuntime, dir: &str) -> io::Result<()> {
+    match &open(rt, dir, &[], &Reasons::new()) {
+        Ok(_) => Ok(()),
+        Err(fault) => tell(rt, fault),
+    }
+}
+
 /// Writes the status of each folder, and why it is refused.
-fn folder_rows<R>(rt: &R) -> io::Result<()>
-where
-    R: Net<Listener = TcpListener, Stream = TcpStream>
-        + Files
-        + Clock
-        + Print
-        + Eprint
-        + AllocGlobal,
-{
+fn folder_rows(rt: &HostRuntime) -> io::Result<()> {
     for (name, dir) in FOLDERS {
-        if let Err(fault) = open(rt, *dir, &[], &Reasons::new()) {
-            tell(rt, &fault)?;
-        }
+        tell_folder(rt, *dir)?;
         status_row(rt, *name, nobody(*dir))?;
     }
+    Ok(())
+}
+
+/// Writes what the part of an upload has that is kept.
+fn kept_row(rt: &HostRuntime) -> io::Result<()> {
     let kept = fs::read_to_string(rt, "rows_of_serve/left/ftp-left-1\u{7f}")?;
     println!(rt; "kept: {kept}")
 }
 
+/// Writes why the file of accounts is refused, if it is.
+fn tell_accounts(rt: &HostRuntime) -> io::Result<()> {
+    match &users_of(rt, Some(ACCOUNTS)) {
+        Ok(_) => Ok(()),
+        Err(fault) => println!(rt; "{fault}"),
+    }
+}
+
 /// Writes the status with each file of accounts, and why it is refused.
-fn accounts_rows<R>(rt: &R) -> io::Result<()>
-where
-    R: Net<Listener = TcpListener, Stream = TcpStream>
-        + Files
-        + Clock
-        + Print
-        + Eprint
-        + AllocGlobal,
-{
+fn accounts_rows(rt: &HostRuntime) -> io::Result<()> {
     for (name, text, mode) in FILES {
         file(rt, ACCOUNTS, *text, *mode)?;
-        if let Err(fault) = users_of(rt, Some(ACCOUNTS)) {
-            println!(rt; "{fault}")?;
-        }
+        tell_accounts(rt)?;
         status_row(rt, *name, with_accounts(ACCOUNTS))?;
     }
     status_row(
@@ -152,15 +142,7 @@ where
 }
 
 /// Writes the status at addresses, and at a port that is in use.
-fn address_rows<R>(rt: &R) -> io::Result<()>
-where
-    R: Net<Listener = TcpListener, Stream = TcpStream>
-        + Files
-        + Clock
-        + Print
-        + Eprint
-        + AllocGlobal,
-{
+fn address_rows(rt: &HostRuntime) -> io::Result<()> {
     file(rt, ACCOUNTS, "guest:secret:/\n", 0o600)?;
     let mut job = nobody(EMPTY);
     job.host = address(ELSEWHERE);
@@ -175,7 +157,7 @@ where
 }
 
 /// Makes the folders.
-fn make<R: Files + AllocGlobal>(rt: &R) -> io::Result<()> {
+fn make(rt: &HostRuntime) -> io::Result<()> {
     fs::create_dir(rt, EMPTY)?;
     fs::create_dir(rt, "rows_of_serve/name")?;
     file(rt, "rows_of_serve/name/a\u{1}b", "", 0o600)?;
@@ -187,17 +169,10 @@ fn make<R: Files + AllocGlobal>(rt: &R) -> io::Result<()> {
 }
 
 /// Writes all rows.
-pub(crate) fn rows<R>(rt: &R) -> io::Result<()>
-where
-    R: Net<Listener = TcpListener, Stream = TcpStream>
-        + Files
-        + Clock
-        + Print
-        + Eprint
-        + AllocGlobal,
-{
+pub(crate) fn rows(rt: &HostRuntime) -> io::Result<()> {
     make(rt)?;
     folder_rows(rt)?;
+    kept_row(rt)?;
     accounts_rows(rt)?;
     address_rows(rt)
 }

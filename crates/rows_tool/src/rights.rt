@@ -2,10 +2,6 @@
 use crate::loopback::{Over, answers, join};
 use crate::made::file;
 use rows_base::Paper;
-use std::fs::Files;
-use std::io::{Eprint, Print};
-use std::net::{Net, TcpListener, TcpStream};
-use std::time::Clock;
 use std::{fs, io};
 
 /// The folder that is served, and who may log in.
@@ -22,15 +18,7 @@ USER put\r\nPASS x\r\nPASV\r\nSTOR a\r\nPASV\r\nAPPE a\r\nPASV\r\nSTOR new\r\nPA
 USER all\r\nRMD d\r\nRNFR a\r\nRNTO b\r\nQUIT\r\n";
 
 /// Writes what that client is answered, and what the folder has then.
-pub(crate) fn row<R>(rt: &R) -> io::Result<()>
-where
-    R: Net<Listener = TcpListener, Stream = TcpStream>
-        + Files
-        + Clock
-        + Print
-        + Eprint
-        + AllocGlobal,
-{
+pub(crate) fn row(rt: &HostRuntime) -> io::Result<()> {
     fs::create_dir(rt, OVER.dir)?;
     file(rt, "rows_of_serve/shared/a", "hello\n", 0o600)?;
     file(rt, "rows_of_serve/rights", ACCOUNTS, 0o600)?;

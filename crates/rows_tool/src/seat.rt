@@ -6,9 +6,6 @@ use ftp_tool_connection::{ClientSession, Ending, Request, SessionFault, SessionT
 use rows_base::{Paper, cut, found, number, split};
 use std::alloc::Global;
 
-/// How many control connections there are at most.
-const CONNECTIONS: u32 = 2;
-
 /// What is answered.
 #[derive(Clone, Copy)]
 enum Told {
@@ -103,7 +100,7 @@ fn told_by(word: &[u8]) -> Told {
     )
 }
 
-/// What is answered over control connections, one after another.
+/// What is answered over a control connection, or over another one behind it, where all is lost.
 pub(crate) fn played<T>(
     alloc: Global,
     paper: &mut Paper,
@@ -120,12 +117,11 @@ where
         opened: 0,
         ending: Ending::Answered,
     };
-    for _ in 1..CONNECTIONS {
-        match task.play(&mut seat) {
-            Ok(Answer::Lost) => {}
-            answered => return answered,
-        }
+    let answered = task.play(&mut seat);
+    if !matches!(&answered, Ok(Answer::Lost)) {
+        return answered;
     }
+    drop(answered);
     task.play(&mut seat)
 }
 

@@ -4,10 +4,8 @@ use crate::loopback::{join, served_over};
 use ftp_tree_folder::{DiskFolder, Mirror, Reasons, Seen, open, reloaded};
 use rows_base::Paper;
 use std::alloc::Global;
-use std::fs::Files;
-use std::io::{Eprint, ErrorKind, Print, Write};
-use std::net::{Net, Shutdown, TcpListener, TcpStream};
-use std::time::Clock;
+use std::io::{ErrorKind, Write};
+use std::net::{Shutdown, TcpStream};
 use std::{fs, io};
 
 const DIR: &str = "rows_of_serve/inbox";
@@ -45,7 +43,7 @@ const CLIENTS: &[(&str, &[u8], Ends)] = &[
 ];
 
 /// Takes away what came; gives whether it was there, and whole.
-fn taken<R: Files + AllocGlobal>(rt: &R) -> io::Result<bool> {
+fn taken(rt: &HostRuntime) -> io::Result<bool> {
     let Ok(text) = fs::read_to_string(rt, CAME) else {
         return Ok(false);
     };
@@ -54,10 +52,7 @@ fn taken<R: Files + AllocGlobal>(rt: &R) -> io::Result<bool> {
 }
 
 /// A client that says these lines, and the server's side of its connection.
-fn said<R>(rt: &R, lines: &[u8], ends: Ends) -> io::Result<(TcpStream, TcpStream)>
-where
-    R: Net<Listener = TcpListener, Stream = TcpStream>,
-{
+fn said(rt: &HostRuntime, lines: &[u8], ends: Ends) -> io::Result<(TcpStream, TcpStream)> {
     let (client, stream) = join(rt)?;
     let mut speaks = &client;
     speaks.write_all(lines)?;
@@ -68,21 +63,13 @@ where
 }
 
 /// Serves a client over what the folder has by now, and gives its mirror back.
-fn served_anew<'a, 'b, R>(
-    rt: &'b R,
+fn served_anew<'a, 'b>(
+    rt: &'b HostRuntime,
     stream: &TcpStream,
-    mirror: Mirror<Global, DiskFolder<'a, &'b R>>,
+    mirror: Mirror<Global, DiskFolder<'a, &'b HostRuntime>>,
     seen: &mut Seen,
     reasons: &Reasons,
-) -> io::Result<Mirror<Global, DiskFolder<'a, &'b R>>>
-where
-    R: Net<Listener = TcpListener, Stream = TcpStream>
-        + Files
-        + Clock
-        + Print
-        + Eprint
-        + AllocGlobal,
-{
+) -> io::Result<Mirror<Global, DiskFolder<'a, &'b HostRuntime>>> {
     let (mirror, _left) = reloaded(&rt, DIR, &[], mirror, seen, 0);
     match served_over(rt, stream, mirror, None, reasons) {
         Ok((mirror, _ended)) => Ok(mirror),
@@ -91,21 +78,13 @@ where
 }
 
 /// Serves a client that says these lines, which stays until it is served.
-fn visited<'a, 'b, R>(
-    rt: &'b R,
+fn visited<'a, 'b>(
+    rt: &'b HostRuntime,
     (lines, ends): (&[u8], Ends),
-    mirror: Mirror<Global, DiskFolder<'a, &'b R>>,
+    mirror: Mirror<Global, DiskFolder<'a, &'b HostRuntime>>,
     seen: &mut Seen,
     reasons: &Reasons,
-) -> io::Result<Mirror<Global, DiskFolder<'a, &'b R>>>
-where
-    R: Net<Listener = TcpListener, Stream = TcpStream>
-        + Files
-        + Clock
-        + Print
-        + Eprint
-        + AllocGlobal,
-{
+) -> io::Result<Mirror<Global, DiskFolder<'a, &'b HostRuntime>>> {
     match said(rt, lines, ends) {
         Ok((_client, stream)) => served_anew(rt, &stream, mirror, seen, reasons),
         Err(fault) => Err(fault),
@@ -113,20 +92,12 @@ where
 }
 
 /// Puts what is there behind each client.
-fn put_clients<'a, 'b, R>(
-    rt: &'b R,
+fn put_clients<'a, 'b>(
+    rt: &'b HostRuntime,
     paper: &mut Paper,
-    mirror: Mirror<Global, DiskFolder<'a, &'b R>>,
+    mirror: Mirror<Global, DiskFolder<'a, &'b HostRuntime>>,
     reasons: &Reasons,
-) -> io::Result<()>
-where
-    R: Net<Listener = TcpListener, Stream = TcpStream>
-        + Files
-        + Clock
-        + Print
-        + Eprint
-        + AllocGlobal,
-{
+) -> io::Result<()> {
     let mut mirror = mirror;
     let mut seen = Seen::nothing(rt.alloc());
     for (name, lines, ends) in CLIENTS {
@@ -137,15 +108,7 @@ where
 }
 
 /// Writes what is there behind each client.
-pub(crate) fn row<R>(rt: &R) -> io::Result<()>
-where
-    R: Net<Listener = TcpListener, Stream = TcpStream>
-        + Files
-        + Clock
-        + Print
-        + Eprint
-        + AllocGlobal,
-{
+pub(crate) fn row(rt: &HostRuntime) -> io::Result<()> {
     fs::create_dir(rt, DIR)?;
     let mut paper = Paper::new(rt.alloc());
     let reasons = Reasons::new();

@@ -6,11 +6,6 @@ use ftp_tool_fetch::{Download, Parts, ServerAddress, Target, Task, fetch, run};
 use ftp_tool_status::Status;
 use ftp_tool_words::Location;
 use rows_base::Paper;
-use std::env::Env;
-use std::fs::Files;
-use std::io::{Eprint, Print};
-use std::net::{Net, TcpListener, TcpStream};
-use std::time::Clock;
 use std::{fs, io};
 
 /// An address of the loopback, and a port of it at which nobody listens.
@@ -82,17 +77,7 @@ const TASKS: &[(&str, bool, Task<'static>)] = &[
 ];
 
 /// Puts the status of each script and of each task.
-pub(crate) fn rows<R>(rt: &R, paper: &mut Paper) -> io::Result<()>
-where
-    R: Net<Listener = TcpListener, Stream = TcpStream>
-        + Files
-        + Env
-        + Input
-        + Print
-        + Eprint
-        + Clock
-        + AllocGlobal,
-{
+pub(crate) fn rows(rt: &HostRuntime, paper: &mut Paper) -> io::Result<()> {
     for (what, text) in SCRIPTS {
         let status = run(&Typing { rt, text }, ABSENT)?;
         put(paper, what, status);

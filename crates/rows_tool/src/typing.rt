@@ -8,12 +8,12 @@ use std::time::{Clock, Duration};
 
 /// Gives what another handle gives, and this text as standard input.
 #[derive(Drop)]
-pub(crate) struct Typing<'a, R> {
-    pub(crate) rt: &'a R,
+pub(crate) struct Typing<'a> {
+    pub(crate) rt: &'a HostRuntime,
     pub(crate) text: &'a [u8],
 }
 
-impl<'a, R> Input for Typing<'a, R> {
+impl<'a> Input for Typing<'a> {
     type Reader = &'a [u8];
 
     fn read_line<A: Allocator + Clone>(&self, _line: &mut String<A>) -> io::Result<usize> {
@@ -29,7 +29,7 @@ impl<'a, R> Input for Typing<'a, R> {
     }
 }
 
-impl<'a, R: Net<Listener = TcpListener, Stream = TcpStream>> Net for Typing<'a, R> {
+impl<'a> Net for Typing<'a> {
     type Stream = TcpStream;
 
     type Listener = TcpListener;
@@ -43,7 +43,7 @@ impl<'a, R: Net<Listener = TcpListener, Stream = TcpStream>> Net for Typing<'a, 
     }
 }
 
-impl<'a, R: Clock> Clock for Typing<'a, R> {
+impl<'a> Clock for Typing<'a> {
     fn monotonic(&self) -> io::Result<Duration> {
         self.rt.monotonic()
     }
@@ -53,7 +53,7 @@ impl<'a, R: Clock> Clock for Typing<'a, R> {
     }
 }
 
-impl<'a, R: Print> Print for Typing<'a, R> {
+impl<'a> Print for Typing<'a> {
     fn print<D: Display + Drop>(&self, value: D) -> io::Result<()> {
         self.rt.print(value)
     }
@@ -67,7 +67,7 @@ impl<'a, R: Print> Print for Typing<'a, R> {
     }
 }
 
-impl<'a, R: Eprint> Eprint for Typing<'a, R> {
+impl<'a> Eprint for Typing<'a> {
     fn eprint<D: Display + Drop>(&self, value: D) -> io::Result<()> {
         self.rt.eprint(value)
     }
@@ -77,7 +77,7 @@ impl<'a, R: Eprint> Eprint for Typing<'a, R> {
     }
 }
 
-impl<'a, R: AllocGlobal> Alloc for Typing<'a, R> {
+impl<'a> Alloc for Typing<'a> {
     type A = Global;
 
     fn alloc(&self) -> Global {
