@@ -1,5 +1,5 @@
 // The command line: one level of subcommands.
-use crate::fetching::{GET, LS, PUT};
+use crate::fetching::FETCHERS;
 use crate::help;
 use crate::looping::LOOP;
 use crate::mirroring::MIRROR;
@@ -14,9 +14,6 @@ use std::alloc::{AllocError, Global};
 
 /// The subcommands between the standard streams, and those that have both ends.
 const ALONE: &[Subcommand<'static>] = &[DIALOGUE, FACTS, FRAME, LOOP, PAIR];
-
-/// The subcommands of a client over a network.
-const CLIENTS: &[Subcommand<'static>] = &[RUN, GET, PUT, LS, MIRROR];
 
 const DIALOGUE: Subcommand<'static> = Subcommand {
     name: "dialogue",
@@ -99,11 +96,11 @@ fn with_serve<'a>(alloc: Global, program: Command<'a>) -> Result<Command<'a>, Al
 
 /// A command with the subcommands of a client over a network too.
 fn with_clients<'a>(alloc: Global, program: Command<'a>) -> Result<Command<'a>, AllocError> {
-    let mut program = program;
-    for subcommand in CLIENTS {
+    let mut program = program.subcommand(subcommand_of(alloc, RUN)?)?;
+    for subcommand in FETCHERS {
         program = program.subcommand(subcommand_of(alloc, *subcommand)?)?;
     }
-    Ok(program)
+    program.subcommand(subcommand_of(alloc, MIRROR)?)
 }
 
 /// The task of words that the program knows; none where a value is none of its option.

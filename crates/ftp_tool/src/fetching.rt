@@ -1,17 +1,19 @@
-// The subcommands `get`, `put` and `ls`: their words.
+// The subcommands of a client that ask at one place: their words.
 use crate::help;
 use crate::words::{BadValue, Form, MODE, STRU, Subcommand, TIMEOUT, TYPE, Value, Word};
 use clap::ArgMatches;
 use ftp_operation::How;
-use ftp_tool_fetch::{Download, Parts, Target, Task};
+use ftp_tool_fetch::{Download, Parts, Simple, Target, Task};
 use ftp_tool_files::{number_of, representation_of};
 use ftp_tool_words::place_of;
 
 /// The most octets that a file may be said to have.
 const MOST_OCTETS: u64 = 999_999_999_999_999_999;
 
-/// The words of `get`.
-pub const GET: Subcommand<'static> = Subcommand {
+/// The subcommands that ask at one place.
+pub const FETCHERS: &[Subcommand<'static>] = &[GET, PUT, LS, CAT, SIZE, RM, MKDIR, RMDIR, MV];
+
+const GET: Subcommand<'static> = Subcommand {
     name: "get",
     about: "downloads a file from a server",
     help: help::GET,
@@ -41,8 +43,7 @@ pub const GET: Subcommand<'static> = Subcommand {
     options: OPTIONS,
 };
 
-/// The words of `put`.
-pub const PUT: Subcommand<'static> = Subcommand {
+const PUT: Subcommand<'static> = Subcommand {
     name: "put",
     about: "uploads a file to a server",
     help: help::PUT,
@@ -57,12 +58,66 @@ pub const PUT: Subcommand<'static> = Subcommand {
     options: OPTIONS,
 };
 
-/// The words of `ls`.
-pub const LS: Subcommand<'static> = Subcommand {
+const LS: Subcommand<'static> = Subcommand {
     name: "ls",
     about: "lists a directory of a server",
     help: help::LS,
     words: &[PLACE],
+    options: OPTIONS,
+};
+
+const CAT: Subcommand<'static> = Subcommand {
+    name: "cat",
+    about: "writes a file of a server to standard output",
+    help: help::CAT,
+    words: &[PLACE],
+    options: OPTIONS,
+};
+
+const SIZE: Subcommand<'static> = Subcommand {
+    name: "size",
+    about: "writes how many octets a file of a server has",
+    help: help::SIZE,
+    words: &[PLACE],
+    options: OPTIONS,
+};
+
+const RM: Subcommand<'static> = Subcommand {
+    name: "rm",
+    about: "removes a file of a server",
+    help: help::RM,
+    words: &[PLACE],
+    options: OPTIONS,
+};
+
+const MKDIR: Subcommand<'static> = Subcommand {
+    name: "mkdir",
+    about: "makes a directory of a server",
+    help: help::MKDIR,
+    words: &[PLACE],
+    options: OPTIONS,
+};
+
+const RMDIR: Subcommand<'static> = Subcommand {
+    name: "rmdir",
+    about: "removes an empty directory of a server",
+    help: help::RMDIR,
+    words: &[PLACE],
+    options: OPTIONS,
+};
+
+const MV: Subcommand<'static> = Subcommand {
+    name: "mv",
+    about: "gives a file or a directory of a server another path",
+    help: help::MV,
+    words: &[
+        PLACE,
+        Word {
+            name: "path",
+            form: Form::NeededPlace(Value::Name("PATH")),
+            help: "its path from then on, at the same server",
+        },
+    ],
     options: OPTIONS,
 };
 
@@ -72,7 +127,7 @@ const PLACE: Word<'static> = Word {
     help: "the server, its port (21 where none is written), and the path there",
 };
 
-/// The options that all three have.
+/// The options that all of them have.
 const OPTIONS: &[Word<'static>] = &[
     Word {
         name: "user",
@@ -149,7 +204,7 @@ pub fn bad_value<'a>(words: &'a ArgMatches<'_>) -> Option<BadValue<'a>> {
 
 /// Whether a subcommand is one of these.
 pub fn is_one(name: &str) -> bool {
-    name == "get" || name == "put" || name == "ls"
+    FETCHERS.iter().any(|known| known.name == name)
 }
 
 /// What is asked of which server; none where a value is none of its option. At a terminal progress is told.
@@ -184,9 +239,27 @@ pub fn fetch_task_of<'a>(
     words: &'a ArgMatches<'_>,
     asked: &Target<'a>,
 ) -> Option<Task<'a>> {
-    if name == "ls" {
-        return Some(Task::List);
+    match name {
+        "ls" => Some(Task::List),
+        "cat" => Some(Task::Get(SHOWN)),
+        "size" => Some(Task::Simple(Simple::Size)),
+        "rm" => Some(Task::Simple(Simple::Remove)),
+        "mkdir" => Some(Task::Simple(Simple::MakeDirectory)),
+        "rmdir" => Some(Task::Simple(Simple::RemoveDirectory)),
+        "mv" => Some(Task::Simple(Simple::Move(words.get_str("path")?))),
+        _ => file_task_of(name, words, asked),
     }
+}
+
+/// A download that goes to standard output.
+const SHOWN: Download<'static> = Download {
+    file: "-",
+    parts: Parts::Dropped,
+    moment: false,
+};
+
+/// What is to be done with a file of this end; none where it has no name.
+fn file_task_of<'a>(name: &str, words: &'a ArgMatches<'_>, asked: &Target<'a>) -> Option<Task<'a>> {
     let file = words.get_str("file").unwrap_or(asked.place.name());
     if file.is_empty() {
         return None;

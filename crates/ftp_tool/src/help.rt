@@ -136,3 +136,50 @@ backslash is two. What is named by none but a single file's name, as .. or a/b, 
 
 Example:
   ftp_tool ls 127.0.0.1:2121/pub";
+
+/// Behind the help of `cat`.
+pub const CAT: &str = "\
+As get HOST:PORT/PATH -: the file goes to standard output, once all of it came.
+
+Example:
+  ftp_tool cat 127.0.0.1:2121/pub/a.txt | wc -c";
+
+/// Behind the help of `size`.
+pub const SIZE: &str = "\
+Output: how many octets the file has by the server's word (SIZE, RFC 3659, section 4), in the type of --type. It is asked once, over one
+control connection. HOST, PATH, passwords and status are as with get.
+
+Example:
+  ftp_tool size 127.0.0.1:2121/pub/a.txt";
+
+/// Behind the help of `rm`.
+pub const RM: &str = "\
+By DELE, asked once, over one control connection: where that ends before the reply, the file may be gone, and the status is 3. HOST, PATH,
+passwords and status are as with get.
+
+Example:
+  ftp_tool rm 127.0.0.1:2121/a.txt";
+
+/// Behind the help of `mkdir`.
+pub const MKDIR: &str = "\
+By MKD, asked once, over one control connection: where that ends before the reply, the directory may stand, and the status is 3. HOST, PATH,
+passwords and status are as with get.
+
+Example:
+  ftp_tool mkdir 127.0.0.1:2121/in";
+
+/// Behind the help of `rmdir`.
+pub const RMDIR: &str = "\
+By RMD, asked once, over one control connection: where that ends before the reply, the directory may be gone, and the status is 3. HOST, PATH,
+passwords and status are as with get.
+
+Example:
+  ftp_tool rmdir 127.0.0.1:2121/in";
+
+/// Behind the help of `mv`.
+pub const MV: &str = "\
+By RNFR and RNTO, asked once, over one control connection: where that ends before the reply, it may be done, and the status is 3. PATH is
+sent as it stands. HOST, PATH, passwords and status are as with get.
+
+Example:
+  ftp_tool mv 127.0.0.1:2121/a.csv.part a.csv";

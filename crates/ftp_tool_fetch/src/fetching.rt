@@ -1,6 +1,7 @@
-// What the subcommands `get`, `put` and `ls` do.
+// What the subcommands that ask at one place do.
 use crate::download::{Download, get};
 use crate::listing::{Listing, listing_of};
+use crate::simple::{Simple, do_simple};
 use crate::single::{Wish, ask_for};
 use crate::target::Target;
 use crate::telling::tell;
@@ -31,6 +32,8 @@ pub enum Task<'a> {
     Put(&'a str),
     /// The entries of the directory go to standard output, or its names where the server has no machine listing.
     List,
+    /// What needs no data connection.
+    Simple(Simple<'a>),
 }
 
 /// Does a task, and gives the exit status: 0; 1 where it was refused or broke; 2 for a bad login or path; 3 where a connection or a device failed, or
@@ -51,6 +54,7 @@ where
         Task::Get(download) => get(rt, asked, download, &mut noticed),
         Task::Put(file) => put(rt, asked, file, &mut noticed),
         Task::List => list(rt, asked, &mut noticed),
+        Task::Simple(simple) => do_simple(rt, asked, simple, &mut noticed),
     };
     match done {
         Ok(status) => Ok(status),

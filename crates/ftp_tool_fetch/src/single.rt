@@ -1,9 +1,11 @@
 // One operation over a control connection of its own.
+use crate::simple::{Simple, op_of};
 use crate::target::Target;
 use ftp_facts::Text;
 use ftp_operation::{Answer, How, Op};
 use ftp_tool_connection::{
     ClientSession, Ending, LastReply, Phase, Request, SessionFault, SessionTask, ask, at,
+    converse_as,
 };
 use std::alloc::{AllocError, Global};
 use std::env::Env;
@@ -14,17 +16,37 @@ use std::time::Clock;
 
 /// What is wished for at a place.
 #[derive(Clone, Copy)]
-pub(crate) enum Wish {
+pub(crate) enum Wish<'a> {
     /// The entries, with their facts.
     Entries,
     Names,
+    Simple(Simple<'a>),
+}
+
+/// Asks for one thing over one control connection alone: what changes something is not asked twice.
+pub(crate) fn ask_once<R>(
+    rt: &R,
+    asked: &Target<'_>,
+    simple: Simple<'_>,
+    noticed: &mut LastReply,
+) -> Result<Answer<Global>, SessionFault>
+where
+    R: Net<Listener = TcpListener, Stream = TcpStream> + Files + Env + Eprint + Clock + AllocGlobal,
+{
+    let mut single = Single {
+        alloc: rt.alloc(),
+        path: asked.place.path,
+        how: asked.how,
+        wish: Wish::Simple(simple),
+    };
+    converse_as(rt, asked.server(), asked.by(), noticed, &mut single)
 }
 
 /// Asks for one thing. Where its control connection ends, it is asked anew over another one.
 pub(crate) fn ask_for<R>(
     rt: &R,
     asked: &Target<'_>,
-    wish: Wish,
+    wish: Wish<'_>,
     noticed: &mut LastReply,
 ) -> Result<Answer<Global>, SessionFault>
 where
@@ -59,7 +81,7 @@ struct Single<'a> {
     alloc: Global,
     path: &'a str,
     how: How,
-    wish: Wish,
+    wish: Wish<'a>,
 }
 
 impl<'a> SessionTask<Result<Answer<Global>, SessionFault>> for Single<'a> {
@@ -80,10 +102,12 @@ impl<'a> SessionTask<Result<Answer<Global>, SessionFault>> for Single<'a> {
 }
 
 /// The request of a wish.
-fn request_of(alloc: Global, path: &str, how: How, wish: Wish) -> Result<Request, AllocError> {
+fn request_of(alloc: Global, path: &str, how: How, wish: Wish<'_>) -> Result<Request, AllocError> {
     let path = Text::copy_of(alloc, path.as_bytes())?;
-    match wish {
-        Wish::Entries => Ok(Request::One(Some(Op::List(path, how)))),
-        Wish::Names => Ok(Request::One(Some(Op::Names(path, how)))),
-    }
+    let op = match wish {
+        Wish::Entries => Op::List(path, how),
+        Wish::Names => Op::Names(path, how),
+        Wish::Simple(simple) => op_of(alloc, simple, path, how)?,
+    };
+    Ok(Request::One(Some(op)))
 }
