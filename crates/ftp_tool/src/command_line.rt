@@ -1,5 +1,5 @@
 // The command line: one level of subcommands.
-use crate::fetching::FETCHERS;
+use crate::fetching::{FILES, NAMES, TRANSFERS};
 use crate::help;
 use crate::looping::LOOP;
 use crate::mirroring::MIRROR;
@@ -77,16 +77,29 @@ pub fn command<'a>(alloc: Global) -> Result<Command<'a>, AllocError> {
         .subcommand_required(true);
     let program = with_those_alone(alloc, program)?;
     let program = with_serve(alloc, program)?;
-    with_clients(alloc, program)
+    let program = with_transfers(alloc, program)?;
+    let program = with_files(alloc, program)?;
+    let program = with_names(alloc, program)?;
+    let program = with_run(alloc, program)?;
+    with_mirror(alloc, program)
+}
+
+/// A command with the subcommands of a table.
+fn with_all<'a>(
+    alloc: Global,
+    program: Command<'a>,
+    table: &[Subcommand<'a>],
+) -> Result<Command<'a>, AllocError> {
+    let mut program = program;
+    for subcommand in table {
+        program = program.subcommand(subcommand_of(alloc, *subcommand)?)?;
+    }
+    Ok(program)
 }
 
 /// A command with the subcommands that need no network.
 fn with_those_alone<'a>(alloc: Global, program: Command<'a>) -> Result<Command<'a>, AllocError> {
-    let mut program = program;
-    for subcommand in ALONE {
-        program = program.subcommand(subcommand_of(alloc, *subcommand)?)?;
-    }
-    Ok(program)
+    with_all(alloc, program, ALONE)
 }
 
 /// A command with the subcommand of a server over a network too.
@@ -94,12 +107,28 @@ fn with_serve<'a>(alloc: Global, program: Command<'a>) -> Result<Command<'a>, Al
     program.subcommand(subcommand_of(alloc, SERVE)?)
 }
 
-/// A command with the subcommands of a client over a network too.
-fn with_clients<'a>(alloc: Global, program: Command<'a>) -> Result<Command<'a>, AllocError> {
-    let mut program = program.subcommand(subcommand_of(alloc, RUN)?)?;
-    for subcommand in FETCHERS {
-        program = program.subcommand(subcommand_of(alloc, *subcommand)?)?;
-    }
+/// A command with those of a client that copy or list too.
+fn with_transfers<'a>(alloc: Global, program: Command<'a>) -> Result<Command<'a>, AllocError> {
+    with_all(alloc, program, TRANSFERS)
+}
+
+/// A command with those that show something of a file, or remove it, too.
+fn with_files<'a>(alloc: Global, program: Command<'a>) -> Result<Command<'a>, AllocError> {
+    with_all(alloc, program, FILES)
+}
+
+/// A command with those that change directories and names too.
+fn with_names<'a>(alloc: Global, program: Command<'a>) -> Result<Command<'a>, AllocError> {
+    with_all(alloc, program, NAMES)
+}
+
+/// A command with a client's script too.
+fn with_run<'a>(alloc: Global, program: Command<'a>) -> Result<Command<'a>, AllocError> {
+    program.subcommand(subcommand_of(alloc, RUN)?)
+}
+
+/// A command with the copy of a tree too.
+fn with_mirror<'a>(alloc: Global, program: Command<'a>) -> Result<Command<'a>, AllocError> {
     program.subcommand(subcommand_of(alloc, MIRROR)?)
 }
 

@@ -10,8 +10,14 @@ use ftp_tool_words::place_of;
 /// The most octets that a file may be said to have.
 const MOST_OCTETS: u64 = 999_999_999_999_999_999;
 
-/// The subcommands that ask at one place.
-pub const FETCHERS: &[Subcommand<'static>] = &[GET, PUT, LS, CAT, SIZE, RM, MKDIR, RMDIR, MV];
+/// The subcommands that ask at one place: those that copy or list.
+pub const TRANSFERS: &[Subcommand<'static>] = &[GET, PUT, LS];
+
+/// Those that show something of a file, or remove it.
+pub const FILES: &[Subcommand<'static>] = &[CAT, SIZE, RM];
+
+/// Those that change directories and names.
+pub const NAMES: &[Subcommand<'static>] = &[MKDIR, RMDIR, MV];
 
 const GET: Subcommand<'static> = Subcommand {
     name: "get",
@@ -204,7 +210,12 @@ pub fn bad_value<'a>(words: &'a ArgMatches<'_>) -> Option<BadValue<'a>> {
 
 /// Whether a subcommand is one of these.
 pub fn is_one(name: &str) -> bool {
-    FETCHERS.iter().any(|known| known.name == name)
+    has(TRANSFERS, name) || has(FILES, name) || has(NAMES, name)
+}
+
+/// Whether a subcommand is in a table.
+fn has(table: &[Subcommand<'_>], name: &str) -> bool {
+    table.iter().any(|known| known.name == name)
 }
 
 /// What is asked of which server; none where a value is none of its option. At a terminal progress is told.
