@@ -250,6 +250,17 @@ pub fn fetch_task_of<'a>(
     words: &'a ArgMatches<'_>,
     asked: &Target<'a>,
 ) -> Option<Task<'a>> {
+    if name == "mv" {
+        return move_of(words);
+    }
+    let Some(task) = plain_task_of(name) else {
+        return file_task_of(name, words, asked);
+    };
+    Some(task)
+}
+
+/// What is to be done at the place alone, where the subcommand has no other word.
+fn plain_task_of<'a>(name: &str) -> Option<Task<'a>> {
     match name {
         "ls" => Some(Task::List),
         "cat" => Some(Task::Get(SHOWN)),
@@ -257,9 +268,14 @@ pub fn fetch_task_of<'a>(
         "rm" => Some(Task::Simple(Simple::Remove)),
         "mkdir" => Some(Task::Simple(Simple::MakeDirectory)),
         "rmdir" => Some(Task::Simple(Simple::RemoveDirectory)),
-        "mv" => Some(Task::Simple(Simple::Move(words.get_str("path")?))),
-        _ => file_task_of(name, words, asked),
+        _ => None,
     }
+}
+
+/// The move to another path of the server.
+fn move_of<'a>(words: &'a ArgMatches<'_>) -> Option<Task<'a>> {
+    let path = words.get_str("path")?;
+    Some(Task::Simple(Simple::Move(path)))
 }
 
 /// A download that goes to standard output.
