@@ -4,6 +4,7 @@ use clap::ArgMatches;
 use ftp_operation::How;
 use ftp_tool_connection::{ServerAddress, User};
 use ftp_tool_files::{number_of, representation_of};
+use ftp_tool_local::Flush;
 use ftp_tool_mirror::{Check, Doing, Extra, Mirror, Rules, Way};
 use ftp_tool_words::{Location, place_of};
 
@@ -17,7 +18,9 @@ way round; without it that is refused. --exclude leaves alone what meets GLOB, a
 a slash is of a path below SOURCE, and any other is of a name. Links of this machine are not followed. --dry-run changes nothing, and writes
 what would be done on standard output. A file that fails does not stop the others.
 One control connection is used; where it ends, the rest is done over another one, as with get. The server has to know MLSD.
-A file of this machine is written beside its name, and moved over it once it is whole, as with get. Passwords and --timeout are as with get.
+A file of this machine is written beside its name, and moved over it once it is whole and on the disk, as with get. With --no-flush it is moved
+before it is on the disk, which is faster: after a power cut a file may be cut, and another run mends that. Passwords and --timeout are as with
+get.
 Output: on standard error why something was not done, and at the end how much was.
 Status: 0 done; 1 something was refused or failed; 2 bad command line or login; 3 the control connection or a device failed, or memory was
 refused.
@@ -82,6 +85,11 @@ pub const MIRROR: Subcommand<'static> = Subcommand {
             help: "EPSV and EPRT over IPv4 too",
         },
         Word {
+            name: "no-flush",
+            form: Form::Flag,
+            help: "leaves it to the system when a file is on the disk",
+        },
+        Word {
             name: "progress",
             form: Form::Flag,
             help: "tells of each file that is copied",
@@ -137,6 +145,11 @@ fn asked_of<'a>(
         },
         rules: rules_of(words, way),
         excluded: words.get_strs("exclude").unwrap_or(&[]),
+        flush: if words.get_flag("no-flush") {
+            Flush::Later
+        } else {
+            Flush::First
+        },
         doing: if words.get_flag("dry-run") {
             Doing::Nothing
         } else {

@@ -10,7 +10,7 @@ use ftp_operation::{Answer, How};
 use ftp_settings::{Mode, Structure};
 use ftp_tool_connection::{LastReply, Phase, SessionFault, at, say};
 use ftp_tool_local::{
-    Beside, Kept, Note, kept_beside, note_of, remove_kept, write_over, write_part,
+    Beside, Flush, Kept, Note, kept_beside, note_of, remove_kept, write_over, write_part,
 };
 use ftp_tool_status::{Arrival, Size, Status};
 use std::alloc::Global;
@@ -260,7 +260,7 @@ fn write<R: Files + Print + Eprint + AllocGlobal>(
         put_out(rt, downloading.came())
     } else {
         let moment = moment_for(rt, job.download, downloading);
-        write_over(rt, file, downloading.came().pieces(), moment)
+        write_over(rt, file, downloading.came().pieces(), moment, Flush::First)
     };
     match at(Phase::Writing, written) {
         Ok(()) => {

@@ -10,5 +10,5 @@ mod place;
 pub use content::{Content, Reading, read_from, read_most};
 pub use kept::{Beside, Kept, kept_beside, remove_kept};
 pub use note::{Note, note_in, note_of};
-pub use part::{beside, write_over, write_part};
+pub use part::{Flush, beside, write_over, write_part};
 pub use place::{Standing, Way};

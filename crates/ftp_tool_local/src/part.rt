@@ -22,6 +22,15 @@ pub(crate) const NAMES: u32 = 100;
 /// The permissions of a file that has no predecessor, less the umask.
 const NEW_MODE: u32 = 0o666;
 
+/// When the octets of a file that is written are on the disk.
+#[derive(Clone, Copy)]
+pub enum Flush {
+    /// Before it takes its name, so that no power cut leaves a part of it there.
+    First,
+    /// When the system gets to it.
+    Later,
+}
+
 /// A file beside another, which was made just now: no other program writes it or moves it.
 struct Part<F> {
     name: String<Global>,
@@ -34,9 +43,10 @@ pub fn write_over<R: Files + AllocGlobal>(
     file: &str,
     pieces: &[Text<Global>],
     moment: Option<Moment>,
+    flush: Flush,
 ) -> io::Result<()> {
     match place_of(files, file)? {
-        Place::File { name, mode } => replace(files, name.as_str(), mode, pieces, moment),
+        Place::File { name, mode } => replace(files, name.as_str(), mode, pieces, moment, flush),
         Place::Device => write_into(files, file, pieces),
     }
 }
@@ -52,7 +62,7 @@ fn write_into<R: Files>(files: &R, file: &str, pieces: &[Text<Global>]) -> io::R
     Ok(())
 }
 
-/// Writes a file beside its name, flushes it, and moves it over the name. It keeps the permissions of the file that it replaces; its last change
+/// Writes a file beside its name, flushes it where that comes first, and moves it over the name. It keeps the permissions of the file that it replaces; its last change
 /// was at the moment, where there is one. Where that fails, what was written beside is removed again.
 fn replace<R: Files + AllocGlobal>(
     files: &R,
@@ -60,9 +70,10 @@ fn replace<R: Files + AllocGlobal>(
     kept: Option<u32>,
     pieces: &[Text<Global>],
     moment: Option<Moment>,
+    flush: Flush,
 ) -> io::Result<()> {
     let Part { name, mut opened } = create(files, file, kept.unwrap_or(NEW_MODE))?;
-    let written = match write_to(&mut opened, pieces, kept, moment) {
+    let written = match write_to(&mut opened, pieces, kept, moment, flush) {
         Ok(()) => fs::rename(files, name.as_str(), file),
         Err(error) => Err(error),
     };
@@ -102,7 +113,7 @@ fn fill<R: Files + AllocGlobal>(
 ) -> io::Result<String<Global>> {
     let Part { name, mut opened } = part;
     forget_note(files, name.as_str())?;
-    let written = write_to(&mut opened, pieces, mode, None);
+    let written = write_to(&mut opened, pieces, mode, None, Flush::First);
     removed_unless(files, name.as_str(), written)?;
     Ok(name)
 }
@@ -126,12 +137,13 @@ fn removed_unless<R: Files>(files: &R, beside: &str, written: io::Result<()>) ->
     written
 }
 
-/// Writes the octets of a file, and flushes it.
+/// Writes the octets of a file, and flushes it where that comes first.
 fn write_to<F: Write + OpenFile>(
     opened: &mut F,
     pieces: &[Text<Global>],
     kept: Option<u32>,
     moment: Option<Moment>,
+    flush: Flush,
 ) -> io::Result<()> {
     for piece in pieces {
         opened.write_all(piece.as_slice())?;
@@ -142,7 +154,10 @@ fn write_to<F: Write + OpenFile>(
     if let Some(moment) = moment {
         opened.set_times(FileTimes::new().set_modified(time_of(moment)?))?;
     }
-    opened.sync_all()
+    match flush {
+        Flush::First => opened.sync_all(),
+        Flush::Later => Ok(()),
+    }
 }
 
 /// Makes a file beside another, by the first name that no file has: what stands there may be of another program or of the user, and stays.

@@ -4,7 +4,7 @@ use crate::trouble::Trouble;
 use ftp_facts::{Moment, Text};
 use ftp_operation::{Answer, How, Op};
 use ftp_tool_connection::{ClientSession, Request};
-use ftp_tool_local::{Reading, read_from, write_over};
+use ftp_tool_local::{Flush, Reading, read_from, write_over};
 use ftp_tool_plan::Facts;
 use std::alloc::Global;
 use std::fs::Files;
@@ -25,6 +25,7 @@ pub(crate) fn copy_down<R, S>(
     seat: &mut S,
     ends: Ends<'_>,
     facts: Facts,
+    flush: Flush,
 ) -> Result<u64, Trouble>
 where
     R: Files + AllocGlobal,
@@ -33,7 +34,7 @@ where
     let octets = download(rt.alloc(), seat, ends, facts)?;
     let count = octets.as_slice().len() as u64;
     let pieces = [octets];
-    write_over(rt, ends.here, &pieces, moment_of(facts))?;
+    write_over(rt, ends.here, &pieces, moment_of(facts), flush)?;
     Ok(count)
 }
 

@@ -9,6 +9,7 @@ use crate::trouble::{Reach, Trouble};
 use ftp_facts::Text;
 use ftp_operation::{Answer, How, Op};
 use ftp_tool_connection::{ClientSession, ServerAddress, SessionFault, SessionTask, User};
+use ftp_tool_local::Flush;
 use ftp_tool_plan::{Check, Deed, Extra, Facts, Listing, Rules, Step, Way, plan};
 use std::alloc::{AllocError, Global};
 use std::fs::Files;
@@ -40,6 +41,8 @@ pub struct Mirror<'a> {
     pub rules: Rules,
     /// Patterns of what is left alone.
     pub excluded: &'a [&'a str],
+    /// When a file of this machine is on the disk.
+    pub flush: Flush,
     pub doing: Doing,
 }
 
@@ -220,7 +223,7 @@ impl<'a, R: Files + Print + Eprint + AllocGlobal + Clone + Drop> Walk<'a, R> {
             how: self.mirror.how,
         };
         let count = match self.mirror.rules.way {
-            Way::Down => copy_down(self.rt, seat, ends, facts)?,
+            Way::Down => copy_down(self.rt, seat, ends, facts, self.mirror.flush)?,
             Way::Up => copy_up(self.rt, seat, ends)?,
         };
         self.tally.add_file(count);
