@@ -1,5 +1,5 @@
 // A dialogue whose refused growths are counted: each call as the definitions of a client have it (RFC 959, sections 2.3 and 5.4).
-ghost use Rattle.std.specs.Prelude.{◌≡◌, ◌≢◌, ◌<◌, ◌≤◌, ℕ, List, None, Some, IfErr, IfOk, IsTrue, false, length, option_map, take};
+ghost use Rattle.std.specs.Prelude.{◌≡◌, ◌≢◌, ◌<◌, ◌≤◌, ℕ, List, None, Some, IfErr, IfOk, IsTrue, false, length, min, option_map, take};
 ghost use Rattle.ftp_operation.specs.Answer.{said_of};
 ghost use Rattle.ftp_operation.specs.declared.op.Op.{Op as AnyOp};
 ghost use Rattle.ftp_ends.specs.Limits.{held_limit};
@@ -7,6 +7,7 @@ ghost use Rattle.ftp_ends.specs.Octets.{has_octets};
 ghost use Rattle.ftp_client_model.specs.Calls.{control_end, data_closed, data_end, data_fault, data_opened, data_refused, gives_control, gives_data, handed_back, is_busy, listen_refused, listening, may_hear, may_receive, report_of, reports, starts, to_give, uploads, wants};
 ghost use Rattle.ftp_client_model.specs.Failing.{HearsIfRoom, Holds, HoldsIfRoom, ReceivesIfRoom, data_end_short, data_fault_short, data_opened_short, data_refused_short, listen_refused_short, listening_short, short, starts_short, uploads_short};
 ghost use Rattle.ftp_client_model.specs.Held.{held};
+ghost use Rattle.ftp_client_model.specs.Most.{IsMostHeard, IsMostReceived};
 ghost use Rattle.ftp_client_model.specs.Tries.{over_breaks};
 ghost use Rattle.ftp_client_model.specs.View as view;
 
@@ -104,6 +105,7 @@ impl<A: Allocator + Clone, F: ClientTransfer<A>> Counted<A, F> {
         ensures within { result ≤ length piece.now }
         ensures took { HearsIfRoom (counted_of F.flow self.old) (counted_of F.flow self.new) piece.now result }
         ensures some { IsTrue (may_hear (counted_of F.flow self.old).view) → 0 < length piece.now → 0 < result }
+        ensures most { self.new.refusals ≡ self.old.refusals → IsMostHeard result piece.now (counted_of F.flow self.new).view }
     {
         let mut taken = 0;
         while taken < piece.len() && self.dialogue.may_hear() {
@@ -122,6 +124,7 @@ impl<A: Allocator + Clone, F: ClientTransfer<A>> Counted<A, F> {
         ensures gave { take result room.new ≡ take result (counted_of F.flow self.old).view.owed }
         ensures now { Holds (counted_of F.flow self.old) (counted_of F.flow self.new) (gives_control result (counted_of F.flow self.old).view) }
         ensures some { 0 < length room.old → 0 < length (counted_of F.flow self.old).view.owed → 0 < result }
+        ensures most { result ≡ min (length room.old) (length (counted_of F.flow self.old).view.owed) }
     {
         self.dialogue.control_out(room)
     }
@@ -179,6 +182,7 @@ impl<A: Allocator + Clone, F: ClientTransfer<A>> Counted<A, F> {
         ensures within { result ≤ length piece.now }
         ensures took { ReceivesIfRoom (counted_of F.flow self.old) (counted_of F.flow self.new) piece.now result }
         ensures some { IsTrue (may_receive (counted_of F.flow self.old).view) → 0 < length piece.now → 0 < result }
+        ensures most { self.new.refusals ≡ self.old.refusals → IsMostReceived result piece.now (counted_of F.flow self.new).view }
     {
         if !self.dialogue.may_receive() {
             return 0;
@@ -219,6 +223,7 @@ impl<A: Allocator + Clone, F: ClientTransfer<A>> Counted<A, F> {
         ensures now { HoldsIfRoom (counted_of F.flow self.old) (counted_of F.flow self.new)
             (gives_data result (counted_of F.flow self.old).view) (short (counted_of F.flow self.old).view) }
         ensures some { 0 < length room.old → 0 < length (to_give (counted_of F.flow self.old).view) → 0 < result }
+        ensures most { result ≡ min (length room.old) (length (to_give (counted_of F.flow self.old).view)) }
     {
         let count = self.dialogue.give(room);
         if self.dialogue.carry_on().is_err() {

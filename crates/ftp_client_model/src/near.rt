@@ -1,9 +1,10 @@
 // The client's end of a session, as a world of both sees it: each call is the function of the view that `specs` has for it.
-ghost use Rattle.std.specs.Prelude.{◌≡◌, ◌<◌, ◌≤◌, ℕ, List, Some, None, IsTrue, false, length, take};
+ghost use Rattle.std.specs.Prelude.{◌≡◌, ◌<◌, ◌≤◌, ℕ, List, Some, None, IsTrue, false, length, min, take};
 ghost use Rattle.ftp_operation.specs.declared.op.Op.{Op};
 ghost use Rattle.ftp_operation.specs.Answer.{said_of};
 ghost use Rattle.ftp_client_model.specs.Calls.{starts, uploads, is_busy, handed_back, report_of, reports, gives_control, may_hear, control_end, listening, listen_refused, data_opened, data_refused, data_end, data_fault, data_closed, gives_data, to_give, may_receive, wants};
 ghost use Rattle.ftp_client_model.specs.Failing.{Client, Holds, HoldsIfRoom, HearsIfRoom, ReceivesIfRoom, starts_short, uploads_short, short, listening_short, listen_refused_short, data_opened_short, data_refused_short, data_end_short, data_fault_short};
+ghost use Rattle.ftp_client_model.specs.Most.{IsMostHeard, IsMostReceived};
 ghost use Rattle.ftp_client_model.specs.Tries.{over_breaks};
 ghost use Rattle.ftp_ends.specs.Octets.{has_octets};
 ghost use Rattle.std.specs.Option.{option_map};
@@ -48,14 +49,20 @@ pub trait Near<A: Allocator>: Drop {
     fn hear(&mut self, piece: &[u8]) -> usize
         ensures within { result ≤ length piece.now }
         ensures took { HearsIfRoom (client self.old) (client self.new) piece.now result }
-        ensures some { IsTrue (may_hear (client self.old).view) → 0 < length piece.now → 0 < result };
+        ensures some { IsTrue (may_hear (client self.old).view) → 0 < length piece.now → 0 < result }
+
+        // Where no growth was refused it takes all of them, or as many as it may.
+        ensures most { (client self.new).refusals ≡ (client self.old).refusals → IsMostHeard result piece.now (client self.new).view };
 
     /// Gives octets of the control connection, and says how many. Takes no memory.
     fn control_out(&mut self, room: &mut [u8]) -> usize
         ensures within { (result ≤ length room.old) × (result ≤ length (client self.old).view.owed) }
         ensures gave { take result room.new ≡ take result (client self.old).view.owed }
         ensures now { Holds (client self.old) (client self.new) (gives_control result (client self.old).view) }
-        ensures some { 0 < length room.old → 0 < length (client self.old).view.owed → 0 < result };
+        ensures some { 0 < length room.old → 0 < length (client self.old).view.owed → 0 < result }
+
+        // It gives all that is owed, or fills the room.
+        ensures most { result ≡ min (length room.old) (length (client self.old).view.owed) };
 
     /// The control connection ended.
     fn control_end(&mut self)
@@ -81,7 +88,10 @@ pub trait Near<A: Allocator>: Drop {
     fn data_hear(&mut self, piece: &[u8]) -> usize
         ensures within { result ≤ length piece.now }
         ensures took { ReceivesIfRoom (client self.old) (client self.new) piece.now result }
-        ensures some { IsTrue (may_receive (client self.old).view) → 0 < length piece.now → 0 < result };
+        ensures some { IsTrue (may_receive (client self.old).view) → 0 < length piece.now → 0 < result }
+
+        // Where no growth was refused it takes all of them, or as many as it may.
+        ensures most { (client self.new).refusals ≡ (client self.old).refusals → IsMostReceived result piece.now (client self.new).view };
 
     /// The other end closed the link.
     fn data_end(&mut self)
@@ -96,7 +106,10 @@ pub trait Near<A: Allocator>: Drop {
         ensures within { (result ≤ length room.old) × (result ≤ length (to_give (client self.old).view)) }
         ensures gave { take result room.new ≡ take result (to_give (client self.old).view) }
         ensures now { HoldsIfRoom (client self.old) (client self.new) (gives_data result (client self.old).view) (short (client self.old).view) }
-        ensures some { 0 < length room.old → 0 < length (to_give (client self.old).view) → 0 < result };
+        ensures some { 0 < length room.old → 0 < length (to_give (client self.old).view) → 0 < result }
+
+        // It gives all that is left, or fills the room.
+        ensures most { result ≡ min (length room.old) (length (to_give (client self.old).view)) };
 
     /// A close that it wanted is done.
     fn data_closed(&mut self)

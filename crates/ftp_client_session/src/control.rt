@@ -1,5 +1,5 @@
 // The octets of the control connection, and how far the client has come (RFC 959, sections 4.2 and 5.4).
-ghost use Rattle.std.specs.Prelude.{◌≡◌, ◌<◌, ◌≤◌, IfOk, IfSome, IsTrue, OnErr, length, take};
+ghost use Rattle.std.specs.Prelude.{◌≡◌, ◌<◌, ◌≤◌, IfOk, IfSome, IsTrue, OnErr, length, min, take};
 ghost use Rattle.ftp_ends.specs.Octets.{has_octets};
 ghost use Rattle.ftp_client_model.specs.Calls.{gives_control, hears_octet, is_sound, may_hear};
 
@@ -67,6 +67,9 @@ impl<A: Allocator + Clone, F: ClientTransfer<A>> Dialogue<A, F> {
         ensures gave { take result room.new ≡ take result (view_of F.flow self.old).owed }
         ensures now { view_of F.flow self.new ≡ gives_control result (view_of F.flow self.old) }
         ensures some { 0 < length room.old → 0 < length (view_of F.flow self.old).owed → 0 < result }
+
+        // It gives all that is owed, or fills the room.
+        ensures most { result ≡ min (length room.old) (length (view_of F.flow self.old).owed) }
     {
         self.output.give(room)
     }

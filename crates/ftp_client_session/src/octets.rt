@@ -1,5 +1,5 @@
 // The octets of the data connection, and what is wanted of it (RFC 959, section 3.2).
-ghost use Rattle.std.specs.Prelude.{◌≡◌, ◌<◌, ◌≤◌, [], IfErr, IfOk, IsTrue, OnErr, OnOk, length, take, true, if◌then◌else◌};
+ghost use Rattle.std.specs.Prelude.{◌≡◌, ◌<◌, ◌≤◌, [], IfErr, IfOk, IsTrue, OnErr, OnOk, length, min, take, true, if◌then◌else◌};
 ghost use Rattle.ftp_ends.specs.Octets.{has_octets};
 ghost use Rattle.ftp_client_model.specs.Calls.{data_wants, is_sound, may_receive, receives, to_give, transfer_over, wants};
 ghost use Rattle.ftp_client_model.specs.declared.client.ClientLink.TheVariants as Data;
@@ -82,6 +82,9 @@ impl<A: Allocator + Clone, F: ClientTransfer<A>> Dialogue<A, F> {
         ensures gave { take result room.new ≡ take result (to_give (view_of F.flow self.old)) }
         ensures now { view_of F.flow self.new ≡ record (view_of F.flow self.old) { job = job_went result (view_of F.flow self.old).job } }
         ensures some { 0 < length room.old → 0 < length (to_give (view_of F.flow self.old)) → 0 < result }
+
+        // It gives all that is left, or fills the room.
+        ensures most { result ≡ min (length room.old) (length (to_give (view_of F.flow self.old))) }
     {
         if !self.may_give() {
             return 0;

@@ -1,5 +1,5 @@
 // How far an operation has come (RFC 959, section 5.4).
-ghost use Rattle.std.specs.Prelude.{◌≡◌, ◌<◌, ◌≤◌, ℕ, List, IfErr, IfOk, length, option_map, take};
+ghost use Rattle.std.specs.Prelude.{◌≡◌, ◌<◌, ◌≤◌, ℕ, List, IfErr, IfOk, length, min, option_map, take};
 ghost use Rattle.ftp_operation.specs.Answer.{Memory, said_of};
 ghost use Rattle.ftp_operation.specs.declared.op.Op.{Op};
 ghost use Rattle.ftp_ends.specs.Octets.{has_octets};
@@ -66,6 +66,7 @@ impl<A: Allocator, F: ClientTransfer<A>> Task<A, F> {
         ensures gave { take result room.new ≡ take result (job_left (job_of F.flow op.now self.old)) }
         ensures now { job_of F.flow op.now self.new ≡ job_went result (job_of F.flow op.now self.old) }
         ensures some { 0 < length room.old → 0 < length (job_left (job_of F.flow op.now self.old)) → 0 < result }
+        ensures most { result ≡ min (length room.old) (length (job_left (job_of F.flow op.now self.old))) }
         ensures calm { is_under_way self.new ≡ is_under_way self.old }
     {
         match self {

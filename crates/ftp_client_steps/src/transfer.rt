@@ -1,5 +1,5 @@
 // What goes over the data connection of a client's transfer, as a client uses it (RFC 959, sections 3.1 to 3.5).
-ghost use Rattle.std.specs.Prelude.{◌≡◌, ◌<◌, ◌≤◌, ℕ, List, IfErr, IfOk, length, take, option_map};
+ghost use Rattle.std.specs.Prelude.{◌≡◌, ◌<◌, ◌≤◌, ℕ, List, IfErr, IfOk, length, min, take, option_map};
 ghost use Rattle.ftp_operation.specs.Answer.{said_of};
 ghost use Rattle.ftp_operation.specs.declared.op.Op.{Op as AnyOp};
 ghost use Rattle.ftp_client_model.specs.Calls.{is_down, left_of, went};
@@ -62,5 +62,8 @@ pub trait ClientTransfer<A: Allocator>: Drop {
         ensures within { (result ≤ length room.old) × (result ≤ length (left_of (flow op.now self.old))) }
         ensures gave { take result room.new ≡ take result (left_of (flow op.now self.old)) }
         ensures now { flow op.now self.new ≡ went result (flow op.now self.old) }
-        ensures some { 0 < length room.old → 0 < length (left_of (flow op.now self.old)) → 0 < result };
+        ensures some { 0 < length room.old → 0 < length (left_of (flow op.now self.old)) → 0 < result }
+
+        // It gives all that is left, or fills the room.
+        ensures most { result ≡ min (length room.old) (length (left_of (flow op.now self.old))) };
 }

@@ -1,5 +1,6 @@
 -- What of an upload is given.
-use Rattle.std.proofs.Common.{◌≡◌, ◌∙◌, ◌↔◌, ◌++◌, ℕ, ◌+◌, ◌≤◌, ◌<◌, Bool, true, false, List, [], ◌∷◌, Option, IsTrue, length, take, drop, nat_le, refl, sym, ap, arith, append-nil}
+use Rattle.std.proofs.Common.{◌≡◌, ◌∙◌, ◌↔◌, ◌⊎◌, inl, inr, ◌++◌, ℕ, ◌+◌, ◌≤◌, ◌<◌, Bool, true, false, List, [], ◌∷◌, Option, IsTrue, length, min, take, drop, nat_le, refl, sym, ap, arith, append-nil}
+use Rattle.std.proofs.Math.Nat.{min-eq_left, min-eq_right}
 use Rattle.std.proofs.Math.Seq.{take-append_seam, drop-append_seam}
 use Rattle.std.proofs.lemmas.Bool.{leb-true, le-leb}
 use Rattle.std.proofs.lemmas.List.{drop-drop, drop_all, length-append, length-drop, length-take-le}
@@ -9,6 +10,9 @@ use Rattle.ftp_client_model.specs.Octets.{written}
 use Rattle.ftp_client_model.specs.View.{Sending}
 use Rattle.ftp_mode.specs.Block.{marked_text}
 use Rattle.ftp_mode.specs.Wire.{wire}
+use Rattle.ftp_wire.proofs.EncodingLemmas.{nothing_left}
+use Rattle.ftp_wire.specs.Encoding.{is_done, still_to_give}
+use Rattle.ftp_wire.specs.declared.encoder.Encoder.{Encoder}
 use Rattle.ftp_settings.specs.Representation.{form_of}
 use Rattle.ftp_settings.specs.declared.representation.Representation.{Representation}
 
@@ -53,3 +57,20 @@ made_front left behind room made within is =
 pub made_behind : (left behind room : List ℕ) (made : ℕ) → made ≤ length room → left ≡ take made room ++ behind → behind ≡ drop made left
 made_behind left behind room made within is =
     sym (ap (drop made) is ∙ ap (λ n. drop n (take made room ++ behind)) (sym (length-take-le made room within)) ∙ drop-append_seam (take made room) behind)
+
+-- the room is full or nothing was left, so it was the most
+pub made_most : (left behind room : List ℕ) (made wide : ℕ) → length room ≡ wide → made ≤ wide → left ≡ take made room ++ behind
+    → (made ≡ wide) ⊎ (behind ≡ []) → made ≡ min wide (length left)
+made_most left behind room made wide long within is (inl full) =
+    full ∙ sym (min-eq_left (omega (arith, full, made_within left behind room made (omega (arith, long, within)) is)))
+made_most left behind room made wide long within is (inr none) =
+    let all : length left ≡ made =
+    ap length is ∙ length-append (take made room) behind ∙ ap (λ b. length (take made room) + length b) none
+    ∙ omega (arith, length-take-le made room (omega (arith, long, within))) in
+    sym (min-eq_right (omega (arith, all, within)) ∙ all)
+
+-- the room is full, or behind the last octet of the piece nothing is left
+pub all_out : (e : Encoder) (file : List ℕ) (made wide taken piece : ℕ) → (made ≡ wide) ⊎ ((taken ≡ piece) × (IsTrue true → is_done e ≡ true))
+    → (made ≡ wide) ⊎ (still_to_give e file ≡ [])
+all_out e file made wide taken piece (inl full) = inl full
+all_out e file made wide taken piece (inr all) = inr (nothing_left e (all.1 refl) file)

@@ -1,5 +1,5 @@
 // An upload: the octets of an operation, as its data connection carries them (RFC 959, section 3).
-ghost use Rattle.std.specs.Prelude.{◌≡◌, ◌<◌, ◌≤◌, IfOk, drop, length, take};
+ghost use Rattle.std.specs.Prelude.{◌≡◌, ◌<◌, ◌≤◌, IfOk, drop, length, min, take};
 ghost use Rattle.ftp_client_model.specs.Dialogue.{is_given};
 ghost use Rattle.ftp_client_model.specs.Octets.{upload_flow};
 ghost use Rattle.ftp_client_transfer.specs.Octets.{octets_of};
@@ -57,6 +57,7 @@ impl Upload {
         ensures now { left_in (octets_of op.now) self.new ≡ drop result (left_in (octets_of op.now) self.old) }
         ensures mark { self.new.mark ≡ self.old.mark }
         ensures some { 0 < length room.old → 0 < length (left_in (octets_of op.now) self.old) → 0 < result }
+        ensures most { result ≡ min (length room.old) (length (left_in (octets_of op.now) self.old)) }
     {
         let rest = behind(octets_of(op), self.at);
         let encoded = self.encoder.put(rest, true, room);
