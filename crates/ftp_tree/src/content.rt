@@ -10,9 +10,16 @@ use std::alloc::{AllocError, Allocator};
 use std::marker::Model;
 
 /// The octets of a file, as they are gathered before it is installed.
-#[derive(Debug, Drop)]
+#[derive(Debug)]
 pub struct Content<A: Allocator> {
     octets: Pages<A>,
+}
+
+/// By hand: a derived drop is proved again, page by page, in each crate that lets a content go.
+impl<A: Allocator> Drop for Content<A> {
+    fn drop(self) {
+        let Self { octets: _ } = self;
+    }
 }
 
 impl<A: Allocator> Model for Content<A> {

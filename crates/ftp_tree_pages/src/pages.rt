@@ -7,10 +7,17 @@ use std::marker::Model;
 use std::mem;
 
 /// A list of octets, kept in pages of 4,096: a push moves no octet but its own.
-#[derive(Debug, Drop)]
+#[derive(Debug)]
 pub struct Pages<A: Allocator> {
     pages: Vec<Page<A>, A>,
     len: u64,
+}
+
+/// By hand: a derived drop is proved again, page by page, in each crate that lets octets go.
+impl<A: Allocator> Drop for Pages<A> {
+    fn drop(self) {
+        let Self { pages: _, len: _ } = self;
+    }
 }
 
 impl<A: Allocator> Model for Pages<A> {
