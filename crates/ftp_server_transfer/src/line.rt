@@ -21,7 +21,6 @@ use ftp_tree::Tree;
 use std::alloc::{AllocError, Allocator};
 
 /// What a listing says of each name.
-#[derive(Debug, Drop)]
 pub enum What<A: Allocator> {
     /// LIST: a line as many clients read it.
     Lines,
@@ -29,6 +28,15 @@ pub enum What<A: Allocator> {
     Names(Text<A>),
     /// MLSD: these facts and the name.
     Entries(Facts),
+}
+
+/// By hand: a derived drop is proved again, part by part, wherever it is let go.
+impl<A: Allocator> Drop for What<A> {
+    fn drop(self) {
+        match self {
+            What::Lines | What::Names(_) | What::Entries(_) => {}
+        }
+    }
 }
 
 /// Puts the next line from a place on, with LF behind it, and says where to go on; none where no line is left.
