@@ -1,12 +1,13 @@
 -- A report is of an operation that is under way.
-use Rattle.std.proofs.Common.{◌≡◌, ◌∙◌, ℕ, Bool, true, false, not, ◌&&◌, Some, None, refl, sym, ap}
+use Rattle.std.proofs.Common.{◌≡◌, ◌∙◌, ℕ, List, Bool, true, false, not, ◌&&◌, Some, None, refl, sym, ap}
 use Rattle.std.specs.Prelude.{IsTrue, is_some}
 use Rattle.ftp_operation.specs.Answer.{Said}
+use Rattle.ftp_operation.specs.declared.op.Op.{Op}
 use Rattle.ftp_client_model.specs.Tries.{OverBreaks}
 use Rattle.ftp_server_model.specs.Machine.{Reading}
 use Rattle.ftp_pair_world.specs.Serving.{after_event}
-use Rattle.ftp_client_model.specs.Calls.{uploads, report_of, report_of_job, reports, reported_by, is_busy, is_busy_job, handed_back}
-use Rattle.ftp_pair_world.specs.Events.{Happens, Upload, begun_at, lends_none, can_begin, is_gone, is_asked_for}
+use Rattle.ftp_client_model.specs.Calls.{starts, uploads, report_of, report_of_job, reports, reported_by, is_busy, is_busy_job, handed_back}
+use Rattle.ftp_pair_world.specs.Events.{Happens, Next, Upload, begun_at, lends_none, can_begin, is_gone, is_asked_for}
 use Rattle.ftp_pair_world.specs.World.{World}
 use Rattle.ftp_pair_parts.specs.Shown.{is_unlinked}
 use Rattle.ftp_client_model.specs.View.{View, Job, Idle, Waiting, Doing, Transferring, Told}
@@ -68,6 +69,18 @@ free_begins w free is = by (is_busy w.near) (is_gone w.link) (not (is_asked_for 
     by false true true free is = refl
     by false true false free is = absurd (cc (is))
     by false false c free is = absurd (cc (is))
+
+-- a world whose client has begun an operation
+abbrev starts_in : Op (List ℕ) → World → World
+starts_in op w = record w { near = starts op w.near }
+
+-- an operation begins
+pub began : (read : Reading) (op : Op (List ℕ)) (moment : ℕ) (old ready begun mid new : World) → is_unlinked old ≡ true → ready ≡ old → is_busy ready.near ≡ false
+    → begun ≡ record ready { near = starts op ready.near } → mid ≡ begun_at moment begun.near (lends_none begun) → new ≡ after_event mid
+    → Happens read (Next op moment) old true new
+began read op moment old ready begun mid new unlinked ready_is free begun_is mid_is is =
+    let e : begun ≡ record old { near = starts op old.near } = begun_is ∙ ap (starts_in op) ready_is in
+    (free_begins old (ap (λ w. is_busy w.near) (sym ready_is) ∙ free) unlinked, is ∙ ap after_event (mid_is ∙ ap (λ b. begun_at moment b.near (lends_none b)) e))
 
 -- a world whose client has begun an upload over breaks
 abbrev uploads_in : OverBreaks → World → World

@@ -99,6 +99,10 @@ pub moves_so : (read : Reading) (queue : Queue) (gave : ℕ) (old mid : World) �
 moves_so read queue gave old mid gives moved new is =
     let does : Moves queue old new = record { gave = gave; gives = gives; is = is ∙ ap after_event moved } in does
 
+-- the same where so many are none
+pub moves_none : (read : Reading) (queue : Queue) (count gave : ℕ) (old mid : World) → count ≡ 0 → Gives 4096 (due queue old) gave → mid ≡ pulled queue old gave → Carries read queue count old mid
+moves_none read queue count gave old mid none gives moved = subst (λ n. Carries read queue n old mid) (sym none) (moves_so read queue gave old mid gives moved)
+
 -- a whole delivery
 pub delivered : (read : Reading) (queue : Queue) (count : ℕ) (old ready mid new : World) → IsTrue (can_happen (Deliver queue count) old) → ready ≡ lends_none old
     → Carries read queue count ready mid → new ≡ after_event mid → Happens read (Deliver queue count) old true new

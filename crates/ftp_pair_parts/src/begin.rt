@@ -19,7 +19,6 @@ use std::alloc::{AllocError, Allocator};
 
 impl<A: Allocator, T: Tree<A>, N: Near<A>, F: Far<A, T>> Parts<A, T, N, F> {
     /// The operation that is given is begun, where none is open and no link stands or is wanted. Room for its report and a mark is made first.
-    #[tactic(auto, using(crate::proofs::Beginning::linked_not, crate::proofs::Beginning::busy_not, crate::proofs::Beginning::free_begins))]
     pub(crate) fn step_next(
         &mut self,
         alloc: A,
@@ -46,7 +45,6 @@ impl<A: Allocator, T: Tree<A>, N: Near<A>, F: Far<A, T>> Parts<A, T, N, F> {
     }
 
     /// An upload over breaks of the path and the octets that are given is begun, where no operation is open and no link stands or is wanted. Room for its report and 16 marks is made first.
-    #[tactic(auto, using(crate::proofs::Beginning::linked_not, crate::proofs::Beginning::busy_not, crate::proofs::Beginning::free_begins))]
     pub(crate) fn step_upload(
         &mut self,
         alloc: A,

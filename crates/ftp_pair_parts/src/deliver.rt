@@ -81,7 +81,6 @@ impl<A: Allocator, T: Tree<A>, N: Near<A>, F: Far<A, T>> Parts<A, T, N, F> {
     }
 
     /// Octets are moved, and offered where some are asked for.
-    #[tactic(auto, using(crate::proofs::Filling::offers_so, crate::proofs::Filling::moves_so))]
     fn carry(&mut self, queue: Queue, count: usize)
         requires some { count ≡ 0 → len_of queue self.old + 4096 ≤ room_of queue self.old }
         requires room { count ≤ room_of queue self.old }

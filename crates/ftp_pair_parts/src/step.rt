@@ -28,9 +28,17 @@ impl<A: Allocator, T: Tree<A>, N: Near<A>, F: Far<A, T>> Parts<A, T, N, F> {
             Event::End(queue) => Ok(self.step_end(queue)),
             Event::Break => self.step_break(),
             Event::EndControl => Ok(self.step_end_control()),
-            Event::Next(op, moment) => self.step_next(alloc, &mut Some(op), moment),
+            Event::Next(op, moment) => {
+                let mut given = Some(op);
+                let possible = self.step_next(alloc, &mut given, moment);
+                drop(given);
+                possible
+            }
             Event::Upload(path, octets, how, moment) => {
-                self.step_upload(alloc, &mut Some((path, octets)), how, moment)
+                let mut given = Some((path, octets));
+                let possible = self.step_upload(alloc, &mut given, how, moment);
+                drop(given);
+                possible
             }
         }
     }

@@ -1,7 +1,13 @@
 use Rattle.std.proofs.Common.{arith}
 use Rattle.ftp_pair_parts.specs.Shown.{shown, queue_of}
-use Rattle.ftp_pair_parts.proofs.Filling.{offers_so}
+use Rattle.ftp_pair_parts.proofs.Filling.{moves_none, offers_so}
 use Rattle.ftp_pair_parts.proofs.parts.Parts.carry.Goals as goal
+
+pub returns-then-count-eq0-clause-done : goal.returns-then-count-eq0-clause-done
+returns-then-count-eq0-clause-done g c calm =
+    let moved = c.pull.ensures.moved calm in
+    let gives = c.pull.ensures.gives calm in
+    (moved.0, λ read reads. moves_none read (queue_of c.args.queue) c.args.count c.pull.result (shown g.N.Near.client g.F.Far.server c.args.self.now) (shown g.N.Near.client g.F.Far.server c.pull.new.self) c.if-count-eq0.true gives.1 moved.1)
 
 pub returns-else-count-eq0-clause-done : goal.returns-else-count-eq0-clause-done
 returns-else-count-eq0-clause-done g c calm =

@@ -23,7 +23,7 @@ pub returns-in-EndControl-clause-ok : goal.returns-in-EndControl-clause-ok
 returns-in-EndControl-clause-ok g c = stepped_on c.step_end_control.result c.args.self.now.calm c.step_end_control.new.self.calm (shown g.N.Near.client g.F.Far.server c.args.self.now) (shown g.N.Near.client g.F.Far.server c.step_end_control.new.self) (ap event_of (sym c.in-EndControl.is)) c.step_end_control.ensures.does
 
 pub returns-in-Next-clause-ok : goal.returns-in-Next-clause-ok
-returns-in-Next-clause-ok g c = stepped c.step_next.result c.args.self.now.calm c.step_next.new.self.calm (shown g.N.Near.client g.F.Far.server c.args.self.now) (shown g.N.Near.client g.F.Far.server c.step_next.new.self) (ap event_of (sym c.in-Next.is)) c.step_next.ensures.ok
+returns-in-Next-clause-ok g c = stepped c.step_next-possible.result c.args.self.now.calm c.step_next-possible.new.self.calm (shown g.N.Near.client g.F.Far.server c.args.self.now) (shown g.N.Near.client g.F.Far.server c.step_next-possible.new.self) (ap event_of (sym c.in-Next.is)) c.step_next-possible.ensures.ok
 
 pub returns-in-Upload-clause-ok : goal.returns-in-Upload-clause-ok
-returns-in-Upload-clause-ok g c = stepped c.step_upload.result c.args.self.now.calm c.step_upload.new.self.calm (shown g.N.Near.client g.F.Far.server c.args.self.now) (shown g.N.Near.client g.F.Far.server c.step_upload.new.self) (ap event_of (sym c.in-Upload.is)) c.step_upload.ensures.ok
+returns-in-Upload-clause-ok g c = stepped c.step_upload-possible.result c.args.self.now.calm c.step_upload-possible.new.self.calm (shown g.N.Near.client g.F.Far.server c.args.self.now) (shown g.N.Near.client g.F.Far.server c.step_upload-possible.new.self) (ap event_of (sym c.in-Upload.is)) c.step_upload-possible.ensures.ok

@@ -1,0 +1,28 @@
+use Rattle.std.proofs.Common.{ap, refl, sym, ◌∙◌}
+use Rattle.ftp_client_model.specs.Calls.{is_busy}
+use Rattle.ftp_pair_parts.specs.Shown.{shown}
+use Rattle.ftp_pair_parts.proofs.Beginning.{began, busy_not, linked_not}
+use Rattle.ftp_pair_parts.proofs.parts.Parts.step_next.Goals as goal
+
+pub returns-clause-ok : goal.returns-clause-ok
+returns-clause-ok g c calm =
+    let served = c.finish.ensures.moved calm in
+    let noted = c.note.ensures.moved served.0 in
+    let free = c.start.ensures.begun c.if-not-start.false in
+    let begun = free.1 noted.0 in (
+      sym c.make_room.ensures.calm ∙ begun.0,
+      λ read reads. began read g.op c.args.moment.seconds (shown g.N.Near.client g.F.Far.server c.args.self.now) (shown g.N.Near.client g.F.Far.server c.make_room.new.self)
+          (shown g.N.Near.client g.F.Far.server c.start.new.self) (shown g.N.Near.client g.F.Far.server c.note.new.self) (shown g.N.Near.client g.F.Far.server c.finish.new.self)
+          (sym c.is_unlinked.ensures ∙ c.if-not-is_unlinked.false) c.make_room.ensures.same free.0 begun.1 noted.1 served.1,
+    )
+
+pub returns-then-not-is_unlinked-clause-ok : goal.returns-then-not-is_unlinked-clause-ok
+returns-then-not-is_unlinked-clause-ok g c calm =
+    (calm, λ read reads. (linked_not (shown g.N.Near.client g.F.Far.server c.args.self.now) (sym c.is_unlinked.ensures ∙ c.if-not-is_unlinked.true), refl))
+
+pub returns-then-not-start-clause-ok : goal.returns-then-not-start-clause-ok
+returns-then-not-start-clause-ok g c calm =
+    let busy = c.start.ensures.busy c.if-not-start.true in (
+      sym c.make_room.ensures.calm ∙ sym busy.2 ∙ calm,
+      λ read reads. (busy_not (shown g.N.Near.client g.F.Far.server c.args.self.now) (ap (λ w. is_busy w.near) (sym c.make_room.ensures.same) ∙ busy.0), busy.1 ∙ c.make_room.ensures.same),
+    )
