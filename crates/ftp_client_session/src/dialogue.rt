@@ -3,7 +3,6 @@ ghost use Rattle.std.specs.Prelude.{IsTrue};
 ghost use Rattle.ftp_client_model.specs.Calls.{is_sound};
 ghost use Rattle.ftp_client_session.specs.Calm.{is_under_way};
 
-use crate::letting_go::let_go_op;
 use crate::task::Task;
 use ftp_client_model::client::{ClientLink, Standing};
 use ftp_client_steps::{Hearing, Output, Run};
@@ -45,7 +44,7 @@ impl<A: Allocator, F: Drop> Drop for Dialogue<A, F> {
             here: _,
             peer: _,
             standing: _,
-            op,
+            op: _,
             place: _,
             run: _,
             settings: _,
@@ -54,6 +53,5 @@ impl<A: Allocator, F: Drop> Drop for Dialogue<A, F> {
             hearing: _,
             output: _,
         } = self;
-        let_go_op(op);
     }
 }

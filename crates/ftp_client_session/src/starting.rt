@@ -13,7 +13,6 @@ ghost use Rattle.ftp_client_model.specs.Failing.{short};
 
 use crate::dialogue::Dialogue;
 use crate::finishing::failure_answer;
-use crate::letting_go::let_go_op;
 use crate::task::Task;
 use ftp_client_model::client::{ClientLink, Standing};
 use ftp_client_steps::{ClientTransfer, Hearing, Output, Run, can_be_tried};
@@ -72,12 +71,12 @@ impl<A: Allocator + Clone, F: ClientTransfer<A>> Dialogue<A, F> {
         ensures err { OnErr result (short (view_of F.flow self.new) ≡ short (record (view_of F.flow self.old) { job = Waiting op; run = None })) }
     {
         if let Standing::Failed(failure) = self.standing {
-            let_go_op(op);
+            drop(op);
             self.tell(failure_answer(failure));
             return Ok(());
         }
         if !can_be_sent(&op) {
-            let_go_op(op);
+            drop(op);
             self.tell(Answer::BadOperation);
             return Ok(());
         }
@@ -132,7 +131,7 @@ impl<A: Allocator + Clone, F: ClientTransfer<A>> Dialogue<A, F> {
         ensures standing { OnErr result (self.new.standing ≡ self.old.standing) }
     {
         self.run = run;
-        let_go_op(mem::replace(&mut self.op, op));
+        drop(mem::replace(&mut self.op, op));
         if let Standing::Entered = self.standing {
             return self.start_now();
         }

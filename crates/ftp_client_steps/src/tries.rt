@@ -152,7 +152,7 @@ fn put_behind<A: Allocator + Clone>(
     let (_, rest) = octets.split_at(count as usize);
     let path = copied(&run.path, alloc)?;
     let rest = Text::copy_of(alloc.clone()?, rest)?;
-    let_go(mem::replace(op, Op::PutFrom(path, count, rest, run.how)));
+    *op = Op::PutFrom(path, count, rest, run.how);
     Ok(true)
 }
 
@@ -170,7 +170,7 @@ fn put_whole<A: Allocator + Clone>(
     let path = copied(&run.path, alloc)?;
     let none = Text::from_vec(Vec::new(alloc.clone()?));
     let octets = run.octets.take().unwrap_or(none);
-    let_go(mem::replace(op, Op::Put(path, octets, run.how)));
+    *op = Op::Put(path, octets, run.how);
     Ok(true)
 }
 
@@ -178,22 +178,8 @@ fn put_whole<A: Allocator + Clone>(
 fn take_back<A: Allocator>(octets: &mut Option<Text<A>>, op: Op<Text<A>>)
     ensures { unwrap_or octets.new [] ≡ all_octets octets.old op }
 {
-    match octets {
-        Some(_) => let_go(op),
-        None => *octets = lent_to(op),
-    }
-}
-
-/// The octets that were lent to an operation, if any were.
-fn lent_to<A: Allocator>(op: Op<Text<A>>) -> Option<Text<A>>
-    ensures { unwrap_or result [] ≡ lent op }
-{
-    match op {
-        Op::Put(_, octets, _) => Some(octets),
-        other => {
-            let_go(other);
-            None
-        }
+    if octets.is_none() {
+        *octets = op.into_put();
     }
 }
 
@@ -206,9 +192,6 @@ fn own<A: Allocator>(octets: &Option<Text<A>>) -> &[u8]
         None => &[],
     }
 }
-
-/// Lets an operation go: a derived drop is proved again wherever a value is let go.
-fn let_go<A: Allocator>(_op: Op<Text<A>>) {}
 
 /// A copy of a text.
 fn copied<A: Allocator + Clone>(text: &Text<A>, alloc: &A) -> Result<Text<A>, AllocError>

@@ -1,5 +1,5 @@
 -- What a user asks of a server, as values: which operations can be sent at all. No command, reply or connection stands here.
-use Rattle.std.specs.Prelude.{ℕ, ◌&&◌, ◌||◌, ◌==◌, ◌^◌, Bool, true, not, nat_lt, nat_eq, List, [], ◌∷◌, length}
+use Rattle.std.specs.Prelude.{ℕ, ◌&&◌, ◌||◌, ◌==◌, ◌^◌, Bool, true, not, nat_lt, nat_eq, List, [], ◌∷◌, length, Option, Some, None}
 use Rattle.std.specs.List.{starts_with}
 use Rattle.ftp_endpoint.specs.Number.{digit_limit}
 pub use Rattle.ftp_path.specs.Path.{is_path_text}
@@ -38,3 +38,8 @@ can_be_sent (Ops.Modified path) = is_path_text path
 can_be_sent (Ops.Facts path) = is_optional_text path
 can_be_sent (Ops.List path how) = is_optional_text path
 can_be_sent (Ops.Names path how) = is_optional_text path && not (is_option path)
+
+-- the octets of a Put, which makes its file anew
+abbrev pub octets_put : {P : Type 0} → Op P → Option P
+octets_put (Ops.Put path octets how) = Some octets
+octets_put op = None

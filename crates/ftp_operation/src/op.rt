@@ -1,4 +1,6 @@
 // What a user asks of a server.
+ghost use Rattle.std.specs.Prelude.{◌≡◌};
+
 use ftp_settings::Representation;
 
 /// How a transfer goes: the representation (RFC 959, sections 3.1 and 3.4) and the data connection.
@@ -14,7 +16,6 @@ pub struct How {
 }
 
 /// An operation of a user; `P` is how a text is held. Path texts are those of `ftp_path`.
-#[derive(Drop)]
 pub enum Op<P> {
     /// Which directory is the current one.
     Where,
@@ -45,4 +46,32 @@ pub enum Op<P> {
     List(P, How),
     /// The pathnames of a directory's files; an empty text is the current directory.
     Names(P, How),
+}
+
+/// By hand: a derived drop is proved again, variant by variant, wherever an operation is let go.
+impl<P: Drop> Drop for Op<P> {
+    fn drop(self) {
+        match self {
+            Op::Where | Op::Up => {}
+            Op::ChangeDir(_) | Op::MakeDir(_) | Op::RemoveDir(_) | Op::Delete(_) => {}
+            Op::Rename(_, _) => {}
+            Op::Put(_, _, _) | Op::Append(_, _, _) | Op::PutFrom(_, _, _, _) => {}
+            Op::Get(_, _) | Op::GetFrom(_, _, _) | Op::Peek(_, _, _) | Op::Size(_, _) => {}
+            Op::Modified(_) | Op::Facts(_) | Op::List(_, _) | Op::Names(_, _) => {}
+        }
+    }
+}
+
+impl<P: Drop> Op<P> {
+    ghost use Rattle.ftp_operation.specs.Operation.{octets_put};
+
+    /// The octets of a Put, which are taken out of it; no other operation has any.
+    pub fn into_put(self) -> Option<P>
+        ensures { result ≡ octets_put self }
+    {
+        match self {
+            Op::Put(_, octets, _) => Some(octets),
+            _ => None,
+        }
+    }
 }
