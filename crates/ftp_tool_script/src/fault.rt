@@ -2,7 +2,7 @@
 use std::alloc::AllocError;
 
 /// Why a line says no operation, or no login.
-#[derive(Clone, Copy, Debug, PartialEq, Eq)]
+#[derive(Clone, Copy)]
 pub enum LineFault {
     /// It fits no form.
     Unfit,

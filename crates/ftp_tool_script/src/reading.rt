@@ -15,7 +15,7 @@ use std::{fmt, io};
 const ROOM: usize = 65_536;
 
 /// Why there is no script.
-#[derive(Debug, Drop)]
+#[derive(Drop)]
 pub enum NoScript {
     /// The number of the first line that fits no form, counted from 1.
     Line(usize),
@@ -70,12 +70,17 @@ fn text_of<A: Allocator, R: Read>(alloc: A, reader: &mut R) -> io::Result<Vec<u8
     let mut text = Vec::new(alloc);
     let mut room = [0u8; ROOM];
     for _ in 0..u64::MAX {
-        let count = read_some(reader, &mut room)?;
+        let count = match read_some(reader, &mut room) {
+            Ok(count) => count,
+            Err(error) => return Err(error),
+        };
         if count == 0 {
             return Ok(text);
         }
         let (front, _) = room.split_at(count);
-        text.extend_from_slice(front)?;
+        let Ok(()) = text.extend_from_slice(front) else {
+            return Err(Error::from(ErrorKind::OutOfMemory));
+        };
     }
     Err(Error::from(ErrorKind::TimedOut))
 }

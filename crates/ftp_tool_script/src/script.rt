@@ -21,7 +21,7 @@ pub struct Script<A: Allocator> {
 }
 
 /// Why a text is no script.
-#[derive(Clone, Copy, Debug, PartialEq, Eq)]
+#[derive(Clone, Copy)]
 pub enum ScriptFault {
     /// The number of the first line that fits no form, counted from 1.
     Line(usize),
