@@ -1,5 +1,5 @@
 // The command line: one level of subcommands.
-use crate::fetching::{FILES, NAMES, TRANSFERS};
+use crate::fetching::{FILES, NAMES, OPTIONS, TRANSFERS};
 use crate::help;
 use crate::looping::LOOP;
 use crate::mirroring::MIRROR;
@@ -7,13 +7,25 @@ use crate::pairing::PAIR;
 use crate::running::RUN;
 use crate::serving::SERVE;
 use crate::task::Task;
-use crate::words::{Form, MODE, MOST, STRU, Subcommand, TYPE, Value, Word, subcommand_of};
+use crate::words::{
+    Form, MODE, MOST, STRU, Subcommand, TIMEOUT, TYPE, Value, Word, number_in, representation_in,
+    subcommand_of,
+};
 use clap::{ArgMatches, Command};
-use ftp_tool_files::{Direction, Representation, number_of, representation_of};
+use ftp_tool_files::Direction;
 use std::alloc::{AllocError, Global};
 
-/// The subcommands between the standard streams, and those that have both ends.
-const ALONE: &[Subcommand<'static>] = &[DIALOGUE, FACTS, FRAME, LOOP, PAIR];
+/// The subcommands between the standard streams.
+const PARTS: &[Subcommand<'static>] = &[DIALOGUE, FACTS, FRAME];
+
+/// Those that have both ends.
+const BOTH_ENDS: &[Subcommand<'static>] = &[LOOP, PAIR];
+
+/// Those of a client that do more than ask at one place.
+const MANY: &[Subcommand<'static>] = &[RUN, MIRROR];
+
+/// The options that both of them have.
+const SILENCE: &[Word<'static>] = &[TIMEOUT];
 
 const DIALOGUE: Subcommand<'static> = Subcommand {
     name: "dialogue",
@@ -24,7 +36,6 @@ const DIALOGUE: Subcommand<'static> = Subcommand {
         form: Form::Else(Value::Number("N", 0, MOST), "0"),
         help: "octets that are read at a time, or 0 for what a read gives",
     }],
-    options: &[],
 };
 
 const FACTS: Subcommand<'static> = Subcommand {
@@ -32,7 +43,6 @@ const FACTS: Subcommand<'static> = Subcommand {
     about: "writes the entry of each line of standard input, or its fault",
     help: help::FACTS,
     words: &[],
-    options: &[],
 };
 
 const FRAME: Subcommand<'static> = Subcommand {
@@ -66,93 +76,111 @@ const FRAME: Subcommand<'static> = Subcommand {
             help: "reads the octets of a data connection from standard input and writes the file",
         },
     ],
-    options: &[],
 };
+
+/// What a subcommand asks for.
+#[derive(Clone, Copy)]
+pub enum Program {
+    Serve,
+    Loop,
+    Pair,
+    Run,
+    Mirror,
+    /// Something at one place of a server.
+    Ask,
+    /// What goes between the standard streams.
+    Task,
+}
+
+/// What a subcommand of this name asks for.
+pub fn program_of(name: &str) -> Program {
+    match name {
+        "serve" => Program::Serve,
+        "loop" => Program::Loop,
+        "pair" => Program::Pair,
+        "run" => Program::Run,
+        "mirror" => Program::Mirror,
+        "dialogue" | "facts" | "frame" => Program::Task,
+        _ => Program::Ask,
+    }
+}
 
 /// The words that the program knows.
 pub fn command<'a>(alloc: Global) -> Result<Command<'a>, AllocError> {
-    let program = Command::new(alloc, "ftp_tool")
+    let known = subcommands(alloc)?;
+    Command::new(alloc, "ftp_tool")
         .version(help::VERSION)
         .about("an FTP server and client, and their parts over standard input and output")
-        .subcommand_required(true);
-    let program = with_those_alone(alloc, program)?;
-    let program = with_serve(alloc, program)?;
-    let program = with_transfers(alloc, program)?;
-    let program = with_files(alloc, program)?;
-    let program = with_names(alloc, program)?;
-    let program = with_run(alloc, program)?;
-    with_mirror(alloc, program)
+        .subcommand_required(true)
+        .subcommands(known)
 }
 
-/// A command with the subcommands of a table.
-fn with_all<'a>(
+/// All subcommands. Each table is put by a function of its own: what names a large one is dear to prove.
+fn subcommands<'a>(alloc: Global) -> Result<Vec<Command<'a>>, AllocError> {
+    let mut known = Vec::new(alloc);
+    put_parts(alloc, &mut known)?;
+    put_both_ends(alloc, &mut known)?;
+    put_serve(alloc, &mut known)?;
+    put_transfers(alloc, &mut known)?;
+    put_files(alloc, &mut known)?;
+    put_names(alloc, &mut known)?;
+    put_many(alloc, &mut known)?;
+    Ok(known)
+}
+
+fn put_parts<'a>(alloc: Global, known: &mut Vec<Command<'a>>) -> Result<(), AllocError> {
+    put_all(alloc, known, PARTS, &[])
+}
+
+fn put_both_ends<'a>(alloc: Global, known: &mut Vec<Command<'a>>) -> Result<(), AllocError> {
+    put_all(alloc, known, BOTH_ENDS, &[])
+}
+
+fn put_serve<'a>(alloc: Global, known: &mut Vec<Command<'a>>) -> Result<(), AllocError> {
+    put_all(alloc, known, &[SERVE], &[])
+}
+
+fn put_transfers<'a>(alloc: Global, known: &mut Vec<Command<'a>>) -> Result<(), AllocError> {
+    put_all(alloc, known, TRANSFERS, OPTIONS)
+}
+
+fn put_files<'a>(alloc: Global, known: &mut Vec<Command<'a>>) -> Result<(), AllocError> {
+    put_all(alloc, known, FILES, OPTIONS)
+}
+
+fn put_names<'a>(alloc: Global, known: &mut Vec<Command<'a>>) -> Result<(), AllocError> {
+    put_all(alloc, known, NAMES, OPTIONS)
+}
+
+fn put_many<'a>(alloc: Global, known: &mut Vec<Command<'a>>) -> Result<(), AllocError> {
+    put_all(alloc, known, MANY, SILENCE)
+}
+
+/// Puts the subcommands of a table behind those before, each with these options.
+fn put_all<'a>(
     alloc: Global,
-    program: Command<'a>,
+    known: &mut Vec<Command<'a>>,
     table: &[Subcommand<'a>],
-) -> Result<Command<'a>, AllocError> {
-    let mut program = program;
+    options: &'a [Word<'a>],
+) -> Result<(), AllocError> {
     for subcommand in table {
-        program = program.subcommand(subcommand_of(alloc, *subcommand)?)?;
+        known.push(subcommand_of(alloc, *subcommand, options)?)?;
     }
-    Ok(program)
-}
-
-/// A command with the subcommands that need no network.
-fn with_those_alone<'a>(alloc: Global, program: Command<'a>) -> Result<Command<'a>, AllocError> {
-    with_all(alloc, program, ALONE)
-}
-
-/// A command with the subcommand of a server over a network too.
-fn with_serve<'a>(alloc: Global, program: Command<'a>) -> Result<Command<'a>, AllocError> {
-    program.subcommand(subcommand_of(alloc, SERVE)?)
-}
-
-/// A command with those of a client that copy or list too.
-fn with_transfers<'a>(alloc: Global, program: Command<'a>) -> Result<Command<'a>, AllocError> {
-    with_all(alloc, program, TRANSFERS)
-}
-
-/// A command with those that show something of a file, or remove it, too.
-fn with_files<'a>(alloc: Global, program: Command<'a>) -> Result<Command<'a>, AllocError> {
-    with_all(alloc, program, FILES)
-}
-
-/// A command with those that change directories and names too.
-fn with_names<'a>(alloc: Global, program: Command<'a>) -> Result<Command<'a>, AllocError> {
-    with_all(alloc, program, NAMES)
-}
-
-/// A command with a client's script too.
-fn with_run<'a>(alloc: Global, program: Command<'a>) -> Result<Command<'a>, AllocError> {
-    program.subcommand(subcommand_of(alloc, RUN)?)
-}
-
-/// A command with the copy of a tree too.
-fn with_mirror<'a>(alloc: Global, program: Command<'a>) -> Result<Command<'a>, AllocError> {
-    program.subcommand(subcommand_of(alloc, MIRROR)?)
+    Ok(())
 }
 
 /// The task of words that the program knows; none where a value is none of its option.
 pub fn task_of(matches: &ArgMatches<'_>) -> Option<Task> {
     match matches.subcommand() {
         Some(("dialogue", inner)) => {
-            let piece = number_of(inner.get_str("piece").unwrap_or("0"))?;
+            let piece = number_in(inner, "piece")?;
             Some(Task::Dialogue { piece })
         }
         Some(("facts", _)) => Some(Task::Facts),
         Some(("frame", inner)) => Some(Task::Frame {
-            form: form_of(inner)?,
+            form: representation_in(inner)?,
             direction: Direction::new(inner.get_flag("read"), inner.get_flag("marks")),
         }),
         _ => None,
     }
-}
-
-/// Type, structure and mode, each by its letter.
-fn form_of(matches: &ArgMatches<'_>) -> Option<Representation> {
-    representation_of(
-        matches.get_str("type")?,
-        matches.get_str("stru")?,
-        matches.get_str("mode")?,
-    )
 }

@@ -1,11 +1,14 @@
 // The subcommands of a client that ask at one place: their words.
 use crate::help;
-use crate::words::{BadValue, Form, MODE, STRU, Subcommand, TIMEOUT, TYPE, Value, Word};
+use crate::words::{
+    BadValue, Form, MODE, STRU, Subcommand, TIMEOUT, TYPE, Value, Word, number_in,
+    representation_in,
+};
 use clap::ArgMatches;
 use ftp_operation::How;
 use ftp_tool_fetch::{Download, Parts, Simple, Target, Task};
-use ftp_tool_files::{number_of, representation_of};
-use ftp_tool_words::place_of;
+use ftp_tool_files::number_of;
+use ftp_tool_words::{Location, place_of};
 
 /// The most octets that a file may be said to have.
 const MOST_OCTETS: u64 = 999_999_999_999_999_999;
@@ -46,7 +49,6 @@ const GET: Subcommand<'static> = Subcommand {
             help: "the last change of FILE is at the server's moment of it",
         },
     ],
-    options: OPTIONS,
 };
 
 const PUT: Subcommand<'static> = Subcommand {
@@ -61,7 +63,6 @@ const PUT: Subcommand<'static> = Subcommand {
         },
         PLACE,
     ],
-    options: OPTIONS,
 };
 
 const LS: Subcommand<'static> = Subcommand {
@@ -69,7 +70,6 @@ const LS: Subcommand<'static> = Subcommand {
     about: "lists a directory of a server",
     help: help::LS,
     words: &[PLACE],
-    options: OPTIONS,
 };
 
 const CAT: Subcommand<'static> = Subcommand {
@@ -77,7 +77,6 @@ const CAT: Subcommand<'static> = Subcommand {
     about: "writes a file of a server to standard output",
     help: help::CAT,
     words: &[PLACE],
-    options: OPTIONS,
 };
 
 const SIZE: Subcommand<'static> = Subcommand {
@@ -85,7 +84,6 @@ const SIZE: Subcommand<'static> = Subcommand {
     about: "writes how many octets a file of a server has",
     help: help::SIZE,
     words: &[PLACE],
-    options: OPTIONS,
 };
 
 const RM: Subcommand<'static> = Subcommand {
@@ -93,7 +91,6 @@ const RM: Subcommand<'static> = Subcommand {
     about: "removes a file of a server",
     help: help::RM,
     words: &[PLACE],
-    options: OPTIONS,
 };
 
 const MKDIR: Subcommand<'static> = Subcommand {
@@ -101,7 +98,6 @@ const MKDIR: Subcommand<'static> = Subcommand {
     about: "makes a directory of a server",
     help: help::MKDIR,
     words: &[PLACE],
-    options: OPTIONS,
 };
 
 const RMDIR: Subcommand<'static> = Subcommand {
@@ -109,7 +105,6 @@ const RMDIR: Subcommand<'static> = Subcommand {
     about: "removes an empty directory of a server",
     help: help::RMDIR,
     words: &[PLACE],
-    options: OPTIONS,
 };
 
 const MV: Subcommand<'static> = Subcommand {
@@ -124,7 +119,6 @@ const MV: Subcommand<'static> = Subcommand {
             help: "its path from then on, at the same server",
         },
     ],
-    options: OPTIONS,
 };
 
 const PLACE: Word<'static> = Word {
@@ -134,7 +128,7 @@ const PLACE: Word<'static> = Word {
 };
 
 /// The options that all of them have.
-const OPTIONS: &[Word<'static>] = &[
+pub const OPTIONS: &[Word<'static>] = &[
     Word {
         name: "user",
         form: Form::Else(Value::Text("U"), "anonymous"),
@@ -208,36 +202,30 @@ pub fn bad_value<'a>(words: &'a ArgMatches<'_>) -> Option<BadValue<'a>> {
     })
 }
 
-/// Whether a subcommand is one of these.
-pub fn is_one(name: &str) -> bool {
-    has(TRANSFERS, name) || has(FILES, name) || has(NAMES, name)
-}
-
-/// Whether a subcommand is in a table.
-fn has(table: &[Subcommand<'_>], name: &str) -> bool {
-    table.iter().any(|known| known.name == name)
-}
-
 /// What is asked of which server; none where a value is none of its option. At a terminal progress is told.
 pub fn asked_of<'a>(words: &'a ArgMatches<'_>, is_terminal: bool) -> Option<Target<'a>> {
     Some(Target {
-        place: place_of(words.get_str("place")?)?,
+        place: location_of(words)?,
         user: words.get_str("user")?,
         password_file: words.get_str("password-file"),
         how: how_of(words)?,
-        timeout: number_of(words.get_str("timeout")?)?,
+        timeout: number_in(words, "timeout")?,
         progress: is_terminal || words.get_flag("progress"),
-        limit: words.get_str("limit")?.parse().ok()?,
+        limit: limit_of(words)?,
     })
+}
+
+fn location_of<'a>(words: &'a ArgMatches<'_>) -> Option<Location<'a>> {
+    place_of(words.get_str("place")?)
+}
+
+fn limit_of(words: &ArgMatches<'_>) -> Option<u64> {
+    words.get_str("limit")?.parse().ok()
 }
 
 fn how_of(words: &ArgMatches<'_>) -> Option<How> {
     Some(How {
-        representation: representation_of(
-            words.get_str("type")?,
-            words.get_str("stru")?,
-            words.get_str("mode")?,
-        )?,
+        representation: representation_in(words)?,
         marks: false,
         active: words.get_flag("active"),
         extended: words.get_flag("extended"),

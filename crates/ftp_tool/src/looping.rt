@@ -8,5 +8,4 @@ pub const LOOP: Subcommand<'static> = Subcommand {
     about: "plays a script of operations between a client and a server of its own",
     help: help::LOOP,
     words: &[],
-    options: &[],
 };

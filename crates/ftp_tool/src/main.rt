@@ -14,7 +14,7 @@ mod words;
 
 use anyhow::Result;
 use clap::{ArgMatches, Error};
-use command_line::command;
+use command_line::{Program, command, program_of};
 use ftp_tool_status::Status;
 use std::alloc::Global;
 use std::env;
@@ -82,16 +82,17 @@ where
         + Drop,
     F: Write + IsTerminal,
 {
-    match words.subcommand() {
-        Some(("serve", words)) => serve(rt, words),
-        Some(("loop", _)) => Ok(ftp_tool_loop::play(rt)?.number()),
-        Some(("pair", words)) => play_pair(rt, words, faults),
-        Some(("run", words)) => run_script(rt, words),
-        Some(("mirror", words)) => mirror(rt, words),
-        Some((name, words)) if fetching::is_one(name) => {
-            fetch(rt, name, words, faults.is_terminal())
-        }
-        _ => perform_task(rt, words, faults),
+    let Some((name, inner)) = words.subcommand() else {
+        return bad_words(rt, None);
+    };
+    match program_of(name) {
+        Program::Serve => serve(rt, inner),
+        Program::Loop => play_loop(rt),
+        Program::Pair => play_pair(rt, inner, faults),
+        Program::Run => run_script(rt, inner),
+        Program::Mirror => mirror(rt, inner),
+        Program::Ask => fetch(rt, name, inner, faults.is_terminal()),
+        Program::Task => perform_task(rt, words, faults),
     }
 }
 
@@ -111,6 +112,14 @@ where
         )),
         None => bad_words(rt, None),
     }
+}
+
+/// Does what `loop` asks for.
+fn play_loop<R>(rt: &R) -> Result<u8>
+where
+    R: Input + Print + Eprint + AllocGlobal + Net<Listener = TcpListener, Stream = TcpStream>,
+{
+    Ok(ftp_tool_loop::play(rt)?.number())
 }
 
 /// Does what `pair` asks for.

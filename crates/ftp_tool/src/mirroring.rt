@@ -1,5 +1,5 @@
 // The subcommand `mirror`: its words.
-use crate::words::{BadValue, Form, Subcommand, TIMEOUT, Value, Word};
+use crate::words::{BadValue, Form, Subcommand, Value, Word, number_in};
 use clap::ArgMatches;
 use ftp_operation::How;
 use ftp_tool_connection::{ServerAddress, User};
@@ -95,7 +95,6 @@ pub const MIRROR: Subcommand<'static> = Subcommand {
             help: "tells of each file that is copied",
         },
     ],
-    options: &[TIMEOUT],
 };
 
 /// What is mirrored; none where not exactly one of both places is a server's.
@@ -127,7 +126,7 @@ fn asked_of<'a>(
         server: ServerAddress {
             host: place.host,
             port: place.port,
-            timeout: number_of(words.get_str("timeout")?)?,
+            timeout: number_in(words, "timeout")?,
             progress: words.get_flag("progress"),
         },
         user: User {

@@ -1,8 +1,7 @@
 // The subcommand `pair`: its words.
 use crate::help;
-use crate::words::{Form, MOST, Subcommand, Value, Word};
+use crate::words::{Form, MOST, Subcommand, Value, Word, number_in};
 use clap::ArgMatches;
-use ftp_tool_files::number_of;
 use ftp_tool_pair::PairSettings;
 
 /// The words of `pair`.
@@ -27,13 +26,12 @@ pub const PAIR: Subcommand<'static> = Subcommand {
             help: "guest is at /guest and anonymous at /pub, which are made at the start",
         },
     ],
-    options: &[],
 };
 
 /// How the script is played; none where a value is none of its option.
 pub fn settings_of(words: &ArgMatches<'_>) -> Option<PairSettings> {
     Some(PairSettings {
-        piece: number_of(words.get_str("piece")?)?,
+        piece: number_in(words, "piece")?,
         transcript: words.get_flag("transcript"),
         roots: words.get_flag("roots"),
     })

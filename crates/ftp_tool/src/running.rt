@@ -1,9 +1,8 @@
 // The subcommand `run`: its words.
 use crate::help;
-use crate::words::{Form, Subcommand, TIMEOUT, Value, Word};
+use crate::words::{Form, Subcommand, Value, Word, number_in};
 use clap::ArgMatches;
 use ftp_tool_fetch::ServerAddress;
-use ftp_tool_files::number_of;
 use ftp_tool_words::server_port_of;
 
 /// The words of `run`.
@@ -23,7 +22,6 @@ pub const RUN: Subcommand<'static> = Subcommand {
             help: "the port that it listens at, 1 to 65535",
         },
     ],
-    options: &[TIMEOUT],
 };
 
 /// The server that is asked; none where a value is none of its option.
@@ -36,7 +34,7 @@ pub fn server_of<'a>(words: &'a ArgMatches<'_>) -> Option<ServerAddress<'a>> {
     Some(ServerAddress {
         host,
         port,
-        timeout: number_of(words.get_str("timeout")?)?,
+        timeout: number_in(words, "timeout")?,
         progress: false,
     })
 }

@@ -1,9 +1,8 @@
 // The subcommand `serve`: its words.
 use crate::help;
-use crate::words::{BadValue, Form, MOST, Subcommand, Value, Word};
+use crate::words::{BadValue, Form, MOST, Subcommand, Value, Word, number_in};
 use clap::ArgMatches;
-use ftp_tool_files::number_of;
-use ftp_tool_serve::{Limits, Log, Others, Serving};
+use ftp_tool_serve::{Limits, Log, Others, Serving, Sessions};
 use ftp_tool_words::{port_of, ports_of, sessions_of};
 use std::net::IpAddr;
 
@@ -72,34 +71,61 @@ pub const SERVE: Subcommand<'static> = Subcommand {
             help: "the ports of passive data connections, each tried in turn",
         },
     ],
-    options: &[],
 };
 
 /// What is to be served; none where a value is none of its option.
 pub fn serving_of<'a>(words: &'a ArgMatches<'_>) -> Option<Serving<'a>> {
     Some(Serving {
-        host: words.get_str("host")?.parse().ok()?,
-        port: port_of(words.get_str("port")?)?,
+        host: host_of(words)?,
+        port: listened_of(words)?,
         dir: words.get_str("dir")?,
-        sessions: sessions_of(words.get_str("sessions")?)?,
+        sessions: count_of(words)?,
         accounts: words.get_str("accounts"),
-        log: if words.get_flag("log") {
-            Log::Told
-        } else {
-            Log::Silent
-        },
-        limits: Limits {
-            login: number_of(words.get_str("login")?)?,
-            idle: number_of(words.get_str("idle")?)?,
-            idle_while_waited: number_of(words.get_str("idle-while-waited")?)?,
-        },
-        passive: ports_of(words.get_str("passive-ports")?)?,
-        others: if words.get_flag("keep") {
-            Others::Keep
-        } else {
-            Others::Change
-        },
+        log: log_of(words),
+        limits: limits_of(words)?,
+        passive: passive_of(words)?,
+        others: others_of(words),
     })
+}
+
+fn host_of(words: &ArgMatches<'_>) -> Option<IpAddr> {
+    words.get_str("host")?.parse().ok()
+}
+
+fn listened_of(words: &ArgMatches<'_>) -> Option<u16> {
+    port_of(words.get_str("port")?)
+}
+
+fn count_of(words: &ArgMatches<'_>) -> Option<Sessions> {
+    sessions_of(words.get_str("sessions")?)
+}
+
+fn passive_of(words: &ArgMatches<'_>) -> Option<(u16, u16)> {
+    ports_of(words.get_str("passive-ports")?)
+}
+
+fn limits_of(words: &ArgMatches<'_>) -> Option<Limits> {
+    Some(Limits {
+        login: number_in(words, "login")?,
+        idle: number_in(words, "idle")?,
+        idle_while_waited: number_in(words, "idle-while-waited")?,
+    })
+}
+
+fn log_of(words: &ArgMatches<'_>) -> Log {
+    if words.get_flag("log") {
+        Log::Told
+    } else {
+        Log::Silent
+    }
+}
+
+fn others_of(words: &ArgMatches<'_>) -> Others {
+    if words.get_flag("keep") {
+        Others::Keep
+    } else {
+        Others::Change
+    }
 }
 
 /// The first value that is none of its option, of those that `clap` takes as they are.

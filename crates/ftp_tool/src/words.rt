@@ -1,6 +1,7 @@
 // Words of a command line, as tables, and what `clap` makes of them.
 use clap::builder::ValueParser;
-use clap::{Arg, ArgAction, Command};
+use clap::{Arg, ArgAction, ArgMatches, Command};
+use ftp_tool_files::{Representation, number_of, representation_of};
 use std::alloc::{AllocError, Global};
 
 /// The letters of types, structures and modes (RFC 959, section 5.3.2), and the most that a number may be.
@@ -95,33 +96,33 @@ pub struct Subcommand<'a> {
     pub help: &'a str,
     /// The words that it alone has.
     pub words: &'a [Word<'a>],
-    /// Words behind them, that other subcommands have too.
-    pub options: &'a [Word<'a>],
 }
 
-/// A subcommand with its words.
+/// A subcommand with its words, and behind them options that others have too.
 pub fn subcommand_of<'a>(
     alloc: Global,
     subcommand: Subcommand<'a>,
+    options: &'a [Word<'a>],
 ) -> Result<Command<'a>, AllocError> {
-    let command = Command::new(alloc, subcommand.name)
+    let mut args = Vec::new(alloc);
+    put_args(alloc, &mut args, subcommand.words)?;
+    put_args(alloc, &mut args, options)?;
+    Command::new(alloc, subcommand.name)
         .about(subcommand.about)
-        .after_help(subcommand.help);
-    let command = with(alloc, command, subcommand.words)?;
-    with(alloc, command, subcommand.options)
+        .after_help(subcommand.help)
+        .args(args)
 }
 
-/// A command with more words.
-fn with<'a>(
+/// Puts what `clap` makes of words behind those before.
+fn put_args<'a>(
     alloc: Global,
-    command: Command<'a>,
+    args: &mut Vec<Arg<'a>>,
     words: &'a [Word<'a>],
-) -> Result<Command<'a>, AllocError> {
-    let mut command = command;
+) -> Result<(), AllocError> {
     for word in words {
-        command = command.arg(arg_of(alloc, *word))?;
+        args.push(arg_of(alloc, *word))?;
     }
-    Ok(command)
+    Ok(())
 }
 
 fn arg_of<'a>(alloc: Global, word: Word<'a>) -> Arg<'a> {
@@ -149,4 +150,18 @@ fn place<'a>(alloc: Global, word: Word<'a>, value: Value<'a>) -> Arg<'a> {
         .value_name(value.name())
         .value_parser(value.parser())
         .action(ArgAction::Set)
+}
+
+/// The number that an option has.
+pub fn number_in(matches: &ArgMatches<'_>, option: &str) -> Option<u32> {
+    number_of(matches.get_str(option)?)
+}
+
+/// Type, structure and mode, each by its letter.
+pub fn representation_in(matches: &ArgMatches<'_>) -> Option<Representation> {
+    representation_of(
+        matches.get_str("type")?,
+        matches.get_str("stru")?,
+        matches.get_str("mode")?,
+    )
 }
