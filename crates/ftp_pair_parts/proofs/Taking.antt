@@ -93,3 +93,11 @@ far_data_takes read most taken piece w e few may some =
     takes_by read DataToServer most taken piece w (λ p. far.may_receive (far.receives w.far p)) e few (λ k. refl)
     (λ k less. subst (λ p. IsTrue (far.may_receive (far.receives w.far p))) (take-take k taken piece (omega (arith, less)))
     (received_each w.far (take taken piece) may k (let t = length-take taken piece in omega (arith, less, few, t)))) some
+
+-- what is so of a queue is so of whatever is that queue
+pub pushed_over : (read : Reading) (queue other : Queue) (taken : ℕ) (old new : World) → queue ≡ other → new ≡ pushed read queue taken (taking queue taken old)
+    → new ≡ pushed read other taken (taking other taken old)
+pushed_over read queue other taken old new is did = subst (λ q. new ≡ pushed read q taken (taking q taken old)) is did
+
+pub takes_over : (read : Reading) (queue other : Queue) (most taken : ℕ) (w : World) → queue ≡ other → Takes read queue most w taken → Takes read other most w taken
+takes_over read queue other most taken w is takes = subst (λ q. Takes read q most w taken) is takes
