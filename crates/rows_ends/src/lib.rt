@@ -15,7 +15,6 @@ mod replies;
 mod row;
 mod server;
 mod stage;
-mod tree;
 mod turn;
 mod verb;
 

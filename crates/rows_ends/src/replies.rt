@@ -3,11 +3,12 @@ ghost use Rattle.std.specs.Prelude.{◌≡◌, []};
 
 use ftp_endpoint::{Endpoint, Host};
 use ftp_facts::Moment;
-use ftp_path::{Path, is_path_text};
+use ftp_path::Path;
 use ftp_server_model::{Facts, FixedReply};
 use ftp_server_replies::Output;
 use ftp_server_transfer::{put_dir_line, put_file_line};
 use rows_base::{Paper, Refusing};
+use rows_tree::place;
 use std::alloc::Global;
 
 const LOCAL: Endpoint = Endpoint {
@@ -137,15 +138,6 @@ fn owes(mut output: Output<Global>, wanted: &[u8]) -> bool {
         && wanted.ends_with(&back[..second])
 }
 
-/// A path with a double quote in it.
-fn quoted(alloc: Global) -> Option<Path<Global>> {
-    let text = b"/a\"b".as_slice();
-    if !is_path_text(text) {
-        return None;
-    }
-    Path::root(alloc).resolve(alloc, text).ok()
-}
-
 /// Whether it goes out so.
 fn goes_out(alloc: Global, path: &Path<Global>, row: &(Said, &[u8])) -> bool {
     match Output::new(alloc) {
@@ -166,10 +158,11 @@ fn each_goes_out(alloc: Global, path: &Path<Global>) -> bool {
     true
 }
 
+/// Whether each goes out so where a path with a double quote in it is told.
 fn all_go_out(alloc: Global) -> bool {
-    match quoted(alloc) {
-        Some(path) => each_goes_out(alloc, &path),
-        None => false,
+    match &place(alloc, b"/a\"b") {
+        Ok(path) => each_goes_out(alloc, path),
+        Err(_) => false,
     }
 }
 

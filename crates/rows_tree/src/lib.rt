@@ -17,7 +17,11 @@ mod run;
 mod said;
 mod step;
 mod told;
+mod tree;
 mod verb;
 mod words;
 
+pub use change::make_dirs;
+pub use paths::place;
 pub use row::play_all;
+pub use tree::show_tree;

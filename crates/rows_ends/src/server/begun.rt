@@ -1,12 +1,12 @@
 // What a server begins with.
 use crate::event::YEAR_2000;
-use crate::tree::below;
 use crate::turn::Turn;
 use ftp_facts::Text;
 use ftp_operation::{Account, Accounts};
 use ftp_path::Path;
 use ftp_tree::{Content, MemTree, Tree};
 use rows_base::{cut, number, octets_of, split};
+use rows_tree::{make_dirs, place};
 use std::alloc::{AllocError, Allocator, Global};
 
 /// The most octets of the files below a root: so many blocks of so many octets.
@@ -35,7 +35,9 @@ fn account<A: Allocator + Copy>(
     root: &[u8],
 ) -> Result<Account<Text<A>, Path<A>>, AllocError> {
     let user = Text::copy_of(heap, user)?;
-    let root = below(heap, &Path::root(heap), root)?;
+    let Ok(root) = place(heap, root) else {
+        return Err(AllocError);
+    };
     let pass = match pass {
         Some(pass) => Some(Text::copy_of(heap, pass)?),
         None => None,
@@ -62,7 +64,7 @@ fn gives<A: Allocator + Copy>(own: Global, heap: A, tree: &mut MemTree<A>, line:
     if word == b"dir".as_slice() {
         makes_dir(heap, tree, rest)
     } else if word == b"dirs".as_slice() {
-        fills_up(heap, tree, &Path::root(heap), number(rest));
+        make_dirs(heap, tree, &Path::root(heap), number(rest));
         true
     } else if word == b"full".as_slice() {
         makes_dir(heap, tree, rest) && makes_full(heap, tree, rest)
@@ -74,17 +76,8 @@ fn gives<A: Allocator + Copy>(own: Global, heap: A, tree: &mut MemTree<A>, line:
 }
 
 fn makes_dir<A: Allocator + Copy>(heap: A, tree: &mut MemTree<A>, text: &[u8]) -> bool {
-    makes_dir_below(heap, tree, &Path::root(heap), text)
-}
-
-fn makes_dir_below<A: Allocator + Copy>(
-    heap: A,
-    tree: &mut MemTree<A>,
-    root: &Path<A>,
-    text: &[u8],
-) -> bool {
-    match below(heap, &Path::root(heap), text) {
-        Ok(path) => tree.make_dir(root, &path).is_ok(),
+    match place(heap, text) {
+        Ok(path) => tree.make_dir(&Path::root(heap), &path).is_ok(),
         Err(_) => false,
     }
 }
@@ -102,7 +95,7 @@ fn makes_file<A: Allocator + Copy>(
 }
 
 fn puts<A: Allocator + Copy>(heap: A, tree: &mut MemTree<A>, text: &[u8], octets: &[u8]) -> bool {
-    match below(heap, &Path::root(heap), text) {
+    match place(heap, text) {
         Ok(path) => installs(heap, tree, &path, octets),
         Err(_) => false,
     }
@@ -123,10 +116,10 @@ fn installs<A: Allocator + Copy>(
 
 /// Fills the part of the tree at a directory: a file of the most octets, and as many directories as it takes; whether there is an end of them.
 fn makes_full<A: Allocator + Copy>(heap: A, tree: &mut MemTree<A>, text: &[u8]) -> bool {
-    match below(heap, &Path::root(heap), text) {
+    match place(heap, text) {
         Ok(root) => {
             puts_most(heap, tree, &root)
-                && fills_up(heap, tree, &root, MORE_THAN_NODES) < MORE_THAN_NODES
+                && make_dirs(heap, tree, &root, MORE_THAN_NODES) < MORE_THAN_NODES
         }
         Err(_) => false,
     }
@@ -140,39 +133,8 @@ fn puts_most<A: Allocator + Copy>(heap: A, tree: &mut MemTree<A>, root: &Path<A>
     for _ in 0..MOST_BLOCKS {
         is_whole = is_whole && content.push(block.as_slice()).is_ok();
     }
-    match below(heap, &Path::root(heap), b"most") {
+    match place(heap, b"most") {
         Ok(path) => is_whole && tree.install(root, &path, &mut content, YEAR_2000).is_ok(),
         Err(_) => false,
     }
-}
-
-/// Puts so many directories below a root, `/00000` and on, or as many as it takes, and says how many.
-fn fills_up<A: Allocator + Copy>(
-    heap: A,
-    tree: &mut MemTree<A>,
-    root: &Path<A>,
-    count: u64,
-) -> u64 {
-    for place in 0..count.min(100_000) {
-        if !makes_dir_below(heap, tree, root, &numbered(place)) {
-            return place;
-        }
-    }
-    count
-}
-
-/// The path of a number of five digits.
-fn numbered(place: u64) -> [u8; 6] {
-    [
-        b'/',
-        digit(place / 10_000),
-        digit(place / 1_000),
-        digit(place / 100),
-        digit(place / 10),
-        digit(place),
-    ]
-}
-
-fn digit(value: u64) -> u8 {
-    b'0' + (value % 10) as u8
 }

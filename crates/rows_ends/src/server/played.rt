@@ -4,12 +4,12 @@ use crate::embedded::server::serve;
 use crate::event::{Event, Told};
 use crate::peer::{Peer, Still};
 use crate::plays::{Holds, Plays};
-use crate::tree::show_tree;
 use ftp_ends::Wants;
 use ftp_server_drive::{Control, drive_server};
 use ftp_server_model::Far;
 use ftp_tree::MemTree;
 use rows_base::{FailingReader, FailingWriter, Paper};
+use rows_tree::show_tree;
 use std::alloc::{Allocator, Global};
 use std::marker::PhantomData;
 
