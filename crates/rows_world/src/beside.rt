@@ -3,7 +3,6 @@ use crate::desk::{Desk, Manner};
 use crate::drawn::drawn_orders;
 use crate::making::{login_line, play};
 use crate::shown::put_reports;
-use crate::tree::show_tree;
 use crate::words::{Word, word_of};
 use ftp_direct::direct;
 use ftp_facts::{Moment, Text};
@@ -12,6 +11,7 @@ use ftp_tool_accounts::two_accounts;
 use ftp_tool_script::{Order, login_of, moment_of, order_of};
 use ftp_tree::{MemTree, Tree};
 use rows_base::{Paper, Refusing, cut, first_other, number};
+use rows_tree::show_tree;
 use std::alloc::{AllocError, Allocator, Global};
 
 /// How lines of reports begin.

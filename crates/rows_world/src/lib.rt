@@ -12,7 +12,6 @@ mod plays;
 mod row;
 mod shown;
 mod stage;
-mod tree;
 mod ways;
 mod words;
 mod world;

@@ -2,7 +2,6 @@
 use crate::holds::Holds;
 use crate::plays::{Became, Held, Plays};
 use crate::shown::{put_marks, put_reports};
-use crate::tree::show_tree;
 use crate::words::Happening;
 use ftp_client_model::Near;
 use ftp_facts::{Moment, Text};
@@ -13,6 +12,7 @@ use ftp_settings::{Kind, Mode, Representation, Structure};
 use ftp_tool_script::{Order, moment_of, order_of};
 use ftp_tree::Tree;
 use rows_base::Paper;
+use rows_tree::show_tree;
 use std::alloc::{AllocError, Allocator, Global};
 
 /// A world, and how it grows.
