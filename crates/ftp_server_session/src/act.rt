@@ -31,7 +31,11 @@ impl<A: Allocator + Copy, T: Tree<A>, J: ServerTransfer<A, T>> Session<A, T, J> 
     {
         match command {
             Command::User(name) => self.user(&footing.accounts, name),
-            other => self.act_on(footing, &other, pending),
+            other => {
+                let done = self.act_on(footing, &other, pending);
+                drop(other);
+                done
+            }
         }
     }
 

@@ -50,6 +50,7 @@ impl<A: Allocator + Copy, T: Tree<A>, J: ServerTransfer<A, T>> Session<A, T, J> 
     {
         let is_transfer = is_transfer(&command);
         if !is_in(&self.access) && !is_free(&command) {
+            drop(command);
             self.forget_if(is_transfer);
             return Ok(ReplyKind::Fixed(FixedReply::NotLoggedIn));
         }
