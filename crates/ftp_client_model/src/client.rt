@@ -2,7 +2,7 @@
 use ftp_endpoint::Endpoint;
 
 /// Why a client has failed for good: every later operation answers the same.
-#[derive(Clone, Copy, Debug, PartialEq, Eq)]
+#[derive(Clone, Copy)]
 pub enum Failure {
     /// The control connection ended, or the service said that it closes it.
     Lost,
@@ -13,7 +13,7 @@ pub enum Failure {
 }
 
 /// How far a client has come with the server.
-#[derive(Clone, Copy, Debug, PartialEq, Eq)]
+#[derive(Clone, Copy)]
 pub enum Standing {
     /// The greeting is awaited.
     Greeting,
@@ -28,7 +28,7 @@ pub enum Standing {
 }
 
 /// A step of an operation: a command of which the reply is awaited, or an event of the data connection.
-#[derive(Clone, Copy, Debug, PartialEq, Eq)]
+#[derive(Clone, Copy)]
 pub enum Step {
     /// TYPE.
     Kind,
@@ -53,7 +53,7 @@ pub enum Step {
 }
 
 /// How a link came to its end.
-#[derive(Clone, Copy, Debug, PartialEq, Eq)]
+#[derive(Clone, Copy)]
 pub enum Ending {
     /// The server closed it.
     Clean,
@@ -66,7 +66,7 @@ pub enum Ending {
 }
 
 /// Where the client's data connection is.
-#[derive(Clone, Copy, Debug, PartialEq, Eq)]
+#[derive(Clone, Copy)]
 pub enum ClientLink {
     /// There is none.
     Free,
@@ -85,7 +85,7 @@ pub enum ClientLink {
 }
 
 /// Which replies to a transfer's command came.
-#[derive(Clone, Copy, Debug, PartialEq, Eq)]
+#[derive(Clone, Copy)]
 pub enum Replied {
     /// None.
     Nothing,
@@ -96,7 +96,7 @@ pub enum Replied {
 }
 
 /// Whether a transfer was given up by an ABOR, as a Peek that has its octets is.
-#[derive(Clone, Copy, Debug, PartialEq, Eq)]
+#[derive(Clone, Copy)]
 pub enum Abort {
     /// None was sent.
     Unsent,

@@ -17,7 +17,7 @@ const LEAST_PIECE: usize = 32_768;
 const PART: usize = 8;
 
 /// Why a read or a write of a data connection moved no octet.
-#[derive(Clone, Copy, Debug, PartialEq, Eq)]
+#[derive(Clone, Copy)]
 pub enum Halt {
     /// It was interrupted.
     Again,

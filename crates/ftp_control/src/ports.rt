@@ -22,7 +22,7 @@ pub enum Accepted<S> {
 }
 
 /// What is waited for at an open data connection.
-#[derive(Clone, Copy, Debug, PartialEq, Eq)]
+#[derive(Clone, Copy)]
 pub enum For {
     /// Octets that came, or its end.
     Octets,
@@ -31,7 +31,7 @@ pub enum For {
 }
 
 /// Which connection is to be served.
-#[derive(Clone, Copy, Debug, PartialEq, Eq)]
+#[derive(Clone, Copy)]
 pub enum Ready {
     /// What was waited for is there.
     Data,

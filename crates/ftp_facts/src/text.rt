@@ -5,9 +5,16 @@ use std::alloc::{AllocError, Allocator};
 use std::marker::Model;
 
 /// Octets that an entry owns: a pathname, or the value of a fact.
-#[derive(Debug, Drop)]
+#[derive(Debug)]
 pub struct Text<A: Allocator> {
     octets: Vec<u8, A>,
+}
+
+/// By hand: a derived drop is proved again in each crate that lets a text go.
+impl<A: Allocator> Drop for Text<A> {
+    fn drop(self) {
+        let Self { octets: _ } = self;
+    }
 }
 
 impl<A: Allocator> Model for Text<A> {

@@ -14,7 +14,7 @@ use ftp_repr::{Structure, first_ff};
 use ftp_settings::{MARKER_LIMIT, is_marker_octet};
 
 /// Where in a text the next octet stands.
-#[derive(Clone, Copy, PartialEq, Eq)]
+#[derive(Clone, Copy)]
 enum State {
     /// In the data of stream mode and file structure.
     Plain,
@@ -38,7 +38,7 @@ enum State {
 }
 
 /// Ends that were read and not yet given.
-#[derive(Clone, Copy, PartialEq, Eq)]
+#[derive(Clone, Copy)]
 enum Owed {
     Nothing,
     Record,
@@ -47,7 +47,7 @@ enum Owed {
 }
 
 /// What a few octets gave before any ends.
-#[derive(Clone, Copy, PartialEq, Eq)]
+#[derive(Clone, Copy)]
 enum Gave {
     Nothing,
     /// Themselves.
@@ -57,7 +57,7 @@ enum Gave {
 }
 
 /// A few octets in front of a piece, and what they gave.
-#[derive(Clone, Copy, PartialEq, Eq)]
+#[derive(Clone, Copy)]
 struct Bite {
     taken: usize,
     gave: Gave,

@@ -69,7 +69,7 @@ pub(crate) enum Stage {
 }
 
 /// Own restart markers.
-#[derive(Clone, Copy, PartialEq, Eq)]
+#[derive(Clone, Copy)]
 pub(crate) enum Marks {
     /// Not in this mode and structure.
     Never,

@@ -30,7 +30,7 @@ pub struct Beginning<A: Allocator, T: Tree<A>> {
 }
 
 /// Why nothing can begin so.
-#[derive(Clone, Copy, Debug, PartialEq, Eq)]
+#[derive(Clone, Copy)]
 pub enum Unfair {
     /// Of the accounts.
     Accounts(AccountsFault),

@@ -11,9 +11,15 @@ use std::marker::Model;
 
 /// A list of names from the root on, each a `Name`, whose canonical text has at most 900 octets. That something
 /// stands there is not said.
-#[derive(Drop)]
 pub struct Path<A: Allocator> {
     octets: Vec<u8, A>,
+}
+
+/// By hand: a derived drop is proved again in each crate that lets a path go.
+impl<A: Allocator> Drop for Path<A> {
+    fn drop(self) {
+        let Self { octets: _ } = self;
+    }
 }
 
 impl<A: Allocator> Model for Path<A> {

@@ -19,7 +19,7 @@ use std::alloc::Allocator;
 use std::io::{Read, Write};
 
 /// What a data connection has.
-#[derive(Clone, Copy, PartialEq, Eq)]
+#[derive(Clone, Copy)]
 pub(crate) enum Came {
     /// Room, where octets go.
     Room,

@@ -22,7 +22,7 @@ use std::io::{Read, Write};
 use std::marker::PhantomData;
 
 /// Whether a drive goes on.
-#[derive(Clone, Copy, PartialEq, Eq)]
+#[derive(Clone, Copy)]
 pub(crate) enum Life {
     GoesOn,
     Over,

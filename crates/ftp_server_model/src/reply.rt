@@ -2,7 +2,7 @@
 use ftp_endpoint::Endpoint;
 
 /// A reply whose text is always the same; `specs/Texts` has the table (RFC 959, section 4.2).
-#[derive(Clone, Copy, Debug, PartialEq, Eq)]
+#[derive(Clone, Copy)]
 pub enum FixedReply {
     Ready,
     Unknown,
@@ -45,7 +45,7 @@ pub enum FixedReply {
 }
 
 /// Which reply is said to a command; `P` is how a path is held. The values that are not here are those of the session.
-#[derive(Debug, Drop)]
+#[derive(Drop)]
 pub enum ReplyKind<P> {
     /// Nothing yet: the reply follows once a port is had.
     Nothing,

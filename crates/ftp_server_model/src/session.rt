@@ -2,7 +2,7 @@
 use ftp_endpoint::Endpoint;
 
 /// Who is logged in (RFC 959, section 4.1.1).
-#[derive(Debug, Drop)]
+#[derive(Drop)]
 pub enum Access<T> {
     Nobody,
     /// A USER was answered that a password is needed: its name.
@@ -11,7 +11,7 @@ pub enum Access<T> {
 }
 
 /// What is pending for the next line only (RFC 959, sections 4.1.2 and 4.1.3).
-#[derive(Debug, Drop)]
+#[derive(Drop)]
 pub enum Pending<P> {
     Nothing,
     /// The path that an accepted RNFR named.
@@ -21,7 +21,7 @@ pub enum Pending<P> {
 }
 
 /// Which facts of a listing are in force (RFC 3659, section 7.9).
-#[derive(Clone, Copy, Debug, PartialEq, Eq)]
+#[derive(Clone, Copy)]
 pub struct Facts {
     pub kind: bool,
     pub size: bool,
@@ -30,7 +30,7 @@ pub struct Facts {
 }
 
 /// Whether a session goes on.
-#[derive(Clone, Copy, Debug, PartialEq, Eq)]
+#[derive(Clone, Copy)]
 pub enum Life {
     Running,
     /// QUIT was heard: the control connection is closed once the reply is out.
@@ -40,14 +40,14 @@ pub enum Life {
 }
 
 /// The command that asked for a port to listen at.
-#[derive(Clone, Copy, Debug, PartialEq, Eq)]
+#[derive(Clone, Copy)]
 pub enum PassiveVerb {
     Pasv,
     Epsv,
 }
 
 /// How the data connection of a transfer is opened.
-#[derive(Clone, Copy, Debug, PartialEq, Eq)]
+#[derive(Clone, Copy)]
 pub enum Way {
     /// The server connects to this endpoint.
     Connect(Endpoint),
@@ -56,7 +56,7 @@ pub enum Way {
 }
 
 /// The data connection of a session; `J` is its transfer (RFC 959, sections 3.2 and 4.1.2).
-#[derive(Debug, Drop)]
+#[derive(Drop)]
 pub enum ServerLink<J> {
     /// No endpoint is set.
     Free,
@@ -75,7 +75,7 @@ pub enum ServerLink<J> {
 }
 
 /// A transfer; `D` is what came of an upload, `W` what is still to be given of a download, `L` of a listing.
-#[derive(Debug, Drop)]
+#[derive(Drop)]
 pub enum Transfer<P, D, W, L> {
     /// An upload to a path, behind so many octets of the file there.
     Upload { path: P, keep: u64, decoder: D },

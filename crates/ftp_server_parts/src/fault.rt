@@ -1,7 +1,7 @@
 // Why a command could not be done.
 
 /// Why a command could not be done, and changed nothing but what was pending for it.
-#[derive(Clone, Copy, Debug, PartialEq, Eq)]
+#[derive(Clone, Copy)]
 pub enum Fault {
     /// Memory was refused.
     Memory,

@@ -47,7 +47,7 @@ pub struct Received {
 }
 
 /// How many octets were given, and whether memory was refused for the next of them.
-#[derive(Clone, Copy, Debug, PartialEq, Eq)]
+#[derive(Clone, Copy)]
 pub struct Given {
     pub count: usize,
     pub lost: bool,

@@ -21,7 +21,7 @@ pub struct Most {
 }
 
 /// How the last data connection ended, beside what was answered.
-#[derive(Clone, Copy, PartialEq, Eq)]
+#[derive(Clone, Copy)]
 pub enum Ending {
     /// As the answer says.
     Answered,

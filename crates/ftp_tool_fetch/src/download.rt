@@ -25,7 +25,7 @@ use std::time::Clock;
 const OUTPUT: &str = "-";
 
 /// What becomes of the octets of a download that is not whole.
-#[derive(Clone, Copy, PartialEq, Eq)]
+#[derive(Clone, Copy)]
 pub enum Parts {
     Dropped,
     /// They are kept beside the file, in one of its name with `.ftp-part` behind.

@@ -24,7 +24,7 @@ use std::alloc::Allocator;
 use std::io::{Read, Write};
 
 /// Which way a file goes.
-#[derive(Clone, Copy, Debug, PartialEq, Eq)]
+#[derive(Clone, Copy)]
 pub enum Direction {
     /// A file to its wire. With `marks` own restart markers count its octets, in type I with file structure and block
     /// mode; else they have no effect.

@@ -17,7 +17,7 @@ use std::alloc::{AllocError, Allocator};
 use std::io::{Read, Write};
 
 /// How a wire stands: more may follow, or it has ended and reads as a file, or it has a fault.
-#[derive(Clone, Copy, Debug, PartialEq, Eq)]
+#[derive(Clone, Copy)]
 pub enum Outcome {
     More,
     Whole,

@@ -5,14 +5,14 @@ use ftp_endpoint::Host;
 use ftp_ends::Wants;
 
 /// The two connections of a session (RFC 959, section 2.3).
-#[derive(Clone, Copy, PartialEq, Eq)]
+#[derive(Clone, Copy)]
 pub(crate) enum Connection {
     Control,
     Data,
 }
 
 /// What an end is told of the data connection.
-#[derive(Clone, Copy, PartialEq, Eq)]
+#[derive(Clone, Copy)]
 pub(crate) enum Event {
     /// This port is listened at.
     Listening(u16),

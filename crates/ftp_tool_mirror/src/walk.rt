@@ -20,7 +20,7 @@ use std::{fs, io};
 const MOST_STEPS: u64 = 1_000_000;
 
 /// What is done of what is planned.
-#[derive(Clone, Copy, PartialEq, Eq)]
+#[derive(Clone, Copy)]
 pub enum Doing {
     /// All of it.
     All,

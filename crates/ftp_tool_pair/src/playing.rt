@@ -25,7 +25,7 @@ use std::io;
 use std::io::{Error, ErrorKind, Read, Write};
 
 /// How a script is played.
-#[derive(Clone, Copy, Debug, PartialEq, Eq)]
+#[derive(Clone, Copy)]
 pub struct PairSettings {
     /// The most octets that go over a queue in one round; 0: all.
     pub piece: u32,

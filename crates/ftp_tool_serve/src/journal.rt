@@ -23,14 +23,14 @@ use std::{fmt, io};
 const SLOW_MILLIS: u16 = 1_000;
 
 /// Whether sessions are told on standard error.
-#[derive(Clone, Copy, PartialEq, Eq)]
+#[derive(Clone, Copy)]
 pub enum Log {
     Silent,
     Told,
 }
 
 /// How the last data connection was closed.
-#[derive(Clone, Copy, PartialEq, Eq)]
+#[derive(Clone, Copy)]
 pub(crate) enum Fate {
     Ended,
     /// By a reset, since octets that were to go did not.

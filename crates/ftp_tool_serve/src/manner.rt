@@ -28,7 +28,7 @@ pub(crate) struct Manner {
 }
 
 /// How a client is answered.
-#[derive(Clone, Copy, PartialEq, Eq)]
+#[derive(Clone, Copy)]
 pub(crate) enum Pace {
     AtOnce,
     /// After a second.

@@ -11,7 +11,7 @@ const FAULT: &[u8] = b"451 ";
 const BARRED: &[u8] = b"550 The account may not do that";
 
 /// Where in what a server says the next octet stands.
-#[derive(Clone, Copy, PartialEq, Eq)]
+#[derive(Clone, Copy)]
 pub(crate) enum Place {
     /// At the front of a line.
     Start,

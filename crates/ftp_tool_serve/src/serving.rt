@@ -42,7 +42,7 @@ pub struct Serving<'a> {
 }
 
 /// Whether anybody else changes the folder while it is served.
-#[derive(Clone, Copy, PartialEq, Eq)]
+#[derive(Clone, Copy)]
 pub enum Others {
     /// Others may: each session begins with the folder as it is then.
     Change,

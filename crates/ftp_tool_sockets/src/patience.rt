@@ -13,7 +13,7 @@ use std::net::TcpListener;
 const LOOK_MILLIS: i32 = 1_000;
 
 /// How long a server waits for its peer, in seconds; 0: without a limit.
-#[derive(Clone, Copy, Debug, PartialEq, Eq)]
+#[derive(Clone, Copy)]
 pub struct Limits {
     /// From the beginning of a session to its login.
     pub login: u32,
@@ -24,7 +24,7 @@ pub struct Limits {
 }
 
 /// Why nothing is waited for any more.
-#[derive(Clone, Copy, Debug, PartialEq, Eq)]
+#[derive(Clone, Copy)]
 pub enum Over {
     /// Nobody logged in for so long.
     Login,
@@ -37,14 +37,14 @@ pub enum Over {
 }
 
 /// How many milliseconds are left of a limit, and what is over with it.
-#[derive(Clone, Copy, PartialEq, Eq)]
+#[derive(Clone, Copy)]
 pub(crate) struct Term {
     pub(crate) left: u64,
     pub(crate) over: Over,
 }
 
 /// How a wait ended.
-#[derive(Clone, Copy, PartialEq, Eq)]
+#[derive(Clone, Copy)]
 pub(crate) enum Waited {
     /// What was asked for of a socket is there.
     Told,

@@ -9,7 +9,7 @@ use libc::types::pollfd;
 use std::os::fd::AsRawFd;
 
 /// What ended a waiting.
-#[derive(Clone, Copy, PartialEq, Eq)]
+#[derive(Clone, Copy)]
 pub(crate) enum Woke {
     /// The other socket has something, or room.
     Ready,
@@ -22,7 +22,7 @@ pub(crate) enum Woke {
 }
 
 /// What of the control connection ends a waiting.
-#[derive(Clone, Copy, PartialEq, Eq)]
+#[derive(Clone, Copy)]
 pub(crate) enum Heeds {
     /// Its end alone, where the other socket is not ready.
     End,
@@ -33,7 +33,7 @@ pub(crate) enum Heeds {
 }
 
 /// Whether what was asked for of the other socket is there.
-#[derive(Clone, Copy, PartialEq, Eq)]
+#[derive(Clone, Copy)]
 pub(crate) enum Other {
     Waits,
     Ready,
@@ -109,7 +109,7 @@ fn told_by(asked: &[pollfd; 2], heeds: Heeds) -> Woke {
 }
 
 /// How a poll ended.
-#[derive(Clone, Copy, PartialEq, Eq)]
+#[derive(Clone, Copy)]
 pub(crate) enum Polled {
     /// What was asked for of a socket is there.
     Told,

@@ -18,7 +18,7 @@ const GROUP_AND_OTHERS: u32 = 0o077;
 const MORE_THAN_READING: u32 = 0o037;
 
 /// Why a file was not read.
-#[derive(Debug, Drop)]
+#[derive(Drop)]
 pub enum NotPrivate {
     /// A directory, a device or a pipe, or a file of more octets than are wanted.
     Kind,
@@ -29,7 +29,7 @@ pub enum NotPrivate {
 }
 
 /// Who may use a file.
-#[derive(Clone, Copy, Debug, PartialEq, Eq)]
+#[derive(Clone, Copy)]
 pub enum Access {
     /// Root and who runs, and whom root lets read it.
     Private,
