@@ -1,12 +1,11 @@
 // Why a folder is not loaded.
 use ftp_tree::TreeFault;
 use std::alloc::Global;
-use std::fmt::{Debug, Display, Formatter};
-use std::{fmt, io};
+use std::io;
 use thiserror::Error;
 
 /// What is wrong with what stands at a place.
-#[derive(Error)]
+#[derive(Debug, Drop, Error)]
 pub enum Reason {
     /// Its name is none of a tree: octets 0 to 31 or 127, or over 255 octets.
     #[error("its name is no name of a tree")]
@@ -25,45 +24,14 @@ pub enum Reason {
     System(io::Error),
 }
 
-/// By hand: a derived drop is proved again, part by part, wherever a reason is let go.
-impl Drop for Reason {
-    fn drop(self) {
-        match self {
-            Reason::Name | Reason::Kind | Reason::Exchanged => {}
-            Reason::Tree(_) | Reason::System(_) => {}
-        }
-    }
-}
-
-impl Debug for Reason {
-    fn fmt<W: fmt::Write>(&self, f: &mut Formatter<W>) -> fmt::Result {
-        Display::fmt(self, f)
-    }
-}
-
 /// Why a folder is not loaded: which file or directory, and what is wrong with it.
-#[derive(Error)]
+#[derive(Debug, Drop, Error)]
 pub enum LoadFault {
     #[error("{place:?}: {why}")]
     Refused { place: String<Global>, why: Reason },
     /// The allocator refused a growth.
     #[error("out of memory")]
     Memory,
-}
-
-/// By hand: a derived drop is proved again, part by part, wherever a fault is let go.
-impl Drop for LoadFault {
-    fn drop(self) {
-        match self {
-            LoadFault::Refused { place: _, why: _ } | LoadFault::Memory => {}
-        }
-    }
-}
-
-impl Debug for LoadFault {
-    fn fmt<W: fmt::Write>(&self, f: &mut Formatter<W>) -> fmt::Result {
-        Display::fmt(self, f)
-    }
 }
 
 impl LoadFault {

@@ -3,10 +3,9 @@ ghost use Rattle.std.specs.Prelude.{◌≡◌, None, IfOk, OnOk, OnErr, string_b
 ghost use Rattle.ftp_tree.specs.Change.{next_count};
 ghost use Rattle.ftp_tree_folder.specs.Place.{folder_text};
 
-use crate::naming::{make_dir, remove_dir, remove_file, rename};
-use crate::place::{check_free, place_of, way_to};
+use crate::place::{check_free, check_way, place_of};
 use crate::reasons::{Reasons, Touches};
-use crate::writing::write_over;
+use crate::writing::{sync_above, write_over};
 use crate::{Folder, FolderFault};
 use ftp_facts::Moment;
 use ftp_operation::{Deed, Rights};
@@ -14,7 +13,7 @@ use ftp_path::Path;
 use ftp_tree::Content;
 use std::alloc::{AllocError, Allocator, Global};
 use std::fs::Files;
-use std::io;
+use std::{fs, io};
 
 /// The files and directories below a directory of the system. No clause says what files keep: what it keeps is not known. A link on
 /// the way to what is changed is not followed: the call fails. So does a change that the rights of `reasons` do not allow, before the folder is touched.
@@ -48,30 +47,20 @@ impl<'a, R: Files + AllocGlobal + Clone + Drop> DiskFolder<'a, R> {
         root: &Path<B>,
         path: &Path<C>,
     ) -> io::Result<String<Global>> {
-        match place_of(self.files.alloc(), self.dir.as_str(), root, path) {
-            Ok(place) => way_to(&self.files, place, self.dir.len()),
-            Err(error) => Err(error),
-        }
-    }
-
-    /// Where a path lies whose name is to be changed, if the rights allow that.
-    fn place_of_name<B: Allocator, C: Allocator>(
-        &self,
-        deed: Deed,
-        root: &Path<B>,
-        path: &Path<C>,
-    ) -> io::Result<String<Global>> {
-        match self.reasons.check(deed, Touches::Names) {
-            Ok(()) => self.place(root, path),
-            Err(error) => Err(error),
-        }
+        let place = place_of(self.files.alloc(), self.dir.as_str(), root, path)?;
+        check_way(&self.files, place.as_str(), self.dir.len())?;
+        Ok(place)
     }
 
     fn made<B: Allocator, C: Allocator>(&self, root: &Path<B>, path: &Path<C>) -> io::Result<()> {
-        match self.place_of_name(Deed::Make, root, path) {
-            Ok(place) => make_dir(&self.files, place.as_str()),
-            Err(error) => Err(error),
+        self.reasons.check(Deed::Make, Touches::Names)?;
+        let place = self.place(root, path)?;
+        fs::create_dir(&self.files, place.as_str())?;
+        let synced = sync_above(&self.files, place.as_str());
+        if synced.is_err() {
+            let _gone = fs::remove_dir(&self.files, place.as_str());
         }
+        synced
     }
 
     fn removed<B: Allocator, C: Allocator>(
@@ -79,10 +68,10 @@ impl<'a, R: Files + AllocGlobal + Clone + Drop> DiskFolder<'a, R> {
         root: &Path<B>,
         path: &Path<C>,
     ) -> io::Result<()> {
-        match self.place_of_name(Deed::Change, root, path) {
-            Ok(place) => remove_dir(&self.files, place.as_str()),
-            Err(error) => Err(error),
-        }
+        self.reasons.check(Deed::Change, Touches::Names)?;
+        let place = self.place(root, path)?;
+        fs::remove_dir(&self.files, place.as_str())?;
+        sync_above(&self.files, place.as_str())
     }
 
     fn deleted<B: Allocator, C: Allocator>(
@@ -90,10 +79,10 @@ impl<'a, R: Files + AllocGlobal + Clone + Drop> DiskFolder<'a, R> {
         root: &Path<B>,
         path: &Path<C>,
     ) -> io::Result<()> {
-        match self.place_of_name(Deed::Change, root, path) {
-            Ok(place) => remove_file(&self.files, place.as_str()),
-            Err(error) => Err(error),
-        }
+        self.reasons.check(Deed::Change, Touches::Names)?;
+        let place = self.place(root, path)?;
+        fs::remove_file(&self.files, place.as_str())?;
+        sync_above(&self.files, place.as_str())
     }
 
     fn renamed<B: Allocator, C: Allocator, D: Allocator>(
@@ -102,23 +91,22 @@ impl<'a, R: Files + AllocGlobal + Clone + Drop> DiskFolder<'a, R> {
         from: &Path<C>,
         to: &Path<D>,
     ) -> io::Result<()> {
-        match self.place_of_name(Deed::Change, root, from) {
-            Ok(from) => self.renamed_from(from.as_str(), root, to),
-            Err(error) => Err(error),
+        self.reasons.check(Deed::Change, Touches::Names)?;
+        let from = self.place(root, from)?;
+        let to = self.place(root, to)?;
+        check_free(&self.files, to.as_str())?;
+        fs::rename(&self.files, from.as_str(), to.as_str())?;
+        let synced = self.synced(from.as_str(), to.as_str());
+        if synced.is_err() {
+            let _back = fs::rename(&self.files, to.as_str(), from.as_str());
         }
+        synced
     }
 
-    /// What lies at a place is called by a path from now on.
-    fn renamed_from<B: Allocator, C: Allocator>(
-        &self,
-        from: &str,
-        root: &Path<B>,
-        to: &Path<C>,
-    ) -> io::Result<()> {
-        match self.place(root, to) {
-            Ok(to) => rename(&self.files, from, to.as_str()),
-            Err(error) => Err(error),
-        }
+    /// Both names of a move are on the disk: the new one first, so that the file never has none there.
+    fn synced(&self, from: &str, to: &str) -> io::Result<()> {
+        sync_above(&self.files, to)?;
+        sync_above(&self.files, from)
     }
 
     fn written<A: Allocator, B: Allocator, C: Allocator>(
@@ -128,22 +116,9 @@ impl<'a, R: Files + AllocGlobal + Clone + Drop> DiskFolder<'a, R> {
         content: &Content<A>,
         moment: Moment,
     ) -> io::Result<()> {
-        match self.place(root, path) {
-            Ok(place) => self.written_at(place.as_str(), content, moment),
-            Err(error) => Err(error),
-        }
-    }
-
-    fn written_at<A: Allocator>(
-        &self,
-        place: &str,
-        content: &Content<A>,
-        moment: Moment,
-    ) -> io::Result<()> {
-        match self.check_writing(place) {
-            Ok(()) => write_over(&self.files, place, content, moment),
-            Err(error) => Err(error),
-        }
+        let place = self.place(root, path)?;
+        self.check_writing(place.as_str())?;
+        write_over(&self.files, place.as_str(), content, moment)
     }
 
     /// Fails where the rights do not allow to write a file at a place: where something stands there, that is a change of it.
@@ -151,12 +126,10 @@ impl<'a, R: Files + AllocGlobal + Clone + Drop> DiskFolder<'a, R> {
         if self.reasons.rights() == Rights::All {
             return Ok(());
         }
-        let deed = if check_free(&self.files, place).is_ok() {
-            Deed::Make
-        } else {
-            Deed::Change
-        };
-        self.reasons.check(deed, Touches::Content)
+        match check_free(&self.files, place) {
+            Ok(()) => self.reasons.check(Deed::Make, Touches::Content),
+            Err(_) => self.reasons.check(Deed::Change, Touches::Content),
+        }
     }
 
     /// What a call answers; a failure is counted, and its reason is kept for whoever tells of it.

@@ -7,7 +7,6 @@ mod folder;
 mod loading;
 mod look;
 mod mirror;
-mod naming;
 mod place;
 mod reading;
 mod reasons;

@@ -1,13 +1,11 @@
-// Writing a file so that a crash leaves the old one or the new one.
+// Writing a file so that a crash leaves the old one or the new one, and names so that they are on the disk.
 ghost use Rattle.std.specs.Prelude.{IfOk, OnOk};
 ghost use Rattle.std.specs.Io.KnownBytes.{Appends};
 
-use crate::naming::{above, sync_above};
-use crate::place::unless_absent;
 use ftp_facts::Moment;
 use ftp_tree::Content;
 use std::alloc::{AllocError, Allocator, Global};
-use std::fs::{FileTimes, Files, OpenFile, OpenOptions, Permissions};
+use std::fs::{File, FileTimes, Files, OpenFile, OpenOptions, Permissions};
 use std::io::{BufWriter, Error, ErrorKind, Write};
 use std::os::unix::fs::{OpenOptionsExt, PermissionsExt};
 use std::time::{Duration, SystemTime, UNIX_EPOCH};
@@ -32,12 +30,29 @@ pub(crate) fn write_over<R: Files + AllocGlobal, A: Allocator>(
     content: &Content<A>,
     moment: Moment,
 ) -> io::Result<()> {
-    let Ok(beside) = beside(files.alloc(), place) else {
-        return Err(Error::from(ErrorKind::OutOfMemory));
-    };
-    match write_by(files, place, beside.as_str(), content, moment) {
-        Ok(()) => sync_above(files, place),
-        Err(error) => Err(error),
+    let beside = beside(files.alloc(), place)?;
+    let written = write_beside(files, place, beside.as_str(), content, moment);
+    if written.is_err() {
+        let _gone = fs::remove_file(files, beside.as_str());
+    }
+    written?;
+    sync_above(files, place)
+}
+
+/// The text of the directory in which a place is.
+fn above(place: &str) -> &str {
+    match place.rsplit_once('/') {
+        Some((dir, _)) => dir,
+        None => ".",
+    }
+}
+
+/// Flushes the directory in which a place is, so that its name there, or that it has none, is on the disk. A file system that can't flush a
+/// directory says that the call is not valid; it is left alone (own choice).
+pub(crate) fn sync_above<R: Files>(files: &R, place: &str) -> io::Result<()> {
+    match File::open(files, above(place))?.sync_all() {
+        Err(error) if error.kind() == ErrorKind::InvalidInput => Ok(()),
+        synced => synced,
     }
 }
 
@@ -49,21 +64,6 @@ fn beside(alloc: Global, place: &str) -> Result<String<Global>, AllocError> {
     Ok(text)
 }
 
-/// Writes a file by one beside it, which is gone then.
-fn write_by<R: Files + AllocGlobal, A: Allocator>(
-    files: &R,
-    place: &str,
-    beside: &str,
-    content: &Content<A>,
-    moment: Moment,
-) -> io::Result<()> {
-    let written = write_beside(files, place, beside, content, moment);
-    if written.is_err() {
-        let _gone = fs::remove_file(files, beside);
-    }
-    written
-}
-
 fn write_beside<R: Files + AllocGlobal, A: Allocator>(
     files: &R,
     place: &str,
@@ -71,14 +71,16 @@ fn write_beside<R: Files + AllocGlobal, A: Allocator>(
     content: &Content<A>,
     moment: Moment,
 ) -> io::Result<()> {
-    let written = match kept_mode(files, place) {
-        Ok(kept) => write_new(files, beside, kept, content, moment),
-        Err(error) => Err(error),
-    };
-    match written {
-        Ok(()) => fs::rename(files, beside, place),
-        Err(error) => Err(error),
+    let kept = kept_mode(files, place)?;
+    let mode = if kept.is_some() { OWN_MODE } else { NEW_MODE };
+    let file = create(files, beside, mode)?;
+    let file = put_gathered(files.alloc(), file, content)?;
+    if let Some(mode) = kept {
+        file.set_permissions(Permissions::from_mode(mode))?;
     }
+    file.set_times(FileTimes::new().set_modified(time_of(moment)?))?;
+    file.sync_all()?;
+    fs::rename(files, beside, place)
 }
 
 /// The permissions of the file that is replaced, if there is one.
@@ -86,80 +88,21 @@ fn kept_mode<R: Files>(files: &R, place: &str) -> io::Result<Option<u32>> {
     match fs::symlink_metadata(files, place) {
         Ok(found) if found.is_file() => Ok(Some(found.permissions().mode() & 0o777)),
         Ok(_) => Ok(None),
-        Err(error) => match unless_absent(error) {
-            Ok(()) => Ok(None),
-            Err(error) => Err(error),
-        },
-    }
-}
-
-/// Writes a file that is to have the permissions `kept`, if any, and flushes it.
-fn write_new<R: Files + AllocGlobal, A: Allocator>(
-    files: &R,
-    place: &str,
-    kept: Option<u32>,
-    content: &Content<A>,
-    moment: Moment,
-) -> io::Result<()> {
-    let mode = if kept.is_some() { OWN_MODE } else { NEW_MODE };
-    let file = match create(files, place, mode) {
-        Ok(file) => put_gathered(files.alloc(), file, content),
-        Err(error) => Err(error),
-    };
-    match file {
-        Ok(file) => seal(&file, kept, moment),
+        Err(error) if error.kind() == ErrorKind::NotFound => Ok(None),
         Err(error) => Err(error),
     }
 }
 
-/// Makes the file to be written.
-fn create<R: Files>(files: &R, place: &str, mode: u32) -> io::Result<R::File> {
+/// Makes the file to be written; one that an interrupted write left goes first.
+fn create<R: Files>(files: &R, beside: &str, mode: u32) -> io::Result<R::File> {
     let mut how = OpenOptions::new();
     how.write(true).create_new(true).mode(mode);
-    match how.open(files, place) {
-        Ok(file) => Ok(file),
-        Err(error) => create_again(files, place, &how, error),
-    }
-}
-
-/// Makes it where that failed, once the one that an interrupted write left is gone.
-fn create_again<R: Files>(
-    files: &R,
-    place: &str,
-    how: &OpenOptions,
-    error: Error,
-) -> io::Result<R::File> {
-    if error.kind() != ErrorKind::AlreadyExists {
-        return Err(error);
-    }
-    match fs::remove_file(files, place) {
-        Ok(()) => how.open(files, place),
-        Err(error) => Err(error),
-    }
-}
-
-/// Gives a file that is written its permissions and its moment, and flushes it.
-fn seal<F: OpenFile>(file: &F, kept: Option<u32>, moment: Moment) -> io::Result<()> {
-    if let Err(error) = permit(file, kept) {
-        return Err(error);
-    }
-    match set_moment(file, moment) {
-        Ok(()) => file.sync_all(),
-        Err(error) => Err(error),
-    }
-}
-
-fn permit<F: OpenFile>(file: &F, kept: Option<u32>) -> io::Result<()> {
-    match kept {
-        Some(mode) => file.set_permissions(Permissions::from_mode(mode)),
-        None => Ok(()),
-    }
-}
-
-fn set_moment<F: OpenFile>(file: &F, moment: Moment) -> io::Result<()> {
-    match time_of(moment) {
-        Ok(time) => file.set_times(FileTimes::new().set_modified(time)),
-        Err(error) => Err(error),
+    match how.open(files, beside) {
+        Err(error) if error.kind() == ErrorKind::AlreadyExists => {
+            fs::remove_file(files, beside)?;
+            how.open(files, beside)
+        }
+        opened => opened,
     }
 }
 
