@@ -70,17 +70,12 @@ fn text_of<A: Allocator, R: Read>(alloc: A, reader: &mut R) -> io::Result<Vec<u8
     let mut text = Vec::new(alloc);
     let mut room = [0u8; ROOM];
     for _ in 0..u64::MAX {
-        let count = match read_some(reader, &mut room) {
-            Ok(count) => count,
-            Err(error) => return Err(error),
-        };
+        let count = read_some(reader, &mut room)?;
         if count == 0 {
             return Ok(text);
         }
         let (front, _) = room.split_at(count);
-        let Ok(()) = text.extend_from_slice(front) else {
-            return Err(Error::from(ErrorKind::OutOfMemory));
-        };
+        text.extend_from_slice(front)?;
     }
     Err(Error::from(ErrorKind::TimedOut))
 }

@@ -9,7 +9,7 @@ use ftp_operation::Answer;
 use ftp_tool_status::Status;
 use std::alloc::Allocator;
 use std::io;
-use std::io::{Error, ErrorKind, Write};
+use std::io::Write;
 
 /// Writes the reports of answers, in order; gives the worst of their statuses.
 pub fn write_reports<A: Allocator, B: Allocator + Copy, W: Write>(
@@ -36,13 +36,9 @@ pub fn write_report<A: Allocator, B: Allocator, W: Write>(
     ensures wrote { OnOk result (Appends (W.contents writer.old) (W.contents writer.new) (report answer.now)) }
     ensures status { IfOk result (λ status. status ≡ status_of answer.now) }
 {
-    let Ok(text) = report_of(alloc, answer) else {
-        return Err(Error::from(ErrorKind::OutOfMemory));
-    };
-    match writer.write_all(text.as_slice()) {
-        Ok(()) => Ok(status_of(answer)),
-        Err(error) => Err(error),
-    }
+    let text = report_of(alloc, answer)?;
+    writer.write_all(text.as_slice())?;
+    Ok(status_of(answer))
 }
 
 /// The status of an answer: refused where it is no answer to what was asked.
