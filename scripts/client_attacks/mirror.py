@@ -4,6 +4,7 @@ files of this machine alone where it is killed; another run finishes.
 """
 import os
 import random
+import shutil
 import signal
 import subprocess
 import time
@@ -61,8 +62,24 @@ def honest(rows):
     changed(rows, served, local, place)
     excluded(rows, served, local, place)
     up(rows, served, local, place)
+    flushed(rows, served, place)
     killed(rows, served, place)
     server.close()
+
+
+def flushed(rows, served, place):
+    """Each file is flushed before it has its name, or none with --no-flush; `strace` counts, where it is there."""
+    files = sum(octets is not None for octets in tree_at(served).values())
+    for options, wanted in (([], files), (["--no-flush"], 0)):
+        told = rows.folder / "calls"
+        words = [TOOL, "mirror", place, "./flushed", *options]
+        if shutil.which("strace"):
+            words = ["strace", "-f", "-e", "trace=fsync", "-o", str(told), *words]
+        done = subprocess.run(words, cwd=rows.folder, capture_output=True, timeout=120)
+        count = told.read_text().count("fsync(") if told.exists() else wanted
+        same = tree_at(rows.folder / "flushed") == tree_at(served)
+        rows.row(f"mirror {' '.join(options)}: the files, and {wanted} flushes", (done.returncode, same, count) == (0, True, wanted), (done.returncode, same, count))
+        shutil.rmtree(rows.folder / "flushed")
 
 
 def changed(rows, served, local, place):
